@@ -1,0 +1,39 @@
+-- Lists of bytes stay so when they are joined and cut.
+use Rattle.std.proofs.Common.{◌≡◌, ◌<◌, ◌-◌, ◌∙◌, ℕ, zero, suc, List, [], ◌∷◌, ◌++◌, length, take, drop, refl, ap, subst, arith, lit<}
+use Rattle.std.specs.Prelude.{replicate}
+use Rattle.std.proofs.lemmas.List.{drop-replicate}
+use Rattle.hmc_codes.specs.Bytes.{IsBytes, padded}
+
+pub IsBytes-[] : IsBytes []
+IsBytes-[] k = lit< tt
+
+pub IsBytes-append : (xs ys : List ℕ) → IsBytes xs → IsBytes ys → IsBytes (xs ++ ys)
+IsBytes-append [] ys p q k = q k
+IsBytes-append (x ∷ xs) ys p q zero = p 0
+IsBytes-append (x ∷ xs) ys p q (suc k) = IsBytes-append xs ys (λ j. p (suc j)) q k
+
+pub IsBytes-take : (n : ℕ) (xs : List ℕ) → IsBytes xs → IsBytes (take n xs)
+IsBytes-take zero xs p k = lit< tt
+IsBytes-take (suc n) [] p k = lit< tt
+IsBytes-take (suc n) (x ∷ xs) p zero = p 0
+IsBytes-take (suc n) (x ∷ xs) p (suc k) = IsBytes-take n xs (λ j. p (suc j)) k
+
+pub IsBytes-drop : (n : ℕ) (xs : List ℕ) → IsBytes xs → IsBytes (drop n xs)
+IsBytes-drop zero xs p k = p k
+IsBytes-drop (suc n) [] p k = lit< tt
+IsBytes-drop (suc n) (x ∷ xs) p k = IsBytes-drop n xs (λ j. p (suc j)) k
+
+pub IsBytes-zeros : (n : ℕ) → IsBytes (replicate n 0)
+IsBytes-zeros zero k = lit< tt
+IsBytes-zeros (suc n) zero = lit< tt
+IsBytes-zeros (suc n) (suc k) = IsBytes-zeros n k
+
+pub IsBytes-padded : (size : ℕ) (xs : List ℕ) → IsBytes xs → IsBytes (padded size xs)
+unfolding padded
+IsBytes-padded size xs p = IsBytes-append xs _ p (IsBytes-zeros (size - length xs))
+
+-- zeros whose front is written over
+pub padded_by_copy : (size : ℕ) (xs front : List ℕ) → front ≡ xs → front ++ drop (length xs) (replicate size 0) ≡ padded size xs
+unfolding padded
+padded_by_copy size xs front is =
+    ap (λ l. l ++ drop (length xs) (replicate size 0)) is ∙ ap (λ l. xs ++ l) (drop-replicate (length xs) size 0)

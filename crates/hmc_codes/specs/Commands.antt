@@ -1,0 +1,59 @@
+-- What the command table says of a command.
+use Rattle.std.specs.Prelude.{ℕ, ◌*◌, ◌-◌, Bool, true, false, List, nat_le, ◌==◌, ◌&&◌, ◌||◌, is_none, Option}
+use Rattle.hmc_codes.specs.declared.layout.Layout.{Layout}
+use Rattle.hmc_codes.specs.declared.layout.Layout.TheVariants as layouts
+use Rattle.hmc_codes.specs.declared.length.Length.{Length}
+use Rattle.hmc_codes.specs.declared.length.Length.TheVariants.{Fixed, Data}
+use Rattle.hmc_codes.specs.declared.family.Family.{Family}
+use Rattle.hmc_codes.specs.declared.family.Family.TheVariants as families
+use Rattle.hmc_codes.specs.declared.command.Command.{Command}
+use Rattle.hmc_codes.specs.Table.{line_of}
+
+abbrev pub word_of : Command → List ℕ
+word_of command = (line_of command).word
+
+abbrev pub code_of : Command → ℕ
+code_of command = (line_of command).code
+
+abbrev pub layout_of : Command → Layout
+layout_of command = (line_of command).layout
+
+-- the command of the packet that answers a request
+abbrev pub reply_of : Command → Option Command
+reply_of command = (line_of command).reply
+
+abbrev pub family_of_layout : Layout → Family
+family_of_layout layouts.Null = families.Flow
+family_of_layout layouts.Pret = families.Flow
+family_of_layout layouts.Tret = families.Flow
+family_of_layout layouts.Irtry = families.Flow
+family_of_layout layouts.Ask = families.Ask
+family_of_layout layouts.Reply = families.Reply
+
+abbrev pub family_of : Command → Family
+family_of command = family_of_layout (layout_of command)
+
+-- the number of flits is one that the length permits: returned data has 2 to 9 flits, or 17
+abbrev pub permits : Length → ℕ → Bool
+permits (Fixed n) flits = flits == n
+permits Data flits = (nat_le 2 flits && nat_le flits 9) || flits == 17
+
+-- the table permits this number of flits
+abbrev pub allows_of : Command → ℕ → Bool
+allows_of command flits = permits (line_of command).flits flits
+
+abbrev pub is_ask : Layout → Bool
+is_ask layouts.Ask = true
+is_ask _ = false
+
+-- a request that nothing answers
+abbrev pub is_posted : Command → Bool
+is_posted command = is_ask (layout_of command) && is_none (reply_of command)
+
+abbrev pub payload_of_length : Length → ℕ
+payload_of_length (Fixed n) = 16 * (n - 1)
+payload_of_length Data = 0
+
+-- the bytes of payload that a request with this command carries
+abbrev pub payload_len_of : Command → ℕ
+payload_len_of command = payload_of_length (line_of command).flits

@@ -1,0 +1,30 @@
+//! Answers.
+
+use crate::Payload;
+
+/// What a request is answered by.
+#[derive(Clone, Copy)]
+pub enum Answer {
+    /// Nothing: the request was posted.
+    Silent,
+    /// The request was carried out; the flag says whether an atomic command's condition held.
+    Done { flag: bool },
+    /// The bytes that were read.
+    Read { flag: bool, payload: Payload },
+    /// The value of a register.
+    Register { value: u32 },
+    /// A register was written.
+    Stored,
+    /// The request has an error, whose number is below 128.
+    Refused { errstat: u8 },
+}
+
+/// What an atomic command or a logic unit makes of a block of 16 bytes.
+#[derive(Clone, Copy, Debug, PartialEq, Eq)]
+pub struct Acted {
+    /// The new block.
+    pub block: [u8; 16],
+    /// The bytes of its answer.
+    pub answer: [u8; 16],
+    pub flag: bool,
+}

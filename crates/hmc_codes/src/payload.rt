@@ -1,0 +1,91 @@
+//! The payload of a packet.
+
+ghost use Rattle.std.specs.Prelude.{◌≡◌, ◌≤◌, ◌↔◌, [], length, IsTrue, IsSome, IfSome};
+ghost use Rattle.hmc_codes.specs.Bytes.{IsBytes, padded};
+
+use std::marker::Model;
+
+/// The most bytes that a payload has.
+pub const MOST_BYTES: usize = 256;
+
+/// At most 256 bytes. Contracts see the list of them.
+#[derive(Clone, Copy)]
+pub struct Payload {
+    // What stands behind the first `len` bytes is zero.
+    bytes: [u8; 256],
+    len: usize,
+}
+
+impl Model for Payload {
+    ghost use Rattle.std.specs.Prelude.{◌≡◌, ◌≤◌, ℕ, List, length, take};
+    ghost use Rattle.hmc_codes.specs.Bytes.{IsBytes, padded};
+    ghost use Rattle.hmc_codes.specs.Padding.{length-front};
+    ghost use Rattle.std.proofs.Common.{sym};
+
+    ghost Value = { List ℕ };
+
+    ghost view = { λ p. take p.len p.bytes };
+
+    ghost invariant = { λ p. (p.len ≤ 256) × (p.bytes ≡ padded 256 (take p.len p.bytes)) × IsBytes p.bytes };
+
+    ghost inverse = { λ bytes. record { bytes = padded 256 bytes; len = length bytes } };
+
+    ghost inverse_ok = { λ p kept i. record { bytes = sym kept.1 i; len = length-front 256 p.len p.bytes kept.0 kept.1 i } };
+}
+
+// The bytes, and zeros behind them.
+fn array_of(bytes: &[u8]) -> [u8; 256]
+    requires { length bytes.now ≤ 256 }
+    ensures bytes { result ≡ padded 256 bytes.now }
+    ensures are_bytes { IsBytes result }
+{
+    let mut array = [0; 256];
+    array[..bytes.len()].copy_from_slice(bytes);
+    array
+}
+
+impl Payload {
+    /// No bytes.
+    pub fn empty() -> Self
+        ensures { result ≡ [] }
+    {
+        Payload {
+            bytes: array_of(&[]),
+            len: 0,
+        }
+    }
+
+    /// These bytes, if they are at most 256.
+    pub fn from_slice(bytes: &[u8]) -> Option<Self>
+        ensures fits { IsSome result ↔ (length bytes.now ≤ 256) }
+        ensures bytes { IfSome result (λ payload. payload ≡ bytes.now) }
+    {
+        if bytes.len() > MOST_BYTES {
+            return None;
+        }
+        Some(Payload {
+            bytes: array_of(bytes),
+            len: bytes.len(),
+        })
+    }
+
+    pub fn as_slice(&self) -> &[u8]
+        ensures bytes { result.now ≡ self.now }
+        ensures few { length self.now ≤ 256 }
+        ensures are_bytes { IsBytes self.now }
+    {
+        &self.bytes[..self.len]
+    }
+
+    pub fn len(&self) -> usize
+        ensures { result ≡ length self.now }
+    {
+        self.len
+    }
+
+    pub fn is_empty(&self) -> bool
+        ensures { IsTrue result ↔ (self.now ≡ []) }
+    {
+        self.len == 0
+    }
+}
