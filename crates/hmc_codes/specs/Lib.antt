@@ -5,3 +5,4 @@ pub mod Commands
 pub mod Padding
 pub mod Request
 pub mod Shape
+pub mod Text

@@ -10,6 +10,8 @@ mod memory;
 mod payload;
 mod request;
 mod shape;
+mod text;
+mod unit;
 
 pub use answer::{Acted, Answer};
 pub use command::Command;
@@ -20,6 +22,7 @@ pub use memory::Memory;
 pub use payload::Payload;
 pub use request::Request;
 pub use shape::{Shape, Spot};
+pub use unit::Unit;
 
 /// The unit of transfer on a link: 16 bytes.
 pub type Flit = [u8; 16];
