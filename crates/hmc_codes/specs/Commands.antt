@@ -9,12 +9,15 @@ use Rattle.hmc_codes.specs.declared.family.Family.TheVariants as families
 use Rattle.hmc_codes.specs.declared.command.Command.{Command}
 use Rattle.hmc_codes.specs.Table.{line_of}
 
+-- the word of a command in a script or a report
 abbrev pub word_of : Command → List ℕ
 word_of command = (line_of command).word
 
+-- the code in a packet's header
 abbrev pub code_of : Command → ℕ
 code_of command = (line_of command).code
 
+-- the fields of a packet with the command
 abbrev pub layout_of : Command → Layout
 layout_of command = (line_of command).layout
 
@@ -22,6 +25,7 @@ layout_of command = (line_of command).layout
 abbrev pub reply_of : Command → Option Command
 reply_of command = (line_of command).reply
 
+-- packets with these fields steer the link, ask or answer
 abbrev pub family_of_layout : Layout → Family
 family_of_layout layouts.Null = families.Flow
 family_of_layout layouts.Pret = families.Flow
@@ -30,6 +34,7 @@ family_of_layout layouts.Irtry = families.Flow
 family_of_layout layouts.Ask = families.Ask
 family_of_layout layouts.Reply = families.Reply
 
+-- packets with the command steer the link, ask or answer
 abbrev pub family_of : Command → Family
 family_of command = family_of_layout (layout_of command)
 
@@ -42,6 +47,7 @@ permits Data flits = (nat_le 2 flits && nat_le flits 9) || flits == 17
 abbrev pub allows_of : Command → ℕ → Bool
 allows_of command flits = permits (line_of command).flits flits
 
+-- the fields are those of a request
 abbrev pub is_ask : Layout → Bool
 is_ask layouts.Ask = true
 is_ask _ = false
@@ -50,6 +56,7 @@ is_ask _ = false
 abbrev pub is_posted : Command → Bool
 is_posted command = is_ask (layout_of command) && is_none (reply_of command)
 
+-- the bytes of payload in a packet of a fixed length: 16 for each flit but one
 abbrev pub payload_of_length : Length → ℕ
 payload_of_length (Fixed n) = 16 * (n - 1)
 payload_of_length Data = 0

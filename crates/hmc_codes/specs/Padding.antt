@@ -1,5 +1,5 @@
 -- A payload's array is its bytes and zeros behind them.
-use Rattle.std.proofs.Common.{◌≡◌, ◌≤◌, ◌∙◌, ℕ, ◌+◌, ◌-◌, List, ◌++◌, length, take, drop, refl, sym, ap, arith, length-append, min}
+use Rattle.std.proofs.Common.{◌≡◌, ◌≤◌, ◌∙◌, ℕ, ◌+◌, ◌-◌, List, length, take, ap, arith, length-append}
 use Rattle.std.proofs.lemmas.List.{length-replicate, length-take, length-take-le, take-append-le, take_all}
 use Rattle.std.specs.Prelude.{replicate}
 use Rattle.hmc_codes.specs.Bytes.{padded}

@@ -6,6 +6,7 @@ use Rattle.hmc_codes.specs.declared.family.Family.TheVariants as families
 use Rattle.hmc_codes.specs.declared.command.Command.{Command}
 use Rattle.hmc_codes.specs.declared.command.Command.TheVariants.{Mdwr}
 
+-- a command to a cube at an address, and the payload's bytes
 pub record RequestFields : Type 0 where
   pub command : Command
   pub cube : ℕ

@@ -1,5 +1,5 @@
 -- How requests and answers are written: words with one space between.
-use Rattle.std.specs.Prelude.{ℕ, ◌+◌, ◌*◌, ◌==◌, Bool, true, false, List, [], ◌∷◌, ◌++◌, take, length, codes, if◌then◌else◌, Option, Some, None, option_to_list}
+use Rattle.std.specs.Prelude.{ℕ, Bool, true, false, List, [], ◌∷◌, ◌++◌, take, codes, if◌then◌else◌, Option, Some, None, option_to_list}
 use Rattle.std.specs.Fmt.{decimal, digits}
 use Rattle.std.specs.Int.{w32, to_be_bytes, from_le_bytes}
 use Rattle.hex.specs.Hex.{encode_lower}
@@ -26,6 +26,7 @@ line (w ∷ v ∷ vs) = w ++ (32 ∷ line (v ∷ vs))
 abbrev pub hex_number : ℕ → List ℕ
 hex_number n = codes "0x" ++ digits 16 false n
 
+-- a flag is 1 where it is set, else 0
 abbrev pub flag_text : Bool → List ℕ
 flag_text flag = if flag then codes "1" else codes "0"
 
@@ -44,10 +45,15 @@ operand_of true payload = Some (decimal (value_in payload))
 operand_of false [] = None
 operand_of false (b ∷ bs) = Some (encode_lower (b ∷ bs))
 
+-- a request with these words behind its address
+abbrev pub request_with : RequestFields → List (List ℕ) → List ℕ
+request_with r operands = spaced (word_of r.command ∷ decimal r.cube ∷ hex_number r.address ∷ operands)
+
 -- a request as a script has it, without the host
 unfoldable pub request_text : RequestFields → List ℕ
-request_text r = spaced (word_of r.command ∷ decimal r.cube ∷ hex_number r.address ∷ option_to_list (operand_of (is_mdwr r.command) r.payload))
+request_text r = request_with r (option_to_list (operand_of (is_mdwr r.command) r.payload))
 
+-- an answer as a report has it
 unfoldable pub answer_text : Answer → List ℕ
 answer_text Silent = codes "silent"
 answer_text (Done flag) = spaced (codes "done" ∷ flag_text flag ∷ [])

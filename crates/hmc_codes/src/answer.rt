@@ -7,15 +7,15 @@ use crate::Payload;
 pub enum Answer {
     /// Nothing: the request was posted.
     Silent,
-    /// The request was carried out; the flag says whether an atomic command's condition held.
+    /// The request was carried out. The flag says whether an atomic command's condition held or its sum was out of range.
     Done { flag: bool },
-    /// The bytes that were read.
+    /// The bytes that a read, an atomic command or a logic unit gives back, and its flag.
     Read { flag: bool, payload: Payload },
     /// The value of a register.
     Register { value: u32 },
     /// A register was written.
     Stored,
-    /// The request has an error, whose number is below 128.
+    /// The request has an error and changed nothing. The error's number is below 128.
     Refused { errstat: u8 },
 }
 
@@ -24,7 +24,8 @@ pub enum Answer {
 pub struct Acted {
     /// The new block.
     pub block: [u8; 16],
-    /// The bytes of its answer.
+    /// The bytes of the answer.
     pub answer: [u8; 16],
+    /// The flag of the answer.
     pub flag: bool,
 }

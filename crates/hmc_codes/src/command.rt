@@ -9,6 +9,10 @@ ghost use Rattle.hmc_codes.specs.Commands.{code_of, word_of, layout_of, family_o
 use crate::{Family, Layout, Length};
 
 /// The command of a packet: a variant for each code of the table.
+///
+/// `Wr..` and `Rd..` write and read so many bytes, and `Mdwr` and `Mdrd` a register. `Unit..` is carried out by a logic
+/// unit, and the other requests are atomic commands on 8 or 16 bytes. Those that begin with `P` are posted: nothing
+/// answers them. `Null`, `Pret`, `Tret` and `Irtry` steer a link, and `..Rs` and `Error` answer.
 #[derive(Clone, Copy, Debug, PartialEq, Eq)]
 pub enum Command {
     Null,
@@ -315,13 +319,14 @@ impl Command {
         Command::at_code(code)
     }
 
+    /// The code in a packet's header, 0 to 120.
     pub fn code(self) -> u8
         ensures { result ≡ code_of self }
     {
         self.line().code
     }
 
-    /// The word of a script line and of a report.
+    /// The word of a script line and of a report; scripts have only those of requests.
     pub fn word(self) -> &'static str
         ensures { result.now ≡ word_of self }
     {
@@ -335,6 +340,7 @@ impl Command {
         self.line().layout
     }
 
+    /// Whether packets with this command steer the link, ask or answer.
     pub fn family(self) -> Family
         ensures { result ≡ family_of self }
     {
@@ -345,7 +351,7 @@ impl Command {
         }
     }
 
-    /// The command of the packet that answers a request.
+    /// The command of the packet that answers a request: `None` where it is posted, and of a command that asks nothing.
     pub fn reply(self) -> Option<Self>
         ensures { result ≡ reply_of self }
     {
@@ -360,14 +366,14 @@ impl Command {
         line.layout == Layout::Ask && line.reply.is_none()
     }
 
-    /// Whether the table permits packets of this many flits.
+    /// Whether the table permits packets of this many flits, header and tail included.
     pub fn allows(self, flits: u8) -> bool
         ensures { result ≡ allows_of self flits }
     {
         self.line().flits.permits(flits)
     }
 
-    /// How many bytes of payload a request with this command carries.
+    /// How many bytes of payload a request with this command carries: 0, 16 to 128 in steps of 16, or 256.
     pub fn payload_len(self) -> usize
         ensures { result ≡ payload_len_of self }
     {
@@ -377,3 +383,6 @@ impl Command {
         }
     }
 }
+
+#[cfg(test)]
+mod tests;

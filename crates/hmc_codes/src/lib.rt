@@ -1,4 +1,10 @@
-//! Plain data that all layers share: commands, requests, answers, shapes.
+//! Plain data that all layers share: commands and their table, payloads, requests, answers, and the shape of a cube's
+//! memory with its address map. None of it holds memory, and `text` alone takes some.
+//!
+//! Contracts see a payload as the list of its bytes, and a request and a shape as records of their fields, whose ranges
+//! hold of every value. The other types are seen as they stand. What the table says of a command is named `code_of`,
+//! `word_of`, `allows_of` and the like, where an address lies `vault_of`, `bank_of` and `row_of`, and the texts are
+//! `request_text` and `answer_text`: a layer above may rest on all of these.
 #![tactic(auto)]
 
 mod answer;

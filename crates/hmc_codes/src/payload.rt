@@ -5,10 +5,10 @@ ghost use Rattle.hmc_codes.specs.Bytes.{IsBytes, padded};
 
 use std::marker::Model;
 
-/// The most bytes that a payload has.
-pub const MOST_BYTES: usize = 256;
+// The most bytes that a payload has.
+const MOST_BYTES: usize = 256;
 
-/// At most 256 bytes. Contracts see the list of them.
+/// At most 256 bytes, which no call changes. Contracts see the list of them.
 #[derive(Clone, Copy)]
 pub struct Payload {
     // What stands behind the first `len` bytes is zero.
@@ -55,7 +55,7 @@ impl Payload {
         }
     }
 
-    /// These bytes, if they are at most 256.
+    /// These bytes; `None` where they are more than 256.
     pub fn from_slice(bytes: &[u8]) -> Option<Self>
         ensures fits { IsSome result ↔ (length bytes.now ≤ 256) }
         ensures bytes { IfSome result (λ payload. payload ≡ bytes.now) }
@@ -69,6 +69,7 @@ impl Payload {
         })
     }
 
+    /// The bytes, 0 to 256 of them.
     pub fn as_slice(&self) -> &[u8]
         ensures bytes { result.now ≡ self.now }
         ensures few { length self.now ≤ 256 }
@@ -77,15 +78,20 @@ impl Payload {
         &self.bytes[..self.len]
     }
 
+    /// How many bytes there are, 0 to 256.
     pub fn len(&self) -> usize
         ensures { result ≡ length self.now }
     {
         self.len
     }
 
+    /// Whether there are none.
     pub fn is_empty(&self) -> bool
         ensures { IsTrue result ↔ (self.now ≡ []) }
     {
         self.len == 0
     }
 }
+
+#[cfg(test)]
+mod tests;

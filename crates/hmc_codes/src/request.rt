@@ -14,7 +14,8 @@ pub struct Request {
     pub cube: u8,
     /// Below 2^34; the number of a register for `mdrd` and `mdwr`.
     pub address: u64,
-    /// As long as the command's payload is. Of an `mdwr` the last twelve bytes are zero.
+    /// As long as `payload_len` of the command says. An `mdwr` has the value in the first four bytes, the lowest first,
+    /// and zeros in the other twelve.
     pub payload: Payload,
 }
 

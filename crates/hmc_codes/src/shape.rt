@@ -33,8 +33,11 @@ impl Model for Shape {
 pub struct Spot {
     /// The byte in the row, below 256.
     pub offset: u16,
+    /// The vault in the cube, below 32.
     pub vault: u8,
+    /// The bank in the vault, below 16.
     pub bank: u8,
+    /// The row in the bank.
     pub row: u64,
 }
 
@@ -46,7 +49,7 @@ impl Shape {
         let _ = &self.rows;
     }
 
-    /// The number of bytes.
+    /// The number of bytes in a cube, 256 to 134,217,728.
     pub fn capacity(self) -> u64
         ensures { result ≡ capacity_of self }
     {
@@ -54,7 +57,7 @@ impl Shape {
     }
 
     /// The address map: from the lowest bit on an address has 8 bits of offset, then the bits of the vault, then those of
-    /// the bank, and then the row.
+    /// the bank, and then the row. An address past the capacity has a vault and a bank too.
     pub fn spot(self, address: u64) -> Spot
         ensures offset { result.offset ≡ offset_of address }
         ensures vault { result.vault ≡ vault_of self address }
@@ -72,3 +75,6 @@ impl Shape {
         }
     }
 }
+
+#[cfg(test)]
+mod tests;

@@ -3,8 +3,8 @@
 /// What carries out a request: a bank, or the registers of a cube.
 #[derive(Clone, Copy, Debug, PartialEq, Eq)]
 pub enum Unit {
-    /// A bank, by the cube's number, the vault's in the cube and the bank's in the vault.
+    /// A bank, by the cube's number (below 8), the vault's in the cube (below 32) and the bank's in the vault (below 16).
     Bank { cube: u8, vault: u8, bank: u8 },
-    /// The registers of a cube.
+    /// The registers of a cube, by its number (below 8).
     Registers { cube: u8 },
 }

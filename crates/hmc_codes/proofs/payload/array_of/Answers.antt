@@ -1,4 +1,4 @@
-use Rattle.std.proofs.Common.{arith, subst, sym, ℕ, List}
+use Rattle.std.proofs.Common.{arith, subst, sym}
 use Rattle.hmc_codes.specs.Bytes.{IsBytes}
 use Rattle.hmc_codes.proofs.BytesLemmas.{padded_by_copy, IsBytes-padded}
 use Rattle.hmc_codes.proofs.payload.array_of.Goals as goal

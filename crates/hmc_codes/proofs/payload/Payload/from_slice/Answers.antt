@@ -1,4 +1,4 @@
-use Rattle.std.proofs.Common.{◌≡◌, ◌∙◌, length, take, ap, sym, arith}
+use Rattle.std.proofs.Common.{◌∙◌, length, take, ap, sym, arith}
 use Rattle.hmc_codes.specs.Bytes.{padded}
 use Rattle.hmc_codes.specs.Padding.{take-padded}
 use Rattle.hmc_codes.proofs.payload.Payload.from_slice.Goals as goal
