@@ -1,0 +1,105 @@
+//! A source in memory, which fails at listed calls.
+ghost use Rattle.std.specs.Prelude.{◌≡◌, ◌<◌, ◌≤◌, ◌↔◌, ◌++◌, ℕ, Some, length, take, drop, min, Contains, IsTrue, IsErr, IfOk, OnOk, OnErr};
+ghost use Rattle.std.specs.Io.KnownBytes.{Consumes, Keeps, IsAtEnd};
+ghost use Rattle.hmc_outside.specs.Rose.{Rose, raised};
+ghost use Rattle.hmc_outside.specs.SourceState.{opened, after_read, after_failure};
+
+use crate::faults::one_more;
+use crate::{Failed, Source};
+use hmc_codes::Memory;
+use std::alloc::Global;
+use std::marker::Model;
+
+/// Bytes in memory. Its calls of `read` are numbered from 1. The listed calls fail, and each other
+/// call gives as many bytes as are left and fit.
+#[derive(Drop)]
+pub struct MemorySource {
+    bytes: Vec<u8>,
+    given: usize,
+    failing: Vec<u32>,
+    calls: u64,
+    faults: u64,
+}
+
+impl Model for MemorySource {
+    ghost use Rattle.std.specs.Prelude.{◌≤◌, drop, length};
+    ghost use Rattle.hmc_outside.specs.SourceState.{SourceState};
+
+    ghost Value = { SourceState };
+
+    ghost view = { λ s. record { left = drop s.given s.bytes.items; failing = s.failing.items; calls = s.calls; faults = s.faults } };
+
+    ghost invariant = { λ s. s.given ≤ length s.bytes.items };
+}
+
+impl MemorySource {
+    /// A source of these bytes, of which the calls with these numbers will fail.
+    pub fn new(alloc: Global, bytes: &[u8], failing: &[u32]) -> Result<MemorySource, Memory>
+        ensures { IfOk result (λ source. source ≡ opened bytes.now failing.now) }
+    {
+        Ok(MemorySource {
+            bytes: Vec::from_slice(alloc, bytes)?,
+            given: 0,
+            failing: Vec::from_slice(alloc, failing)?,
+            calls: 0,
+            faults: 0,
+        })
+    }
+
+    /// How many calls have failed.
+    pub fn faults(&self) -> u64
+        ensures { result ≡ self.now.faults }
+    {
+        self.faults
+    }
+}
+
+impl Source for MemorySource {
+    ghost left = { λ s. Some s.left };
+
+    ghost faults = { λ s. s.faults };
+
+    fn read(&mut self, into: &mut [u8]) -> Result<usize, Failed>
+        // As at each source.
+        ensures within { IfOk result (λ n. n ≤ length into.new) }
+        ensures moved { IfOk result (λ n. Consumes (Some self.old.left) (Some self.new.left) (take n into.new)) }
+        ensures ended { IfOk result (λ n. n ≡ 0 → 0 < length into.old → IsAtEnd (Some self.new.left)) }
+        ensures unchanged { OnErr result (Keeps (Some self.old.left) (Some self.new.left)) }
+        ensures counted { self.old.faults ≤ self.new.faults }
+        ensures cause { OnErr result (Rose self.old.faults self.new.faults) }
+
+        // Exactly.
+        ensures fails { IsErr result ↔ Contains self.old.failing (raised self.old.calls) }
+        ensures count { IfOk result (λ n. n ≡ min (length self.old.left) (length into.old)) }
+        ensures given { IfOk result (λ n. into.new ≡ take n self.old.left ++ drop n into.old) }
+        ensures after { IfOk result (λ n. self.new ≡ after_read self.old n) }
+        ensures failed { OnErr result (self.new ≡ after_failure self.old) }
+        ensures untouched { OnErr result (into.new ≡ into.old) }
+    {
+        self.calls = one_more(self.calls);
+        if is_listed(&self.failing, self.calls) {
+            self.faults = one_more(self.faults);
+            return Err(Failed);
+        }
+        let count = give(&self.bytes[self.given..], into);
+        self.given += count;
+        Ok(count)
+    }
+}
+
+fn is_listed(failing: &[u32], call: u64) -> bool
+    ensures { IsTrue result ↔ Contains failing.now call }
+{
+    failing.iter().any(|&listed| u64::from(listed) == call)
+}
+
+// Puts as many of the next bytes as fit at the front of `into`.
+fn give(next: &[u8], into: &mut [u8]) -> usize
+    ensures count { result ≡ min (length next.now) (length into.old) }
+    ensures given { into.new ≡ take result next.now ++ drop result into.old }
+    ensures front { take result into.new ≡ take result next.now }
+{
+    let count = next.len().min(into.len());
+    into[..count].copy_from_slice(&next[..count]);
+    count
+}
