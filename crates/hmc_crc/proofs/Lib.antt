@@ -1,0 +1,6 @@
+mod Plus
+mod Divide
+pub mod Bits
+mod Register
+pub mod Check
+mod Worked

@@ -1,0 +1,15 @@
+//! The cyclic redundancy check of a packet: 32 bits, by Koopman's polynomial 0x741B8CD7.
+//!
+//! The model is long division over two elements, as it is done by hand (`specs/Remainder.antt`):
+//! the bytes, each with its highest bit first, are the coefficients of a polynomial, and the check
+//! is the remainder of that polynomial times x^32. Nothing is reflected, added before or inverted
+//! after.
+//!
+//! A layer above uses [`crc`], whose result is `crc_of` of the bytes, and [`check_is_a_word`],
+//! which says that `crc_of` fits 32 bits whatever the bytes are. Which bytes of a packet are
+//! covered, and where the check stands in it, is the packet layer's.
+#![tactic(auto)]
+
+mod remainder;
+
+pub use remainder::{POLYNOMIAL, check_is_a_word, crc};
