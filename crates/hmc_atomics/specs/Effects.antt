@@ -1,0 +1,83 @@
+-- What each operation does, in numbers: one line an operation.
+use Rattle.std.specs.Prelude.{ℕ, ◌+◌, ◌*◌, ◌/◌, ◌%◌, ◌^◌, Bool, false, ◌||◌, ◌==◌, if◌then◌else◌, pos, neg_ℤ, ◌+ℤ◌, int_lt, int_le, ℤ, bit_and, bit_or, bit_xor}
+use Rattle.std.specs.Int.{Width, w64, w128, bit_not, cast_signed}
+use Rattle.hmc_atomics.specs.declared.atomic.Atomic.{Atomic}
+use Rattle.hmc_atomics.specs.declared.atomic.Atomic.TheVariants.{
+  Bwr,
+  Inc8,
+  TwoAdd8,
+  Add16,
+  Xor16,
+  Or16,
+  Nor16,
+  And16,
+  Nand16,
+  Swap16,
+  CasEq8,
+  CasGt8,
+  CasLt8,
+  CasGt16,
+  CasLt16,
+  CasZero16,
+  Eq8,
+  Eq16,
+}
+
+-- a number's new value, and the flag
+pub record Effect : Type 0 where
+  pub value : ℕ
+  pub flag : Bool
+
+abbrev pub becomes : ℕ → Bool → Effect
+becomes value flag = record { value = value; flag = flag }
+
+-- the first number is greater than the second, both read as signed ones in two's complement
+abbrev pub is_greater : Width → ℕ → ℕ → Bool
+is_greater width a b = int_lt (cast_signed width b) (cast_signed width a)
+
+-- a signed number is out of 64, or out of 128, bits
+abbrev pub is_out64 : ℤ → Bool
+is_out64 z = int_lt z (neg_ℤ (pos (2 ^ 63))) || int_le (pos (2 ^ 63)) z
+
+abbrev pub is_out128 : ℤ → Bool
+is_out128 z = int_lt z (neg_ℤ (pos (2 ^ 127))) || int_le (pos (2 ^ 127)) z
+
+-- the sum of two numbers, both read as signed ones, is out of their bits
+abbrev pub overflows64 : ℕ → ℕ → Bool
+overflows64 a b = is_out64 (cast_signed w64 a +ℤ cast_signed w64 b)
+
+abbrev pub overflows128 : ℕ → ℕ → Bool
+overflows128 a b = is_out128 (cast_signed w128 a +ℤ cast_signed w128 b)
+
+-- the halves of a number of 128 bits, and the number of two halves
+abbrev pub low : ℕ → ℕ
+low m = m % 2 ^ 64
+
+abbrev pub high : ℕ → ℕ
+high m = m / 2 ^ 64
+
+abbrev pub joined : ℕ → ℕ → ℕ
+joined low high = low + high * 2 ^ 64
+
+-- In an operation on eight bytes h is the half that is acted on, in the others m is the block.
+-- The operand is o, and lo and hi are its halves.
+unfoldable pub effect_of : Atomic → (h m lo hi o : ℕ) → Effect
+effect_of Bwr h m lo hi o = becomes (bit_or (bit_and h (bit_not w64 hi)) (bit_and lo hi)) false
+effect_of Inc8 h m lo hi o = becomes ((h + 1) % 2 ^ 64) false
+effect_of TwoAdd8 h m lo hi o =
+    becomes (joined ((low m + lo) % 2 ^ 64) ((high m + hi) % 2 ^ 64)) (overflows64 (low m) lo || overflows64 (high m) hi)
+effect_of Add16 h m lo hi o = becomes ((m + o) % 2 ^ 128) (overflows128 m o)
+effect_of Xor16 h m lo hi o = becomes (bit_xor m o) false
+effect_of Or16 h m lo hi o = becomes (bit_or m o) false
+effect_of Nor16 h m lo hi o = becomes (bit_not w128 (bit_or m o)) false
+effect_of And16 h m lo hi o = becomes (bit_and m o) false
+effect_of Nand16 h m lo hi o = becomes (bit_not w128 (bit_and m o)) false
+effect_of Swap16 h m lo hi o = becomes o false
+effect_of CasEq8 h m lo hi o = becomes (if h == lo then hi else h) (h == lo)
+effect_of CasGt8 h m lo hi o = becomes (if is_greater w64 lo h then lo else h) (is_greater w64 lo h)
+effect_of CasLt8 h m lo hi o = becomes (if is_greater w64 h lo then lo else h) (is_greater w64 h lo)
+effect_of CasGt16 h m lo hi o = becomes (if is_greater w128 o m then o else m) (is_greater w128 o m)
+effect_of CasLt16 h m lo hi o = becomes (if is_greater w128 m o then o else m) (is_greater w128 m o)
+effect_of CasZero16 h m lo hi o = becomes (if m == 0 then o else m) (m == 0)
+effect_of Eq8 h m lo hi o = becomes h (h == lo)
+effect_of Eq16 h m lo hi o = becomes m (m == o)

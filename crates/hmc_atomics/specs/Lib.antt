@@ -1,0 +1,4 @@
+pub mod Operations
+pub mod Halves
+pub mod Effects
+pub mod Act

@@ -1,0 +1,87 @@
+//! The operations.
+
+ghost use Rattle.std.specs.Prelude.{◌≡◌};
+ghost use Rattle.hmc_atomics.specs.Operations.{atomic_of, by_halves};
+
+use hmc_codes::Command;
+
+/// What an atomic command does, whether or not it is posted or returns the old bytes.
+#[derive(Clone, Copy, Debug, PartialEq, Eq)]
+pub enum Atomic {
+    /// Bits of a half are written where the operand's high half has them set.
+    Bwr,
+    /// One is added to a half.
+    Inc8,
+    /// Each half of the operand is added to the same half of the block.
+    TwoAdd8,
+    /// The operand is added to the block.
+    Add16,
+    Xor16,
+    Or16,
+    Nor16,
+    And16,
+    Nand16,
+    /// The operand takes the place of the block.
+    Swap16,
+    /// The operand's high half takes the place of a half that equals its low half.
+    CasEq8,
+    /// The operand's low half takes the place of a half, if it is greater.
+    CasGt8,
+    /// The operand's low half takes the place of a half, if it is less.
+    CasLt8,
+    /// The operand takes the place of the block, if it is greater.
+    CasGt16,
+    /// The operand takes the place of the block, if it is less.
+    CasLt16,
+    /// The operand takes the place of a block of zeros.
+    CasZero16,
+    /// Whether a half equals the operand's low half.
+    Eq8,
+    /// Whether the block equals the operand.
+    Eq16,
+}
+
+impl Atomic {
+    /// The operation of an atomic command.
+    #[tactic(auto, unfolding(crate::specs::Operations::atomic_of))]
+    pub fn of(command: Command) -> Option<Self>
+        ensures { result ≡ atomic_of command }
+    {
+        match command {
+            Command::Bwr | Command::Pbwr | Command::Bwr8r => Some(Atomic::Bwr),
+            Command::Inc8 | Command::Pinc8 => Some(Atomic::Inc8),
+            Command::TwoAdd8 | Command::PtwoAdd8 | Command::TwoAdds8r => Some(Atomic::TwoAdd8),
+            Command::Add16 | Command::Padd16 | Command::Adds16r => Some(Atomic::Add16),
+            Command::Xor16 => Some(Atomic::Xor16),
+            Command::Or16 => Some(Atomic::Or16),
+            Command::Nor16 => Some(Atomic::Nor16),
+            Command::And16 => Some(Atomic::And16),
+            Command::Nand16 => Some(Atomic::Nand16),
+            Command::Swap16 => Some(Atomic::Swap16),
+            Command::Caseq8 => Some(Atomic::CasEq8),
+            Command::Casgt8 => Some(Atomic::CasGt8),
+            Command::Caslt8 => Some(Atomic::CasLt8),
+            Command::Casgt16 => Some(Atomic::CasGt16),
+            Command::Caslt16 => Some(Atomic::CasLt16),
+            Command::Caszero16 => Some(Atomic::CasZero16),
+            Command::Eq8 => Some(Atomic::Eq8),
+            Command::Eq16 => Some(Atomic::Eq16),
+            _ => None,
+        }
+    }
+
+    /// Whether it is an operation on eight bytes, which acts on one half of a block.
+    pub fn by_halves(self) -> bool
+        ensures { result ≡ by_halves self }
+    {
+        matches!(
+            self,
+            Atomic::Bwr
+                | Atomic::Inc8
+                | Atomic::CasEq8
+                | Atomic::CasGt8
+                | Atomic::CasLt8
+                | Atomic::Eq8
+        )
+    }
+}

@@ -1,0 +1,87 @@
+//! Blocks of 16 bytes, their halves and their numbers.
+
+ghost use Rattle.std.specs.Prelude.{◌≡◌};
+ghost use Rattle.std.specs.Int.{w64, w128, from_le_bytes};
+ghost use Rattle.hmc_atomics.specs.Act.{acted_block, acted_half};
+ghost use Rattle.hmc_atomics.specs.Effects.{becomes, high, joined, low};
+ghost use Rattle.hmc_atomics.specs.Halves.{half_of, with_half};
+
+use hmc_codes::Acted;
+
+/// The low half, or the high one.
+pub fn half(block: [u8; 16], high: bool) -> [u8; 8]
+    ensures { result ≡ half_of high block }
+{
+    let mut half = [0; 8];
+    if high {
+        half.copy_from_slice(&block[8..]);
+    } else {
+        half.copy_from_slice(&block[..8]);
+    }
+    half
+}
+
+/// The number of a half.
+pub fn half_number(block: [u8; 16], high: bool) -> u64
+    ensures { result ≡ from_le_bytes w64 (half_of high block) }
+{
+    u64::from_le_bytes(half(block, high))
+}
+
+/// The block with one half replaced.
+pub fn with_half(block: [u8; 16], high: bool, half: [u8; 8]) -> [u8; 16]
+    ensures { result ≡ with_half high block half }
+{
+    let mut new = block;
+    if high {
+        new[8..].copy_from_slice(&half);
+    } else {
+        new[..8].copy_from_slice(&half);
+    }
+    new
+}
+
+/// A half has its new value; answered are the old half and eight zero bytes.
+pub fn half_becomes(block: [u8; 16], high: bool, value: u64, flag: bool) -> Acted
+    ensures { result ≡ acted_half high block (becomes value flag) }
+{
+    let mut answer = [0; 16];
+    answer[..8].copy_from_slice(&half(block, high));
+    Acted {
+        block: with_half(block, high, value.to_le_bytes()),
+        answer,
+        flag,
+    }
+}
+
+/// The block has its new value; answered is the old block.
+pub fn block_becomes(block: [u8; 16], value: u128, flag: bool) -> Acted
+    ensures { result ≡ acted_block block (becomes value flag) }
+{
+    Acted {
+        block: value.to_le_bytes(),
+        answer: block,
+        flag,
+    }
+}
+
+/// The low half of a number.
+pub fn low_of(number: u128) -> u64
+    ensures { result ≡ low number }
+{
+    (number % (1 << 64)) as u64
+}
+
+/// The high half of a number.
+pub fn high_of(number: u128) -> u64
+    ensures { result ≡ high number }
+{
+    (number >> 64) as u64
+}
+
+/// The number of two halves.
+pub fn joined(low: u64, high: u64) -> u128
+    ensures { result ≡ joined low high }
+{
+    u128::from(low) | u128::from(high) << 64
+}

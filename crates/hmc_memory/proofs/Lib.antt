@@ -1,0 +1,4 @@
+pub mod Address
+pub mod WrittenLemmas
+pub mod KeptLemmas
+pub mod Calls

@@ -1,0 +1,130 @@
+//! The registers of one cube.
+
+ghost use Rattle.std.specs.Prelude.{◌≡◌, ◌≤◌, ◌<◌, ◌↔◌, OnOk, OnErr, IsNone, slice_get, slice_set};
+ghost use Rattle.hmc_registers.specs.Registers.{opening_registers, IsRegisters};
+
+use hmc_codes::Shape;
+use std::marker::Model;
+
+/// How many registers a cube has.
+pub const REGISTERS: u64 = 16;
+
+/// Registers below this number are not written.
+pub const FIRST_SCRATCH: u64 = 4;
+
+/// Why a register wasn't written.
+#[derive(Clone, Copy, Debug, PartialEq, Eq)]
+pub enum RegisterFault {
+    /// There is no register with this number.
+    NoRegister,
+    /// The register tells the cube's number or shape.
+    ReadOnly,
+}
+
+/// The registers of one cube. Contracts see the list of their values.
+#[derive(Drop)]
+pub struct Registers {
+    values: [u32; 16],
+}
+
+impl Model for Registers {
+    ghost use Rattle.std.specs.Prelude.{ℕ, List};
+    ghost use Rattle.hmc_registers.specs.Registers.{IsRegisters};
+
+    ghost Value = { List ℕ };
+
+    ghost view = { λ r. r.values };
+
+    ghost invariant = { λ r. IsRegisters r.values };
+}
+
+impl Registers {
+    /// The cube's number, its shape's `vault_bits`, `bank_bits` and `rows`, and twelve zeros.
+    #[tactic(auto, unfolding(crate::specs::Registers::opening_registers))]
+    pub fn new(cube: u8, shape: Shape) -> Self
+        ensures { result ≡ opening_registers cube shape }
+    {
+        let number = u32::from(cube);
+        let vault_bits = u32::from(shape.vault_bits);
+        let bank_bits = u32::from(shape.bank_bits);
+        let rows = u32::from(shape.rows);
+        Registers {
+            values: [
+                number, vault_bits, bank_bits, rows, 0, 0, 0, 0, 0, 0, 0, 0, 0, 0, 0, 0,
+            ],
+        }
+    }
+
+    /// Nothing is done: what all registers keep is the contract.
+    pub fn keeps(&self)
+        ensures { IsRegisters self.now }
+    {
+        let _ = &self.values;
+    }
+
+    /// The value of a register, if there is one with this number.
+    pub fn read(&self, number: u64) -> Option<u32>
+        ensures value { result ≡ slice_get self.now number }
+        ensures none { IsNone result ↔ (16 ≤ number) }
+    {
+        if number < REGISTERS {
+            Some(self.values[number as usize])
+        } else {
+            None
+        }
+    }
+
+    /// Gives a register its value.
+    pub fn write(&mut self, number: u64, value: u32) -> Result<(), RegisterFault>
+        ensures ok { OnOk result (self.new ≡ slice_set self.old number value) }
+        ensures err { OnErr result (self.new ≡ self.old) }
+        ensures no_register { (result ≡ Err RegisterFault.NoRegister) ↔ (16 ≤ number) }
+        ensures read_only { (result ≡ Err RegisterFault.ReadOnly) ↔ (number < 4) }
+    {
+        if number >= REGISTERS {
+            return Err(RegisterFault::NoRegister);
+        }
+        if number < FIRST_SCRATCH {
+            return Err(RegisterFault::ReadOnly);
+        }
+        self.values[number as usize] = value;
+        Ok(())
+    }
+}
+
+#[cfg(test)]
+mod tests {
+    use super::*;
+
+    // A cube of number 5 with 8 vaults of 4 banks of 300 rows.
+    #[test]
+    fn numbers_and_shape(rt: HostRuntime) {
+        let shape = Shape {
+            vault_bits: 3,
+            bank_bits: 2,
+            rows: 300,
+        };
+        let mut registers = Registers::new(5, shape);
+        let written = [
+            (15, 0xffff_ffff, Ok(())),
+            (4, 7, Ok(())),
+            (3, 1, Err(RegisterFault::ReadOnly)),
+            (16, 1, Err(RegisterFault::NoRegister)),
+        ];
+        for (number, value, want) in written {
+            assert!(rt; registers.write(number, value) == want, "written {number}");
+        }
+        for (number, want) in [
+            (0, Some(5)),
+            (1, Some(3)),
+            (2, Some(2)),
+            (3, Some(300)),
+            (4, Some(7)),
+            (5, Some(0)),
+            (15, Some(0xffff_ffff)),
+            (16, None),
+        ] {
+            assert!(rt; registers.read(number) == want, "read {number}");
+        }
+    }
+}

@@ -1,0 +1,6 @@
+pub mod BlockLemmas
+pub mod Payloads
+pub mod Errorless
+pub mod Fine
+pub mod Performed
+pub mod MachineLemmas

@@ -1,0 +1,37 @@
+-- One cube of the plain machine.
+use Rattle.std.specs.Prelude.{◌≡◌, ℕ, List, length, replicate}
+use Rattle.hmc_codes.specs.Bytes.{IsBytes}
+use Rattle.hmc_codes.specs.Shape.{ShapeFields, IsShape, capacity_of}
+use Rattle.hmc_codes.specs.declared.answer.Answer.{Answer}
+use Rattle.hmc_memory.specs.Banks.{BanksFields}
+use Rattle.hmc_registers.specs.Registers.{IsRegisters, opening_registers}
+
+-- all bytes in address order, and sixteen registers
+pub record CubeState : Type 0 where
+  pub shape : ShapeFields
+  pub memory : List ℕ
+  pub registers : List ℕ
+
+-- what a request leaves, and what it is answered
+pub record Outcome : Type 0 where
+  pub cube : CubeState
+  pub answer : Answer
+
+-- at first all bytes are zero
+unfoldable pub opening : ShapeFields → (number : ℕ) → CubeState
+opening shape number =
+    record { shape = shape; memory = replicate (capacity_of shape) 0; registers = opening_registers number shape }
+
+-- what each cube keeps: as many bytes as its shape says, and sixteen registers
+pub record IsCube (cube : CubeState) : Type 0 where
+  pub is_shape : IsShape cube.shape
+  pub capacity : length cube.memory ≡ capacity_of cube.shape
+  pub bytes : IsBytes cube.memory
+  pub are_registers : IsRegisters cube.registers
+
+-- the cube with this memory and these registers
+abbrev pub cube_of : BanksFields → List ℕ → CubeState
+cube_of banks registers = record { shape = banks.shape; memory = banks.bytes; registers = registers }
+
+abbrev pub outcome_of : BanksFields → List ℕ → Answer → Outcome
+outcome_of banks registers answer = record { cube = cube_of banks registers; answer = answer }

@@ -1,0 +1,5 @@
+pub mod Actions
+pub mod Cube
+pub mod Errors
+pub mod Perform
+pub mod Machine

@@ -1,0 +1,97 @@
+//! What a request does to a cube.
+
+ghost use Rattle.std.specs.Prelude.{◌≡◌, ◌<◌, ◌≤◌, length, slice_index, slice_set, take};
+ghost use Rattle.std.specs.Int.{w32, from_le_bytes};
+ghost use Rattle.hmc_serial.specs.Actions.{action_of};
+ghost use Rattle.hmc_serial.specs.Cube.{cube_of, outcome_of};
+ghost use Rattle.hmc_serial.specs.Errors.{error_of};
+ghost use Rattle.hmc_serial.specs.Perform.{carried_out, perform_on};
+
+use crate::Action;
+use crate::answers::{acted_answer, unless_posted};
+use crate::blocks::{act_at, read, write};
+use crate::errors::error;
+use hmc_codes::{Answer, Request};
+use hmc_memory::Banks;
+use hmc_registers::Registers;
+
+/// Performs a request on the memory and the registers of its cube, and answers it.
+pub fn perform(banks: &mut Banks, registers: &mut Registers, request: &Request) -> Answer
+    ensures outcome { outcome_of banks.new registers.new result
+        ≡ perform_on (cube_of banks.old registers.old) request.now }
+    ensures shape { banks.new.shape ≡ banks.old.shape }
+{
+    request.keeps();
+    let Some(action) = Action::of(request.command) else {
+        return Answer::Silent;
+    };
+    let payload = request.payload.as_slice();
+    match error(action, &banks.shape(), request.address, payload.len()) {
+        Some(errstat) => unless_posted(request.command, Answer::Refused { errstat }),
+        None => carry_out(action, banks, registers, request),
+    }
+}
+
+// Does what a request without an error asks for.
+fn carry_out(
+    action: Action,
+    banks: &mut Banks,
+    registers: &mut Registers,
+    request: &Request,
+) -> Answer
+    requires action { action_of request.now.command ≡ Some action }
+    requires no_error { error_of action banks.old.shape request.now.address (length request.now.payload) ≡ None }
+    ensures outcome { outcome_of banks.new registers.new result
+        ≡ carried_out action (cube_of banks.old registers.old) request.now }
+    ensures shape { banks.new.shape ≡ banks.old.shape }
+{
+    request.keeps();
+    let address = request.address;
+    match action {
+        Action::Read(size) => {
+            let payload = read(banks, address, usize::from(size));
+            Answer::Read {
+                flag: false,
+                payload,
+            }
+        }
+        Action::Write => {
+            write(banks, address, request.payload.as_slice());
+            unless_posted(request.command, Answer::Done { flag: false })
+        }
+        Action::ReadRegister => read_register(registers, address),
+        Action::WriteRegister => write_register(registers, address, request.payload.as_slice()),
+        Action::Act(op) => {
+            let acted = act_at(op, banks, address, request.payload.as_slice());
+            acted_answer(request.command, &acted)
+        }
+        Action::Work(_) => Answer::Silent,
+    }
+}
+
+// The value of a register that is there.
+fn read_register(registers: &Registers, address: u64) -> Answer
+    requires { address < 16 }
+    ensures { result ≡ Answer.Register (slice_index registers.now address) }
+{
+    registers.keeps();
+    Answer::Register {
+        value: registers.read(address).unwrap_or(0),
+    }
+}
+
+// Gives a register that is written the number of its first four bytes.
+fn write_register(registers: &mut Registers, address: u64, payload: &[u8]) -> Answer
+    requires there { address < 16 }
+    requires written { 4 ≤ address }
+    requires long { 4 ≤ length payload.now }
+    ensures registers { registers.new ≡ slice_set registers.old address (from_le_bytes w32 (take 4 payload.now)) }
+    ensures answer { result ≡ Answer.Stored }
+{
+    let mut bytes = [0; 4];
+    bytes.copy_from_slice(&payload[..4]);
+    match registers.write(address, u32::from_le_bytes(bytes)) {
+        Ok(()) => Answer::Stored,
+        Err(_) => unreachable!(),
+    }
+}

@@ -1,0 +1,75 @@
+//! The errors of requests.
+
+ghost use Rattle.std.specs.Prelude.{◌≡◌, ◌<◌, ◌≤◌, ◌^◌};
+ghost use Rattle.hmc_serial.specs.Errors.{is_misaligned, memory_error, register_error, register_write_error, error_of};
+
+use crate::Action;
+use hmc_codes::Shape;
+use hmc_registers::{FIRST_SCRATCH, REGISTERS};
+
+// How many bytes a row has.
+const ROW: u64 = 256;
+
+fn is_misaligned(halves: bool, address: u64) -> bool
+    ensures { result ≡ is_misaligned halves address }
+{
+    address % 8 != 0 || (!halves && address / 8 % 2 != 0)
+}
+
+// Errors 1 to 3.
+#[tactic(auto, unfolding(crate::specs::Errors::memory_error))]
+fn memory_error(shape: &Shape, size: u64, halves: bool, address: u64) -> Option<u8>
+    requires { size < 2 ^ 32 }
+    ensures { result ≡ memory_error shape.now size halves address }
+{
+    let spot = shape.spot(address);
+    if is_misaligned(halves, address) {
+        Some(1)
+    } else if u64::from(spot.offset) + size > ROW {
+        Some(2)
+    } else if spot.row >= u64::from(shape.rows) {
+        Some(3)
+    } else {
+        None
+    }
+}
+
+// Error 4.
+#[tactic(auto, unfolding(crate::specs::Errors::register_error))]
+fn register_error(address: u64) -> Option<u8>
+    ensures { result ≡ register_error address }
+{
+    if address >= REGISTERS { Some(4) } else { None }
+}
+
+// Errors 4 and 5.
+#[tactic(auto, unfolding(crate::specs::Errors::register_write_error))]
+fn register_write_error(address: u64) -> Option<u8>
+    ensures { result ≡ register_write_error address }
+{
+    if address >= REGISTERS {
+        Some(4)
+    } else if address < FIRST_SCRATCH {
+        Some(5)
+    } else {
+        None
+    }
+}
+
+/// The number of a request's error, if it has one.
+pub fn error(action: Action, shape: &Shape, address: u64, len: usize) -> Option<u8>
+    requires { len ≤ 256 }
+    ensures { result ≡ error_of action shape.now address len }
+{
+    match action {
+        Action::Read(size) => memory_error(shape, u64::from(size), false, address),
+        Action::Write => memory_error(shape, len as u64, false, address),
+        Action::ReadRegister => register_error(address),
+        Action::WriteRegister => register_write_error(address),
+        Action::Act(op) => {
+            let halves = op.by_halves();
+            memory_error(shape, if halves { 8 } else { 16 }, halves, address)
+        }
+        Action::Work(_) => memory_error(shape, 16, false, address).or(Some(6)),
+    }
+}
