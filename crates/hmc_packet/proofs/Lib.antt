@@ -1,0 +1,17 @@
+pub mod CommandOf
+pub mod CommandLemmas
+pub mod PacketLemmas
+pub mod HeaderLemmas
+pub mod TailLemmas
+pub mod FlitLemmas
+pub mod PartLemmas
+pub mod PoisonLemmas
+pub mod JudgedLemmas
+pub mod SpelledLemmas
+pub mod ReadLemmas
+pub mod ReadOf
+pub mod TransactionLemmas
+pub mod LinkLemmas
+pub mod FrontLemmas
+pub mod LawLemmas
+pub mod Worked

@@ -1,0 +1,233 @@
+-- What flits read as: a spelling as its packet, and nothing else as that packet.
+use Rattle.std.proofs.Common.{◌≡◌, ◌≢◌, ◌∙◌, ◌<◌, ◌≤◌, ◌*◌, ◌⊎◌, lit<, lit≤, inl, inr, ℕ, zero, suc, Bool, true, false, cond, Result, Ok, Err, List, [], ◌∷◌, ◌++◌, length, take, drop, refl, sym, ap, subst, arith}
+use Rattle.std.specs.Prelude.{◌&&◌, ◌==◌, nat_le, IfOk}
+use Rattle.std.specs.List.{concat}
+use Rattle.std.proofs.lemmas.Bool.{eqb-true, eq-eqb, and_parts, and_from, leb-true, le-leb}
+use Rattle.std.proofs.lemmas.List.{nil_from_length, take-take, take-append-le}
+use Rattle.std.proofs.lemmas.Slice.Eq.{bytes_eq-Decides}
+use Rattle.hmc_codes.specs.Bytes.{IsBytes}
+use Rattle.hmc_codes.specs.Commands.{layout_of}
+use Rattle.hmc_codes.specs.declared.layout.Layout.{Layout}
+use Rattle.hmc_codes.specs.declared.layout.Layout.TheVariants as layouts
+use Rattle.hmc_codes.specs.declared.command.Command.TheVariants.{Null}
+use Rattle.hmc_packet.specs.declared.bad.Bad.{Bad}
+use Rattle.hmc_packet.specs.declared.bad.Bad.TheVariants as bads
+use Rattle.hmc_packet.specs.declared.seen.Seen.{Seen}
+use Rattle.hmc_packet.specs.Bits.{bits_from}
+use Rattle.hmc_packet.specs.Codes.{is_flow}
+use Rattle.hmc_packet.specs.Packet.{PacketFields, IsPacket, IsLaidOut, flits_of, null_packet}
+use Rattle.hmc_packet.specs.Tail.{pointers}
+use Rattle.hmc_packet.specs.Spelling.{HasPointer, bytes_of, cut, null_flit, flits_with, spelling}
+use Rattle.hmc_packet.specs.Parts.{word_of, header_in, lng_of}
+use Rattle.hmc_packet.specs.Reading.{is_null, is_null_alone, has_length, bytes_read, read_of, AreBytesOf, IsSpelled}
+use Rattle.hmc_packet.proofs.CommandLemmas.{flow-one, null_layout-null, layout_of-null}
+use Rattle.hmc_packet.proofs.HeaderLemmas as headers
+use Rattle.hmc_packet.proofs.PacketLemmas.{IsPacket-null, flits_of-few, IsHeader-fields}
+use Rattle.hmc_packet.proofs.FlitLemmas.{AreFlits, first-length, length-concat, length-cut, cut-concat, concat-cut}
+use Rattle.hmc_packet.proofs.SpelledLemmas.{length-bytes_of, header_in-bytes_of, bytes_read-bytes_of}
+use Rattle.hmc_packet.proofs.ReadLemmas.{IsWhole, bytes_read-AreBytesOf}
+
+-- ---- NULL
+
+pub is_null-is : (flit : List ℕ) → is_null flit ≡ true → flit ≡ null_flit
+unfolding is_null
+is_null-is flit is = (bytes_eq-Decides flit null_flit).0 is
+
+pub is_null-null : is_null null_flit ≡ true
+unfolding is_null
+is_null-null = (bytes_eq-Decides null_flit null_flit).1 refl
+
+-- NULL's LNG is 0
+pub lng_of-null : lng_of null_flit ≡ 0
+unfolding lng_of word_of null_flit
+lng_of-null = refl
+
+pub null_or_other : (layout : Layout) → (layout ≡ layouts.Null) ⊎ (layout ≢ layouts.Null)
+null_or_other layouts.Null = inl refl
+null_or_other layouts.Pret = inr (λ is. cc)
+null_or_other layouts.Tret = inr (λ is. cc)
+null_or_other layouts.Irtry = inr (λ is. cc)
+null_or_other layouts.Ask = inr (λ is. cc)
+null_or_other layouts.Reply = inr (λ is. cc)
+
+null_fields : (p : PacketFields) (layout : Layout) → layout ≡ layouts.Null → IsLaidOut layout p → p.command ≡ Null → p.payload ≡ [] → p ≡ null_packet
+null_fields p layouts.Null is laid command payload = λ i. record {
+  command = command i;
+  tag = laid.0.tag i;
+  address = laid.0.address i;
+  cube = laid.0.cube i;
+  slid = laid.0.slid i;
+  flag = laid.0.flag i;
+  errstat = laid.0.errstat i;
+  rtc = laid.1.rtc i;
+  seq = laid.1.seq i;
+  frp = laid.2 i;
+  poisoned = laid.0.poisoned i;
+  payload = payload i;
+}
+null_fields p _ is laid command payload = absurd cc
+
+-- the one packet with NULL's layout
+pub null-null_packet : (p : PacketFields) → IsPacket p → layout_of p.command ≡ layouts.Null → p ≡ null_packet
+null-null_packet p is null =
+    let one : flits_of p ≡ 1 = flow-one p.command (flits_of p) (ap is_flow null) is.payload.allowed in
+    let whole = is.payload.whole in
+    let none : p.payload ≡ [] = nil_from_length p.payload (omega arith) in
+    null_fields p (layout_of p.command) null is.layout (null_layout-null p.command null) none
+
+-- ---- spellings as flits
+
+flits_with-other : (layout : Layout) (p : PacketFields) (rrp : ℕ) → layout ≢ layouts.Null → flits_with layout p rrp ≡ cut (flits_of p) (bytes_of p rrp)
+unfolding flits_with
+flits_with-other layouts.Null p rrp other = absurd (other refl)
+flits_with-other _ p rrp other = refl
+
+pub spelling-other : (p : PacketFields) (rrp : ℕ) → layout_of p.command ≢ layouts.Null → spelling p rrp ≡ cut (flits_of p) (bytes_of p rrp)
+unfolding spelling
+spelling-other p rrp other = flits_with-other (layout_of p.command) p rrp other
+
+pub spelling-null : (rrp : ℕ) → spelling null_packet rrp ≡ null_flit ∷ []
+unfolding spelling flits_with
+spelling-null rrp = ap (λ (l : Layout). flits_with l null_packet rrp) layout_of-null
+
+-- a first flit's header is that of the bytes
+pub header_in-front : (bytes : List ℕ) → header_in (take 16 bytes) ≡ header_in bytes
+header_in-front bytes = ap word_of (take-take 8 16 bytes (lit≤ tt))
+
+pub lng_of-front : (bytes : List ℕ) → lng_of (take 16 bytes) ≡ bits_from 7 5 (header_in bytes)
+unfolding lng_of
+lng_of-front bytes = ap (bits_from 7 5) (header_in-front bytes)
+
+not_true : (b : Bool) → (b ≡ true → ⊥) → b ≡ false
+not_true true no_way = absurd (no_way refl)
+not_true false no_way = refl
+
+not_null_alone : (flit : List ℕ) (rest : List (List ℕ)) → lng_of flit ≢ 0 → is_null_alone (flit ∷ rest) ≡ false
+unfolding is_null_alone
+not_null_alone flit [] some = not_true (is_null flit) (λ is. some (ap lng_of (is_null-is flit is) ∙ lng_of-null))
+not_null_alone flit (x ∷ xs) some = refl
+
+has_its_length : (flit : List ℕ) (rest : List (List ℕ)) (n : ℕ) → lng_of flit ≡ n → suc (length rest) ≡ n → n ≤ 17 → has_length (flit ∷ rest) ≡ true
+unfolding has_length
+has_its_length flit rest n lng len few =
+    and_from _ _ (and_from _ _ (le-leb 1 (lng_of flit) (omega arith)) (le-leb (lng_of flit) 17 (omega arith))) (eq-eqb (suc (length rest)) (lng_of flit) (len ∙ sym lng))
+
+-- flits cut of bytes whose header names so many are no NULL, and as long as they say
+cut_tests : (n : ℕ) (bytes : List ℕ) → bits_from 7 5 (header_in bytes) ≡ n → 1 ≤ n → n ≤ 17 → (is_null_alone (cut n bytes) ≡ false) × (has_length (cut n bytes) ≡ true)
+unfolding cut
+cut_tests zero bytes lng some few = absurd (omega arith)
+cut_tests (suc k) bytes lng some few =
+    let front = lng_of-front bytes ∙ lng in (
+      not_null_alone (take 16 bytes) (cut k (drop 16 bytes)) (λ is. let clash : suc k ≡ 0 = sym front ∙ is in omega arith),
+      has_its_length (take 16 bytes) (cut k (drop 16 bytes)) (suc k) front (ap suc (length-cut k (drop 16 bytes))) few,
+    )
+
+pub lng-bytes_of : (p : PacketFields) (rrp : ℕ) → IsPacket p → bits_from 7 5 (header_in (bytes_of p rrp)) ≡ flits_of p
+lng-bytes_of p rrp is = ap (bits_from 7 5) (header_in-bytes_of p rrp is) ∙ headers.flits-word (layout_of p.command) _ (IsHeader-fields p is)
+
+-- ---- what is spelled is read
+
+read_null : (p : PacketFields) (rrp : ℕ) → p ≡ null_packet → rrp ≡ 0 → read_of (spelling p rrp) ≡ Ok (record { packet = p; rrp = rrp })
+unfolding read_of is_null_alone
+read_null p rrp is zero_pointer =
+    let seen : Result Seen Bad = Ok (record { packet = null_packet; rrp = 0 }) in
+    let found : read_of (null_flit ∷ []) ≡ seen = rw is_null-null refl in
+    (λ i. read_of (spelling (is i) (zero_pointer i))) ∙ ap read_of (spelling-null 0) ∙ found ∙ (λ i. Ok (record { packet = sym is i; rrp = sym zero_pointer i }))
+
+read_other : (p : PacketFields) (rrp : ℕ) → IsPacket p → rrp < pointers → layout_of p.command ≢ layouts.Null → read_of (spelling p rrp) ≡ Ok (record { packet = p; rrp = rrp })
+unfolding read_of
+read_other p rrp is lt other =
+    let few = flits_of-few p is in
+    let bytes = bytes_of p rrp in
+    let tests = cut_tests (flits_of p) bytes (lng-bytes_of p rrp is) few.0 few.1 in
+    let joined : concat (cut (flits_of p) bytes) ≡ bytes = concat-cut (flits_of p) bytes (length-bytes_of p rrp is) in
+    let found : read_of (cut (flits_of p) bytes) ≡ bytes_read bytes = rw (tests.0, tests.1, joined) refl in
+    ap read_of (spelling-other p rrp other) ∙ found ∙ bytes_read-bytes_of p rrp is lt other
+
+-- the spelling of a packet is read as that packet and its pointer
+pub read_of-spelling : (p : PacketFields) (rrp : ℕ) → IsPacket p → HasPointer p rrp → read_of (spelling p rrp) ≡ Ok (record { packet = p; rrp = rrp })
+read_of-spelling p rrp is pointer =
+    elim (null_or_other (layout_of p.command)) [
+      | inl null ↦ read_null p rrp (null-null_packet p is null) (pointer.null (null_layout-null p.command null))
+      | inr other ↦ read_other p rrp is pointer.below other
+    ]
+
+-- ---- what is read is spelled so
+
+found_null : (flits : List (List ℕ)) → is_null_alone flits ≡ true → flits ≡ null_flit ∷ []
+unfolding is_null_alone
+found_null [] is = absurd cc
+found_null (flit ∷ []) is = ap (λ (f : List ℕ). f ∷ []) (is_null-is flit is)
+found_null (flit ∷ x ∷ xs) is = absurd cc
+
+length-lng : (flits : List (List ℕ)) → AreFlits flits → has_length flits ≡ true → (1 ≤ length flits) × (length flits ≤ 17) × (bits_from 7 5 (header_in (concat flits)) ≡ length flits)
+unfolding has_length lng_of
+length-lng [] are is = absurd cc
+length-lng (flit ∷ rest) are is =
+    let outer = and_parts (nat_le 1 (bits_from 7 5 (header_in flit)) && nat_le (bits_from 7 5 (header_in flit)) 17) (suc (length rest) == bits_from 7 5 (header_in flit)) is in
+    let inner = and_parts (nat_le 1 (bits_from 7 5 (header_in flit))) (nat_le (bits_from 7 5 (header_in flit)) 17) outer.0 in
+    let same : suc (length rest) ≡ bits_from 7 5 (header_in flit) = eqb-true _ _ outer.1 in
+    let low = leb-true 1 (bits_from 7 5 (header_in flit)) inner.0 in
+    let high = leb-true (bits_from 7 5 (header_in flit)) 17 inner.1 in
+    let size : length flit ≡ 16 = first-length flit rest are in
+    let front : header_in (flit ++ concat rest) ≡ header_in flit = ap word_of (take-append-le 8 flit (concat rest) (omega arith)) in
+    (omega arith, omega arith, ap (bits_from 7 5) front ∙ sym same)
+
+whole_bytes : (flits : List (List ℕ)) → AreFlits flits → has_length flits ≡ true → IsBytes (concat flits) → IsWhole (concat flits)
+whole_bytes flits are is fits =
+    let lng = length-lng flits are is in
+    let len = length-concat flits are in
+    record { some = omega (arith, lng.0); size = len ∙ ap (λ (n : ℕ). 16 * n) (sym lng.2); are_bytes = fits }
+
+abbrev done : Seen → Result Seen Bad
+done seen = Ok seen
+
+done_is : (a b : Seen) → done a ≡ done b → a ≡ b
+done_is a b e = cc
+
+pub null_is_spelled : (flits : List (List ℕ)) → is_null_alone flits ≡ true → IsSpelled flits (record { packet = null_packet; rrp = 0 })
+null_is_spelled flits is = record {
+  packet = IsPacket-null;
+  pointer = record { below = lit< tt; null = λ null. refl };
+  spelled = found_null flits is ∙ sym (spelling-null 0);
+}
+
+other_is_spelled : (flits : List (List ℕ)) (seen : Seen) → AreFlits flits → AreBytesOf (concat flits) seen → IsSpelled flits seen
+other_is_spelled flits seen are is =
+    let len = length-concat flits are in
+    let same : length (concat flits) ≡ 16 * flits_of seen.packet = ap length is.bytes_are ∙ length-bytes_of seen.packet seen.rrp is.packet in
+    let count : length flits ≡ flits_of seen.packet = omega arith in
+    record {
+      packet = is.packet;
+      pointer = record { below = is.pointer; null = λ null. absurd (is.other (ap layout_of null ∙ layout_of-null)) };
+      spelled = sym (cut-concat flits are) ∙ (λ i. cut (count i) (is.bytes_are i)) ∙ sym (spelling-other seen.packet seen.rrp is.other);
+    }
+
+-- bytes that were read, as flits
+pub bytes-spelled : (flits : List (List ℕ)) (bytes : List ℕ) (r : Result Seen Bad) → AreFlits flits → bytes ≡ concat flits → IfOk r (λ seen. AreBytesOf bytes seen) → IfOk r (λ seen. IsSpelled flits seen)
+bytes-spelled flits bytes (Ok seen) are is found = other_is_spelled flits seen are (subst (λ (b : List ℕ). AreBytesOf b seen) is found)
+bytes-spelled flits bytes (Err bad) are is found = tt
+
+found_by : (flits : List (List ℕ)) (seen : Seen) (null long : Bool) → AreFlits flits → (is_null_alone flits ≡ false → IsBytes (concat flits)) → is_null_alone flits ≡ null → has_length flits ≡ long →
+    cond null (done (record { packet = null_packet; rrp = 0 })) (cond long (bytes_read (concat flits)) (Err bads.Length)) ≡ Ok seen → IsSpelled flits seen
+found_by flits seen true long are fits is-null is-long is =
+    let nothing : Seen = record { packet = null_packet; rrp = 0 } in
+    subst (λ (s : Seen). IsSpelled flits s) (done_is nothing seen is) (null_is_spelled flits is-null)
+found_by flits seen false true are fits is-null is-long is =
+    other_is_spelled flits seen are (bytes_read-AreBytesOf (concat flits) seen (whole_bytes flits are is-long (fits is-null)) is)
+found_by flits seen false false are fits is-null is-long is = absurd cc
+
+-- what flits are read as, they are the spelling of
+pub read_of-found : (flits : List (List ℕ)) (seen : Seen) → AreFlits flits → (is_null_alone flits ≡ false → IsBytes (concat flits)) → read_of flits ≡ Ok seen → IsSpelled flits seen
+unfolding read_of
+read_of-found flits seen are fits is = found_by flits seen (is_null_alone flits) (has_length flits) are fits refl refl is
+
+-- as many flits as Length permits
+pub has_length-few : (flits : List (List ℕ)) → AreFlits flits → has_length flits ≡ true → (1 ≤ length flits) × (length flits ≤ 17)
+has_length-few flits are is = let lng = length-lng flits are is in (lng.0, lng.1)
+
+pub whole-bytes : (flits : List (List ℕ)) → AreFlits flits → has_length flits ≡ true → length (concat flits) ≡ 16 * bits_from 7 5 (header_in (concat flits))
+whole-bytes flits are is = length-concat flits are ∙ ap (λ (n : ℕ). 16 * n) (sym (length-lng flits are is).2)
+
+pub read_of-only : (flits : List (List ℕ)) (r : Result Seen Bad) → r ≡ read_of flits → (p : PacketFields) (rrp : ℕ) → IsPacket p → HasPointer p rrp → flits ≡ spelling p rrp → r ≡ Ok (record { packet = p; rrp = rrp })
+read_of-only flits r exact p rrp is pointer spelled = exact ∙ ap read_of spelled ∙ read_of-spelling p rrp is pointer

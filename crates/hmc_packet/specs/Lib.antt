@@ -1,0 +1,11 @@
+pub mod Bits
+pub mod Codes
+pub mod Header
+pub mod Tail
+pub mod Packet
+pub mod Spelling
+pub mod Parts
+pub mod Reading
+pub mod Transactions
+pub mod Head
+pub mod Laws

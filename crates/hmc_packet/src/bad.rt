@@ -1,0 +1,14 @@
+//! Why flits are no packet.
+
+/// The first test that flits fail.
+#[derive(Clone, Copy, Debug, PartialEq, Eq)]
+pub enum Bad {
+    /// The first flit's LNG isn't 1 to 17, or isn't the number of flits.
+    Length,
+    /// The table lacks the code, or it is 0, or the command doesn't allow the LNG.
+    Command,
+    /// A bit that has to be zero isn't, or an IRTRY is neither of the two.
+    Reserved,
+    /// The check is wrong.
+    Crc,
+}
