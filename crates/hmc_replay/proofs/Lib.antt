@@ -1,0 +1,12 @@
+pub mod Digits
+pub mod LinesRead
+pub mod Writing
+pub mod Outputs
+pub mod Passing
+pub mod Numbered
+pub mod Quiet
+pub mod Serving
+pub mod Answerable
+pub mod Scripts
+pub mod Memories
+pub mod Worked

@@ -1,0 +1,9 @@
+pub mod Front
+pub mod Input
+pub mod Reads
+pub mod Report
+pub mod Script
+pub mod Top
+pub mod Causes
+pub mod Numbers
+pub mod Run

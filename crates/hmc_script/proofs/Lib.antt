@@ -1,0 +1,13 @@
+pub mod PartsLemmas
+pub mod WordsLemmas
+pub mod LinesLemmas
+pub mod ScriptLemmas
+pub mod TextLemmas
+pub mod CommandLemmas
+pub mod NumberLemmas
+pub mod NumberText
+pub mod WordsText
+pub mod RequestWords
+pub mod MeaningText
+pub mod LawLemmas
+pub mod PayloadLemmas

@@ -1,0 +1,5 @@
+use Rattle.hmc_script.proofs.LawLemmas.{printed_is_read}
+use Rattle.hmc_script.proofs.print.printed_is_read.Goals as goal
+
+pub returns : goal.returns
+returns c = printed_is_read

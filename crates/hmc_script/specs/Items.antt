@@ -1,0 +1,20 @@
+-- What a script is: a list of requests.
+use Rattle.std.specs.Prelude.{ℕ, ◌<◌, ◌≤◌, List, length}
+use Rattle.std.specs.List.{All}
+use Rattle.hmc_codes.specs.Request.{IsRequest}
+use Rattle.hmc_script.specs.declared.item.Item.{Item}
+
+-- a request of a script, as contracts see it
+abbrev pub ItemFields : Type 0
+ItemFields = Item
+
+-- the host and the cube are among so many
+pub record IsWithin (hosts cubes : ℕ) (item : ItemFields) : Type 0 where
+  pub host : item.host < hosts
+  pub cube : item.request.cube < cubes
+
+-- at most 65,536 requests, of hosts below 8
+pub record IsScript (items : List ItemFields) : Type 0 where
+  pub few : length items ≤ 65536
+  pub hosts : All (λ item. item.host < 8) items
+  pub requests : All (λ item. IsRequest item.request) items

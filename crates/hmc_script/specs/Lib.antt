@@ -1,0 +1,12 @@
+pub mod Words
+pub mod Lines
+pub mod Number
+pub mod Kind
+pub mod Reading
+pub mod Commands
+pub mod Payload
+pub mod Meaning
+pub mod Items
+pub mod Script
+pub mod Text
+pub mod Law

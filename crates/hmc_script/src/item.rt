@@ -1,0 +1,16 @@
+//! The requests of a script.
+
+use hmc_codes::Request;
+
+/// A request of a script.
+#[derive(Clone, Copy)]
+pub struct Item {
+    /// The host that asks, below 8.
+    pub host: u8,
+    /// Whether a fence of the host stands before the request and behind the host's previous one, if there is one. The
+    /// request then waits until the host awaits no answer.
+    pub fenced: bool,
+    /// Whether the request is sent poisoned: whole on the links, and without effect at its cube.
+    pub poisoned: bool,
+    pub request: Request,
+}

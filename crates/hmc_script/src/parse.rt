@@ -1,0 +1,105 @@
+//! Scripts are read.
+
+ghost use Rattle.std.specs.Prelude.{◌≡◌, ◌≤◌, ◌<◌, ℕ, length, IfOk, OnOk};
+ghost use Rattle.std.specs.List.{All};
+ghost use Rattle.hmc_script.specs.Items.{IsWithin};
+ghost use Rattle.hmc_script.specs.Meaning.{IsSaidWithin};
+ghost use Rattle.hmc_script.specs.Script.{Answers, Progress, after_meaning, after_line, at_line, script_of};
+
+use crate::lines::first_line;
+use crate::meaning::{Meaning, meaning_of};
+use crate::script::MOST_ITEMS;
+use crate::{Item, Script, ScriptFault, ScriptKind};
+use std::alloc::Global;
+
+/// Hosts are numbered below 8.
+const HOSTS: usize = 8;
+
+// Follows what a line says: a request goes behind the others, and a fence waits for the next one of its host.
+#[tactic(auto, unfolding(crate::specs::Script::after_meaning))]
+fn follow(
+    script: &mut Script,
+    fences: &mut [bool; HOSTS],
+    number: u32,
+    meaning: Meaning,
+) -> Result<(), ScriptFault>
+    requires { IsSaidWithin 8 8 meaning }
+    ensures value { Answers (λ _. record { items = script.new; fences = fences.new }) result
+        (at_line number (after_meaning (record { items = script.old; fences = fences.old }) meaning)) }
+    ensures within { (hosts cubes : ℕ) → IsSaidWithin hosts cubes meaning → All (IsWithin hosts cubes) script.old
+        → OnOk result (All (IsWithin hosts cubes) script.new) }
+{
+    match meaning {
+        Meaning::Nothing => Ok(()),
+        Meaning::Fence(host) => {
+            fences[usize::from(host)] = true;
+            Ok(())
+        }
+        Meaning::Ask(host, poisoned, request) => {
+            if script.len() as usize >= MOST_ITEMS {
+                return Err(ScriptFault::Fault {
+                    line: number,
+                    kind: ScriptKind::TooMany,
+                });
+            }
+            let fenced = fences[usize::from(host)];
+            fences[usize::from(host)] = false;
+            script.push(Item {
+                host,
+                fenced,
+                poisoned,
+                request,
+            })?;
+            Ok(())
+        }
+    }
+}
+
+// Reads the next line.
+#[tactic(auto, unfolding(crate::specs::Script::after_line))]
+fn read_line(
+    script: &mut Script,
+    fences: &mut [bool; HOSTS],
+    number: u32,
+    line: &[u8],
+    hosts: u8,
+    cubes: u8,
+) -> Result<(), ScriptFault>
+    requires hosts { hosts ≤ 8 }
+    requires cubes { cubes ≤ 8 }
+    ensures value { Answers (λ _. record { items = script.new; fences = fences.new }) result
+        (at_line number (after_line hosts cubes (record { items = script.old; fences = fences.old }) line.now)) }
+    ensures within { All (IsWithin hosts cubes) script.old → OnOk result (All (IsWithin hosts cubes) script.new) }
+{
+    match meaning_of(hosts, cubes, line) {
+        Ok(meaning) => follow(script, fences, number, meaning),
+        Err(kind) => Err(ScriptFault::Fault { line: number, kind }),
+    }
+}
+
+impl Script {
+    /// Reads a script, for a case with so many hosts and cubes, at most 8 each. The fault is the first one: its line,
+    /// counted from 1, and what is wrong there, judged word by word from left to right. A line number that would pass
+    /// 4,294,967,295 is answered as that number.
+    #[tactic(auto, unfolding(crate::specs::Script::script_of))]
+    pub fn parse(alloc: Global, text: &str, hosts: u8, cubes: u8) -> Result<Script, ScriptFault>
+        requires hosts { hosts ≤ 8 }
+        requires cubes { cubes ≤ 8 }
+        ensures exact { Answers (λ script. script) result (script_of hosts cubes text.now) }
+        ensures within { IfOk result (All (IsWithin hosts cubes)) }
+    {
+        let mut script = Script::new(alloc);
+        let mut fences = [false; HOSTS];
+        let mut number = 1u32;
+        let mut left = Some(text.as_bytes());
+        'lines: while let Some(text) = left {
+            let (line, behind) = first_line(text);
+            if let Err(fault) = read_line(&mut script, &mut fences, number, line, hosts, cubes) {
+                return Err(fault);
+            }
+            number = number.saturating_add(1);
+            left = behind;
+        }
+        Ok(script)
+    }
+}

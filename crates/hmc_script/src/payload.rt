@@ -1,0 +1,122 @@
+//! The payload of a request, as a word.
+
+ghost use Rattle.std.specs.Prelude.{◌≡◌, ◌≤◌, ◌<◌, ◌^◌, IfOk, IfSome, IsTrue, length, option_map, Some, []};
+ghost use Rattle.std.specs.Result.{result_ok};
+ghost use Rattle.hex.specs.Hex.{decode_sized};
+ghost use Rattle.hmc_codes.specs.Bytes.{IsBytes};
+ghost use Rattle.hmc_codes.specs.Commands.{payload_len_of};
+ghost use Rattle.hmc_codes.specs.Text.{is_mdwr};
+ghost use Rattle.hmc_codes.specs.declared.command.Command.TheVariants.{Mdwr};
+ghost use Rattle.hmc_script.specs.Words.{words_of};
+ghost use Rattle.hmc_script.specs.Number.{below, number_of};
+ghost use Rattle.hmc_script.specs.Payload.{value_bytes, payload_of, no_payload, some_payload, payload_word, IsPayload};
+
+use crate::ScriptKind;
+use crate::number::below;
+use crate::reading::{next_word, no_word};
+use hmc_codes::{Command, Payload};
+
+/// Values are below 2^32.
+const VALUES: u64 = 1 << 32;
+
+fn is_mdwr(command: Command) -> bool
+    ensures value { result ≡ is_mdwr command }
+    ensures only { IsTrue result → command ≡ Mdwr }
+{
+    matches!(command, Command::Mdwr)
+}
+
+// A payload, and that its bytes are bytes.
+fn made(bytes: &[u8]) -> Option<Payload>
+    requires { length bytes.now ≤ 256 }
+    ensures value { result ≡ Some bytes.now }
+    ensures bytes { IsBytes bytes.now }
+{
+    let made = Payload::from_slice(bytes)?;
+    let _ = made.as_slice();
+    Some(made)
+}
+
+// The value's four bytes and twelve zero bytes.
+fn value_bytes(value: u32) -> [u8; 16]
+    ensures { result ≡ value_bytes value }
+{
+    let mut bytes = [0; 16];
+    bytes[..4].copy_from_slice(&value.to_le_bytes());
+    bytes
+}
+
+// The payload of an mdwr with this value.
+fn value_payload(word: &[u8]) -> Option<Payload>
+    ensures value { result ≡ option_map value_bytes (below (2 ^ 32) (number_of word.now)) }
+    ensures fits { IfSome result (IsPayload Mdwr) }
+{
+    let value = below(VALUES, word)? as u32;
+    made(&value_bytes(value))
+}
+
+// The payload with these digits, two a byte.
+fn hex_payload(len: usize, word: &[u8]) -> Option<Payload>
+    requires { len ≤ 256 }
+    ensures value { result ≡ result_ok (decode_sized word.now len) }
+    ensures length { IfSome result (λ payload. length payload ≡ len) }
+    ensures bytes { IfSome result IsBytes }
+{
+    let mut bytes = [0; 256];
+    let bytes = &mut bytes[..len];
+    if hex::decode_to_slice(word, bytes).is_err() {
+        return None;
+    }
+    made(bytes)
+}
+
+// The payload that a word stands for.
+#[tactic(auto, unfolding(crate::specs::Payload::payload_of))]
+fn payload(command: Command, word: &[u8]) -> Option<Payload>
+    ensures value { result ≡ payload_of command word.now }
+    ensures fits { IfSome result (IsPayload command) }
+{
+    if is_mdwr(command) {
+        value_payload(word)
+    } else {
+        hex_payload(command.payload_len(), word)
+    }
+}
+
+// The end of a line.
+#[tactic(auto, unfolding(crate::specs::Payload::no_payload))]
+fn no_payload(line: &[u8]) -> Result<Payload, ScriptKind>
+    ensures value { result ≡ no_payload (words_of line.now) }
+    ensures empty { IfOk result (λ payload. payload ≡ []) }
+{
+    no_word(line)?;
+    Ok(Payload::empty())
+}
+
+// A payload's word, and the end of a line.
+#[tactic(auto, unfolding(crate::specs::Payload::some_payload))]
+fn some_payload(command: Command, line: &[u8]) -> Result<Payload, ScriptKind>
+    ensures value { result ≡ some_payload command (words_of line.now) }
+    ensures fits { IfOk result (IsPayload command) }
+{
+    let (word, rest) = next_word(line)?;
+    let Some(payload) = payload(command, word) else {
+        return Err(ScriptKind::Payload);
+    };
+    no_word(rest)?;
+    Ok(payload)
+}
+
+/// The payload that stands behind a request's address, where no word may follow. It has a word only where the command
+/// has a payload.
+#[tactic(auto, unfolding(crate::specs::Payload::payload_word))]
+pub fn payload_word(command: Command, line: &[u8]) -> Result<Payload, ScriptKind>
+    ensures value { result ≡ payload_word command (words_of line.now) }
+    ensures fits { IfOk result (IsPayload command) }
+{
+    if command.payload_len() == 0 {
+        no_payload(line)
+    } else {
+        some_payload(command, line)
+    }
+}
