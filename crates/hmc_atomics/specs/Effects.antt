@@ -1,6 +1,6 @@
 -- What each operation does, in numbers: one line an operation.
-use Rattle.std.specs.Prelude.{ℕ, ◌+◌, ◌*◌, ◌/◌, ◌%◌, ◌^◌, Bool, false, ◌||◌, ◌==◌, if◌then◌else◌, pos, neg_ℤ, ◌+ℤ◌, int_lt, int_le, ℤ, bit_and, bit_or, bit_xor}
-use Rattle.std.specs.Int.{Width, w64, w128, bit_not, cast_signed}
+use Rattle.std.specs.Prelude.{ℕ, ◌+◌, ◌-◌, ◌*◌, ◌/◌, ◌%◌, ◌^◌, Bool, false, ◌||◌, ◌==◌, if◌then◌else◌, pos, neg_ℤ, ◌+ℤ◌, int_lt, int_le, ℤ, bit_and, bit_or, bit_xor}
+use Rattle.std.specs.Int.{Width, w64, w128, bit_not, byte_len, cast_signed}
 use Rattle.hmc_atomics.specs.declared.atomic.Atomic.{Atomic}
 use Rattle.hmc_atomics.specs.declared.atomic.Atomic.TheVariants.{
   Bwr,
@@ -35,19 +35,13 @@ becomes value flag = record { value = value; flag = flag }
 abbrev pub is_greater : Width → ℕ → ℕ → Bool
 is_greater width a b = int_lt (cast_signed width b) (cast_signed width a)
 
--- a signed number is out of 64, or out of 128, bits
-abbrev pub is_out64 : ℤ → Bool
-is_out64 z = int_lt z (neg_ℤ (pos (2 ^ 63))) || int_le (pos (2 ^ 63)) z
-
-abbrev pub is_out128 : ℤ → Bool
-is_out128 z = int_lt z (neg_ℤ (pos (2 ^ 127))) || int_le (pos (2 ^ 127)) z
+-- a number isn't one of the signed ones of the width, which go from -2^(bits - 1) to 2^(bits - 1) - 1
+abbrev pub is_out : Width → ℤ → Bool
+is_out width z = int_lt z (neg_ℤ (pos (2 ^ (8 * byte_len width - 1)))) || int_le (pos (2 ^ (8 * byte_len width - 1))) z
 
 -- the sum of two numbers, both read as signed ones, is out of their bits
-abbrev pub overflows64 : ℕ → ℕ → Bool
-overflows64 a b = is_out64 (cast_signed w64 a +ℤ cast_signed w64 b)
-
-abbrev pub overflows128 : ℕ → ℕ → Bool
-overflows128 a b = is_out128 (cast_signed w128 a +ℤ cast_signed w128 b)
+abbrev pub overflows : Width → ℕ → ℕ → Bool
+overflows width a b = is_out width (cast_signed width a +ℤ cast_signed width b)
 
 -- the halves of a number of 128 bits, and the number of two halves
 abbrev pub low : ℕ → ℕ
@@ -65,8 +59,8 @@ unfoldable pub effect_of : Atomic → (h m lo hi o : ℕ) → Effect
 effect_of Bwr h m lo hi o = becomes (bit_or (bit_and h (bit_not w64 hi)) (bit_and lo hi)) false
 effect_of Inc8 h m lo hi o = becomes ((h + 1) % 2 ^ 64) false
 effect_of TwoAdd8 h m lo hi o =
-    becomes (joined ((low m + lo) % 2 ^ 64) ((high m + hi) % 2 ^ 64)) (overflows64 (low m) lo || overflows64 (high m) hi)
-effect_of Add16 h m lo hi o = becomes ((m + o) % 2 ^ 128) (overflows128 m o)
+    becomes (joined ((low m + lo) % 2 ^ 64) ((high m + hi) % 2 ^ 64)) (overflows w64 (low m) lo || overflows w64 (high m) hi)
+effect_of Add16 h m lo hi o = becomes ((m + o) % 2 ^ 128) (overflows w128 m o)
 effect_of Xor16 h m lo hi o = becomes (bit_xor m o) false
 effect_of Or16 h m lo hi o = becomes (bit_or m o) false
 effect_of Nor16 h m lo hi o = becomes (bit_not w128 (bit_or m o)) false

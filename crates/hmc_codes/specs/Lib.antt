@@ -6,3 +6,4 @@ pub mod Padding
 pub mod Request
 pub mod Shape
 pub mod Text
+pub mod Link

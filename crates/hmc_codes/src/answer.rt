@@ -15,7 +15,7 @@ pub enum Answer {
     Register { value: u32 },
     /// A register was written.
     Stored,
-    /// The request has an error and changed nothing. The error's number is below 128.
+    /// The request has an error, of this number, and changed nothing. A packet has room for numbers below 128.
     Refused { errstat: u8 },
 }
 

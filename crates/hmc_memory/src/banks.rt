@@ -79,6 +79,7 @@ impl Banks {
         let _ = &self.shape;
     }
 
+    /// The shape that the memory was made of.
     pub fn shape(&self) -> Shape
         ensures { result ≡ self.now.shape }
     {

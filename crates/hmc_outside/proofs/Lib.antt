@@ -1,3 +1,4 @@
 pub mod FrontLemmas
 pub mod KeptLemmas
 pub mod RoseLemmas
+mod Worked

@@ -16,6 +16,7 @@ pub struct StdSource<R> {
 }
 
 impl<R: Read> StdSource<R> {
+    /// A source before its first call: no call has failed.
     pub fn new(reader: R) -> Self
         ensures reader { reader_of result ≡ reader }
         ensures faults { fault_count result ≡ 0 }

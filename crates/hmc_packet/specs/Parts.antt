@@ -11,16 +11,19 @@ word_of bytes = from_le_bytes w64 bytes
 unfoldable pub half_of : List ℕ → ℕ
 half_of bytes = from_le_bytes w32 bytes
 
--- The parts of a packet's bytes, of which there are at least 16.
+-- Of the bytes of a packet, of which there are at least 16, the first eight: the header.
 abbrev pub header_in : List ℕ → ℕ
 header_in bytes = word_of (take 8 bytes)
 
+-- all but the first eight and the last eight: the payload
 abbrev pub payload_in : List ℕ → List ℕ
 payload_in bytes = take (length bytes - 16) (drop 8 bytes)
 
+-- the first four of the last eight: the tail's fields
 abbrev pub tail_in : List ℕ → ℕ
 tail_in bytes = half_of (take 4 (drop (length bytes - 8) bytes))
 
+-- the last four: the check
 abbrev pub check_in : List ℕ → ℕ
 check_in bytes = half_of (drop (length bytes - 4) bytes)
 

@@ -4,7 +4,7 @@ ghost use Rattle.std.specs.Prelude.{◌≡◌};
 ghost use Rattle.hmc_packet.specs.Head.{named_by, head_with, head_in};
 
 use crate::header::Header;
-use crate::reading::{command_in, header_in};
+use crate::reading::{command_in, header_in, is_transaction};
 use hmc_codes::{Command, Flit, Layout};
 
 /// The head of a request or a response.
@@ -30,8 +30,7 @@ fn named_by(flit: &Flit) -> Option<Command>
 fn head_with(layout: Layout, command: Command, word: u64) -> Option<Head>
     ensures { result ≡ head_with layout command word }
 {
-    let transaction = matches!(layout, Layout::Ask | Layout::Reply);
-    if transaction && Header::is_clean(layout, word) {
+    if is_transaction(layout) && Header::is_clean(layout, word) {
         let header = Header::unpack(layout, word);
         Some(Head {
             command,

@@ -1,9 +1,9 @@
 //! From flits to a packet.
 
-ghost use Rattle.std.specs.Prelude.{◌≡◌, ◌≤◌, ◌*◌, ◌↔◌, ℕ, length, IfOk, IsTrue, Ok};
+ghost use Rattle.std.specs.Prelude.{◌≡◌, ◌≤◌, ◌*◌, ◌↔◌, ℕ, not, length, IfOk, IsTrue, Ok};
 ghost use Rattle.std.specs.List.{concat};
 ghost use Rattle.hmc_packet.specs.Bits.{bits_from};
-ghost use Rattle.hmc_packet.specs.Codes.{command_of};
+ghost use Rattle.hmc_packet.specs.Codes.{command_of, is_flow};
 ghost use Rattle.hmc_packet.specs.Packet.{PacketFields, IsPacket};
 ghost use Rattle.hmc_packet.specs.Spelling.{HasPointer, null_flit, spelling};
 ghost use Rattle.hmc_packet.specs.Parts.{word_of, half_of, header_in, payload_in, tail_in, check_in, lng_of};
@@ -146,11 +146,18 @@ fn is_clean(layout: Layout, bytes: &[u8]) -> bool
     Header::is_clean(layout, header_in(bytes)) && Tail::is_clean(layout, tail_in(bytes))
 }
 
+// Whether a packet is a request or a response.
+pub fn is_transaction(layout: Layout) -> bool
+    ensures { result ≡ not (is_flow layout) }
+{
+    matches!(layout, Layout::Ask | Layout::Reply)
+}
+
 #[tactic(auto, unfolding(crate::specs::Reading::poison_in))]
 fn poison_in(layout: Layout, check: u32, right: u32) -> Option<bool>
     ensures { result ≡ poison_in layout check right }
 {
-    let transaction = matches!(layout, Layout::Ask | Layout::Reply);
+    let transaction = is_transaction(layout);
     if check == right {
         Some(false)
     } else if transaction && check == !right {

@@ -4,3 +4,4 @@ pub mod Errorless
 pub mod Fine
 pub mod Performed
 pub mod MachineLemmas
+mod Worked

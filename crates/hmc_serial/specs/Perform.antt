@@ -1,9 +1,9 @@
 -- What a request does to a cube: one case a kind of command.
-use Rattle.std.specs.Prelude.{ℕ, ◌+◌, ◌-◌, ◌/◌, ◌%◌, Bool, false, not, ◌==◌, if◌then◌else◌, List, length, take, slice_range, slice_index, slice_set, Option, Some, None}
-use Rattle.std.specs.Int.{w32, from_le_bytes}
+use Rattle.std.specs.Prelude.{ℕ, ◌+◌, ◌-◌, ◌/◌, ◌%◌, Bool, false, not, ◌==◌, if◌then◌else◌, List, length, slice_range, slice_index, slice_set, Option, Some, None}
 use Rattle.hmc_codes.specs.Bytes.{padded}
 use Rattle.hmc_codes.specs.Commands.{is_posted, reply_of}
 use Rattle.hmc_codes.specs.Request.{RequestFields}
+use Rattle.hmc_codes.specs.Text.{value_in}
 use Rattle.hmc_codes.specs.declared.command.Command.{Command}
 use Rattle.hmc_codes.specs.declared.command.Command.TheVariants as commands
 use Rattle.hmc_codes.specs.declared.answer.Answer.{Answer}
@@ -70,7 +70,7 @@ carried_out Write cube request =
 carried_out ReadRegister cube request =
     keeps cube (answers.Register (slice_index cube.registers request.address))
 carried_out WriteRegister cube request =
-    leaves_registers cube (slice_set cube.registers request.address (from_le_bytes w32 (take 4 request.payload))) answers.Stored
+    leaves_registers cube (slice_set cube.registers request.address (value_in request.payload)) answers.Stored
 carried_out (Act op) cube request =
     leaves_acted cube request (acted_at op cube.memory request.address request.payload)
 carried_out (Work code) cube request =

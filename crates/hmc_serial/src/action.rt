@@ -15,7 +15,9 @@ pub enum Action {
     Read(u16),
     /// The payload is written.
     Write,
+    /// The value of a register is read.
     ReadRegister,
+    /// A register is given the number in the payload's first four bytes.
     WriteRegister,
     /// An atomic command.
     Act(Atomic),

@@ -1,7 +1,7 @@
 //! What a request does to a cube.
 
-ghost use Rattle.std.specs.Prelude.{◌≡◌, ◌<◌, ◌≤◌, length, slice_index, slice_set, take};
-ghost use Rattle.std.specs.Int.{w32, from_le_bytes};
+ghost use Rattle.std.specs.Prelude.{◌≡◌, ◌<◌, ◌≤◌, length, slice_index, slice_set};
+ghost use Rattle.hmc_codes.specs.Text.{value_in};
 ghost use Rattle.hmc_serial.specs.Actions.{action_of};
 ghost use Rattle.hmc_serial.specs.Cube.{cube_of, outcome_of};
 ghost use Rattle.hmc_serial.specs.Errors.{error_of};
@@ -85,7 +85,7 @@ fn write_register(registers: &mut Registers, address: u64, payload: &[u8]) -> An
     requires there { address < 16 }
     requires written { 4 ≤ address }
     requires long { 4 ≤ length payload.now }
-    ensures registers { registers.new ≡ slice_set registers.old address (from_le_bytes w32 (take 4 payload.now)) }
+    ensures registers { registers.new ≡ slice_set registers.old address (value_in payload.now) }
     ensures answer { result ≡ Answer.Stored }
 {
     let mut bytes = [0; 4];

@@ -108,3 +108,26 @@ fn responses(rt: HostRuntime) {
     assert_line(&rt, Command::Error, "error", 62, Family::Reply, &[1]);
     assert!(rt; !Command::RdRs.posted());
 }
+
+// What a request carries; of a command that asks nothing, what its packets do where they have one length.
+#[test]
+fn payloads(rt: HostRuntime) {
+    for (command, len) in [
+        (Command::Wr16, 16),
+        (Command::Wr48, 48),
+        (Command::Pwr128, 128),
+        (Command::Wr256, 256),
+        (Command::Rd256, 0),
+        (Command::Mdwr, 16),
+        (Command::Mdrd, 0),
+        (Command::Bwr, 16),
+        (Command::Inc8, 0),
+        (Command::Swap16, 16),
+        (Command::Unit3, 16),
+        (Command::Null, 0),
+        (Command::RdRs, 0),
+        (Command::MdRdRs, 16),
+    ] {
+        assert_eq!(rt; command.payload_len(), len, "of {command:?}");
+    }
+}

@@ -1,0 +1,65 @@
+//! The sizes of a link.
+
+ghost use Rattle.std.specs.Prelude.{◌≡◌};
+ghost use Rattle.hmc_codes.specs.Link.{IsLinkSetup};
+
+use std::marker::Model;
+
+/// The sizes of a link, the same at both of its ends.
+#[derive(Clone, Copy, Debug, PartialEq, Eq)]
+pub struct LinkSetup {
+    /// Flits that a line holds; 1 to 64.
+    pub line: u8,
+    /// Tokens that an end advertises: the flits of its receiving buffer; 17 to 1,024.
+    pub tokens: u16,
+    /// Flits of a retry buffer; 17 to 256.
+    pub retry: u16,
+    /// Packets that an output queue holds; 1 to 64.
+    pub output: u8,
+}
+
+impl Model for LinkSetup {
+    ghost use Rattle.hmc_codes.specs.Link.{LinkFields, IsLinkSetup};
+
+    ghost Value = { LinkFields };
+
+    ghost view = { λ s. record { line = s.line; tokens = s.tokens; retry = s.retry; output = s.output } };
+
+    ghost invariant = { λ s. IsLinkSetup (record { line = s.line; tokens = s.tokens; retry = s.retry; output = s.output }) };
+
+    ghost inverse = { λ s. record { line = s.line; tokens = s.tokens; retry = s.retry; output = s.output } };
+}
+
+impl LinkSetup {
+    /// Nothing is done: what every setup keeps is the contract.
+    pub fn keeps(&self)
+        ensures { IsLinkSetup self.now }
+    {
+        let _ = &self.line;
+    }
+}
+
+#[cfg(test)]
+mod tests {
+    use super::*;
+
+    // That both are setups is proved where they are made.
+    #[test]
+    fn least_and_greatest(rt: HostRuntime) {
+        let least = LinkSetup {
+            line: 1,
+            tokens: 17,
+            retry: 17,
+            output: 1,
+        };
+        let greatest = LinkSetup {
+            line: 64,
+            tokens: 1_024,
+            retry: 256,
+            output: 64,
+        };
+        least.keeps();
+        greatest.keeps();
+        assert!(rt; least != greatest);
+    }
+}
