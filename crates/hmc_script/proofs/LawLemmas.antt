@@ -6,19 +6,20 @@ use Rattle.std.proofs.lemmas.List.Elements.{All-head, All-tail}
 use Rattle.hmc_codes.specs.Request.{RequestFields, IsRequest}
 use Rattle.hmc_codes.specs.Text.{spaced, line}
 use Rattle.hmc_script.proofs.MeaningText.{meaning_of-fence, meaning_of-ask, fence_are_words, item_are_words, request_line-words}
-use Rattle.hmc_script.proofs.ScriptLemmas.{after_lines-ok}
+use Rattle.hmc_text.proofs.InTurnLemmas.{after_lines-ok}
 use Rattle.hmc_script.proofs.WordsText.{AreWords, words_of-spaced, lines_of-line}
 use Rattle.hmc_script.specs.declared.fault.ScriptKind.{ScriptKind}
 use Rattle.hmc_script.specs.declared.meaning.Meaning.{Meaning}
 use Rattle.hmc_script.specs.declared.meaning.Meaning.TheVariants.{Fence, Ask}
 use Rattle.hmc_script.specs.Items.{ItemFields, IsScript, IsWithin}
 use Rattle.hmc_script.specs.Law.{PrintedIsRead}
-use Rattle.hmc_script.specs.Lines.{lines_of}
+use Rattle.hmc_text.specs.Lines.{lines_of}
 use Rattle.hmc_script.specs.Meaning.{meaning_of}
-use Rattle.hmc_script.specs.Reading.{◌>>=◌}
-use Rattle.hmc_script.specs.Script.{Progress, after_meaning, after_line, after_lines, at_line, next_number, script_of}
+use Rattle.hmc_text.specs.Reading.{◌>>=◌}
+use Rattle.hmc_text.specs.InTurn.{after_lines, at_line, next_number}
+use Rattle.hmc_script.specs.Script.{Progress, after_meaning, after_line, script_of}
 use Rattle.hmc_script.specs.Text.{fence_line, fence_text, request_line, item_text, script_text}
-use Rattle.hmc_script.specs.Words.{words_of}
+use Rattle.hmc_text.specs.Words.{words_of}
 
 -- no host has a fence
 abbrev quiet : List Bool
@@ -27,24 +28,24 @@ quiet = replicate 8 false
 -- a written line does what its words say
 line_does : (hosts cubes number : ℕ) (progress next : Progress) (words : List (List ℕ)) (meaning : Meaning) (rest : List ℕ) →
     AreWords words → meaning_of hosts cubes words ≡ Ok meaning → after_meaning progress meaning ≡ Ok next →
-    after_lines hosts cubes number progress (lines_of (line words ++ rest)) ≡ after_lines hosts cubes (next_number number) next (lines_of rest)
+    after_lines (after_line hosts cubes) number progress (lines_of (line words ++ rest)) ≡ after_lines (after_line hosts cubes) (next_number number) next (lines_of rest)
 unfolding after_line
 line_does hosts cubes number progress next words meaning rest are says does =
     let said : after_line hosts cubes progress (spaced words) ≡ Ok next = ap (λ ws. meaning_of hosts cubes ws >>= after_meaning progress) (words_of-spaced words are) ∙ ap (λ (r : Result Meaning ScriptKind). r >>= after_meaning progress) says ∙ does in
-    ap (after_lines hosts cubes number progress) (lines_of-line words rest are) ∙ after_lines-ok hosts cubes number progress next (spaced words) (lines_of rest) (ap (at_line number) said)
+    ap (after_lines (after_line hosts cubes) number progress) (lines_of-line words rest are) ∙ after_lines-ok (after_line hosts cubes) number progress next (spaced words) (lines_of rest) (ap (at_line number) said)
 
 fence_does : (hosts cubes number host : ℕ) (items : List ItemFields) (fences : List Bool) (rest : List ℕ) → host < 8 → host < hosts →
-    after_lines hosts cubes number (record { items = items; fences = fences }) (lines_of (fence_line host ++ rest)) ≡ after_lines hosts cubes (next_number number) (record { items = items; fences = set fences host true }) (lines_of rest)
+    after_lines (after_line hosts cubes) number (record { items = items; fences = fences }) (lines_of (fence_line host ++ rest)) ≡ after_lines (after_line hosts cubes) (next_number number) (record { items = items; fences = set fences host true }) (lines_of rest)
 unfolding after_meaning
 fence_does hosts cubes number host items fences rest small within =
     line_does hosts cubes number _ _ _ (Fence host) rest (fence_are_words host small) (meaning_of-fence hosts cubes host small within) refl
 
 ask_does : (hosts cubes number host : ℕ) (poisoned : Bool) (request : RequestFields) (items : List ItemFields) (fences : List Bool) (rest : List ℕ) → host < 8 → host < hosts → IsRequest request → request.cube < cubes → length items < 65536 →
-    after_lines hosts cubes number (record { items = items; fences = fences }) (lines_of (request_line host poisoned request ++ rest))
-    ≡ after_lines hosts cubes (next_number number) (record { items = items ++ record { host = host; fenced = get_or fences host false; poisoned = poisoned; request = request } ∷ []; fences = set fences host false }) (lines_of rest)
+    after_lines (after_line hosts cubes) number (record { items = items; fences = fences }) (lines_of (request_line host poisoned request ++ rest))
+    ≡ after_lines (after_line hosts cubes) (next_number number) (record { items = items ++ record { host = host; fenced = get_or fences host false; poisoned = poisoned; request = request } ∷ []; fences = set fences host false }) (lines_of rest)
 unfolding after_meaning
 ask_does hosts cubes number host poisoned request items fences rest small in_hosts is in_cubes room =
-    ap (λ l. after_lines hosts cubes number (record { items = items; fences = fences }) (lines_of (l ++ rest))) (request_line-words host poisoned request)
+    ap (λ l. after_lines (after_line hosts cubes) number (record { items = items; fences = fences }) (lines_of (l ++ rest))) (request_line-words host poisoned request)
     ∙ line_does hosts cubes number _ _ _ (Ask host poisoned request) rest (item_are_words host poisoned request small is) (meaning_of-ask hosts cubes host poisoned request small in_hosts is in_cubes) (rw (lt-ltb (length items) 65536 room) refl)
 
 quiet_at : (host : ℕ) → host < 8 → get_or quiet host false ≡ false
@@ -60,12 +61,12 @@ quiet_again host fenced small =
 
 -- a fence and its request are read as an item
 item_does : (hosts cubes number host : ℕ) (fenced poisoned : Bool) (request : RequestFields) (items : List ItemFields) (rest : List ℕ) (read : Result Progress (ℕ × ScriptKind)) → host < 8 → host < hosts → IsRequest request → request.cube < cubes → length items < 65536 →
-    ((n : ℕ) → after_lines hosts cubes n (record { items = items ++ record { host = host; fenced = fenced; poisoned = poisoned; request = request } ∷ []; fences = quiet }) (lines_of rest) ≡ read) →
-    after_lines hosts cubes number (record { items = items; fences = quiet }) (lines_of ((fence_text host fenced ++ request_line host poisoned request) ++ rest)) ≡ read
+    ((n : ℕ) → after_lines (after_line hosts cubes) n (record { items = items ++ record { host = host; fenced = fenced; poisoned = poisoned; request = request } ∷ []; fences = quiet }) (lines_of rest) ≡ read) →
+    after_lines (after_line hosts cubes) number (record { items = items; fences = quiet }) (lines_of ((fence_text host fenced ++ request_line host poisoned request) ++ rest)) ≡ read
 item_does hosts cubes number host true poisoned request items rest read small in_hosts is in_cubes room later =
     let fences = set quiet host true in
     let waits : get_or fences host false ≡ true = get_or-set_same quiet host true false small in
-    ap (λ l. after_lines hosts cubes number (record { items = items; fences = quiet }) (lines_of l)) (append_assoc (fence_line host) (request_line host poisoned request) rest)
+    ap (λ l. after_lines (after_line hosts cubes) number (record { items = items; fences = quiet }) (lines_of l)) (append_assoc (fence_line host) (request_line host poisoned request) rest)
     ∙ fence_does hosts cubes number host items quiet (request_line host poisoned request ++ rest) small in_hosts
     ∙ ask_does hosts cubes (next_number number) host poisoned request items fences rest small in_hosts is in_cubes room
     ∙ rw (waits, quiet_again host true small) (later (next_number (next_number number)))
@@ -74,7 +75,7 @@ item_does hosts cubes number host false poisoned request items rest read small i
     ∙ rw (quiet_at host small, quiet_keeps host small) (later (next_number number))
 
 -- behind the last line feed nothing is said
-end_does : (hosts cubes number : ℕ) (progress : Progress) → after_lines hosts cubes number progress (lines_of []) ≡ Ok progress
+end_does : (hosts cubes number : ℕ) (progress : Progress) → after_lines (after_line hosts cubes) number progress (lines_of []) ≡ Ok progress
 unfolding lines_of words_of meaning_of after_line after_meaning after_lines
 end_does hosts cubes number progress = refl
 
@@ -85,7 +86,7 @@ joined read items item =
 
 -- so are all of them
 items_do : (hosts cubes number : ℕ) (read items : List ItemFields) → All (λ item. item.host < 8) items → All (λ item. IsRequest item.request) items → All (IsWithin hosts cubes) items → length read + length items ≤ 65536 →
-    after_lines hosts cubes number (record { items = read; fences = quiet }) (lines_of (script_text items)) ≡ Ok (record { items = read ++ items; fences = quiet })
+    after_lines (after_line hosts cubes) number (record { items = read; fences = quiet }) (lines_of (script_text items)) ≡ Ok (record { items = read ++ items; fences = quiet })
 unfolding script_text item_text
 items_do hosts cubes number read [] small are within few =
     let progress : List ItemFields → Progress = λ l. record { items = l; fences = quiet } in

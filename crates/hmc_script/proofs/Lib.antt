@@ -1,10 +1,6 @@
-pub mod PartsLemmas
-pub mod WordsLemmas
-pub mod LinesLemmas
 pub mod ScriptLemmas
 pub mod TextLemmas
 pub mod CommandLemmas
-pub mod NumberLemmas
 pub mod NumberText
 pub mod WordsText
 pub mod RequestWords

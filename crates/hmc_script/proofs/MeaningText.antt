@@ -18,16 +18,18 @@ use Rattle.hmc_script.specs.declared.fault.ScriptKind.{ScriptKind}
 use Rattle.hmc_script.specs.declared.fault.ScriptKind.TheVariants as kinds
 use Rattle.hmc_script.specs.declared.meaning.Meaning.TheVariants.{Fence, Ask}
 use Rattle.hmc_script.specs.Commands.{command_of}
-use Rattle.hmc_script.specs.Meaning.{number_word, command_word, request_of, ask_of, fence_of, said_of, is_silent, meaning_of}
-use Rattle.hmc_script.specs.Number.{below, number_of}
+use Rattle.hmc_script.specs.Meaning.{number_word, command_word, request_of, ask_of, fence_of, said_of, meaning_of}
+use Rattle.hmc_text.specs.Number.{number_of}
 use Rattle.hmc_script.specs.Payload.{payload_of, no_payload, some_payload, payload_word}
 use Rattle.hmc_script.specs.Text.{request_line}
-use Rattle.hmc_script.specs.Reading.{◌>>=◌, or_fault}
+use Rattle.hmc_text.specs.Reading as reading
+use Rattle.hmc_text.specs.Reading.{◌>>=◌, or_fault}
+use Rattle.hmc_text.specs.Words.{is_silent}
 
 number_word-is : (kind : ScriptKind) (limit n : ℕ) (w : List ℕ) (ws : List (List ℕ)) → number_of w ≡ Some n → n < limit → number_word kind limit (w ∷ ws) ≡ Ok (n, ws)
-unfolding number_word
+unfolding reading.number_word
 number_word-is kind limit n w ws is small =
-    ap (λ (o : Option ℕ). or_fault kind (below limit o) >>= (λ number. Ok (number, ws))) is ∙ ap (λ (o : Option ℕ). or_fault kind o >>= (λ number. Ok (number, ws))) (below-is limit n small)
+    rw (is, below-is limit n small) refl
 
 command_word-is : (command : Command) (ws : List (List ℕ)) → command_of (word_of command) ≡ Some command → command_word (word_of command ∷ ws) ≡ Ok (command, ws)
 unfolding command_word

@@ -9,7 +9,7 @@ use Rattle.std.proofs.lemmas.Fmt.{digits_is_IsNumeral, decimal_is_IsNumeral, len
 use Rattle.std.proofs.Math.Nat.{pow-suc, pow-zero, div-eq_of_lt, div-lt_iff_lt-mul}
 use Rattle.hex.specs.Hex.{hex_digit_value}
 use Rattle.hmc_codes.specs.Text.{hex_number}
-use Rattle.hmc_script.specs.Number.{below, number_behind, number_in, number_of}
+use Rattle.hmc_text.specs.Number.{below, number_behind, number_in, number_of}
 
 pub hex_digit_value-digit : (c : ℕ) → digit_value c < 16 → hex_digit_value c ≡ Some (digit_value c)
 hex_digit_value-digit c small = grind (arith, nat_tests)

@@ -22,7 +22,7 @@ use Rattle.hmc_codes.specs.declared.command.Command.TheVariants.{Null, Pret, Tre
 use Rattle.hmc_script.proofs.WordsText.{is_letter, IsWord, first_passes, second_passes}
 use Rattle.hmc_script.proofs.NumberText.{number_of-decimal, below-is}
 use Rattle.hmc_script.specs.Commands.{requests, command_of}
-use Rattle.hmc_script.specs.Number.{number_of}
+use Rattle.hmc_text.specs.Number.{number_of}
 use Rattle.hmc_script.specs.Payload.{payload_of, value_bytes}
 
 -- each command's word is one word, and neither a fence nor poison

@@ -5,8 +5,8 @@ use Rattle.std.proofs.lemmas.List.Elements.{All-nil, All-cons}
 use Rattle.std.proofs.lemmas.List.Folds.{list_all-append}
 use Rattle.std.proofs.lemmas.List.Splits.{slice_split_at, slice_split_none}
 use Rattle.hmc_codes.specs.Text.{spaced, line}
-use Rattle.hmc_script.specs.Lines.{is_line_feed, without_return, lines_of}
-use Rattle.hmc_script.specs.Words.{is_blank, is_some, words_of}
+use Rattle.hmc_text.specs.Lines.{is_line_feed, without_return, lines_of}
+use Rattle.hmc_text.specs.Words.{is_blank, is_some, words_of}
 
 -- a byte that ends no line
 abbrev pub is_inner : ℕ → Bool

@@ -1,8 +1,4 @@
-pub mod Words
-pub mod Lines
-pub mod Number
 pub mod Kind
-pub mod Reading
 pub mod Commands
 pub mod Payload
 pub mod Meaning

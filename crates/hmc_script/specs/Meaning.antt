@@ -1,5 +1,5 @@
 -- What a line of a script says, word by word from left to right.
-use Rattle.std.specs.Prelude.{ℕ, ◌<◌, ◌^◌, ◌==◌, Bool, true, false, List, [], ◌∷◌, slice_index, codes, Result, Ok, if◌then◌else◌}
+use Rattle.std.specs.Prelude.{ℕ, ◌<◌, ◌^◌, Bool, true, false, List, codes, Result, Ok, if◌then◌else◌}
 use Rattle.std.specs.Str.{bytes_eq}
 use Rattle.hmc_codes.specs.Request.{RequestFields}
 use Rattle.hmc_codes.specs.declared.command.Command.{Command}
@@ -8,21 +8,19 @@ use Rattle.hmc_script.specs.declared.fault.ScriptKind.TheVariants as kinds
 use Rattle.hmc_script.specs.declared.meaning.Meaning.{Meaning}
 use Rattle.hmc_script.specs.declared.meaning.Meaning.TheVariants.{Nothing, Fence, Ask}
 use Rattle.hmc_script.specs.Commands.{command_of}
-use Rattle.hmc_script.specs.Number.{below, number_of}
 use Rattle.hmc_script.specs.Payload.{payload_word}
-use Rattle.hmc_script.specs.Reading.{◌>>=◌, or_fault, next_word, no_word}
+use Rattle.hmc_text.specs.Reading as reading
+use Rattle.hmc_text.specs.Reading.{◌>>=◌, or_fault, next_word, no_word}
+use Rattle.hmc_text.specs.Words.{is_silent}
 
 -- a number below the limit, or else this kind of fault
-unfoldable pub number_word : ScriptKind → ℕ → List (List ℕ) → Result (ℕ × List (List ℕ)) ScriptKind
-number_word kind limit words = do
-  first ← next_word words
-  number ← or_fault kind (below limit (number_of first.0))
-  Ok (number, first.1)
+abbrev pub number_word : ScriptKind → ℕ → List (List ℕ) → Result (ℕ × List (List ℕ)) ScriptKind
+number_word kind limit words = reading.number_word kinds.Words kind kind limit words
 
 -- a word of a request, or else the fault `command`
 unfoldable pub command_word : List (List ℕ) → Result (Command × List (List ℕ)) ScriptKind
 command_word words = do
-  first ← next_word words
+  first ← next_word kinds.Words words
   command ← or_fault kinds.Command (command_of first.0)
   Ok (command, first.1)
 
@@ -44,22 +42,17 @@ ask_of cubes host poisoned words = do
 -- a fence of this host, behind which no word stands
 unfoldable pub fence_of : ℕ → List (List ℕ) → Result Meaning ScriptKind
 fence_of host words = do
-  end ← no_word words
+  end ← no_word kinds.Words words
   Ok (Fence host)
 
 -- a host, and then a fence or a request, which may be poisoned
 unfoldable pub said_of : ℕ → ℕ → List (List ℕ) → Result Meaning ScriptKind
 said_of hosts cubes words = do
   host ← number_word kinds.Host hosts words
-  second ← next_word host.1
+  second ← next_word kinds.Words host.1
   if bytes_eq second.0 (codes "fence") then fence_of host.0 second.1
       else if bytes_eq second.0 (codes "poison") then ask_of cubes host.0 true second.1
       else ask_of cubes host.0 false host.1
-
--- no word, or a comment: its first byte is 35, a `#`
-abbrev pub is_silent : List (List ℕ) → Bool
-is_silent [] = true
-is_silent (w ∷ ws) = slice_index w 0 == 35
 
 -- what the words of a line say
 unfoldable pub meaning_of : ℕ → ℕ → List (List ℕ) → Result Meaning ScriptKind

@@ -10,8 +10,8 @@ use Rattle.hmc_codes.specs.declared.command.Command.{Command}
 use Rattle.hmc_codes.specs.declared.command.Command.TheVariants.{Mdwr}
 use Rattle.hmc_script.specs.declared.fault.ScriptKind.{ScriptKind}
 use Rattle.hmc_script.specs.declared.fault.ScriptKind.TheVariants as kinds
-use Rattle.hmc_script.specs.Number.{below, number_of}
-use Rattle.hmc_script.specs.Reading.{◌>>=◌, or_fault, next_word, no_word}
+use Rattle.hmc_text.specs.Number.{below, number_of}
+use Rattle.hmc_text.specs.Reading.{◌>>=◌, or_fault, next_word, no_word}
 
 -- the bytes are a payload of a request with this command
 pub record IsPayload (command : Command) (payload : List ℕ) : Type 0 where
@@ -32,15 +32,15 @@ payload_of command word =
 -- the end of a line, in place of a payload
 unfoldable pub no_payload : List (List ℕ) → Result (List ℕ) ScriptKind
 no_payload words = do
-  end ← no_word words
+  end ← no_word kinds.Words words
   Ok []
 
 -- the word of a payload, and the end of a line
 unfoldable pub some_payload : Command → List (List ℕ) → Result (List ℕ) ScriptKind
 some_payload command words = do
-  first ← next_word words
+  first ← next_word kinds.Words words
   payload ← or_fault kinds.Payload (payload_of command first.0)
-  end ← no_word first.1
+  end ← no_word kinds.Words first.1
   Ok payload
 
 -- the last word of a request, which stands only where the command has a payload

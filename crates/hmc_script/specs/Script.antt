@@ -1,5 +1,5 @@
 -- The requests of a text, or its first fault.
-use Rattle.std.specs.Prelude.{◌≡◌, ℕ, ◌+◌, ◌-◌, ◌^◌, min, nat_lt, Bool, true, false, List, [], ◌∷◌, ◌++◌, length, replicate, slice_index_or, slice_set, Result, Ok, Err, if◌then◌else◌}
+use Rattle.std.specs.Prelude.{ℕ, nat_lt, Bool, true, false, List, [], ◌∷◌, ◌++◌, length, replicate, slice_index_or, slice_set, Option, Some, None, Result, Ok, Err, if◌then◌else◌}
 use Rattle.hmc_script.specs.declared.fault.ScriptFault.{ScriptFault}
 use Rattle.hmc_script.specs.declared.fault.ScriptFault.TheVariants as faults
 use Rattle.hmc_script.specs.declared.fault.ScriptKind.{ScriptKind}
@@ -7,10 +7,11 @@ use Rattle.hmc_script.specs.declared.fault.ScriptKind.TheVariants.{TooMany}
 use Rattle.hmc_script.specs.declared.meaning.Meaning.{Meaning}
 use Rattle.hmc_script.specs.declared.meaning.Meaning.TheVariants.{Nothing, Fence, Ask}
 use Rattle.hmc_script.specs.Items.{ItemFields}
-use Rattle.hmc_script.specs.Lines.{lines_of}
+use Rattle.hmc_text.specs.Lines.{lines_of}
 use Rattle.hmc_script.specs.Meaning.{meaning_of}
-use Rattle.hmc_script.specs.Reading.{◌>>=◌}
-use Rattle.hmc_script.specs.Words.{words_of}
+use Rattle.hmc_text.specs.InTurn.{after_lines, AnswersBy}
+use Rattle.hmc_text.specs.Reading.{◌>>=◌}
+use Rattle.hmc_text.specs.Words.{words_of}
 
 -- what some lines gave: the requests, and which hosts have a fence that no request stands behind
 pub record Progress : Type 0 where
@@ -36,30 +37,17 @@ after_line hosts cubes progress line = do
   meaning ← meaning_of hosts cubes (words_of line)
   after_meaning progress meaning
 
--- the fault is that of this line
-abbrev pub at_line : {A : Type 0} → ℕ → Result A ScriptKind → Result A (ℕ × ScriptKind)
-at_line number (Ok x) = Ok x
-at_line number (Err kind) = Err (number, kind)
-
--- lines are counted up to 4,294,967,295, and those behind it have that number too
-abbrev pub next_number : ℕ → ℕ
-next_number number = min (number + 1) (2 ^ 32 - 1)
-
--- the lines in turn, the first of them with this number
-unfoldable pub after_lines : ℕ → ℕ → ℕ → Progress → List (List ℕ) → Result Progress (ℕ × ScriptKind)
-after_lines hosts cubes number progress [] = Ok progress
-after_lines hosts cubes number progress (line ∷ lines) = do
-  next ← at_line number (after_line hosts cubes progress line)
-  after_lines hosts cubes (next_number number) next lines
-
 -- the requests, or the first fault: its line and what is wrong there
 unfoldable pub script_of : ℕ → ℕ → List ℕ → Result (List ItemFields) (ℕ × ScriptKind)
 script_of hosts cubes text = do
-  progress ← after_lines hosts cubes 1 nothing_yet (lines_of text)
+  progress ← after_lines (after_line hosts cubes) 1 nothing_yet (lines_of text)
   Ok progress.items
+
+-- the fault that an error tells: none if memory ran out
+abbrev pub told : ScriptFault → Option (ℕ × ScriptKind)
+told faults.Memory = None
+told (faults.Fault line kind) = Some (line, kind)
 
 -- a call answered what reading gives, unless memory ran out
 abbrev pub Answers : {X Y : Type 0} → (X → Y) → Result X ScriptFault → Result Y (ℕ × ScriptKind) → Type 0
-Answers view (Ok x) read = read ≡ Ok (view x)
-Answers view (Err faults.Memory) read = Unit {0}
-Answers view (Err (faults.Fault line kind)) read = read ≡ Err (line, kind)
+Answers view result read = AnswersBy told view result read

@@ -5,22 +5,17 @@
 //! which. [`Script::print`] writes a script as a text. The layers above take scripts from either, or make them by
 //! [`Script::new`] and [`Script::add`].
 //!
-//! Texts of other kinds that have the same lines, words and numbers can be read by what [`lines`], [`words`] and
-//! [`number`] have.
+//! Lines, words and numbers are those of `hmc_text`.
 #![tactic(auto)]
 
 mod command;
 mod fault;
 mod item;
-pub mod lines;
 mod meaning;
-pub mod number;
 mod parse;
 mod payload;
 mod print;
-mod reading;
 mod script;
-pub mod words;
 
 pub use fault::{ScriptFault, ScriptKind};
 pub use item::Item;

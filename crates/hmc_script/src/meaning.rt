@@ -3,17 +3,17 @@
 ghost use Rattle.std.specs.Prelude.{ℕ, ◌≡◌, ◌≤◌, ◌<◌, ◌^◌, IfOk};
 ghost use Rattle.hmc_codes.specs.Commands.{family_of};
 ghost use Rattle.hmc_codes.specs.declared.family.Family.TheVariants as families;
-ghost use Rattle.hmc_script.specs.Words.{words_of};
-ghost use Rattle.hmc_script.specs.Reading.{Gives};
+ghost use Rattle.hmc_text.specs.Words.{words_of};
+ghost use Rattle.hmc_text.specs.Reading.{Gives};
 ghost use Rattle.hmc_script.specs.Payload.{IsPayload};
-ghost use Rattle.hmc_script.specs.Meaning.{number_word, command_word, request_of, ask_of, fence_of, said_of, is_silent, meaning_of, IsSaidWithin};
+ghost use Rattle.hmc_script.specs.Meaning.{number_word, command_word, request_of, ask_of, fence_of, said_of, meaning_of, IsSaidWithin};
 
 use crate::ScriptKind;
 use crate::command::command_of;
-use crate::number::below;
 use crate::payload::payload_word;
-use crate::reading::{next_word, no_word};
 use hmc_codes::{Command, Payload, Request};
+use hmc_text::reading::{self, next_word, no_word};
+use hmc_text::words::is_silent;
 
 /// What a line says.
 #[derive(Clone, Copy)]
@@ -29,16 +29,11 @@ pub enum Meaning {
 const ADDRESSES: u64 = 1 << 34;
 
 // A number below the limit, or else this kind of fault.
-#[tactic(auto, unfolding(crate::specs::Meaning::number_word))]
 fn number_word(kind: ScriptKind, limit: u64, line: &[u8]) -> Result<(u64, &[u8]), ScriptKind>
     ensures value { Gives (λ p. (p.0, words_of p.1.now)) result (number_word kind limit (words_of line.now)) }
     ensures small { IfOk result (λ p. p.0 < limit) }
 {
-    let (word, rest) = next_word(line)?;
-    match below(limit, word) {
-        Some(number) => Ok((number, rest)),
-        None => Err(kind),
-    }
+    reading::number_word(ScriptKind::Words, kind, kind, limit, line)
 }
 
 // The number of a host or of a cube.
@@ -55,7 +50,7 @@ fn command_word(line: &[u8]) -> Result<(Command, &[u8]), ScriptKind>
     ensures value { Gives (λ p. (p.0, words_of p.1.now)) result (command_word (words_of line.now)) }
     ensures asks { IfOk result (λ p. family_of p.0 ≡ families.Ask) }
 {
-    let (word, rest) = next_word(line)?;
+    let (word, rest) = next_word(ScriptKind::Words, line)?;
     match command_of(word) {
         Some(command) => Ok((command, rest)),
         None => Err(ScriptKind::Command),
@@ -96,7 +91,7 @@ fn fence(host: u8, line: &[u8]) -> Result<Meaning, ScriptKind>
     ensures value { result ≡ fence_of host (words_of line.now) }
     ensures within { (hosts : ℕ) → host < hosts → IfOk result (IsSaidWithin hosts 0) }
 {
-    no_word(line)?;
+    no_word(ScriptKind::Words, line)?;
     Ok(Meaning::Fence(host))
 }
 
@@ -108,7 +103,7 @@ fn said(hosts: u8, cubes: u8, line: &[u8]) -> Result<Meaning, ScriptKind>
     ensures within { IfOk result (IsSaidWithin hosts cubes) }
 {
     let (host, from_second) = small_word(ScriptKind::Host, hosts, line)?;
-    let (second, rest) = next_word(from_second)?;
+    let (second, rest) = next_word(ScriptKind::Words, from_second)?;
     if second == b"fence".as_slice() {
         return fence(host, rest);
     }
@@ -116,16 +111,6 @@ fn said(hosts: u8, cubes: u8, line: &[u8]) -> Result<Meaning, ScriptKind>
         return ask(cubes, host, true, rest);
     }
     ask(cubes, host, false, from_second)
-}
-
-// Whether the line has no word, or is a comment.
-fn is_silent(line: &[u8]) -> bool
-    ensures { result ≡ is_silent (words_of line.now) }
-{
-    match next_word(line) {
-        Ok((word, _)) => word.first() == Some(&b'#'),
-        Err(_) => true,
-    }
 }
 
 /// What a line says, word by word from left to right. The fault is the first one.

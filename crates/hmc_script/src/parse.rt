@@ -4,12 +4,13 @@ ghost use Rattle.std.specs.Prelude.{◌≡◌, ◌≤◌, ◌<◌, ℕ, length, 
 ghost use Rattle.std.specs.List.{All};
 ghost use Rattle.hmc_script.specs.Items.{IsWithin};
 ghost use Rattle.hmc_script.specs.Meaning.{IsSaidWithin};
-ghost use Rattle.hmc_script.specs.Script.{Answers, Progress, after_meaning, after_line, at_line, script_of};
+ghost use Rattle.hmc_script.specs.Script.{Answers, Progress, after_meaning, after_line, script_of};
+ghost use Rattle.hmc_text.specs.InTurn.{at_line};
 
-use crate::lines::first_line;
 use crate::meaning::{Meaning, meaning_of};
 use crate::script::MOST_ITEMS;
 use crate::{Item, Script, ScriptFault, ScriptKind};
+use hmc_text::lines::first_line;
 use std::alloc::Global;
 
 /// Hosts are numbered below 8.

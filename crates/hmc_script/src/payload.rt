@@ -7,14 +7,14 @@ ghost use Rattle.hmc_codes.specs.Bytes.{IsBytes};
 ghost use Rattle.hmc_codes.specs.Commands.{payload_len_of};
 ghost use Rattle.hmc_codes.specs.Text.{is_mdwr};
 ghost use Rattle.hmc_codes.specs.declared.command.Command.TheVariants.{Mdwr};
-ghost use Rattle.hmc_script.specs.Words.{words_of};
-ghost use Rattle.hmc_script.specs.Number.{below, number_of};
+ghost use Rattle.hmc_text.specs.Words.{words_of};
+ghost use Rattle.hmc_text.specs.Number.{below, number_of};
 ghost use Rattle.hmc_script.specs.Payload.{value_bytes, payload_of, no_payload, some_payload, payload_word, IsPayload};
 
 use crate::ScriptKind;
-use crate::number::below;
-use crate::reading::{next_word, no_word};
 use hmc_codes::{Command, Payload};
+use hmc_text::number::below;
+use hmc_text::reading::{next_word, no_word};
 
 /// Values are below 2^32.
 const VALUES: u64 = 1 << 32;
@@ -89,7 +89,7 @@ fn no_payload(line: &[u8]) -> Result<Payload, ScriptKind>
     ensures value { result ≡ no_payload (words_of line.now) }
     ensures empty { IfOk result (λ payload. payload ≡ []) }
 {
-    no_word(line)?;
+    no_word(ScriptKind::Words, line)?;
     Ok(Payload::empty())
 }
 
@@ -99,11 +99,11 @@ fn some_payload(command: Command, line: &[u8]) -> Result<Payload, ScriptKind>
     ensures value { result ≡ some_payload command (words_of line.now) }
     ensures fits { IfOk result (IsPayload command) }
 {
-    let (word, rest) = next_word(line)?;
+    let (word, rest) = next_word(ScriptKind::Words, line)?;
     let Some(payload) = payload(command, word) else {
         return Err(ScriptKind::Payload);
     };
-    no_word(rest)?;
+    no_word(ScriptKind::Words, rest)?;
     Ok(payload)
 }
 

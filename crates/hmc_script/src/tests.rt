@@ -222,3 +222,20 @@ fn requests_are_added(rt: HostRuntime) -> Result<(), Fail> {
     );
     Ok(())
 }
+
+#[test]
+fn kinds_have_words(rt: HostRuntime) -> Result<(), Fail> {
+    let table = [
+        (ScriptKind::Host, "host"),
+        (ScriptKind::Words, "words"),
+        (ScriptKind::Command, "command"),
+        (ScriptKind::Cube, "cube"),
+        (ScriptKind::Address, "address"),
+        (ScriptKind::Payload, "payload"),
+        (ScriptKind::TooMany, "toomany"),
+    ];
+    for (kind, word) in table {
+        assert_eq!(rt; format!(in rt.alloc(); "{kind}")?.as_str(), word);
+    }
+    Ok(())
+}

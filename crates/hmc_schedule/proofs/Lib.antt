@@ -1,0 +1,4 @@
+pub mod RoundLemmas
+pub mod RoomLemmas
+pub mod WorkLemmas
+pub mod ParseLemmas

@@ -1,0 +1,7 @@
+pub mod Plan
+pub mod Kind
+pub mod Verb
+pub mod Operands
+pub mod Meaning
+pub mod Round
+pub mod Schedule

@@ -1,0 +1,101 @@
+-- What a line of a schedule says.
+use Rattle.std.specs.Prelude.{ℕ, List, length, codes, Result, Ok, if◌then◌else◌}
+use Rattle.std.specs.Str.{bytes_eq}
+use Rattle.hmc_text.specs.Reading.{◌>>=◌, or_fault, next_word, no_word}
+use Rattle.hmc_text.specs.Words.{is_silent}
+use Rattle.hmc_schedule.specs.declared.fault.ScheduleKind.{ScheduleKind}
+use Rattle.hmc_schedule.specs.declared.fault.ScheduleKind.TheVariants as kinds
+use Rattle.hmc_schedule.specs.declared.meaning.Meaning.{Meaning}
+use Rattle.hmc_schedule.specs.declared.meaning.Meaning.TheVariants.{Nothing, One, Rounds}
+use Rattle.hmc_schedule.specs.declared.step.Step.{Step}
+use Rattle.hmc_schedule.specs.declared.step.Step.TheVariants as steps
+use Rattle.hmc_schedule.specs.declared.verb.Verb.{Verb}
+use Rattle.hmc_schedule.specs.declared.verb.Verb.TheVariants.{Give, Send, Land, Shift, Spread, Bank, Registers, Lift, Take, Through, Unlock, Retire}
+use Rattle.hmc_schedule.specs.Operands.{index_word, port_words, vault_words, lift_word, mask_words, count_word}
+use Rattle.hmc_schedule.specs.Plan.{PlanFields, vaults_at, banks_at}
+use Rattle.hmc_schedule.specs.Verb.{verb_of, built}
+
+-- a step with one number below the limit
+unfoldable pub numbered : (ℕ → Step) → ℕ → List (List ℕ) → Result (Step × List (List ℕ)) ScheduleKind
+numbered step limit words = do
+  number ← index_word limit words
+  Ok (step number.0, number.1)
+
+-- a direction, and maybe a mask
+unfoldable pub land_of : PlanFields → List (List ℕ) → Result (Step × List (List ℕ)) ScheduleKind
+land_of plan words = do
+  direction ← index_word plan.directions words
+  mask ← mask_words direction.1
+  Ok (steps.Land direction.0 mask.0, mask.1)
+
+-- a cube and its port
+unfoldable pub at_port : (ℕ → ℕ → Step) → PlanFields → List (List ℕ) → Result (Step × List (List ℕ)) ScheduleKind
+at_port step plan words = do
+  port ← port_words plan words
+  Ok (step port.0 port.1, port.2)
+
+-- a cube and its vault
+unfoldable pub spread_of : PlanFields → List (List ℕ) → Result (Step × List (List ℕ)) ScheduleKind
+spread_of plan words = do
+  vault ← vault_words plan words
+  Ok (steps.Spread vault.0 vault.1, vault.2)
+
+-- a cube, its vault and that vault's bank
+unfoldable pub bank_of : PlanFields → List (List ℕ) → Result (Step × List (List ℕ)) ScheduleKind
+bank_of plan words = do
+  vault ← vault_words plan words
+  bank ← index_word (banks_at plan vault.0) vault.2
+  Ok (steps.Bank vault.0 vault.1 bank.0, bank.1)
+
+-- a cube and a queue of its answers
+unfoldable pub lift_of : PlanFields → List (List ℕ) → Result (Step × List (List ℕ)) ScheduleKind
+lift_of plan words = do
+  cube ← index_word (length plan.cubes) words
+  lift ← lift_word (vaults_at plan cube.0) cube.1
+  Ok (steps.Lift cube.0 lift.0, lift.1)
+
+-- a step of this kind, and the words behind it
+unfoldable pub step_of : PlanFields → Verb → List (List ℕ) → Result (Step × List (List ℕ)) ScheduleKind
+step_of plan Give words = numbered steps.Give plan.hosts words
+step_of plan Send words = numbered steps.Send plan.directions words
+step_of plan Land words = land_of plan words
+step_of plan Shift words = at_port steps.Shift plan words
+step_of plan Spread words = spread_of plan words
+step_of plan Bank words = bank_of plan words
+step_of plan Registers words = numbered steps.Registers (length plan.cubes) words
+step_of plan Lift words = lift_of plan words
+step_of plan Take words = numbered steps.Take plan.hosts words
+step_of plan Through words = at_port steps.Through plan words
+step_of plan Unlock words = numbered steps.Unlock plan.directions words
+step_of plan Retire words = numbered steps.Retire 8 words
+
+-- one step, behind which no word stands
+unfoldable pub one_of : PlanFields → List ℕ → List (List ℕ) → Result Meaning ScheduleKind
+one_of plan first words = do
+  verb ← or_fault kinds.Step (verb_of first)
+  verb ← or_fault kinds.Step (built verb)
+  step ← step_of plan verb words
+  end ← no_word kinds.Words step.1
+  Ok (One step.0)
+
+-- some rounds, behind which no word stands
+unfoldable pub rounds_said : List (List ℕ) → Result Meaning ScheduleKind
+rounds_said words = do
+  count ← count_word words
+  end ← no_word kinds.Words count.1
+  Ok (Rounds count.0)
+
+-- rounds, or one step
+unfoldable pub said_of : PlanFields → List (List ℕ) → Result Meaning ScheduleKind
+said_of plan words = do
+  first ← next_word kinds.Words words
+  if bytes_eq first.0 (codes "round") then rounds_said first.1 else one_of plan first.0 first.1
+
+-- what the words of a line say
+unfoldable pub meaning_of : PlanFields → List (List ℕ) → Result Meaning ScheduleKind
+meaning_of plan words = if is_silent words then Ok Nothing else said_of plan words
+
+-- P holds of the step, if a line names one
+abbrev pub IfOne : (Step → Type 0) → Meaning → Type 0
+IfOne P (One step) = P step
+IfOne P meaning = Unit {0}

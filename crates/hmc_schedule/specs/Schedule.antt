@@ -1,0 +1,45 @@
+-- The steps of a text, or its first fault.
+use Rattle.std.specs.Prelude.{ℕ, ◌+◌, nat_le, List, [], ◌∷◌, ◌++◌, length, Option, Some, None, Result, Ok, Err, if◌then◌else◌}
+use Rattle.hmc_text.specs.InTurn.{after_lines, AnswersBy}
+use Rattle.hmc_text.specs.Lines.{lines_of}
+use Rattle.hmc_text.specs.Reading.{◌>>=◌}
+use Rattle.hmc_text.specs.Words.{words_of}
+use Rattle.hmc_schedule.specs.declared.fault.ScheduleFault.{ScheduleFault}
+use Rattle.hmc_schedule.specs.declared.fault.ScheduleFault.TheVariants as faults
+use Rattle.hmc_schedule.specs.declared.fault.ScheduleKind.{ScheduleKind}
+use Rattle.hmc_schedule.specs.declared.fault.ScheduleKind.TheVariants.{Steps}
+use Rattle.hmc_schedule.specs.declared.meaning.Meaning.{Meaning}
+use Rattle.hmc_schedule.specs.declared.meaning.Meaning.TheVariants.{Nothing, One, Rounds}
+use Rattle.hmc_schedule.specs.declared.step.Step.{Step}
+use Rattle.hmc_schedule.specs.Meaning.{meaning_of}
+use Rattle.hmc_schedule.specs.Plan.{PlanFields}
+use Rattle.hmc_schedule.specs.Round.{rounds_of}
+
+-- the steps that a line asks for
+abbrev pub steps_of : PlanFields → Meaning → List Step
+steps_of plan Nothing = []
+steps_of plan (One step) = step ∷ []
+steps_of plan (Rounds n) = rounds_of plan n
+
+-- More steps go behind those before them. A schedule has at most 1,000,000.
+unfoldable pub with_more : List Step → List Step → Result (List Step) ScheduleKind
+with_more steps more = if nat_le (length steps + length more) 1000000 then Ok (steps ++ more) else Err Steps
+
+-- what the words of the line say is added
+unfoldable pub after_line : PlanFields → List Step → List ℕ → Result (List Step) ScheduleKind
+after_line plan steps line = do
+  meaning ← meaning_of plan (words_of line)
+  with_more steps (steps_of plan meaning)
+
+-- the steps, or the first fault: its line and what is wrong there
+unfoldable pub schedule_of : PlanFields → List ℕ → Result (List Step) (ℕ × ScheduleKind)
+schedule_of plan text = after_lines (after_line plan) 1 [] (lines_of text)
+
+-- the fault that an error tells: none if memory ran out
+abbrev pub told : ScheduleFault → Option (ℕ × ScheduleKind)
+told faults.Memory = None
+told (faults.Fault line kind) = Some (line, kind)
+
+-- a call answered what reading gives, unless memory ran out
+abbrev pub Answers : {X Y : Type 0} → (X → Y) → Result X ScheduleFault → Result Y (ℕ × ScheduleKind) → Type 0
+Answers view result read = AnswersBy told view result read

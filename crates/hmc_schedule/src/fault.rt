@@ -1,0 +1,58 @@
+//! What is wrong with a schedule.
+
+ghost use Rattle.std.specs.Prelude.{◌≡◌, Some};
+ghost use Rattle.hmc_schedule.specs.declared.fault.ScheduleFault.TheVariants as faults;
+
+use std::alloc::AllocError;
+use std::fmt;
+
+/// What is wrong with a line.
+#[derive(Clone, Copy, Debug, PartialEq, Eq)]
+pub enum ScheduleKind {
+    /// The first word names no step.
+    Step,
+    /// A word is missing, or words are left over.
+    Words,
+    /// No number where one is due.
+    Number,
+    /// The network has no part of this number, or a round's count is out of range.
+    Range,
+    /// No mask.
+    Mask,
+    /// More steps than a schedule may have.
+    Steps,
+}
+
+impl fmt::Display for ScheduleKind {
+    ghost use Rattle.hmc_schedule.specs.Kind.{kind_word};
+
+    ghost output = { λ kind. Some (kind_word kind) };
+
+    fn fmt<W: fmt::Write>(&self, f: &mut fmt::Formatter<W>) -> fmt::Result {
+        f.write_str(match self {
+            ScheduleKind::Step => "step",
+            ScheduleKind::Words => "words",
+            ScheduleKind::Number => "number",
+            ScheduleKind::Range => "range",
+            ScheduleKind::Mask => "mask",
+            ScheduleKind::Steps => "steps",
+        })
+    }
+}
+
+/// Why a text is no schedule.
+#[derive(Clone, Copy, Debug, PartialEq, Eq)]
+pub enum ScheduleFault {
+    /// Want of memory.
+    Memory,
+    /// The first fault: its line, counted from 1, and what is wrong there.
+    Fault { line: u32, kind: ScheduleKind },
+}
+
+impl From<AllocError> for ScheduleFault {
+    ghost from_gives = { λ _ fault. fault ≡ faults.Memory };
+
+    fn from(_: AllocError) -> Self {
+        ScheduleFault::Memory
+    }
+}

@@ -1,0 +1,169 @@
+//! What a line of a schedule says.
+
+ghost use Rattle.std.specs.Prelude.{◌≡◌, IfOk, IsSome};
+ghost use Rattle.hmc_text.specs.Reading.{Gives};
+ghost use Rattle.hmc_text.specs.Words.{words_of};
+ghost use Rattle.hmc_schedule.specs.Meaning.{numbered, at_port, land_of, spread_of, bank_of, lift_of, step_of, one_of, rounds_said, said_of, meaning_of, IfOne};
+ghost use Rattle.hmc_schedule.specs.Plan.{PlanFields, IsStepOf, IsBuilt, IsWorking};
+ghost use Rattle.hmc_schedule.specs.Verb.{built};
+
+use crate::operands::{count_word, index_word, lift_word, mask_words, port_words, vault_words};
+use crate::verb::{Verb, verb_of};
+use crate::{Plan, ScheduleKind, Step};
+use hmc_text::reading::{next_word, no_word};
+use hmc_text::words::is_silent;
+
+/// What a line says.
+#[derive(Clone, Copy)]
+pub enum Meaning {
+    Nothing,
+    /// One step.
+    One(Step),
+    /// So many rounds.
+    Rounds(u32),
+}
+
+/// Slots of logic units are numbered below 8.
+const SLOTS: u8 = 8;
+
+#[tactic(auto, unfolding(crate::specs::Meaning::land_of))]
+fn land<'a>(plan: &Plan, line: &'a [u8]) -> Result<(Step, &'a [u8]), ScheduleKind>
+    ensures value { Gives (λ p. (p.0, words_of p.1.now)) result (land_of plan.now (words_of line.now)) }
+    ensures within { IfOk result (λ p. IsStepOf plan.now p.0) }
+    ensures built { IfOk result (λ p. IsBuilt p.0) }
+{
+    let (direction, rest) = index_word(plan.directions, line)?;
+    let (mask, rest) = mask_words(rest)?;
+    Ok((Step::Land(direction, mask), rest))
+}
+
+#[tactic(auto, unfolding(crate::specs::Meaning::spread_of))]
+fn spread<'a>(plan: &Plan, line: &'a [u8]) -> Result<(Step, &'a [u8]), ScheduleKind>
+    ensures value { Gives (λ p. (p.0, words_of p.1.now)) result (spread_of plan.now (words_of line.now)) }
+    ensures within { IfOk result (λ p. IsStepOf plan.now p.0) }
+    ensures built { IfOk result (λ p. IsBuilt p.0) }
+{
+    let (cube, vault, rest) = vault_words(plan, line)?;
+    Ok((Step::Spread(cube, vault), rest))
+}
+
+#[tactic(auto, unfolding(crate::specs::Meaning::bank_of))]
+fn bank<'a>(plan: &Plan, line: &'a [u8]) -> Result<(Step, &'a [u8]), ScheduleKind>
+    ensures value { Gives (λ p. (p.0, words_of p.1.now)) result (bank_of plan.now (words_of line.now)) }
+    ensures within { IfOk result (λ p. IsStepOf plan.now p.0) }
+    ensures built { IfOk result (λ p. IsBuilt p.0) }
+{
+    let (cube, vault, rest) = vault_words(plan, line)?;
+    let (bank, rest) = index_word(plan.banks(cube), rest)?;
+    Ok((Step::Bank(cube, vault, bank), rest))
+}
+
+#[tactic(auto, unfolding(crate::specs::Meaning::lift_of))]
+fn lift<'a>(plan: &Plan, line: &'a [u8]) -> Result<(Step, &'a [u8]), ScheduleKind>
+    ensures value { Gives (λ p. (p.0, words_of p.1.now)) result (lift_of plan.now (words_of line.now)) }
+    ensures within { IfOk result (λ p. IsStepOf plan.now p.0) }
+    ensures built { IfOk result (λ p. IsBuilt p.0) }
+{
+    let (cube, rest) = index_word(plan.cube_count(), line)?;
+    let (lift, rest) = lift_word(plan.vaults(cube), rest)?;
+    Ok((Step::Lift(cube, lift), rest))
+}
+
+// A step of this kind, and the line behind it.
+#[tactic(auto, unfolding(crate::specs::Meaning::step_of, crate::specs::Meaning::numbered, crate::specs::Meaning::at_port))]
+fn step<'a>(plan: &Plan, verb: Verb, line: &'a [u8]) -> Result<(Step, &'a [u8]), ScheduleKind>
+    ensures value { Gives (λ p. (p.0, words_of p.1.now)) result (step_of plan.now verb (words_of line.now)) }
+    ensures within { IfOk result (λ p. IsStepOf plan.now p.0) }
+    ensures built { IsSome (built verb) → IfOk result (λ p. IsBuilt p.0) }
+{
+    match verb {
+        Verb::Give => {
+            let (host, rest) = index_word(plan.hosts, line)?;
+            Ok((Step::Give(host), rest))
+        }
+        Verb::Send => {
+            let (direction, rest) = index_word(plan.directions, line)?;
+            Ok((Step::Send(direction), rest))
+        }
+        Verb::Land => land(plan, line),
+        Verb::Shift => {
+            let (cube, port, rest) = port_words(plan, line)?;
+            Ok((Step::Shift(cube, port), rest))
+        }
+        Verb::Spread => spread(plan, line),
+        Verb::Bank => bank(plan, line),
+        Verb::Registers => {
+            let (cube, rest) = index_word(plan.cube_count(), line)?;
+            Ok((Step::Registers(cube), rest))
+        }
+        Verb::Lift => lift(plan, line),
+        Verb::Take => {
+            let (host, rest) = index_word(plan.hosts, line)?;
+            Ok((Step::Take(host), rest))
+        }
+        Verb::Through => {
+            let (cube, port, rest) = port_words(plan, line)?;
+            Ok((Step::Through(cube, port), rest))
+        }
+        Verb::Unlock => {
+            let (direction, rest) = index_word(plan.directions, line)?;
+            Ok((Step::Unlock(direction), rest))
+        }
+        Verb::Retire => {
+            let (slot, rest) = index_word(SLOTS, line)?;
+            Ok((Step::Retire(slot), rest))
+        }
+    }
+}
+
+// One step, behind which no word stands.
+#[tactic(auto, unfolding(crate::specs::Meaning::one_of))]
+fn one(plan: &Plan, first: &[u8], line: &[u8]) -> Result<Meaning, ScheduleKind>
+    ensures value { result ≡ one_of plan.now first.now (words_of line.now) }
+    ensures works { IfOk result (IfOne (IsWorking plan.now)) }
+{
+    let Some(verb) = verb_of(first) else {
+        return Err(ScheduleKind::Step);
+    };
+    let Some(verb) = verb.built() else {
+        return Err(ScheduleKind::Step);
+    };
+    let (step, rest) = step(plan, verb, line)?;
+    no_word(ScheduleKind::Words, rest)?;
+    Ok(Meaning::One(step))
+}
+
+// Some rounds, behind which no word stands.
+#[tactic(auto, unfolding(crate::specs::Meaning::rounds_said))]
+fn rounds(line: &[u8]) -> Result<Meaning, ScheduleKind>
+    ensures value { result ≡ rounds_said (words_of line.now) }
+    ensures works { (plan : PlanFields) → IfOk result (IfOne (IsWorking plan)) }
+{
+    let (count, rest) = count_word(line)?;
+    no_word(ScheduleKind::Words, rest)?;
+    Ok(Meaning::Rounds(count))
+}
+
+#[tactic(auto, unfolding(crate::specs::Meaning::said_of))]
+fn said(plan: &Plan, line: &[u8]) -> Result<Meaning, ScheduleKind>
+    ensures value { result ≡ said_of plan.now (words_of line.now) }
+    ensures works { IfOk result (IfOne (IsWorking plan.now)) }
+{
+    let (first, rest) = next_word(ScheduleKind::Words, line)?;
+    if first == b"round".as_slice() {
+        return rounds(rest);
+    }
+    one(plan, first, rest)
+}
+
+/// What a line says, word by word from left to right. The fault is the first one.
+#[tactic(auto, unfolding(crate::specs::Meaning::meaning_of))]
+pub fn meaning_of(plan: &Plan, line: &[u8]) -> Result<Meaning, ScheduleKind>
+    ensures value { result ≡ meaning_of plan.now (words_of line.now) }
+    ensures works { IfOk result (IfOne (IsWorking plan.now)) }
+{
+    if is_silent(line) {
+        return Ok(Meaning::Nothing);
+    }
+    said(plan, line)
+}

@@ -1,0 +1,137 @@
+//! Schedules are read.
+
+ghost use Rattle.std.specs.Prelude.{◌≡◌, ◌≤◌, ◌<◌, ◌++◌, [], ◌∷◌, length, replicate, IfOk, OnOk};
+ghost use Rattle.std.specs.List.{All, flat_map};
+ghost use Rattle.hmc_text.specs.InTurn.{at_line};
+ghost use Rattle.hmc_schedule.specs.declared.meaning.Meaning.TheVariants as meanings;
+ghost use Rattle.hmc_schedule.specs.Meaning.{IfOne};
+ghost use Rattle.hmc_schedule.specs.Plan.{IsStepOf, IsBuilt, IsWorking};
+ghost use Rattle.hmc_schedule.specs.Round.{rounds_of};
+ghost use Rattle.hmc_schedule.specs.Schedule.{Answers, steps_of, with_more, after_line, schedule_of};
+
+use crate::meaning::{Meaning, meaning_of};
+use crate::round::round;
+use crate::schedule::MOST_STEPS;
+use crate::{Plan, Schedule, ScheduleFault, ScheduleKind, Step};
+use hmc_text::lines::first_line;
+use std::alloc::{AllocError, Global};
+
+// Puts a round behind the others so many times.
+fn repeat(steps: &mut Vec<Step>, round: &[Step], count: u32) -> Result<(), AllocError>
+    ensures { OnOk result (steps.new.items ≡ steps.old.items ++ flat_map (λ steps. steps) (replicate count round.now)) }
+{
+    for done in 0..count {
+        if let Err(memory) = steps.extend_from_slice(round) {
+            return Err(memory);
+        }
+    }
+    Ok(())
+}
+
+// Puts a step behind the others, if there is room for it.
+#[tactic(auto, unfolding(crate::specs::Schedule::with_more))]
+fn add_one(steps: &mut Vec<Step>, number: u32, step: Step) -> Result<(), ScheduleFault>
+    ensures { Answers (λ _. steps.new.items) result (at_line number (with_more steps.old.items (step ∷ []))) }
+{
+    if steps.len() >= MOST_STEPS {
+        return Err(ScheduleFault::Fault {
+            line: number,
+            kind: ScheduleKind::Steps,
+        });
+    }
+    steps.extend_from_slice(&[step])?;
+    Ok(())
+}
+
+// Puts rounds behind the other steps, if there is room for them.
+#[tactic(auto, unfolding(crate::specs::Schedule::with_more))]
+fn add_rounds(
+    alloc: Global,
+    plan: &Plan,
+    steps: &mut Vec<Step>,
+    number: u32,
+    count: u32,
+) -> Result<(), ScheduleFault>
+    requires { length steps.old.items ≤ 1000000 }
+    ensures { Answers (λ _. steps.new.items) result (at_line number (with_more steps.old.items (rounds_of plan.now count))) }
+{
+    let round = round(alloc, plan)?;
+    let more = u128::from(count) * round.len() as u128;
+    if steps.len() as u128 + more > MOST_STEPS as u128 {
+        return Err(ScheduleFault::Fault {
+            line: number,
+            kind: ScheduleKind::Steps,
+        });
+    }
+    repeat(steps, &round, count)?;
+    Ok(())
+}
+
+// Follows what a line says.
+#[tactic(auto, unfolding(crate::specs::Schedule::with_more))]
+fn follow(
+    alloc: Global,
+    plan: &Plan,
+    steps: &mut Vec<Step>,
+    number: u32,
+    meaning: Meaning,
+) -> Result<(), ScheduleFault>
+    requires { length steps.old.items ≤ 1000000 }
+    ensures { Answers (λ _. steps.new.items) result (at_line number (with_more steps.old.items (steps_of plan.now meaning))) }
+{
+    match meaning {
+        Meaning::Nothing => Ok(()),
+        Meaning::One(step) => add_one(steps, number, step),
+        Meaning::Rounds(count) => add_rounds(alloc, plan, steps, number, count),
+    }
+}
+
+// Reads the next line.
+#[tactic(auto, unfolding(crate::specs::Schedule::after_line))]
+fn read_line(
+    alloc: Global,
+    plan: &Plan,
+    steps: &mut Vec<Step>,
+    number: u32,
+    line: &[u8],
+) -> Result<(), ScheduleFault>
+    requires { length steps.old.items ≤ 1000000 }
+    ensures value { Answers (λ _. steps.new.items) result (at_line number (after_line plan.now steps.old.items line.now)) }
+    ensures few { OnOk result (length steps.new.items ≤ 1000000) }
+    ensures works { All (IsWorking plan.now) steps.old.items → OnOk result (All (IsWorking plan.now) steps.new.items) }
+{
+    match meaning_of(plan, line) {
+        Ok(meaning) => follow(alloc, plan, steps, number, meaning),
+        Err(kind) => Err(ScheduleFault::Fault { line: number, kind }),
+    }
+}
+
+impl Schedule {
+    /// Reads a schedule, for a network with these parts. The fault is the first one: its line, counted from 1, and what is
+    /// wrong there, judged word by word from left to right, and at last whether the steps are too many. A line number that
+    /// would pass 4,294,967,295 is answered as that number.
+    #[tactic(auto, unfolding(crate::specs::Schedule::schedule_of))]
+    pub fn parse(alloc: Global, text: &str, plan: &Plan) -> Result<Schedule, ScheduleFault>
+        ensures exact { Answers (λ schedule. schedule) result (schedule_of plan.now text.now) }
+
+        // There are at most 1,000,000 steps, and each names parts that the plan has.
+        ensures few { IfOk result (λ schedule. length schedule ≤ 1000000) }
+        ensures within { IfOk result (All (IsStepOf plan.now)) }
+
+        // So far no step lands with a mask, goes through, unlocks or retires.
+        ensures built { IfOk result (All IsBuilt) }
+    {
+        let mut steps = Vec::new(alloc);
+        let mut number = 1u32;
+        let mut left = Some(text.as_bytes());
+        'lines: while let Some(text) = left {
+            let (line, behind) = first_line(text);
+            if let Err(fault) = read_line(alloc, plan, &mut steps, number, line) {
+                return Err(fault);
+            }
+            number = number.saturating_add(1);
+            left = behind;
+        }
+        Ok(Schedule::of(steps))
+    }
+}

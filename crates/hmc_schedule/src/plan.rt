@@ -1,0 +1,108 @@
+//! What a schedule is read for.
+
+ghost use Rattle.std.specs.Prelude.{◌≡◌, ◌^◌, false, length, slice_index_or};
+
+use hmc_codes::Shape;
+use std::marker::Model;
+
+/// A cube, as far as steps name its parts.
+#[derive(Clone, Copy)]
+pub struct CubePlan {
+    /// It has so many vaults and banks.
+    pub shape: Shape,
+    /// Which of its ports a link joins.
+    pub ports: [bool; 4],
+}
+
+/// What a network has. Contracts see the two numbers and the list of cubes.
+#[derive(Drop)]
+pub struct Plan {
+    /// 1 to 8.
+    pub hosts: u8,
+    /// 2 to 64.
+    pub directions: u8,
+    /// 1 to 8 cubes.
+    pub cubes: Vec<CubePlan>,
+}
+
+impl Model for Plan {
+    ghost use Rattle.hmc_schedule.specs.Plan.{PlanFields, IsPlan};
+
+    ghost Value = { PlanFields };
+
+    ghost view = { λ p. record { hosts = p.hosts; directions = p.directions; cubes = p.cubes.items } };
+
+    ghost invariant = { λ p. IsPlan (record { hosts = p.hosts; directions = p.directions; cubes = p.cubes.items }) };
+}
+
+// Whether the port with this number is joined.
+fn joined_in(ports: &[bool], port: u8) -> bool
+    ensures { result ≡ slice_index_or ports.now port false }
+{
+    match ports.get(usize::from(port)) {
+        Some(joined) => *joined,
+        None => false,
+    }
+}
+
+fn vaults_in(shape: Shape) -> u8
+    ensures { result ≡ 2 ^ shape.vault_bits }
+{
+    shape.keeps();
+    1 << shape.vault_bits
+}
+
+fn banks_in(shape: Shape) -> u8
+    ensures { result ≡ 2 ^ shape.bank_bits }
+{
+    shape.keeps();
+    1 << shape.bank_bits
+}
+
+impl Plan {
+    ghost use Rattle.hmc_schedule.specs.Plan.{IsPlan, is_joined, vaults_at, banks_at};
+
+    /// Nothing is done: what every plan keeps is the contract.
+    pub fn keeps(&self)
+        ensures { IsPlan self.now }
+    {
+        let _ = &self.hosts;
+    }
+
+    /// How many cubes there are.
+    pub(crate) fn cube_count(&self) -> u8
+        ensures { result ≡ length self.now.cubes }
+    {
+        self.cubes.len() as u8
+    }
+
+    /// Whether this port of this cube is joined. A cube or a port that isn't there has no joined port.
+    pub(crate) fn is_joined(&self, cube: u8, port: u8) -> bool
+        ensures { result ≡ is_joined self.now cube port }
+    {
+        match self.cubes.get(usize::from(cube)) {
+            Some(fields) => joined_in(&fields.ports, port),
+            None => false,
+        }
+    }
+
+    /// How many vaults this cube has, or 0 where there is no such cube.
+    pub(crate) fn vaults(&self, cube: u8) -> u8
+        ensures { result ≡ vaults_at self.now cube }
+    {
+        match self.cubes.get(usize::from(cube)) {
+            Some(fields) => vaults_in(fields.shape),
+            None => 0,
+        }
+    }
+
+    /// How many banks each vault of this cube has, or 0 where there is no such cube.
+    pub(crate) fn banks(&self, cube: u8) -> u8
+        ensures { result ≡ banks_at self.now cube }
+    {
+        match self.cubes.get(usize::from(cube)) {
+            Some(fields) => banks_in(fields.shape),
+            None => 0,
+        }
+    }
+}

@@ -1,0 +1,171 @@
+//! Rounds: every part of the network works once.
+
+ghost use Rattle.std.specs.Prelude.{◌≡◌, ◌≤◌, ◌++◌, OnOk, IfOk, length, map, filter};
+ghost use Rattle.std.specs.List.{flat_map};
+ghost use Rattle.std.specs.Result.{IsOkAnd};
+ghost use Rattle.hmc_schedule.specs.declared.step.Step.TheVariants as steps;
+ghost use Rattle.hmc_codes.specs.declared.lift.Lift.TheVariants as lift;
+ghost use Rattle.hmc_schedule.specs.Plan.{is_joined, vaults_at, banks_at, zero_mask};
+ghost use Rattle.hmc_schedule.specs.Round.{upto, shifts_of, spreads_of, banks_of, lifts_of, part_of, round_of};
+
+use crate::{Plan, Step};
+use hmc_codes::{Lift, Memory};
+use std::alloc::{AllocError, Global};
+
+/// What a part of every cube does in a round.
+#[derive(Clone, Copy)]
+pub enum Part {
+    Shifts,
+    Spreads,
+    Banks,
+    Lifts,
+}
+
+type Steps = Result<Vec<Step>, AllocError>;
+
+fn gives(alloc: Global, hosts: u8) -> Steps
+    ensures { IfOk result (λ v. v.items ≡ map steps.Give (upto hosts)) }
+{
+    (0..hosts).map(|host| Step::Give(host)).collect(alloc)
+}
+
+fn sends(alloc: Global, directions: u8) -> Steps
+    ensures { IfOk result (λ v. v.items ≡ map steps.Send (upto directions)) }
+{
+    (0..directions)
+        .map(|direction| Step::Send(direction))
+        .collect(alloc)
+}
+
+fn lands(alloc: Global, directions: u8) -> Steps
+    ensures { IfOk result (λ v. v.items ≡ map (λ direction. steps.Land direction zero_mask) (upto directions)) }
+{
+    (0..directions)
+        .map(|direction| Step::Land(direction, [0; 16]))
+        .collect(alloc)
+}
+
+fn registers(alloc: Global, cubes: u8) -> Steps
+    ensures { IfOk result (λ v. v.items ≡ map steps.Registers (upto cubes)) }
+{
+    (0..cubes).map(|cube| Step::Registers(cube)).collect(alloc)
+}
+
+fn takes(alloc: Global, hosts: u8) -> Steps
+    ensures { IfOk result (λ v. v.items ≡ map steps.Take (upto hosts)) }
+{
+    (0..hosts).map(|host| Step::Take(host)).collect(alloc)
+}
+
+#[tactic(auto, unfolding(crate::specs::Round::shifts_of))]
+fn shifts(alloc: Global, plan: &Plan, cube: u8) -> Steps
+    ensures { IfOk result (λ v. v.items ≡ shifts_of plan.now cube) }
+{
+    (0..4)
+        .filter(|port| plan.is_joined(cube, *port))
+        .map(|port| Step::Shift(cube, port))
+        .collect(alloc)
+}
+
+fn vault_steps(alloc: Global, vaults: u8, cube: u8) -> Steps
+    ensures { IfOk result (λ v. v.items ≡ map (steps.Spread cube) (upto vaults)) }
+{
+    (0..vaults)
+        .map(|vault| Step::Spread(cube, vault))
+        .collect(alloc)
+}
+
+#[tactic(auto, unfolding(crate::specs::Round::spreads_of))]
+fn spreads(alloc: Global, plan: &Plan, cube: u8) -> Steps
+    ensures { IfOk result (λ v. v.items ≡ spreads_of plan.now cube) }
+{
+    vault_steps(alloc, plan.vaults(cube), cube)
+}
+
+fn bank_steps(alloc: Global, banks: u8, cube: u8, vault: u8) -> Steps
+    ensures { IfOk result (λ v. v.items ≡ map (steps.Bank cube vault) (upto banks)) }
+{
+    (0..banks)
+        .map(|bank| Step::Bank(cube, vault, bank))
+        .collect(alloc)
+}
+
+fn lift_steps(alloc: Global, vaults: u8, cube: u8) -> Steps
+    ensures { IfOk result (λ v. v.items ≡ map (λ vault. steps.Lift cube (lift.Vault vault)) (upto vaults)) }
+{
+    (0..vaults)
+        .map(|vault| Step::Lift(cube, Lift::Vault(vault)))
+        .collect(alloc)
+}
+
+#[tactic(auto, unfolding(crate::specs::Round::lifts_of))]
+fn lifts(alloc: Global, plan: &Plan, cube: u8) -> Steps
+    ensures { IfOk result (λ v. v.items ≡ lifts_of plan.now cube) }
+{
+    let mut lifts = lift_steps(alloc, plan.vaults(cube), cube)?;
+    lifts.push(Step::Lift(cube, Lift::Registers))?;
+    Ok(lifts)
+}
+
+// The banks of each vault in turn.
+#[tactic(auto, unfolding(crate::specs::Round::banks_of))]
+fn banks(alloc: Global, plan: &Plan, cube: u8) -> Steps
+    ensures { IfOk result (λ v. v.items ≡ banks_of plan.now cube) }
+{
+    let banks = plan.banks(cube);
+    let mut steps = Vec::new(alloc);
+    for vault in 0..plan.vaults(cube) {
+        if let Err(memory) = add(&mut steps, bank_steps(alloc, banks, cube, vault)) {
+            return Err(memory);
+        }
+    }
+    Ok(steps)
+}
+
+// Puts steps behind others, if there was memory for them.
+fn add(steps: &mut Vec<Step>, more: Steps) -> Result<(), AllocError>
+    ensures { OnOk result (IsOkAnd more (λ v. steps.new.items ≡ steps.old.items ++ v.items)) }
+{
+    steps.extend_from_slice(&more?)
+}
+
+fn part_steps(alloc: Global, plan: &Plan, part: Part, cube: u8) -> Steps
+    ensures { IfOk result (λ v. v.items ≡ part_of part plan.now cube) }
+{
+    match part {
+        Part::Shifts => shifts(alloc, plan, cube),
+        Part::Spreads => spreads(alloc, plan, cube),
+        Part::Banks => banks(alloc, plan, cube),
+        Part::Lifts => lifts(alloc, plan, cube),
+    }
+}
+
+// What a part of each cube does, the cubes ascending.
+fn each_cube(alloc: Global, plan: &Plan, part: Part) -> Steps
+    ensures { IfOk result (λ v. v.items ≡ flat_map (part_of part plan.now) (upto (length plan.now.cubes))) }
+{
+    let mut steps = Vec::new(alloc);
+    for cube in 0..plan.cube_count() {
+        if let Err(memory) = add(&mut steps, part_steps(alloc, plan, part, cube)) {
+            return Err(memory);
+        }
+    }
+    Ok(steps)
+}
+
+/// The steps of a round.
+#[tactic(auto, unfolding(crate::specs::Round::round_of))]
+pub fn round(alloc: Global, plan: &Plan) -> Steps
+    ensures { IfOk result (λ v. v.items ≡ round_of plan.now) }
+{
+    let mut steps = gives(alloc, plan.hosts)?;
+    add(&mut steps, sends(alloc, plan.directions))?;
+    add(&mut steps, lands(alloc, plan.directions))?;
+    add(&mut steps, each_cube(alloc, plan, Part::Shifts))?;
+    add(&mut steps, each_cube(alloc, plan, Part::Spreads))?;
+    add(&mut steps, each_cube(alloc, plan, Part::Banks))?;
+    add(&mut steps, registers(alloc, plan.cube_count()))?;
+    add(&mut steps, each_cube(alloc, plan, Part::Lifts))?;
+    add(&mut steps, takes(alloc, plan.hosts))?;
+    Ok(steps)
+}

@@ -1,0 +1,33 @@
+//! The steps of a schedule.
+
+use hmc_codes::{Flit, Lift};
+
+/// A step: one thing that one part of a network does. Hosts, directions, cubes, ports, vaults and banks go by their numbers,
+/// from 0.
+#[derive(Clone, Copy, Debug, PartialEq, Eq)]
+pub enum Step {
+    /// This host gives its next request to its link.
+    Give(u8),
+    /// A flit is sent in this direction.
+    Send(u8),
+    /// The next flit of this direction lands, with the bits of the mask turned over.
+    Land(u8, Flit),
+    /// The front packet of a port's buffer goes on: a cube and its port.
+    Shift(u8, u8),
+    /// The front request of a vault goes to its bank: a cube and its vault.
+    Spread(u8, u8),
+    /// A bank executes its front request: a cube, its vault and that vault's bank.
+    Bank(u8, u8, u8),
+    /// The registers of this cube execute their front request.
+    Registers(u8),
+    /// An answer is lifted to a port: a cube and the queue of answers.
+    Lift(u8, Lift),
+    /// This host takes an answer from its link.
+    Take(u8),
+    /// A packet that still arrives goes on: a cube and the port at which it arrives.
+    Through(u8, u8),
+    /// The receiver of this direction loses its framing.
+    Unlock(u8),
+    /// The logic unit in this slot, below 8, works no more.
+    Retire(u8),
+}

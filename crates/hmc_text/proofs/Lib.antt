@@ -1,0 +1,5 @@
+pub mod PartsLemmas
+pub mod WordsLemmas
+pub mod LinesLemmas
+pub mod NumberLemmas
+pub mod InTurnLemmas

@@ -1,0 +1,24 @@
+-- The lines of a text in turn, to the first fault.
+use Rattle.std.specs.Prelude.{◌≡◌, ℕ, ◌+◌, ◌-◌, ◌^◌, min, List, [], ◌∷◌, Option, IfSome, Result, Ok, Err}
+use Rattle.hmc_text.specs.Reading.{◌>>=◌}
+
+-- the fault is that of this line
+abbrev pub at_line : {A K : Type 0} → ℕ → Result A K → Result A (ℕ × K)
+at_line number (Ok x) = Ok x
+at_line number (Err kind) = Err (number, kind)
+
+-- lines are counted up to 4,294,967,295, and those behind it have that number too
+abbrev pub next_number : ℕ → ℕ
+next_number number = min (number + 1) (2 ^ 32 - 1)
+
+-- what the lines make of a state, one after another, the first of them with this number
+unfoldable pub after_lines : {S K : Type 0} → (S → List ℕ → Result S K) → ℕ → S → List (List ℕ) → Result S (ℕ × K)
+after_lines after_line number state [] = Ok state
+after_lines after_line number state (line ∷ lines) = do
+  next ← at_line number (after_line state line)
+  after_lines after_line (next_number number) next lines
+
+-- A call answered what reading gives, or an error that tells no fault: want of memory.
+abbrev pub AnswersBy : {X Y E K : Type 0} → (E → Option (ℕ × K)) → (X → Y) → Result X E → Result Y (ℕ × K) → Type 0
+AnswersBy told view (Ok x) read = read ≡ Ok (view x)
+AnswersBy told view (Err e) read = IfSome (told e) (λ fault. read ≡ Err fault)

@@ -1,0 +1,5 @@
+pub mod Words
+pub mod Lines
+pub mod Number
+pub mod Reading
+pub mod InTurn

@@ -1,0 +1,26 @@
+-- The words of a line.
+use Rattle.std.specs.Prelude.{ℕ, Bool, true, false, ◌==◌, ◌||◌, List, [], ◌∷◌, filter, slice_index, Option, Some, None}
+use Rattle.std.specs.List.{slice_split}
+
+-- a space or a tab
+abbrev pub is_blank : ℕ → Bool
+is_blank b = b == 32 || b == 9
+
+-- some bytes
+abbrev pub is_some : List ℕ → Bool
+is_some [] = false
+is_some (b ∷ bs) = true
+
+-- what stands between blanks, but for the empty parts
+unfoldable pub words_of : List ℕ → List (List ℕ)
+words_of line = filter is_some (slice_split is_blank line)
+
+-- the first word, and those behind it
+abbrev pub first_word : List (List ℕ) → Option (List ℕ × List (List ℕ))
+first_word [] = None
+first_word (w ∷ ws) = Some (w, ws)
+
+-- no word, or a comment: its first byte is 35, a `#`
+abbrev pub is_silent : List (List ℕ) → Bool
+is_silent [] = true
+is_silent (w ∷ ws) = slice_index w 0 == 35

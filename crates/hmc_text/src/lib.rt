@@ -1,0 +1,14 @@
+//! Texts that are read line by line, and word by word.
+//!
+//! A text is cut into lines, and a line into words; a word may be a number. [`lines`], [`words`] and [`number`] do that, and
+//! [`reading`] has the steps of a reader that ends at its first fault, whatever kinds of faults it has. The definitions that
+//! readers above rest on are `lines_of`, `words_of`, `number_of`, the steps of `specs/Reading.antt`, and `after_lines`: what
+//! the lines of a text make of a state, up to the first fault.
+#![tactic(auto)]
+
+pub mod lines;
+pub mod number;
+pub mod reading;
+#[cfg(test)]
+mod tests;
+pub mod words;

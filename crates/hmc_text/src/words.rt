@@ -1,0 +1,48 @@
+//! The words of a line: what stands between spaces and tabs.
+
+ghost use Rattle.std.specs.Prelude.{◌≡◌, ◌≤◌, length, option_map};
+ghost use Rattle.std.specs.List.{prefix_len, position_or_len};
+ghost use Rattle.hmc_text.specs.Words.{is_blank, words_of, first_word, is_silent};
+
+fn is_blank(byte: u8) -> bool
+    ensures { result ≡ is_blank byte }
+{
+    byte == b' ' || byte == b'\t'
+}
+
+// How many blanks the line begins with.
+fn blanks(line: &[u8]) -> usize
+    ensures length { result ≡ prefix_len is_blank line.now }
+    ensures few { result ≤ length line.now }
+{
+    line.iter().take_while(|byte| is_blank(**byte)).count()
+}
+
+// How many bytes stand before the first blank.
+fn letters(line: &[u8]) -> usize
+    ensures length { result ≡ position_or_len is_blank line.now }
+    ensures few { result ≤ length line.now }
+{
+    line.iter().take_while(|byte| !is_blank(**byte)).count()
+}
+
+/// The first word, and the line behind it, if there is a word.
+pub fn first_word(line: &[u8]) -> Option<(&[u8], &[u8])>
+    ensures { option_map (λ p. (p.0.now, words_of p.1.now)) result ≡ first_word (words_of line.now) }
+{
+    let (_, line) = line.split_at(blanks(line));
+    if line.is_empty() {
+        return None;
+    }
+    Some(line.split_at(letters(line)))
+}
+
+/// Whether the line says nothing: it has no word, or is a comment, whose first word begins with `#`.
+pub fn is_silent(line: &[u8]) -> bool
+    ensures { result ≡ is_silent (words_of line.now) }
+{
+    match first_word(line) {
+        Some((word, _)) => word.first() == Some(&b'#'),
+        None => true,
+    }
+}
