@@ -1,0 +1,24 @@
+use Rattle.std.proofs.Common.{◌∙◌, sym, ap, Vec, Global, get_or, arith}
+use Rattle.hmc_case.proofs.InTurnLemmas.{in_turn-ok, in_turn-err, in_turn-end, Gains-length}
+use Rattle.hmc_case.specs.Cubes.{next_cube, cubes_of}
+use Rattle.hmc_case.specs.Setup.{CubeFields}
+use Rattle.toml.specs.View.{view, array_view}
+use Rattle.hmc_case.proofs.cube.cubes_of.Goals as goal
+
+pub returns-in-Err-clause-value : goal.returns-in-Err-clause-value
+returns-in-Err-clause-value c =
+    in_turn-err (λ (cubes : Vec CubeFields Global). cubes.items) next_cube c.args.values.now.items c.values.value-index c.value-item.result c.values.cubes.items c.read_cube.new.cubes.items c.in-Err.fault (cubes_of (array_view c.args.values.now))
+    (omega arith) (c.value-item.is ∙ ap (λ vs. get_or vs c.values.value-index c.value-item.result) c.deref-value-items.ensures.value) c.in-Err.ensures c.values.invariant.so_far
+
+pub values-preserved : goal.values-preserved
+values-preserved c =
+    let read = next_cube c.values.cubes.items (view c.value-item.result) in
+    let longer = Gains-length c.values.cubes.items c.read_cube.new.cubes.items c.in_default.field-0 read c.in_default.ensures in
+    let next = in_turn-ok next_cube c.args.values.now.items c.values.value-index c.value-item.result c.values.cubes.items c.read_cube.new.cubes.items c.in_default.field-0 (omega arith) (c.value-item.is ∙ ap (λ vs. get_or vs c.values.value-index c.value-item.result) c.deref-value-items.ensures.value) c.in_default.ensures in
+    record {
+      count = omega (arith, longer);
+      so_far = sym next ∙ c.values.invariant.so_far;
+    }
+
+pub returns-clause-value : goal.returns-clause-value
+returns-clause-value c = sym c.values.invariant.so_far ∙ in_turn-end next_cube c.args.values.now.items c.values.value-index c.values.cubes.items (omega arith)

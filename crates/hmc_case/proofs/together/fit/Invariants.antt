@@ -1,0 +1,6 @@
+use Rattle.std.proofs.Common.{◌≡◌, ◌+◌, take}
+use Rattle.hmc_case.specs.Together.{total_capacity}
+use Rattle.hmc_case.proofs.together.fit.Given as goal
+
+abbrev pub invariant-cubes : goal.invariant-cubes
+invariant-cubes l = l.left + total_capacity (take l.cube-index l.cubes) ≡ 16777216

@@ -1,0 +1,44 @@
+-- The case that some bytes are, or their first fault.
+use Rattle.std.specs.Prelude.{ℕ, List, length, Result, Ok, Err}
+use Rattle.std.specs.List.{All}
+use Rattle.hmc_schedule.specs.Plan.{IsStepOf}
+use Rattle.hmc_schedule.specs.Schedule.{schedule_of}
+use Rattle.hmc_schedule.specs.declared.step.Step.{Step}
+use Rattle.hmc_script.specs.Items.{ItemFields, IsWithin}
+use Rattle.hmc_script.specs.Script.{script_of}
+use Rattle.hmc_text.specs.Reading.{◌>>=◌}
+use Rattle.hmc_case.specs.Net.{NetFields, IsNet, net_of}
+use Rattle.hmc_case.specs.Parts.{table_in, parts_of}
+use Rattle.hmc_case.specs.Plan.{plan_of}
+use Rattle.hmc_case.specs.Reading.{Fault, at_line}
+use Rattle.hmc_case.specs.declared.fault.CaseKind.{CaseKind}
+use Rattle.hmc_case.specs.declared.fault.CaseKind.TheVariants as kinds
+use Rattle.hmc_case.specs.declared.fault.Section.{Section}
+use Rattle.hmc_case.specs.declared.fault.Section.TheVariants.{Toml, Top, Script, Schedule}
+
+-- the fault is that of a line of this text
+abbrev pub in_text : {A K : Type 0} → Section → (K → CaseKind) → Result A (ℕ × K) → Result A Fault
+in_text section kind_of (Ok x) = Ok x
+in_text section kind_of (Err fault) = Err (record { section = section; line = fault.0; kind = kind_of fault.1 })
+
+-- a case: its cubes and links, and what is to be done with them
+pub record CaseFields : Type 0 where
+  pub net : NetFields
+  pub script : List ItemFields
+  pub schedule : List Step
+
+-- The document comes first, then its keys, then the cubes and links, then the script, and the schedule last.
+unfoldable pub case_of : List ℕ → Result CaseFields Fault
+case_of bytes = do
+  table ← at_line Toml 0 (table_in bytes)
+  parts ← at_line Top 0 (parts_of table)
+  net ← net_of parts.cubes parts.links
+  script ← in_text Script kinds.Script (script_of net.hosts (length net.cubes) parts.script)
+  schedule ← in_text Schedule kinds.Schedule (schedule_of (plan_of net) parts.schedule)
+  Ok (record { net = net; script = script; schedule = schedule })
+
+-- Each request is one of a host to a cube of the case, and each step is one of its parts.
+pub record IsCase (case : CaseFields) : Type 0 where
+  pub net : IsNet case.net
+  pub script : All (IsWithin case.net.hosts (length case.net.cubes)) case.script
+  pub schedule : All (IsStepOf (plan_of case.net)) case.schedule

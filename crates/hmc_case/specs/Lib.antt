@@ -1,0 +1,13 @@
+pub mod Words
+pub mod Reading
+pub mod Keys
+pub mod Parts
+pub mod Setup
+pub mod Cubes
+pub mod Places
+pub mod Links
+pub mod Together
+pub mod Walks
+pub mod Net
+pub mod Plan
+pub mod Case

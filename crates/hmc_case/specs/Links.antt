@@ -1,0 +1,40 @@
+-- Links.
+use Rattle.std.specs.Prelude.{ℕ, List, [], length, codes, Result, Ok}
+use Rattle.toml.specs.Data.{Data, Items, Members}
+use Rattle.hmc_codes.specs.Link.{LinkFields}
+use Rattle.hmc_text.specs.Reading.{◌>>=◌}
+use Rattle.hmc_case.specs.Keys.{table_of, text_at, number_at}
+use Rattle.hmc_case.specs.Places.{ends_of, may_join}
+use Rattle.hmc_case.specs.Reading.{Fault, at_line, in_turn}
+use Rattle.hmc_case.specs.declared.fault.CaseKind.{CaseKind}
+use Rattle.hmc_case.specs.declared.fault.Section.TheVariants.{Link}
+use Rattle.hmc_case.specs.declared.keys.Part.TheVariants as parts
+use Rattle.hmc_case.specs.declared.setup.LinkRow.{LinkRow}
+
+-- the sizes of a link
+unfoldable pub sizes_of : Members → Result LinkFields CaseKind
+sizes_of table = do
+  line ← number_at (codes "line") 1 64 table
+  tokens ← number_at (codes "tokens") 17 1024 table
+  retry ← number_at (codes "retry") 17 256 table
+  output ← number_at (codes "output") 1 64 table
+  Ok (record { line = line; tokens = tokens; retry = retry; output = output })
+
+-- a link: its table, its keys, its ends, and what these may join beside the links before it
+unfoldable pub link_of : ℕ → List LinkRow → Data → Result LinkRow CaseKind
+link_of cubes links value = do
+  table ← table_of parts.Link value
+  a ← text_at (codes "a") table
+  b ← text_at (codes "b") table
+  sizes ← sizes_of table
+  join ← ends_of cubes a b
+  free ← may_join links join
+  Ok (record { join = join; setup = sizes })
+
+-- the next link, numbered from 0
+abbrev pub next_link : ℕ → List LinkRow → Data → Result LinkRow Fault
+next_link cubes links value = at_line Link (length links) (link_of cubes links value)
+
+-- all links, each whole before the next
+abbrev pub links_of : ℕ → Items → Result (List LinkRow) Fault
+links_of cubes values = in_turn (next_link cubes) [] values

@@ -1,0 +1,41 @@
+-- The cubes and links of a case.
+use Rattle.std.specs.Prelude.{◌≡◌, ◌≤◌, ℕ, List, length, Result, Ok}
+use Rattle.std.specs.List.{All}
+use Rattle.toml.specs.Data.{Items}
+use Rattle.hmc_text.specs.Reading.{◌>>=◌}
+use Rattle.hmc_case.specs.Cubes.{cubes_of}
+use Rattle.hmc_case.specs.Links.{links_of}
+use Rattle.hmc_case.specs.Places.{IsJoinOf}
+use Rattle.hmc_case.specs.Reading.{Fault, at_line}
+use Rattle.hmc_case.specs.Setup.{CubeFields}
+use Rattle.hmc_case.specs.Together.{total_capacity, in_capacity, hosts_of, numbered}
+use Rattle.hmc_case.specs.Walks.{in_one_part}
+use Rattle.hmc_case.specs.declared.fault.Section.TheVariants.{Net}
+use Rattle.hmc_case.specs.declared.setup.LinkRow.{LinkRow}
+
+-- the cubes and links, and how many hosts there are
+pub record NetFields : Type 0 where
+  pub cubes : List CubeFields
+  pub links : List LinkRow
+  pub hosts : ℕ
+
+-- The cubes come first, then what they are together, then the links, and then what these are together.
+unfoldable pub net_of : Items → Items → Result NetFields Fault
+net_of cube_values link_values = do
+  cubes ← cubes_of cube_values
+  capacity ← at_line Net 0 (in_capacity cubes)
+  links ← links_of (length cubes) link_values
+  hosts ← at_line Net 0 (numbered (hosts_of links))
+  one_part ← at_line Net 0 (in_one_part links (length cubes))
+  Ok (record { cubes = cubes; links = links; hosts = hosts })
+
+-- 1 to 8 cubes of at most 2^24 bytes together, 1 to 32 links, 1 to 8 hosts, which are those of the links; until there are networks, one cube
+-- and one link
+pub record IsNet (net : NetFields) : Type 0 where
+  pub one_cube : length net.cubes ≡ 1
+  pub one_link : length net.links ≡ 1
+  pub capacity : total_capacity net.cubes ≤ 16777216
+  pub some_hosts : 1 ≤ net.hosts
+  pub hosts : net.hosts ≤ 8
+  pub all_hosts : net.hosts ≡ length (hosts_of net.links)
+  pub joins : All (λ link. IsJoinOf net.hosts (length net.cubes) link.join) net.links

@@ -1,0 +1,36 @@
+-- The document of a case, and its keys.
+use Rattle.std.specs.Prelude.{ℕ, List, codes, Option, None, Result, Ok, if◌then◌else◌}
+use Rattle.std.specs.Str.{is_utf8}
+use Rattle.toml.specs.Data.{Items, Members}
+use Rattle.toml.specs.Parse.{parse_document}
+use Rattle.hmc_text.specs.Reading.{◌>>=◌, or_fault}
+use Rattle.hmc_case.specs.Keys.{known_keys, number_at, items_at, text_at}
+use Rattle.hmc_case.specs.declared.fault.CaseKind.{CaseKind}
+use Rattle.hmc_case.specs.declared.fault.CaseKind.TheVariants.{Syntax}
+use Rattle.hmc_case.specs.declared.keys.Part.TheVariants.{Top}
+
+-- the table that the bytes are as a TOML document: as UTF-8, and then by the grammar of TOML
+abbrev pub document_of : List ℕ → Option Members
+document_of bytes = if is_utf8 bytes then parse_document bytes else None
+
+-- the bytes are such a document
+abbrev pub table_in : List ℕ → Result Members CaseKind
+table_in bytes = or_fault Syntax (document_of bytes)
+
+-- what stands at the keys of a case
+pub record PartsFields : Type 0 where
+  pub cubes : Items
+  pub links : Items
+  pub script : List ℕ
+  pub schedule : List ℕ
+
+-- The profile is 1. There are at most 8 cubes and 32 links.
+unfoldable pub parts_of : Members → Result PartsFields CaseKind
+parts_of table = do
+  known ← known_keys Top table
+  profile ← number_at (codes "profile") 1 1 table
+  cubes ← items_at (codes "cubes") 8 table
+  links ← items_at (codes "links") 32 table
+  script ← text_at (codes "script") table
+  schedule ← text_at (codes "schedule") table
+  Ok (record { cubes = cubes; links = links; script = script; schedule = schedule })

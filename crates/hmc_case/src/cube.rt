@@ -1,0 +1,61 @@
+//! Cubes.
+
+ghost use Rattle.std.specs.Prelude.{◌≡◌, ◌≤◌, ◌<◌, ◌^◌, vec_len, IfOk};
+ghost use Rattle.toml.specs.View.{view, array_view};
+ghost use Rattle.hmc_case.specs.Reading.{Answers, Gains};
+ghost use Rattle.hmc_case.specs.Cubes.{cube_of, next_cube, cubes_of};
+
+use crate::fault::at_line;
+use crate::keys::{Part, number_at, table_of};
+use crate::rows::append;
+use crate::{CaseFault, CaseKind, CubeSetup, Section};
+use hmc_codes::Shape;
+use std::alloc::Global;
+use toml::Value;
+use toml::value::Array;
+
+// A cube's table.
+#[tactic(auto, unfolding(crate::specs::Cubes::cube_of))]
+fn cube_of(value: &Value) -> Result<CubeSetup, CaseKind>
+    ensures value { result ≡ cube_of (view value.now) }
+{
+    let table = table_of(Part::Cube, value)?;
+    let vault_bits = number_at("vault_bits", 0, 5, table)? as u8;
+    let bank_bits = number_at("bank_bits", 0, 4, table)? as u8;
+    let rows = number_at("rows", 1, 1024, table)?;
+    let queue = number_at("queue", 1, 64, table)? as u8;
+    Ok(CubeSetup {
+        shape: Shape {
+            vault_bits,
+            bank_bits,
+            rows,
+        },
+        queue,
+    })
+}
+
+// Reads the next cube.
+fn read_cube(cubes: &mut Vec<CubeSetup>, value: &Value) -> Result<(), CaseFault>
+    requires { vec_len cubes.old < 2 ^ 32 }
+    ensures { Gains cubes.old.items cubes.new.items result (next_cube cubes.old.items (view value.now)) }
+{
+    let number = cubes.len() as u32;
+    let cube = at_line(Section::Cube, number, cube_of(value))?;
+    append(cubes, cube)?;
+    Ok(())
+}
+
+/// The cubes.
+pub fn cubes_of(alloc: Global, values: &Array) -> Result<Vec<CubeSetup>, CaseFault>
+    requires { vec_len values.now ≤ 32 }
+    ensures value { Answers (λ cubes. cubes.items) result (cubes_of (array_view values.now)) }
+    ensures count { IfOk result (λ cubes. vec_len cubes ≡ vec_len values.now) }
+{
+    let mut cubes = Vec::new(alloc);
+    'values: for value in values {
+        if let Err(fault) = read_cube(&mut cubes, value) {
+            return Err(fault);
+        }
+    }
+    Ok(cubes)
+}

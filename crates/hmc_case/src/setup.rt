@@ -1,0 +1,46 @@
+//! What a case says of a cube and of a link.
+
+ghost use Rattle.std.specs.Prelude.{◌≡◌};
+ghost use Rattle.hmc_case.specs.Setup.{IsCube};
+
+use hmc_codes::{Join, LinkSetup, Shape};
+use std::marker::Model;
+
+/// A cube of a case.
+#[derive(Clone, Copy, Debug, PartialEq, Eq)]
+pub struct CubeSetup {
+    /// The shape of its memory.
+    pub shape: Shape,
+    /// Packets that each of its queues holds; 1 to 64.
+    pub queue: u8,
+}
+
+impl Model for CubeSetup {
+    ghost use Rattle.hmc_case.specs.Setup.{CubeFields, IsCube};
+
+    ghost Value = { CubeFields };
+
+    ghost view = { λ s. record { shape = s.shape; queue = s.queue } };
+
+    ghost invariant = { λ s. IsCube (record { shape = s.shape; queue = s.queue }) };
+
+    ghost inverse = { λ s. record { shape = s.shape; queue = s.queue } };
+}
+
+impl CubeSetup {
+    /// Nothing is done: what every cube of a case keeps is the contract.
+    pub fn keeps(&self)
+        ensures { IsCube self.now }
+    {
+        let _ = &self.queue;
+    }
+}
+
+/// A link of a case.
+#[derive(Clone, Copy, Debug, PartialEq, Eq)]
+pub struct LinkRow {
+    /// Where the link ends.
+    pub join: Join,
+    /// The sizes of both ends.
+    pub setup: LinkSetup,
+}
