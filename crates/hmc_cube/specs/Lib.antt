@@ -1,0 +1,4 @@
+pub mod Cube
+pub mod Places
+pub mod After
+pub mod Kept

@@ -1,0 +1,255 @@
+//! One cube.
+
+ghost use Rattle.std.specs.Prelude.{◌≡◌, ◌≤◌, ◌<◌, ◌+◌, ◌%◌, ◌^◌, ◌↔◌, [], IsTrue, IfOk, All, length, replicate, slice_get, slice_range, sum_by};
+ghost use Rattle.hmc_codes.specs.Shape.{capacity_of};
+ghost use Rattle.hmc_vault.specs.Packets.{IsForBanks};
+ghost use Rattle.hmc_vault.specs.Vault.{opening_vault, bank_at, held_by};
+ghost use Rattle.hmc_vault.specs.Spread.{spread_says};
+ghost use Rattle.hmc_cube.specs.Cube.{opening_cube, vault_at, held_in_cube};
+ghost use Rattle.hmc_cube.specs.Places.{IsForRegisters, IsHere, IsFor, IsLift, entrance, answers_at};
+ghost use Rattle.hmc_cube.specs.After.{after_enter, after_spread, bank_says, after_execute, registers_say, after_registers, after_lift};
+
+use hmc_codes::{Lift, Memory, Shape};
+use hmc_crossbar::To;
+use hmc_memory::Banks;
+use hmc_packet::Packet;
+use hmc_registers::Registers;
+use hmc_tokens::{Intake, Queue};
+use hmc_vault::{Executed, Spread, Vault, execute_front};
+use std::alloc::Global;
+use std::marker::Model;
+
+/// One cube. Contracts see its memory and registers, its vaults and the queues of the registers.
+#[derive(Drop)]
+pub struct Cube {
+    banks: Banks,
+    registers: Registers,
+    vaults: Vec<Vault>,
+    // The requests that wait for the registers, and the answers to them.
+    waiting: Queue,
+    answers: Queue,
+}
+
+impl Model for Cube {
+    ghost use Rattle.hmc_cube.specs.Cube.{CubeFields};
+    ghost use Rattle.hmc_cube.specs.Kept.{whole, IsKept};
+
+    ghost Value = { CubeFields };
+
+    ghost view = { λ c. whole c.banks c.registers c.vaults.items c.waiting c.answers };
+
+    ghost invariant = { λ c. IsKept c.banks.shape c.vaults.items c.waiting c.answers };
+}
+
+impl Cube {
+    ghost use Rattle.hmc_cube.specs.Kept.{AreParts};
+
+    /// A cube with this number and shape, whose queues have room for so many packets each and hold none. All its bytes are
+    /// zero.
+    pub fn new(alloc: Global, number: u8, shape: Shape, queue: u8) -> Result<Self, Memory>
+        ensures { IfOk result (λ cube. cube ≡ opening_cube number shape queue) }
+    {
+        shape.keeps();
+        let registers = Registers::new(number, shape);
+        let vaults = new_vaults(alloc, 1 << shape.vault_bits, shape.bank_bits, queue)?;
+        let waiting = Queue::new(alloc, queue)?;
+        let answers = Queue::new(alloc, queue)?;
+        let banks = Banks::new(alloc, shape)?;
+        Ok(Cube {
+            banks,
+            registers,
+            vaults,
+            waiting,
+            answers,
+        })
+    }
+
+    /// Nothing is done: what each cube keeps is the contract.
+    pub fn keeps(&self)
+        ensures { AreParts self.now }
+    {
+        self.banks.keeps();
+        self.registers.keeps();
+    }
+
+    /// Whether a vault, or the queue of the registers, has room for a packet.
+    pub fn room(&self, to: To) -> bool
+        requires { IsHere self.now to }
+        ensures { IsTrue result ↔ (length (entrance self.now to) < self.now.size) }
+    {
+        match to {
+            To::Vault(vault) => self.vaults[usize::from(vault)].enter_room(),
+            To::Registers => self.waiting.used() < self.waiting.size(),
+            To::Port(_) | To::Nowhere => unreachable!(),
+        }
+    }
+
+    /// Takes a request into a vault, or into the queue of the registers.
+    pub fn enter(&mut self, to: To, packet: Packet)
+        requires here { IsHere self.old to }
+        requires room { length (entrance self.old to) < self.old.size }
+        requires request { IsFor to packet }
+        ensures { self.new ≡ after_enter to packet self.old }
+    {
+        match to {
+            To::Vault(vault) => self.enter_vault(vault, packet),
+            To::Registers => self.enter_registers(packet),
+            To::Port(_) | To::Nowhere => unreachable!(),
+        }
+    }
+
+    fn enter_vault(&mut self, vault: u8, packet: Packet)
+        requires here { vault < 2 ^ self.old.state.shape.vault_bits }
+        requires room { length (entrance self.old (To.Vault vault)) < self.old.size }
+        requires request { IsForBanks packet }
+        ensures { self.new ≡ after_enter (To.Vault vault) packet self.old }
+    {
+        let vault = &mut self.vaults[usize::from(vault)];
+        vault.enter(packet);
+    }
+
+    fn enter_registers(&mut self, packet: Packet)
+        requires room { length self.old.waiting < self.old.size }
+        requires request { IsForRegisters packet }
+        ensures { self.new ≡ after_enter To.Registers packet self.old }
+    {
+        self.waiting.take_in(packet);
+    }
+
+    /// Moves the front of a vault's queue to the queue of its bank.
+    pub fn spread(&mut self, vault: u8) -> Spread
+        requires { vault < 2 ^ self.old.state.shape.vault_bits }
+        ensures answer { result ≡ spread_says (vault_at self.old vault) self.old.state.shape }
+        ensures leaves { self.new ≡ after_spread vault result self.old }
+        ensures shape { self.new.state.shape ≡ self.old.state.shape }
+    {
+        let shape = self.banks.shape();
+        let vault = &mut self.vaults[usize::from(vault)];
+        vault.spread(shape)
+    }
+
+    /// Performs the request at the front of a bank's queue.
+    pub fn execute(&mut self, vault: u8, bank: u8) -> Executed
+        requires vault { vault < 2 ^ self.old.state.shape.vault_bits }
+        requires bank { bank < 2 ^ self.old.state.shape.bank_bits }
+        ensures answer { result ≡ bank_says self.old vault bank }
+        ensures leaves { self.new ≡ after_execute vault bank result self.old }
+        ensures shape { self.new.state.shape ≡ self.old.state.shape }
+        ensures empty { (result ≡ Executed.Empty) ↔ (bank_at (vault_at self.old vault) bank ≡ []) }
+    {
+        let vault = &mut self.vaults[usize::from(vault)];
+        vault.execute(bank, &mut self.banks, &mut self.registers)
+    }
+
+    /// Performs the request at the front of the registers' queue.
+    pub fn registers(&mut self) -> Executed
+        ensures answer { result ≡ registers_say self.old }
+        ensures leaves { self.new ≡ after_registers result self.old }
+        ensures shape { self.new.state.shape ≡ self.old.state.shape }
+        ensures empty { (result ≡ Executed.Empty) ↔ (self.old.waiting ≡ []) }
+    {
+        execute_front(
+            &mut self.waiting,
+            &mut self.answers,
+            &mut self.banks,
+            &mut self.registers,
+        )
+    }
+
+    /// The front of the answers of a vault, or of the registers.
+    pub fn lift_front(&self, from: Lift) -> Option<Packet>
+        requires { IsLift self.now from }
+        ensures { result ≡ slice_get (answers_at self.now from) 0 }
+    {
+        match from {
+            Lift::Vault(vault) => self.vaults[usize::from(vault)].lift_front(),
+            Lift::Registers => self.answers.front(),
+        }
+    }
+
+    /// Removes that front and gives it.
+    pub fn lift(&mut self, from: Lift) -> Option<Packet>
+        requires { IsLift self.old from }
+        ensures front { result ≡ slice_get (answers_at self.old from) 0 }
+        ensures leaves { self.new ≡ after_lift from self.old }
+    {
+        match from {
+            Lift::Vault(vault) => self.lift_vault(vault),
+            Lift::Registers => self.lift_registers(),
+        }
+    }
+
+    fn lift_vault(&mut self, vault: u8) -> Option<Packet>
+        requires { vault < 2 ^ self.old.state.shape.vault_bits }
+        ensures front { result ≡ slice_get (answers_at self.old (Lift.Vault vault)) 0 }
+        ensures leaves { self.new ≡ after_lift (Lift.Vault vault) self.old }
+    {
+        let vault = &mut self.vaults[usize::from(vault)];
+        vault.lift()
+    }
+
+    fn lift_registers(&mut self) -> Option<Packet>
+        ensures front { result ≡ slice_get (answers_at self.old Lift.Registers) 0 }
+        ensures leaves { self.new ≡ after_lift Lift.Registers self.old }
+    {
+        self.answers.take_out()
+    }
+
+    /// The number of bytes, 256 to 134,217,728.
+    pub fn capacity(&self) -> u64
+        ensures { result ≡ capacity_of self.now.state.shape }
+    {
+        self.banks.shape().capacity()
+    }
+
+    /// The 16 bytes at a multiple of 16.
+    pub fn get16(&self, place: u64) -> [u8; 16]
+        requires multiple { place % 16 ≡ 0 }
+        requires inside { place < capacity_of self.now.state.shape }
+        ensures { result ≡ slice_range self.now.state.memory place (place + 16) }
+    {
+        self.banks.get16(place)
+    }
+
+    /// The value of a register, if there is one with this number.
+    pub fn register(&self, number: u64) -> Option<u32>
+        ensures { result ≡ slice_get self.now.state.registers number }
+    {
+        self.registers.read(number)
+    }
+
+    /// The number of packets in all queues.
+    pub fn held(&self) -> u32
+        ensures { result ≡ held_in_cube self.now }
+    {
+        held_in(&self.vaults) + self.waiting.used() + self.answers.used()
+    }
+}
+
+// So many new vaults.
+fn new_vaults(alloc: Global, count: usize, bank_bits: u8, queue: u8) -> Result<Vec<Vault>, Memory>
+    requires { bank_bits ≤ 4 }
+    ensures { IfOk result (λ vaults. vaults.items ≡ replicate count (opening_vault bank_bits queue)) }
+{
+    let mut vaults = Vec::with_capacity(alloc, count)?;
+    for i in 0..count {
+        vaults.push(Vault::new(alloc, bank_bits, queue)?)?;
+    }
+    Ok(vaults)
+}
+
+// The number of packets in vaults.
+fn held_in(vaults: &[Vault]) -> u32
+    requires { length vaults.now ≤ 32 }
+    ensures held { result ≡ sum_by held_by vaults.now }
+    ensures few { result < 2 ^ 20 }
+{
+    let mut held = 0;
+    for vault in vaults {
+        held += vault.held();
+    }
+    held
+}
+
+#[cfg(test)]
+mod tests;

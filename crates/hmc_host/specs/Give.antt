@@ -1,0 +1,58 @@
+-- What a host gives next, and what that leaves.
+use Rattle.std.specs.Prelude.{ℕ, ◌+◌, Bool, not, ◌&&◌, if◌then◌else◌, List, slice_get, Option, Some, None, is_none}
+use Rattle.std.specs.Option.{unwrap_or}
+use Rattle.hmc_codes.specs.Commands.{is_posted}
+use Rattle.hmc_script.specs.Items.{ItemFields}
+use Rattle.hmc_packet.specs.Transactions.{asked}
+use Rattle.hmc_host.specs.declared.given.Given.{Given}
+use Rattle.hmc_host.specs.declared.given.Given.TheVariants.{Ended, Fence, Tags, Full, Gave}
+use Rattle.hmc_host.specs.Tags.{is_some_out, lowest_free, with_out}
+use Rattle.hmc_host.specs.Host.{HostFields}
+
+-- a request is to be answered unless it is posted or poisoned
+abbrev pub is_awaited : ItemFields → Bool
+is_awaited item = not item.poisoned && not (is_posted item.request.command)
+
+-- the tag that a request goes out under: the lowest that isn't out, where it is to be answered
+abbrev pub tag_for : ItemFields → (tags : List Bool) → Option ℕ
+tag_for item tags = (if is_awaited item then lowest_free tags else None)
+
+-- no tag is left for a request that needs one
+abbrev pub lacks_tag : ItemFields → (tags : List Bool) → Bool
+lacks_tag item tags = is_awaited item && is_none (lowest_free tags)
+
+-- a host's request goes out under a tag, or under tag 0 where it has none
+abbrev pub gave : (number : ℕ) → ItemFields → (tag : Option ℕ) → Given
+gave number item tag = Gave (asked item.request (unwrap_or tag 0) number item.poisoned) item.request tag item.poisoned
+
+-- the next request goes out, unless a fence holds it, or it lacks a tag or room
+abbrev pub item_says : HostFields → ItemFields → (room : Bool) → Given
+item_says host item room =
+    (if item.fenced && is_some_out host.tags then Fence else
+    if lacks_tag item host.tags then Tags else
+    if not room then Full else
+    gave host.number item (tag_for item host.tags))
+
+-- the request that follows those that were given, if one is left
+abbrev pub next_item : HostFields → Option ItemFields
+next_item host = slice_get host.items host.given
+
+-- what the host answers that has this request next
+abbrev pub next_says : HostFields → Option ItemFields → (room : Bool) → Given
+next_says host None room = Ended
+next_says host (Some item) room = item_says host item room
+
+-- what the host answers
+unfoldable pub give_says : HostFields → (room : Bool) → Given
+give_says host room = next_says host (next_item host) room
+
+-- what it leaves: one more request was given, and its tag is out; or nothing changed
+abbrev pub after_give : Given → HostFields → HostFields
+after_give (Gave packet request tag poisoned) host =
+    record host { given = host.given + 1; tags = with_out tag host.tags }
+after_give _ host = host
+
+-- the tag that was taken, if one was
+abbrev pub taken_tag : Given → Option ℕ
+taken_tag (Gave packet request tag poisoned) = tag
+taken_tag _ = None

@@ -1,0 +1,27 @@
+-- A host, as the contracts see it.
+use Rattle.std.specs.Prelude.{◌≡◌, ◌≤◌, ◌<◌, ℕ, ◌==◌, Bool, List, length}
+use Rattle.std.specs.List.{filter}
+use Rattle.hmc_script.specs.Items.{ItemFields}
+use Rattle.hmc_host.specs.Tags.{none_out}
+
+-- its number, its own requests of the script, how many of them it gave, and its tags
+pub record HostFields : Type 0 where
+  pub number : ℕ
+  pub items : List ItemFields
+  pub given : ℕ
+  pub tags : List Bool
+
+-- the requests of a script that are this host's
+abbrev pub items_of : (number : ℕ) → List ItemFields → List ItemFields
+items_of number script = filter (λ item. item.host == number) script
+
+-- at first no request was given and no tag is out
+abbrev pub opening_host : (number : ℕ) → (script : List ItemFields) → HostFields
+opening_host number script = record { number = number; items = items_of number script; given = 0; tags = none_out }
+
+-- what each host keeps
+pub record IsHost (host : HostFields) : Type 0 where
+  pub number : host.number < 8
+  pub few : length host.items ≤ 65536
+  pub given : host.given ≤ length host.items
+  pub tags : length host.tags ≡ 2048

@@ -1,0 +1,4 @@
+pub mod Tags
+pub mod Host
+pub mod Give
+pub mod Settle

@@ -1,0 +1,42 @@
+-- The tags of a host: a flag for each, true where the tag is out.
+use Rattle.std.specs.Prelude.{◌≡◌, ◌<◌, ℕ, nat_lt, Bool, true, false, not, List, length, replicate, slice_get, slice_set, count_by, Option, Some, None}
+use Rattle.std.specs.List.{position}
+
+-- at first no tag is out
+unfoldable pub none_out : List Bool
+none_out = replicate 2048 false
+
+-- how many tags are out
+abbrev pub number_out : List Bool → ℕ
+number_out tags = count_by (λ out. out) tags
+
+-- some tag is out
+abbrev pub is_some_out : List Bool → Bool
+is_some_out tags = nat_lt 0 (number_out tags)
+
+-- the lowest tag that isn't out, if there is one
+abbrev pub lowest_free : List Bool → Option ℕ
+lowest_free tags = position not tags
+
+-- a tag has gone out, if there is one
+abbrev pub with_out : Option ℕ → List Bool → List Bool
+with_out None tags = tags
+with_out (Some tag) tags = slice_set tags tag true
+
+-- a tag isn't out
+abbrev pub IsFree : List Bool → ℕ → Type 0
+IsFree tags tag = slice_get tags tag ≡ Some false
+
+-- a tag is out
+abbrev pub IsOut : List Bool → ℕ → Type 0
+IsOut tags tag = slice_get tags tag ≡ Some true
+
+-- the tag isn't out, and each lower one is
+pub record IsLowestFree (tags : List Bool) (tag : ℕ) : Type 0 where
+  pub free : IsFree tags tag
+  pub below : (lower : ℕ) → lower < tag → IsOut tags lower
+
+-- what each host's tags keep: there are 2,048, and it is known how many are out
+pub record AreTags (tags : List Bool) (number : ℕ) : Type 0 where
+  pub all : length tags ≡ 2048
+  pub count : number ≡ number_out tags

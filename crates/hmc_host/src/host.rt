@@ -1,0 +1,195 @@
+//! One host.
+
+ghost use Rattle.std.specs.Prelude.{◌≡◌, ◌≢◌, ◌<◌, ◌≤◌, ◌↔◌, ℕ, IfOk, OnOk, OnErr, true, false, length, ◌++◌, ◌∷◌, []};
+ghost use Rattle.std.specs.Option.{ForSome};
+ghost use Rattle.hmc_host.specs.Tags.{number_out, IsFree, IsOut, IsLowestFree};
+ghost use Rattle.hmc_host.specs.Host.{opening_host, items_of, IsHost};
+ghost use Rattle.hmc_host.specs.Give.{is_awaited, tag_for, gave, give_says, after_give, taken_tag};
+ghost use Rattle.hmc_host.specs.Settle.{IsAwaited, settle_says, after_settle};
+
+use crate::tags::Tags;
+use crate::{Given, Settled};
+use hmc_codes::Memory;
+use hmc_packet::{Packet, answer_of, ask};
+use hmc_script::{Item, Script};
+use std::alloc::Global;
+use std::marker::Model;
+
+/// One host. Contracts see its number, its requests, how many of them it has given, and its tags.
+#[derive(Drop)]
+pub struct Host {
+    number: u8,
+    items: Vec<Item>,
+    given: u32,
+    tags: Tags,
+}
+
+impl Model for Host {
+    ghost use Rattle.hmc_host.specs.Host.{HostFields, IsHost};
+
+    ghost Value = { HostFields };
+
+    ghost view = { λ h. record { number = h.number; items = h.items.items; given = h.given; tags = h.tags } };
+
+    ghost invariant = { λ h. IsHost (record { number = h.number; items = h.items.items; given = h.given; tags = h.tags }) };
+}
+
+impl Host {
+    /// A host that has given none of its requests of a script. The number is below 8.
+    pub fn new(alloc: Global, number: u8, script: &Script) -> Result<Self, Memory>
+        requires { number < 8 }
+        ensures { IfOk result (λ host. host ≡ opening_host number script.now) }
+    {
+        let items = items_of(alloc, number, script)?;
+        let tags = Tags::new(alloc)?;
+        tags.keeps();
+        Ok(Host {
+            number,
+            items,
+            given: 0,
+            tags,
+        })
+    }
+
+    /// Nothing is done: what each host keeps is the contract.
+    pub fn keeps(&self)
+        ensures { IsHost self.now }
+    {
+        let _ = &self.number;
+    }
+
+    /// How many tags are out, at most 2,048.
+    pub fn out(&self) -> u16
+        ensures { result ≡ number_out self.now.tags }
+    {
+        self.tags.out()
+    }
+
+    /// Gives the next request to the link, which has room or not.
+    pub fn give(&mut self, room: bool) -> Given
+        ensures answer { result ≡ give_says self.old room }
+        ensures leaves { self.new ≡ after_give result self.old }
+
+        // The causes in the order in which they count, and the tag.
+        ensures ended { (result ≡ Given.Ended) ↔ (self.old.given ≡ length self.old.items) }
+        ensures tags { result ≡ Given.Tags → (tag : ℕ) → tag < 2048 → IsOut self.old.tags tag }
+        ensures lowest { ForSome (taken_tag result) (IsLowestFree self.old.tags) }
+    {
+        self.keeps();
+        let given = self.next_given(room);
+        self.note(&given);
+        given
+    }
+
+    /// Takes the answer of a packet that came, and frees its tag. A packet that isn't poisoned answers a request whose tag
+    /// is out.
+    pub fn settle(&mut self, packet: &Packet) -> Settled
+        requires { packet.now.poisoned ≡ false → IsAwaited self.old packet.now }
+        ensures answer { result ≡ settle_says packet.now }
+        ensures leaves { self.new ≡ after_settle result self.old }
+        ensures discarded { (result ≡ Settled.Discarded) ↔ (packet.now.poisoned ≡ true) }
+    {
+        if packet.poisoned {
+            return Settled::Discarded;
+        }
+        let answer = answer_of(packet).unwrap();
+        self.tags.free(packet.tag);
+        Settled::Took {
+            tag: packet.tag,
+            answer,
+        }
+    }
+
+    // What is given next.
+    #[tactic(auto, unfolding(crate::specs::Give::give_says))]
+    fn next_given(&self, room: bool) -> Given
+        ensures { result ≡ give_says self.now room }
+    {
+        let Some(item) = self.items.get(self.given as usize) else {
+            return Given::Ended;
+        };
+        if item.fenced && self.tags.is_some_out() {
+            return Given::Fence;
+        }
+        let tag = tag_for(item, &self.tags);
+        if is_awaited(item) && tag.is_none() {
+            return Given::Tags;
+        }
+        if !room {
+            return Given::Full;
+        }
+        gave(self.number, item, tag)
+    }
+
+    // A request was given, or nothing.
+    fn note(&mut self, given: &Given)
+        requires left { given.now ≢ Given.Ended → self.old.given < length self.old.items }
+        requires free { ForSome (taken_tag given.now) (IsFree self.old.tags) }
+        ensures { self.new ≡ after_give given.now self.old }
+    {
+        if let Given::Gave { tag, .. } = given {
+            self.given += 1;
+            self.tags.take(*tag);
+        }
+    }
+}
+
+// Whether a request is to be answered.
+fn is_awaited(item: &Item) -> bool
+    ensures { result ≡ is_awaited item.now }
+{
+    !item.poisoned && !item.request.command.posted()
+}
+
+// The tag that a request goes out under, if it is to have one and there is one.
+fn tag_for(item: &Item, tags: &Tags) -> Option<u16>
+    ensures { result ≡ tag_for item.now tags.now }
+{
+    if is_awaited(item) {
+        tags.lowest_free()
+    } else {
+        None
+    }
+}
+
+// A request as it goes out.
+fn gave(number: u8, item: &Item, tag: Option<u16>) -> Given
+    requires number { number < 8 }
+    requires tag { ForSome tag (λ tag. tag < 2048) }
+    ensures { result ≡ gave number item.now tag }
+{
+    Given::Gave {
+        packet: ask(&item.request, tag.unwrap_or(0), number, item.poisoned),
+        request: item.request,
+        tag,
+        poisoned: item.poisoned,
+    }
+}
+
+// The requests of a host.
+fn items_of(alloc: Global, number: u8, script: &Script) -> Result<Vec<Item>, Memory>
+    ensures items { IfOk result (λ items. items.items ≡ items_of number script.now) }
+    ensures few { IfOk result (λ items. length items.items ≤ 65536) }
+{
+    script.keeps();
+    let mut items = Vec::new(alloc);
+    for at in 0..script.len() {
+        let item = script.item(at);
+        if item.host == number {
+            append(&mut items, item)?;
+        }
+    }
+    Ok(items)
+}
+
+// Generic, since the checker stops at a push whose refusal holds an item.
+fn append<T: Copy>(items: &mut Vec<T>, item: T) -> Result<(), Memory>
+    ensures ok { OnOk result (items.new.items ≡ items.old.items ++ item ∷ []) }
+    ensures err { OnErr result (items.new.items ≡ items.old.items) }
+{
+    items.push(item)?;
+    Ok(())
+}
+
+#[cfg(test)]
+mod tests;

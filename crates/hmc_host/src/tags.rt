@@ -1,0 +1,100 @@
+//! The tags of a host.
+
+ghost use Rattle.std.specs.Prelude.{◌≡◌, ◌<◌, IfOk, false, length, slice_set};
+ghost use Rattle.std.specs.Option.{ForSome};
+ghost use Rattle.hmc_host.specs.Tags.{none_out, number_out, is_some_out, lowest_free, with_out, IsFree, IsOut};
+
+use hmc_codes::Memory;
+use std::alloc::Global;
+use std::marker::Model;
+
+/// How many tags a host has.
+const ALL: usize = 2048;
+
+/// Which of the 2,048 tags of a host are out. Contracts see a flag for each.
+#[derive(Drop)]
+pub struct Tags {
+    flags: Vec<bool>,
+    // How many are out.
+    number: u16,
+}
+
+impl Model for Tags {
+    ghost use Rattle.std.specs.Prelude.{List, Bool};
+    ghost use Rattle.hmc_host.specs.Tags.{AreTags};
+
+    ghost Value = { List Bool };
+
+    ghost view = { λ t. t.flags.items };
+
+    ghost invariant = { λ t. AreTags t.flags.items t.number };
+}
+
+impl Tags {
+    /// No tag is out.
+    #[tactic(auto, unfolding(crate::specs::Tags::none_out))]
+    pub fn new(alloc: Global) -> Result<Self, Memory>
+        ensures { IfOk result (λ tags. tags ≡ none_out) }
+    {
+        let flags = vec![in alloc; false; ALL]?;
+        Ok(Tags { flags, number: 0 })
+    }
+
+    /// Nothing is done: how many tags there are is the contract.
+    pub fn keeps(&self)
+        ensures { length self.now ≡ 2048 }
+    {
+        let _ = &self.flags;
+    }
+
+    /// How many tags are out.
+    pub fn out(&self) -> u16
+        ensures { result ≡ number_out self.now }
+    {
+        self.number
+    }
+
+    /// Whether some tag is out.
+    pub fn is_some_out(&self) -> bool
+        ensures { result ≡ is_some_out self.now }
+    {
+        0 < self.number
+    }
+
+    /// The lowest tag that isn't out. No more flags are looked at than there are tags out, and one.
+    pub fn lowest_free(&self) -> Option<u16>
+        ensures lowest { result ≡ lowest_free self.now }
+        ensures small { ForSome result (λ tag. tag < 2048) }
+    {
+        let tag = first_unset(&self.flags)?;
+        Some(tag as u16)
+    }
+
+    /// A tag that isn't out goes out, if there is one.
+    pub fn take(&mut self, tag: Option<u16>)
+        requires { ForSome tag (IsFree self.old) }
+        ensures { self.new ≡ with_out tag self.old }
+    {
+        let Some(tag) = tag else {
+            return;
+        };
+        self.flags[usize::from(tag)] = true;
+        self.number += 1;
+    }
+
+    /// A tag that is out no longer is.
+    pub fn free(&mut self, tag: u16)
+        requires { IsOut self.old tag }
+        ensures { self.new ≡ slice_set self.old tag false }
+    {
+        self.flags[usize::from(tag)] = false;
+        self.number -= 1;
+    }
+}
+
+// The first place whose flag is false.
+fn first_unset(flags: &[bool]) -> Option<usize>
+    ensures { result ≡ lowest_free flags.now }
+{
+    flags.iter().position(|out| !*out)
+}

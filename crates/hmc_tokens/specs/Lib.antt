@@ -1,0 +1,5 @@
+pub mod Packets
+pub mod Intake
+pub mod Queue
+pub mod FlitBuffer
+pub mod Moving

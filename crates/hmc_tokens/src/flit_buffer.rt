@@ -1,0 +1,71 @@
+//! Buffers of flits.
+
+ghost use Rattle.std.specs.Prelude.{◌≤◌, sum_by};
+ghost use Rattle.hmc_packet.specs.Packet.{flits_of};
+
+use crate::Intake;
+use crate::packets::PacketList;
+use hmc_codes::Memory;
+use hmc_packet::Packet;
+use std::alloc::Global;
+
+/// The input buffer of a link's end: an intake of a number of flits, of which each packet costs as many as it has.
+#[derive(Drop)]
+pub struct FlitBuffer {
+    kept: PacketList,
+    pub ghost within: { sum_by flits_of kept.packets ≤ kept.most },
+}
+
+impl Intake for FlitBuffer {
+    ghost use Rattle.hmc_packet.specs.Packet.{flits_of};
+    ghost use Rattle.hmc_tokens.specs.FlitBuffer.{packets_of, size_of, within_size};
+
+    ghost packets = { packets_of };
+
+    ghost size = { size_of };
+
+    ghost cost = { λ _. flits_of };
+
+    ghost fits = { within_size };
+
+    fn size(&self) -> u32 {
+        u32::from(self.kept.most())
+    }
+
+    fn used(&self) -> u32 {
+        self.kept.flits()
+    }
+
+    fn cost(&self, packet: &Packet) -> u32 {
+        u32::from(packet.flits())
+    }
+
+    fn front(&self) -> Option<Packet> {
+        self.kept.front()
+    }
+
+    fn take_in(&mut self, packet: Packet) {
+        self.kept.push_back(packet);
+    }
+
+    fn take_out(&mut self) -> Option<Packet> {
+        self.kept.pop_front()
+    }
+}
+
+impl FlitBuffer {
+    ghost use Rattle.std.specs.Prelude.{◌≡◌, [], IfOk};
+    ghost use Rattle.hmc_tokens.specs.FlitBuffer.{packets_of, size_of};
+
+    /// A buffer for so many flits. It holds no packet.
+    pub fn new(alloc: Global, tokens: u16) -> Result<Self, Memory>
+        ensures empty { IfOk result (λ buffer. packets_of buffer ≡ []) }
+        ensures size { IfOk result (λ buffer. size_of buffer ≡ tokens) }
+    {
+        let kept = PacketList::new(alloc, tokens)?;
+        Ok(FlitBuffer { kept })
+    }
+}
+
+#[cfg(test)]
+mod tests;

@@ -1,0 +1,6 @@
+pub mod CommandLemmas
+pub mod AnswerLemmas
+pub mod ExecuteLemmas
+pub mod VaultLemmas
+pub mod SpreadLemmas
+pub mod CubeLemmas

@@ -1,0 +1,5 @@
+pub mod Packets
+pub mod Vault
+pub mod Spread
+pub mod Execute
+pub mod Kept

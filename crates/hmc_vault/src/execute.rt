@@ -1,0 +1,106 @@
+//! The execution of requests.
+
+ghost use Rattle.std.specs.Prelude.{◌≡◌, ◌↔◌, [], ◌++◌, false, slice_get};
+ghost use Rattle.std.specs.Option.{ForSome};
+ghost use Rattle.hmc_codes.specs.Commands.{is_posted};
+ghost use Rattle.hmc_packet.specs.Transactions.{CanReply};
+ghost use Rattle.hmc_serial.specs.Cube.{cube_of, outcome_of};
+ghost use Rattle.hmc_serial.specs.Perform.{perform_on};
+ghost use Rattle.hmc_tokens.specs.Queue.{packets_of, size_of};
+ghost use Rattle.hmc_vault.specs.Packets.{IsAsk};
+ghost use Rattle.hmc_vault.specs.Execute.{must_wait, execute_says, replies_to, waiting_after, answers_after, cube_after};
+
+use hmc_codes::{Answer, Request};
+use hmc_memory::Banks;
+use hmc_packet::{Packet, reply, request_of};
+use hmc_registers::Registers;
+use hmc_serial::perform;
+use hmc_tokens::{Intake, Queue};
+
+/// What an execution did.
+#[derive(Clone, Copy)]
+pub enum Executed {
+    /// Nothing: no request waits.
+    Empty,
+    /// Nothing: the front is to be answered, and the answers queue is full.
+    Full,
+    /// The front's request was performed and answered, `Silent` where it is posted.
+    Ran {
+        /// The host link that the request came from, below 8.
+        host: u8,
+        /// The request's tag, below 2,048.
+        tag: u16,
+        request: Request,
+        answer: Answer,
+    },
+}
+
+/// Performs the request at the front of a queue, and puts the reply into an answers queue unless the request is posted.
+pub fn execute_front(
+    waiting: &mut Queue,
+    answers: &mut Queue,
+    banks: &mut Banks,
+    registers: &mut Registers,
+) -> Executed
+    requires { ForSome (slice_get (packets_of waiting.old) 0) IsAsk }
+    ensures answer { result ≡ execute_says (packets_of waiting.old) (packets_of answers.old) (size_of answers.old)
+        (cube_of banks.old registers.old) }
+    ensures empty { (result ≡ Executed.Empty) ↔ (packets_of waiting.old ≡ []) }
+    ensures cube { cube_of banks.new registers.new ≡ cube_after result (cube_of banks.old registers.old) }
+    ensures shape { banks.new.shape ≡ banks.old.shape }
+    ensures waiting { packets_of waiting.new ≡ waiting_after result (packets_of waiting.old) }
+    ensures answers { packets_of answers.new ≡ answers_after result (packets_of answers.old) }
+
+    // The sizes stay.
+    ensures waiting_size { size_of waiting.new ≡ size_of waiting.old }
+    ensures answers_size { size_of answers.new ≡ size_of answers.old }
+{
+    let Some(front) = waiting.front() else {
+        return Executed::Empty;
+    };
+    let request = request_of(&front).unwrap();
+    if must_wait(&request, answers) {
+        return Executed::Full;
+    }
+    let _ = waiting.take_out();
+    let answer = answer_to(&request, banks, registers);
+    put_reply(answers, &front, &request, &answer);
+    Executed::Ran {
+        host: front.slid,
+        tag: front.tag,
+        request,
+        answer,
+    }
+}
+
+// Whether a request is to be answered and its answer has no room.
+fn must_wait(request: &Request, answers: &Queue) -> bool
+    ensures { result ≡ must_wait request.now (packets_of answers.now) (size_of answers.now) }
+{
+    !request.command.posted() && answers.size() <= answers.used()
+}
+
+// Performs a request. A packet can carry the answer, unless the request is posted.
+fn answer_to(request: &Request, banks: &mut Banks, registers: &mut Registers) -> Answer
+    ensures outcome { outcome_of banks.new registers.new result ≡ perform_on (cube_of banks.old registers.old) request.now }
+    ensures shape { banks.new.shape ≡ banks.old.shape }
+    ensures carried { is_posted request.now.command ≡ false → CanReply result }
+{
+    request.keeps();
+    banks.keeps();
+    registers.keeps();
+    perform(banks, registers, request)
+}
+
+// Puts the reply to the request of a packet into the answers, unless the request is posted.
+fn put_reply(answers: &mut Queue, packet: &Packet, request: &Request, answer: &Answer)
+    requires carried { is_posted request.now.command ≡ false → CanReply answer.now }
+    requires room { must_wait request.now (packets_of answers.old) (size_of answers.old) ≡ false }
+    ensures answers { packets_of answers.new ≡ packets_of answers.old
+        ++ replies_to request.now answer.now packet.now.slid packet.now.tag }
+    ensures size { size_of answers.new ≡ size_of answers.old }
+{
+    if !request.command.posted() {
+        answers.take_in(reply(answer, packet.tag, packet.slid, request.cube));
+    }
+}
