@@ -1,30 +1,85 @@
--- What a journal gathers. A journal has its newest entry first; what is gathered has the oldest first.
-use Rattle.std.specs.Prelude.{ℕ, List, [], ◌∷◌, ◌++◌}
+-- What a journal gathers, the oldest first: by host and unit the requests that were given and those that were executed, and by host and tag
+-- what was asked, replied and taken.
+use Rattle.std.specs.Prelude.{ℕ, Bool, false, not, ◌==◌, ◌&&◌, List, [], ◌∷◌, Option, Some, None}
+use Rattle.hmc_codes.specs.Commands.{is_posted}
 use Rattle.hmc_codes.specs.Request.{RequestFields}
 use Rattle.hmc_codes.specs.declared.answer.Answer.{Answer}
+use Rattle.hmc_codes.specs.declared.unit.Unit.{Unit as RequestUnit}
+use Rattle.hmc_codes.specs.declared.unit.Unit.TheVariants as units
 use Rattle.hmc_journal.specs.declared.entry.Entry.{Entry}
 use Rattle.hmc_journal.specs.declared.entry.Entry.TheVariants.{Gave, Executed, Took}
+use Rattle.hmc_journal.specs.Setup.{Topology, unit_of}
+use Rattle.hmc_journal.specs.Wires.{with_more}
+use Rattle.hmc_journal.specs.Rooms.{Room, same_room, answers_of, tag_number}
 
--- the requests that were given
-unfoldable pub given_requests : List Entry → List RequestFields
-given_requests [] = []
-given_requests (Gave host tag poisoned request ∷ past) = given_requests past ++ request ∷ []
-given_requests (_ ∷ past) = given_requests past
+-- a request with its tag, which it has where it is answered
+pub record Asking : Type 0 where
+  pub tag : Option ℕ
+  pub request : RequestFields
 
--- the requests that were executed
-unfoldable pub executed_requests : List Entry → List RequestFields
-executed_requests [] = []
-executed_requests (Executed unit host tag request answer ∷ past) = executed_requests past ++ request ∷ []
-executed_requests (_ ∷ past) = executed_requests past
+-- a request with its answer
+pub record Reply : Type 0 where
+  pub request : RequestFields
+  pub answer : Answer
 
--- the answers of the executions
-unfoldable pub executed_answers : List Entry → List Answer
-executed_answers [] = []
-executed_answers (Executed unit host tag request answer ∷ past) = executed_answers past ++ answer ∷ []
-executed_answers (_ ∷ past) = executed_answers past
+-- an answer with the tag that it was taken under
+pub record Taking : Type 0 where
+  pub tag : ℕ
+  pub answer : Answer
 
--- the answers that a host took
-unfoldable pub taken_answers : List Entry → List Answer
-taken_answers [] = []
-taken_answers (Took host tag answer ∷ past) = taken_answers past ++ answer ∷ []
-taken_answers (_ ∷ past) = taken_answers past
+-- the same bank, or the registers of the same cube
+abbrev pub same_unit : RequestUnit → RequestUnit → Bool
+same_unit (units.Bank c v b) (units.Bank d w a) = (c == d) && ((v == w) && (b == a))
+same_unit (units.Registers c) (units.Registers d) = c == d
+same_unit _ _ = false
+
+-- a request has this tag; it may have none
+abbrev pub same_tag : Option ℕ → ℕ → Bool
+same_tag None tag = false
+same_tag (Some t) tag = t == tag
+
+-- the requests that a host gave to a unit, but for poisoned ones
+unfoldable pub given_to : Topology → (host : ℕ) → RequestUnit → List Entry → List Asking
+given_to topology h unit [] = []
+given_to topology h unit (Gave host tag poisoned request ∷ past) =
+    with_more ((host == h) && (not poisoned && same_unit (unit_of topology request) unit)) (record { tag = tag; request = request } ∷ []) (given_to topology h unit past)
+given_to topology h unit (_ ∷ past) = given_to topology h unit past
+
+-- the requests of a host that a unit executed
+unfoldable pub executed_by : (host : ℕ) → RequestUnit → List Entry → List Asking
+executed_by h unit [] = []
+executed_by h unit (Executed here host tag request answer ∷ past) =
+    with_more ((host == h) && same_unit here unit) (record { tag = tag; request = request } ∷ []) (executed_by h unit past)
+executed_by h unit (_ ∷ past) = executed_by h unit past
+
+-- the requests that a host gave under a tag
+unfoldable pub asked_under : (host tag : ℕ) → List Entry → List RequestFields
+asked_under h t [] = []
+asked_under h t (Gave host tag poisoned request ∷ past) = with_more ((host == h) && same_tag tag t) (request ∷ []) (asked_under h t past)
+asked_under h t (_ ∷ past) = asked_under h t past
+
+-- the requests of a host that were executed under a tag, with their answers
+unfoldable pub replies_under : (host tag : ℕ) → List Entry → List Reply
+replies_under h t [] = []
+replies_under h t (Executed unit host tag request answer ∷ past) =
+    with_more ((host == h) && same_tag tag t) (record { request = request; answer = answer } ∷ []) (replies_under h t past)
+replies_under h t (_ ∷ past) = replies_under h t past
+
+-- the answers that a host took under a tag
+unfoldable pub answers_under : (host tag : ℕ) → List Entry → List Answer
+answers_under h t [] = []
+answers_under h t (Took host tag answer ∷ past) = with_more ((host == h) && (tag == t)) (answer ∷ []) (answers_under h t past)
+answers_under h t (_ ∷ past) = answers_under h t past
+
+-- the answers to the requests, but for posted ones, that were executed into a queue of answers, with their tags
+unfoldable pub answered_into : (room : Room) → List Entry → List Taking
+answered_into here [] = []
+answered_into here (Executed unit host tag request answer ∷ past) =
+    with_more (not (is_posted request.command) && same_room (answers_of unit) here) (record { tag = tag_number tag; answer = answer } ∷ []) (answered_into here past)
+answered_into here (_ ∷ past) = answered_into here past
+
+-- the answers that a host took, with their tags
+unfoldable pub taken_by : (host : ℕ) → List Entry → List Taking
+taken_by h [] = []
+taken_by h (Took host tag answer ∷ past) = with_more (host == h) (record { tag = tag; answer = answer } ∷ []) (taken_by h past)
+taken_by h (_ ∷ past) = taken_by h past

@@ -1,10 +1,40 @@
-//! What a landing gave.
+//! What a landing gave, where a packet went, and why nothing happened.
 
 /// What a receiver made of a flit.
 #[derive(Clone, Copy, Debug, PartialEq, Eq)]
 pub enum Outcome {
+    /// A flit between packets that is none of a packet that counts.
+    Quiet,
     /// The packet isn't whole yet.
     Gathered,
     /// With this flit a packet was accepted.
     Accepted,
+    /// With this flit a packet was accepted that is poisoned.
+    Poisoned,
+}
+
+/// Where a packet went from the buffer of a port.
+#[derive(Clone, Copy, Debug, PartialEq, Eq)]
+pub enum Goal {
+    /// The queue of a vault of this cube, by its number, below 32.
+    Vault(u8),
+    /// The queue of the registers of this cube.
+    Registers,
+    /// The output queue of a port of this cube, by its number, below 4.
+    Port(u8),
+}
+
+/// Why a step did nothing. Of several causes the first of these counts.
+#[derive(Clone, Copy, Debug, PartialEq, Eq)]
+pub enum Cause {
+    /// The script has no further request of the host.
+    Ended,
+    /// The host's next request waits behind a fence until no tag of the host is out.
+    Fence,
+    /// The host's next request needs a tag, and all are out.
+    Tags,
+    /// There is nothing to move.
+    Empty,
+    /// There is no room where it would go.
+    Full,
 }

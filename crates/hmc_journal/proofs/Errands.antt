@@ -1,0 +1,157 @@
+-- What packets do for a tag, and how an entry moves it.
+use Rattle.std.proofs.Common.{◌≡◌, ◌≤◌, ◌<◌, ◌+◌, ◌∙◌, ◌==◌, ℕ, Bool, true, false, Option, Some, None, List, [], ◌∷◌, ◌++◌, length, map, drop, get_or, refl, sym, ap, ap₂, subst, arith, append-nil, append_assoc, zero-add}
+use Rattle.std.specs.Prelude.{option_to_list}
+use Rattle.std.specs.List.{flat_map}
+use Rattle.std.proofs.lemmas.List.{drop-append-le, drop_more}
+use Rattle.std.proofs.lemmas.List.Concat.{flat_map-append}
+use Rattle.hmc_codes.specs.Commands.{family_of_layout, layout_of, is_ask, is_posted}
+use Rattle.hmc_codes.specs.Request.{RequestFields}
+use Rattle.hmc_codes.specs.declared.answer.Answer.{Answer}
+use Rattle.hmc_codes.specs.declared.family.Family.TheVariants as families
+use Rattle.hmc_codes.specs.declared.layout.Layout.{Layout}
+use Rattle.hmc_codes.specs.declared.layout.Layout.TheVariants as layouts
+use Rattle.hmc_packet.specs.Packet.{PacketFields, null_packet}
+use Rattle.hmc_packet.specs.Transactions.{request_in, answer_in}
+use Rattle.hmc_journal.specs.declared.outcome.Outcome.{Outcome}
+use Rattle.hmc_journal.specs.declared.entry.Entry.{Entry}
+use Rattle.hmc_journal.specs.Setup.{Setup, Topology}
+use Rattle.hmc_journal.specs.Wires.{pending, accepted, landed_packet, packets_by}
+use Rattle.hmc_journal.specs.Rooms.{Room, is_at, enters, moved, front_of, one_if, packet_if, entered, contents, begun}
+use Rattle.hmc_journal.specs.Rooms.Room.{Output}
+use Rattle.hmc_journal.specs.Next.{outcome_of}
+use Rattle.hmc_journal.proofs.Right.{HasLanded}
+use Rattle.hmc_journal.proofs.Wire.{behind, numbering}
+use Rattle.hmc_journal.proofs.Moves.{entering, entered-more, room_is}
+use Rattle.hmc_journal.proofs.Standing.{IsAsking, IsReplying, request_in-numbered, answer_in-numbered}
+use Rattle.hmc_journal.proofs.Entering.{Kept}
+use Rattle.hmc_journal.proofs.Tokens.{lands_front}
+use Rattle.hmc_journal.proofs.Phases.{Errand, Moves, errands_if}
+use Rattle.hmc_journal.proofs.Phases.Errand.{Asks, Tells}
+use Rattle.hmc_journal.proofs.Stretches.{passed, stretch, passes, passed-more, HasPassing, passing_inside, IsBlind, output_view}
+
+abbrev pub asking_by : (posted same : Bool) → RequestFields → Option Errand
+asking_by true same request = None
+asking_by false true request = Some (Asks request)
+asking_by false false request = None
+
+abbrev pub telling_by : (same : Bool) → Answer → Option Errand
+telling_by true answer = Some (Tells answer)
+telling_by false answer = None
+
+abbrev pub errand_by : (poisoned : Bool) → Option RequestFields → Option Answer → (same : Bool) → Option Errand
+errand_by true request answer same = None
+errand_by false (Some request) answer same = asking_by (is_posted request.command) same request
+errand_by false None (Some answer) same = telling_by same answer
+errand_by false None None same = None
+
+-- what a packet does for a tag: nothing where it is poisoned, is posted, or has another tag
+unfoldable pub errand : (tag : ℕ) → PacketFields → Option Errand
+errand tag packet = errand_by packet.poisoned (request_in packet) (answer_in packet) (packet.tag == tag)
+
+abbrev pub errand_list : (tag : ℕ) → PacketFields → List Errand
+errand_list tag packet = option_to_list (errand tag packet)
+
+unfoldable pub errands : (tag : ℕ) → List PacketFields → List Errand
+errands tag packets = flat_map (errand_list tag) packets
+
+pub errand_blind : (tag : ℕ) → IsBlind (errand tag)
+unfolding errand behind
+errand_blind tag before packet = ap₂ (λ (r : Option RequestFields) (a : Option Answer). errand_by packet.poisoned r a (packet.tag == tag)) (request_in-numbered packet _ _) (answer_in-numbered packet _ _)
+
+pub errand_poisoned : (tag : ℕ) (packet : PacketFields) → packet.poisoned ≡ true → errand tag packet ≡ None
+unfolding errand
+errand_poisoned tag packet is = ap (λ (b : Bool). errand_by b (request_in packet) (answer_in packet) (packet.tag == tag)) is
+
+pub errand_asking : (tag : ℕ) (packet : PacketFields) (is : IsAsking packet) → packet.poisoned ≡ false → errand tag packet ≡ asking_by (is_posted is.request.command) (packet.tag == tag) is.request
+unfolding errand
+errand_asking tag packet is clean = ap₂ (λ (b : Bool) (r : Option RequestFields). errand_by b r (answer_in packet) (packet.tag == tag)) clean is.found
+
+no_request_by : (layout : Layout) → family_of_layout layout ≡ families.Reply → is_ask layout ≡ false
+no_request_by layouts.Reply is = refl
+no_request_by layouts.Ask is = absurd (cc)
+no_request_by _ is = refl
+
+no_request : (packet : PacketFields) → IsReplying packet → request_in packet ≡ None
+unfolding request_in
+no_request packet is = rw (no_request_by (layout_of packet.command) is.replies) refl
+
+pub errand_replying : (tag : ℕ) (packet : PacketFields) (is : IsReplying packet) → errand tag packet ≡ telling_by (packet.tag == tag) is.answer
+unfolding errand
+errand_replying tag packet is =
+    ap₂ (λ (b : Bool) (r : Option RequestFields). errand_by b r (answer_in packet) (packet.tag == tag)) is.unpoisoned (no_request packet is)
+    ∙ ap (λ (a : Option Answer). errand_by false None a (packet.tag == tag)) is.found
+
+-- the front of the wire's stretch does what the packet does that lands
+pub record HasLanding (topology : Topology) (past : List Entry) (d tag : ℕ) (landed : PacketFields) : Type 0 where
+  pub at : HasPassing topology past (Output d)
+  pub same : errand tag at.front ≡ errand tag landed
+
+has_landing_by : (topology : Topology) (past : List Entry) (d tag : ℕ) (landed : PacketFields) (packets : List PacketFields) (more : List (Option Errand)) → stretch topology past (Output d) ≡ packets → map (errand tag) packets ≡ errand tag landed ∷ more
+    → HasLanding topology past d tag landed
+has_landing_by topology past d tag landed [] more is are = cc
+has_landing_by topology past d tag landed (front ∷ rest) more is are = record { at = record { front = front; rest = rest; is = is }; same = cc }
+
+pub has_landing : (setup : Setup) (port : ℕ) (past : List Entry) (d tag : ℕ) (flit : List ℕ) (outcome : Outcome) → HasLanded past d flit outcome → Kept setup port past
+    → packets_by outcome (landed_packet d flit past) ≡ landed_packet d flit past ∷ [] → HasLanding setup.topology past d tag (landed_packet d flit past)
+unfolding stretch passed
+has_landing setup port past d tag flit outcome has kept taken =
+    let landed = landed_packet d flit past in
+    let front = lands_front setup port past d flit has.rest kept has.line in
+    let one : packets_by (outcome_of (pending d past) flit) landed ≡ landed ∷ [] = ap (λ (o : Outcome). packets_by o landed) (sym has.is_outcome) ∙ taken in
+    let are : numbering (begun setup.topology past d) ≡ accepted d past ++ (landed ∷ front.0) =
+    front.1 ∙ ap (λ (l : List PacketFields). (accepted d past ++ l) ++ front.0) one ∙ append_assoc (accepted d past) (landed ∷ []) front.0 in
+    has_landing_by setup.topology past d tag landed (stretch setup.topology past (Output d)) _ refl
+    (output_view (errand tag) (errand_blind tag) setup past d (accepted d past) (landed ∷ front.0) are)
+
+-- a stretch before and after an entry
+abbrev pub HasFrom : Topology → List Entry → Option Room → Type 0
+HasFrom topology past None = Unit {0}
+HasFrom topology past (Some room) = HasPassing topology past room
+
+abbrev pub leaving_errands : Topology → List Entry → (tag : ℕ) → Option Room → List Errand
+leaving_errands topology past tag None = []
+leaving_errands topology past tag (Some room) = errand_list tag (front_of (stretch topology past room))
+
+front_errand : (topology : Topology) (past : List Entry) (tag : ℕ) (from : Option Room) (room : Room) (here : Bool) → HasFrom topology past from → is_at from room ≡ here → passed past room ≤ length (entered topology past room)
+    → errands tag (stretch topology past room) ≡ errands_if here (leaving_errands topology past tag from) ++ errands tag (drop (one_if here + passed past room) (entered topology past room))
+unfolding errands stretch
+front_errand topology past tag from room false has is within = ap (λ (n : ℕ). flat_map (errand_list tag) (drop n (entered topology past room))) (sym (zero-add (passed past room)))
+front_errand topology past tag None room true has is within = cc
+front_errand topology past tag (Some there) room true has is within =
+    let same : there ≡ room = room_is there room is in
+    let inside : passed past room < length (entered topology past room) = subst (λ (r : Room). passed past r < length (entered topology past r)) same (passing_inside topology past there has) in
+    let next : passed past room + 1 ≡ 1 + passed past room = omega arith in
+    let split : drop (passed past room) (entered topology past room) ≡ get_or (entered topology past room) (passed past room) null_packet ∷ drop (passed past room + 1) (entered topology past room) = drop_more (entered topology past room) (passed past room) null_packet inside in
+    let front : front_of (drop (passed past there) (entered topology past there)) ≡ get_or (entered topology past room) (passed past room) null_packet =
+    ap (λ (r : Room). front_of (drop (passed past r) (entered topology past r))) same ∙ ap front_of split in
+    ap (flat_map (errand_list tag)) split
+    ∙ ap₂ (λ (p : PacketFields) (n : ℕ). errand_list tag p ++ flat_map (errand_list tag) (drop n (entered topology past room))) (sym front) next
+
+entering_errand : (tag : ℕ) (here : Bool) (packet : PacketFields) → errands tag (packet_if here (λ _. packet)) ≡ errands_if here (errand_list tag packet)
+unfolding errands
+entering_errand tag true packet = append-nil (errand_list tag packet)
+entering_errand tag false packet = refl
+
+within_one : (here : Bool) (n m : ℕ) → n ≤ m → (here ≡ true → n < m) → one_if here + n ≤ m
+within_one true n m few some = let inside : n < m = some refl in omega arith
+within_one false n m few some = omega arith
+
+from_inside : (topology : Topology) (past : List Entry) (from : Option Room) (room : Room) → HasFrom topology past from → is_at from room ≡ true → passed past room < length (entered topology past room)
+from_inside topology past None room has is = cc
+from_inside topology past (Some there) room has is = subst (λ (r : Room). passed past r < length (entered topology past r)) (room_is there room is) (passing_inside topology past there has)
+
+pub entry_moves : (topology : Topology) (entry : Entry) (past : List Entry) (tag : ℕ) → ((room : Room) → passed past room ≤ length (entered topology past room)) → HasFrom topology past (passes past entry)
+    → Moves (λ room. errands tag (stretch topology past room)) (λ room. errands tag (stretch topology (entry ∷ past) room)) (passes past entry) (enters topology entry)
+    (leaving_errands topology past tag (passes past entry)) (errand_list tag (moved (contents topology past) past entry))
+unfolding stretch errands entering
+entry_moves topology entry past tag within has = record {
+  rest = λ room. errands tag (drop (one_if (is_at (passes past entry) room) + passed past room) (entered topology past room));
+  out = λ room. front_errand topology past tag (passes past entry) room (is_at (passes past entry) room) has refl (within room);
+  into = λ room.
+      ap₂ (λ (n : ℕ) (l : List PacketFields). flat_map (errand_list tag) (drop n l)) (passed-more entry past room) (entered-more topology entry past room)
+      ∙ ap (flat_map (errand_list tag)) (drop-append-le (one_if (is_at (passes past entry) room) + passed past room) (entered topology past room) (entering topology past entry room)
+      (within_one (is_at (passes past entry) room) (passed past room) (length (entered topology past room)) (within room) (from_inside topology past (passes past entry) room has)))
+      ∙ flat_map-append (errand_list tag) (drop (one_if (is_at (passes past entry) room) + passed past room) (entered topology past room)) (entering topology past entry room)
+      ∙ ap (λ (l : List Errand). flat_map (errand_list tag) (drop (one_if (is_at (passes past entry) room) + passed past room) (entered topology past room)) ++ l)
+      (entering_errand tag (is_at (enters topology entry) room) (moved (contents topology past) past entry));
+}

@@ -1,0 +1,222 @@
+-- Which packets stand in which room.
+use Rattle.std.proofs.Common.{◌≡◌, ◌<◌, ◌^◌, ◌∙◌, ℕ, zero, suc, Bool, true, false, if◌then◌else◌, Some, None, is_some, List, [], ◌∷◌, ◌++◌, All, length, slice_get, refl, sym, ap, subst, arith}
+use Rattle.std.proofs.lemmas.List.{take_at, drop_at}
+use Rattle.std.proofs.lemmas.List.Elements.{All-take, All-drop, All-head, All-cons, All-nil, All-same}
+use Rattle.std.proofs.lemmas.Option.{slice_get_within, get_or_from_slice_get}
+use Rattle.hmc_codes.specs.Commands.{layout_of, family_of, family_of_layout, is_ask}
+use Rattle.hmc_codes.specs.Request.{RequestFields, IsRequest}
+use Rattle.hmc_codes.specs.Shape.{bank_of}
+use Rattle.hmc_codes.specs.declared.answer.Answer.{Answer}
+use Rattle.hmc_codes.specs.declared.answer.Answer.TheVariants.{Silent, Done, Read, Register, Stored, Refused}
+use Rattle.hmc_codes.specs.declared.command.Command.{Command}
+use Rattle.hmc_codes.specs.declared.command.Command.TheVariants.{WrRs, RdRs, MdRdRs, MdWrRs, Error}
+use Rattle.hmc_codes.specs.declared.family.Family.TheVariants as families
+use Rattle.hmc_codes.specs.declared.layout.Layout.{Layout}
+use Rattle.hmc_codes.specs.declared.layout.Layout.TheVariants as layouts
+use Rattle.hmc_packet.specs.Codes.{is_flow}
+use Rattle.hmc_packet.specs.Packet.{PacketFields}
+use Rattle.hmc_packet.specs.Transactions.{asked, replied, request_in, answer_by, answer_in, CanReply, IsAnswer, payload_of}
+use Rattle.hmc_packet.proofs.TransactionLemmas.{asks-layout, IsPacket-asked, request_in-asked, IsPacket-replied, answer_in-replied, answer_in-replies}
+use Rattle.hmc_journal.specs.declared.outcome.Goal.{Goal}
+use Rattle.hmc_journal.specs.declared.outcome.Goal.TheVariants as goals
+use Rattle.hmc_journal.specs.Setup.{Topology, shape_of}
+use Rattle.hmc_journal.specs.Rooms.{Room}
+use Rattle.hmc_journal.specs.Rooms.Room.{Output, Port, Host, Vault, Bank, Registers, Answers}
+use Rattle.hmc_journal.specs.Next.{goal_of}
+use Rattle.hmc_journal.proofs.Wire.{IsCounted, IsCounted-behind, behind, numbering_from}
+
+-- a request of host 0 to cube 0
+pub record IsAsking (packet : PacketFields) : Type 0 where
+  pub counted : IsCounted packet
+  pub asks : family_of packet.command ≡ families.Ask
+  pub cube : packet.cube ≡ 0
+  pub slid : packet.slid ≡ 0
+  pub request : RequestFields
+  pub is_request : IsRequest request
+  pub found : request_in packet ≡ Some request
+
+-- an answer
+pub record IsReplying (packet : PacketFields) : Type 0 where
+  pub counted : IsCounted packet
+  pub replies : family_of packet.command ≡ families.Reply
+  pub slid : packet.slid ≡ 0
+  pub unpoisoned : packet.poisoned ≡ false
+  pub answer : Answer
+  pub found : answer_in packet ≡ Some answer
+
+-- a request on its way to a unit
+pub record IsBound (topology : Topology) (goal : Goal) (packet : PacketFields) : Type 0 where
+  pub asking : IsAsking packet
+  pub unpoisoned : packet.poisoned ≡ false
+  pub is_goal : goal_of topology 0 packet ≡ goal
+
+pub record IsBoundIn (topology : Topology) (bank : ℕ) (goal : Goal) (packet : PacketFields) : Type 0 where
+  pub bound : IsBound topology goal packet
+  pub is_bank : bank_of (shape_of topology 0) packet.address ≡ bank
+
+pub record IsAtPort (port here : ℕ) (packet : PacketFields) : Type 0 where
+  pub asking : IsAsking packet
+  pub is_port : here ≡ port
+
+-- what stands in a room
+abbrev pub Stands : Topology → (port : ℕ) → Room → PacketFields → Type 0
+Stands topology port (Output zero) packet = IsAsking packet
+Stands topology port (Output (suc zero)) packet = IsReplying packet
+Stands topology port (Port zero here) packet = IsAtPort port here packet
+Stands topology port (Vault zero vault) packet = IsBound topology (goals.Vault vault) packet
+Stands topology port (Bank zero vault bank) packet = IsBoundIn topology bank (goals.Vault vault) packet
+Stands topology port (Registers zero) packet = IsBound topology goals.Registers packet
+Stands topology port (Answers zero from) packet = IsReplying packet
+Stands topology port (Host zero) packet = IsReplying packet
+Stands topology port _ packet = ⊥
+
+-- numbers on the way change nothing of it
+answer_numbered : (command : Command) (packet : PacketFields) (frp seq : ℕ) → answer_by command (record packet { rtc = 0; frp = frp; seq = seq }) ≡ answer_by command packet
+unfolding answer_by
+answer_numbered WrRs packet frp seq = refl
+answer_numbered RdRs packet frp seq = refl
+answer_numbered MdRdRs packet frp seq = refl
+answer_numbered MdWrRs packet frp seq = refl
+answer_numbered Error packet frp seq = refl
+answer_numbered _ packet frp seq = refl
+
+pub answer_in-numbered : (packet : PacketFields) (frp seq : ℕ) → answer_in (record packet { rtc = 0; frp = frp; seq = seq }) ≡ answer_in packet
+unfolding answer_in
+answer_in-numbered packet frp seq = answer_numbered packet.command packet frp seq
+
+pub request_in-numbered : (packet : PacketFields) (frp seq : ℕ) → request_in (record packet { rtc = 0; frp = frp; seq = seq }) ≡ request_in packet
+unfolding request_in
+request_in-numbered packet frp seq = refl
+
+pub IsAsking-behind : (before : List PacketFields) (packet : PacketFields) → IsAsking packet → IsAsking (behind before packet)
+unfolding behind request_in
+IsAsking-behind before packet is = record {
+  counted = IsCounted-behind before packet is.counted;
+  asks = is.asks;
+  cube = is.cube;
+  slid = is.slid;
+  request = is.request;
+  is_request = is.is_request;
+  found = is.found;
+}
+
+pub IsReplying-behind : (before : List PacketFields) (packet : PacketFields) → IsReplying packet → IsReplying (behind before packet)
+unfolding behind
+IsReplying-behind before packet is = record {
+  counted = IsCounted-behind before packet is.counted;
+  replies = is.replies;
+  slid = is.slid;
+  unpoisoned = is.unpoisoned;
+  answer = is.answer;
+  found = answer_in-numbered packet _ _ ∙ is.found;
+}
+
+-- the packets of both directions count
+pub IsCounted-output : (topology : Topology) (port direction : ℕ) (packet : PacketFields) → Stands topology port (Output direction) packet → IsCounted packet
+IsCounted-output topology port zero packet is = is.counted
+IsCounted-output topology port (suc zero) packet is = is.counted
+IsCounted-output topology port (suc (suc direction)) packet is = absurd is
+
+pub Stands-behind : (topology : Topology) (port direction : ℕ) (before : List PacketFields) (packet : PacketFields) → Stands topology port (Output direction) packet → Stands topology port (Output direction) (behind before packet)
+Stands-behind topology port zero before packet is = IsAsking-behind before packet is
+Stands-behind topology port (suc zero) before packet is = IsReplying-behind before packet is
+Stands-behind topology port (suc (suc direction)) before packet is = absurd is
+
+-- the packets of parts of a list
+pub All-front : {X : Type 0} (P : X → Type 0) (xs ys : List X) → All P (xs ++ ys) → All P xs
+All-front P xs ys all = All-same P _ _ (sym (take_at xs ys (length xs) refl)) (All-take P (length xs) (xs ++ ys) all)
+
+pub All-back : {X : Type 0} (P : X → Type 0) (xs ys : List X) → All P (xs ++ ys) → All P ys
+All-back P xs ys all = All-same P _ _ (sym (drop_at xs ys (length xs) refl)) (All-drop P (length xs) (xs ++ ys) all)
+
+pub All-numbering : (topology : Topology) (port direction : ℕ) (before packets : List PacketFields) → All (Stands topology port (Output direction)) packets → All (Stands topology port (Output direction)) (numbering_from before packets)
+unfolding numbering_from
+All-numbering topology port direction before [] all = All-nil (Stands topology port (Output direction))
+All-numbering topology port direction before (packet ∷ packets) all =
+    All-cons (Stands topology port (Output direction)) (behind before packet) (numbering_from (before ++ packet ∷ []) packets)
+    (Stands-behind topology port direction before packet (All-head (Stands topology port (Output direction)) packet packets all))
+    (All-numbering topology port direction (before ++ packet ∷ []) packets (All-back (Stands topology port (Output direction)) (packet ∷ []) packets all))
+
+pub all_get : {X : Type 0} (P : X → Type 0) (xs : List X) (i : ℕ) (x : X) → All P xs → slice_get xs i ≡ Some x → P x
+all_get P xs i x all is = subst P (get_or_from_slice_get xs i x x is) (all i x (slice_get_within xs i x is))
+
+-- the request that a packet carries has its command, its cube and its address
+pub record IsRequestOf (packet : PacketFields) (request : RequestFields) : Type 0 where
+  pub command : request.command ≡ packet.command
+  pub cube : request.cube ≡ packet.cube
+  pub address : request.address ≡ packet.address
+
+request_by : (asks : Bool) (packet : PacketFields) (request : RequestFields) → (if asks then Some (record { command = packet.command; cube = packet.cube; address = packet.address; payload = payload_of packet.command packet.payload }) else None) ≡ Some request
+    → IsRequestOf packet request
+request_by false packet request is = absurd (cc)
+request_by true packet request is =
+    let same : record { command = packet.command; cube = packet.cube; address = packet.address; payload = payload_of packet.command packet.payload } ≡ request = cc in record {
+      command = sym (ap (λ (r : RequestFields). r.command) same);
+      cube = sym (ap (λ (r : RequestFields). r.cube) same);
+      address = sym (ap (λ (r : RequestFields). r.address) same);
+    }
+
+pub request_of_packet : (packet : PacketFields) (request : RequestFields) → request_in packet ≡ Some request → IsRequestOf packet request
+unfolding request_in
+request_of_packet packet request is = request_by (is_ask (layout_of packet.command)) packet request is
+
+-- a request that is given
+flow_of : (layout : Layout) → layout ≡ layouts.Ask → is_flow layout ≡ false
+flow_of layout is = ap is_flow is
+
+pub IsAsking-asked : (request : RequestFields) (tag host : ℕ) (poisoned : Bool) → IsRequest request → request.cube ≡ 0 → tag < 2 ^ 11 → host ≡ 0 → IsAsking (asked request tag host poisoned)
+unfolding asked
+IsAsking-asked request tag host poisoned is cube few none = record {
+  counted = record { is_packet = IsPacket-asked request tag host poisoned is few (omega arith); layout = flow_of (layout_of request.command) (asks-layout (layout_of request.command) is.asks) };
+  asks = is.asks;
+  cube = cube;
+  slid = none;
+  request = request;
+  is_request = is;
+  found = request_in-asked request tag host poisoned is;
+}
+
+-- an answer that is sent
+reply_layout : (layout : Layout) → family_of_layout layout ≡ families.Reply → is_flow layout ≡ false
+reply_layout layouts.Reply is = refl
+reply_layout layouts.Ask is = refl
+reply_layout _ is = absurd (cc)
+
+clean_reply : (answer : Answer) (tag host cube : ℕ) → (replied answer tag host cube).poisoned ≡ false
+unfolding replied
+clean_reply Silent tag host cube = refl
+clean_reply (Done flag) tag host cube = refl
+clean_reply (Read flag payload) tag host cube = refl
+clean_reply (Register value) tag host cube = refl
+clean_reply Stored tag host cube = refl
+clean_reply (Refused errstat) tag host cube = refl
+
+replied_slid : (answer : Answer) (tag host cube : ℕ) → CanReply answer → (replied answer tag host cube).slid ≡ host
+unfolding replied
+replied_slid Silent tag host cube can = absurd can
+replied_slid (Done flag) tag host cube can = refl
+replied_slid (Read flag payload) tag host cube can = refl
+replied_slid (Register value) tag host cube can = refl
+replied_slid Stored tag host cube can = refl
+replied_slid (Refused errstat) tag host cube can = refl
+
+pub replied_tag : (answer : Answer) (tag host cube : ℕ) → CanReply answer → (replied answer tag host cube).tag ≡ tag
+unfolding replied
+replied_tag Silent tag host cube can = absurd can
+replied_tag (Done flag) tag host cube can = refl
+replied_tag (Read flag payload) tag host cube can = refl
+replied_tag (Register value) tag host cube can = refl
+replied_tag Stored tag host cube can = refl
+replied_tag (Refused errstat) tag host cube can = refl
+
+pub IsReplying-replied : (answer : Answer) (tag host cube : ℕ) → CanReply answer → IsAnswer answer → tag < 2 ^ 11 → host ≡ 0 → cube ≡ 0 → IsReplying (replied answer tag host cube)
+IsReplying-replied answer tag host cube can fits few none own =
+    let found = answer_in-replied answer tag host cube can fits in
+    let replies = (answer_in-replies (replied answer tag host cube)).0 (ap is_some found) in record {
+      counted = record { is_packet = IsPacket-replied answer tag host cube can fits few (omega arith) (omega arith); layout = reply_layout _ replies };
+      replies = replies;
+      slid = replied_slid answer tag host cube can ∙ none;
+      unpoisoned = clean_reply answer tag host cube;
+      answer = answer;
+      found = found;
+    }

@@ -1,0 +1,74 @@
+-- What a lawful journal promises of requests and answers.
+use Rattle.std.specs.Prelude.{◌≡◌, ◌≤◌, ℕ, suc, not, ◌==◌, ◌&&◌, if◌then◌else◌, List, [], ◌∷◌, ◌++◌, length, map, flat_map, take, Option, Some, None}
+use Rattle.hmc_codes.specs.Commands.{is_posted}
+use Rattle.hmc_codes.specs.Request.{RequestFields}
+use Rattle.hmc_codes.specs.declared.answer.Answer.{Answer}
+use Rattle.hmc_codes.specs.declared.lift.Lift.{Lift}
+use Rattle.hmc_codes.specs.declared.place.Place.TheVariants as places
+use Rattle.hmc_codes.specs.declared.unit.Unit.{Unit as RequestUnit}
+use Rattle.hmc_packet.specs.Packet.{PacketFields}
+use Rattle.hmc_packet.specs.Transactions.{request_in, answer_in}
+use Rattle.hmc_journal.specs.declared.entry.Entry.{Entry}
+use Rattle.hmc_journal.specs.Filters.{Asking, Taking, same_unit, given_to, executed_by, asked_under, replies_under, answers_under, answered_into, taken_by}
+use Rattle.hmc_journal.specs.Next.{tag_of}
+use Rattle.hmc_journal.specs.Rooms.{Room, left, entered}
+use Rattle.hmc_journal.specs.Rooms.Room.{Output, Answers}
+use Rattle.hmc_journal.specs.Setup.{Topology, unit_of, other, direction_from}
+use Rattle.hmc_journal.specs.Wires.{accepted}
+
+-- the one list is a front of the other
+abbrev pub IsFront : {X : Type 0} → List X → List X → Type 0
+IsFront {X = X} front whole = (rest : List X) × (whole ≡ front ++ rest)
+
+-- a packet without the numbers that a link gives it
+abbrev pub unnumbered : PacketFields → PacketFields
+unnumbered packet = record packet { rtc = 0; seq = 0; frp = 0 }
+
+-- the request of a host to a unit that a packet carries, unless it is poisoned
+abbrev pub asking_in : Topology → (host : ℕ) → RequestUnit → PacketFields → Option RequestFields → List Asking
+asking_in topology host unit packet None = []
+asking_in topology host unit packet (Some request) =
+    if (packet.slid == host) && (not packet.poisoned && same_unit (unit_of topology request) unit)
+    then record { tag = tag_of (is_posted request.command) packet.tag; request = request } ∷ [] else []
+
+-- those that packets carry
+unfoldable pub asks_in : Topology → (host : ℕ) → RequestUnit → List PacketFields → List Asking
+asks_in topology host unit packets = flat_map (λ packet. asking_in topology host unit packet (request_in packet)) packets
+
+-- the answer that a packet carries, with its tag, unless it is poisoned
+abbrev pub taking_in : PacketFields → Option Answer → List Taking
+taking_in packet None = []
+taking_in packet (Some answer) = if packet.poisoned then [] else record { tag = packet.tag; answer = answer } ∷ []
+
+-- those that packets carry
+unfoldable pub takings_in : List PacketFields → List Taking
+takings_in packets = flat_map (λ packet. taking_in packet (answer_in packet)) packets
+
+-- those that the packets which left a room carry
+abbrev pub takings_gone : Topology → Room → List Entry → List Taking
+takings_gone topology room journal = takings_in (take (left journal room) (entered topology journal room))
+
+-- the direction from a host, and the one to it
+abbrev pub away_from : Topology → ℕ → ℕ
+away_from topology host = direction_from topology (places.Host host)
+
+abbrev pub towards : Topology → ℕ → ℕ
+towards topology host = other (away_from topology host)
+
+-- Each direction is a list, first in and first out. A unit executes what a host's packets carried to it, which is what the host gave it, in
+-- order. Its answers are lifted in order, and a host takes what packets carried to it; each answer is that of its request, and a tag has at
+-- most one request out.
+pub record IsCarried (topology : Topology) (journal : List Entry) : Type 0 where
+  pub links : (direction : ℕ) → IsFront (map unnumbered (accepted direction journal)) (map unnumbered (entered topology journal (Output direction)))
+  pub given : (host : ℕ) (unit : RequestUnit) → IsFront (asks_in topology host unit (accepted (away_from topology host) journal)) (given_to topology host unit journal)
+  pub executed : (host : ℕ) (unit : RequestUnit) → IsFront (executed_by host unit journal) (asks_in topology host unit (accepted (away_from topology host) journal))
+  pub lifted : (cube : ℕ) (from : Lift) → IsFront (takings_gone topology (Answers cube from) journal) (answered_into (Answers cube from) journal)
+  pub taken : (host : ℕ) → IsFront (taken_by host journal) (takings_in (accepted (towards topology host) journal))
+  pub answered : (host tag : ℕ) → IsFront (answers_under host tag journal) (map (λ reply. reply.answer) (replies_under host tag journal))
+  pub replied : (host tag : ℕ) → IsFront (map (λ reply. reply.request) (replies_under host tag journal)) (asked_under host tag journal)
+  pub out : (host tag : ℕ) → length (asked_under host tag journal) ≤ suc (length (answers_under host tag journal))
+
+-- where nothing is on its way, all of them were executed and taken
+pub record IsSettled (topology : Topology) (journal : List Entry) : Type 0 where
+  pub executed : (host : ℕ) (unit : RequestUnit) → executed_by host unit journal ≡ given_to topology host unit journal
+  pub taken : (host tag : ℕ) → length (answers_under host tag journal) ≡ length (asked_under host tag journal)
