@@ -1,0 +1,145 @@
+-- A new network stands for its case and the empty journal.
+use Rattle.std.proofs.Common.{◌≡◌, ◌≤◌, ◌<◌, ◌+◌, ◌%◌, ◌^◌, ◌∙◌, ℕ, zero, suc, Bool, true, false, Option, Some, None, Result, Ok, Err, IfOk, List, [], ◌∷◌, ◌++◌, length, drop, take, refl, sym, ap, ap₂, subst, arith}
+use Rattle.std.specs.Prelude.{replicate, slice_index_or}
+use Rattle.std.specs.List.{All}
+use Rattle.hmc_codes.specs.Link.{LinkFields}
+use Rattle.hmc_codes.specs.declared.lift.Lift.{Lift}
+use Rattle.hmc_codes.specs.declared.lift.Lift.TheVariants as lifts
+use Rattle.hmc_codes.specs.declared.place.Place.{Place}
+use Rattle.hmc_codes.specs.declared.place.Place.TheVariants as places
+use Rattle.hmc_packet.specs.Packet.{PacketFields}
+use Rattle.hmc_vault.specs.Vault.{VaultFields, opening_vault, bank_at}
+use Rattle.hmc_cube.specs.Cube.{CubeFields, no_vault, opening_cube}
+use Rattle.hmc_script.specs.Items.{ItemFields}
+use Rattle.hmc_serial.specs.Cube.{opening}
+use Rattle.hmc_serial.specs.Machine.{opening_state}
+use Rattle.hmc_case.specs.declared.setup.CubeSetup.{CubeSetup}
+use Rattle.hmc_case.specs.declared.setup.LinkRow.{LinkRow}
+use Rattle.hmc_journal.specs.Hosts.{host_of, given_count, tags_out}
+use Rattle.hmc_journal.specs.Housed.{IsOneCube}
+use Rattle.hmc_journal.specs.Lawful.{Lawful}
+use Rattle.hmc_journal.specs.Rooms.{Room, left, entered, contents, begun}
+use Rattle.hmc_journal.specs.Rooms.Room.{Output, Port, Host, Vault, Bank, Registers, Answers}
+use Rattle.hmc_journal.specs.Serial.{state_after}
+use Rattle.hmc_journal.specs.Setup.{Topology, Setup, port_at}
+use Rattle.hmc_journal.specs.Sight.{state_of}
+use Rattle.hmc_journal.specs.Wires.{sent_flits, landed_flits, line_flits, unsent, pending, accepted}
+use Rattle.hmc_net.specs.Held.{NetFields, topology_of, vault_in, packets_if, only, first_or_second, answers_in, held, holding_of, inside}
+use Rattle.hmc_net.specs.Opening.{opening_net}
+use Rattle.hmc_net.specs.Ready.{IsStepFor}
+use Rattle.hmc_net.specs.Stands.{IsWay, StandsFor}
+use Rattle.hmc_net.specs.Wire.{opening_wire}
+
+-- each of some equal elements, or none
+replicate_at : {X : Type 0} (P : X → Type 0) (n i : ℕ) (x d : X) → P x → P d → P (slice_index_or (replicate n x) i d)
+replicate_at P zero i x d px pd = pd
+replicate_at P (suc n) zero x d px pd = px
+replicate_at P (suc n) (suc i) x d px pd = replicate_at P n i x d px pd
+
+only_none : (cube : ℕ) (packets : List PacketFields) → packets ≡ [] → only cube packets ≡ []
+only_none zero packets none = none
+only_none (suc cube) packets none = refl
+
+if_none : (test : Bool) → packets_if test [] ≡ []
+if_none true = refl
+if_none false = refl
+
+no_first : (direction : ℕ) → first_or_second direction [] [] ≡ []
+no_first zero = refl
+no_first (suc zero) = refl
+no_first (suc (suc direction)) = refl
+
+-- a vault in which nothing waits
+abbrev IsNew : VaultFields → Type 0
+IsNew vault = (vault.entering ≡ []) × ((bank : ℕ) → bank_at vault bank ≡ []) × (vault.answers ≡ [])
+
+new_vault : (n bank_bits size at : ℕ) → IsNew (vault_in (replicate n (opening_vault bank_bits size)) at)
+new_vault n bank_bits size at = replicate_at IsNew n at (opening_vault bank_bits size) no_vault
+    (refl, (λ bank. replicate_at (λ (l : List PacketFields). l ≡ []) (2 ^ bank_bits) bank [] [] refl refl), refl) (refl, (λ bank. refl), refl)
+
+nothing_inside : (setup : CubeSetup) (sizes : LinkFields) (port : ℕ) (script : List ItemFields) (steps : ℕ) (room : Room) → inside (opening_net setup sizes port script steps) room ≡ []
+nothing_inside setup sizes port script steps (Output direction) = no_first direction
+nothing_inside setup sizes port script steps (Port cube other) = if_none _
+nothing_inside setup sizes port script steps (Host host) = only_none host [] refl
+nothing_inside setup sizes port script steps (Vault cube vault) = only_none cube _ (new_vault (2 ^ setup.shape.vault_bits) setup.shape.bank_bits setup.queue vault).0
+nothing_inside setup sizes port script steps (Bank cube vault bank) = only_none cube _ ((new_vault (2 ^ setup.shape.vault_bits) setup.shape.bank_bits setup.queue vault).1 bank)
+nothing_inside setup sizes port script steps (Registers cube) = only_none cube [] refl
+nothing_inside setup sizes port script steps (Answers cube (lifts.Vault vault)) = only_none cube _ (new_vault (2 ^ setup.shape.vault_bits) setup.shape.bank_bits setup.queue vault).2
+nothing_inside setup sizes port script steps (Answers cube lifts.Registers) = only_none cube [] refl
+
+nothing_in : (topology : Topology) (room : Room) → contents topology [] room ≡ []
+unfolding contents left entered
+nothing_in topology room = refl
+
+opening_way : (topology : Topology) (direction : ℕ) (sizes : LinkFields) → IsWay topology [] direction (opening_wire sizes)
+unfolding line_flits sent_flits landed_flits unsent pending accepted begun left entered
+opening_way topology direction sizes = record { line = refl; landed = omega arith; sending = refl; frp = refl; seq = refl; accepted_flits = refl; passed = omega arith; away = refl; gathered = refl }
+
+lawful_nothing : (setup : Setup) → Lawful setup []
+unfolding Lawful
+lawful_nothing setup = tt
+
+within_nothing : (topology : Topology) (room : Room) → left [] room ≤ length (entered topology [] room)
+unfolding left entered
+within_nothing topology room = omega arith
+
+nothing_begun : (topology : Topology) (direction : ℕ) → begun topology [] direction ≡ []
+unfolding begun left entered
+nothing_begun topology direction = refl
+
+opening_host_is : (setup : Setup) (cube : CubeSetup) (sizes : LinkFields) (port steps : ℕ) → (opening_net cube sizes port setup.script steps).host ≡ host_of setup [] 0
+unfolding host_of given_count tags_out
+opening_host_is setup cube sizes port steps = refl
+
+opening_state_is : (cube : CubeSetup) (sizes : LinkFields) (port : ℕ) (script : List ItemFields) (steps : ℕ) → (opening_net cube sizes port script steps).cube.state ∷ [] ≡ state_of (topology_of (opening_net cube sizes port script steps)) []
+unfolding state_of state_after opening_state
+opening_state_is cube sizes port script steps = refl
+
+pub opening_stands : (setup : Setup) (cube : CubeSetup) (sizes : LinkFields) (port steps : ℕ) → IsOneCube setup → All (IsStepFor setup.topology) setup.schedule → setup.topology ≡ topology_of (opening_net cube sizes port setup.script steps) → length setup.schedule ≤ steps
+    → StandsFor (opening_net cube sizes port setup.script steps) setup
+opening_stands setup cube sizes port steps one steps_there topology most = record {
+  one_cube = one;
+  steps = steps_there;
+  topology = topology;
+  lawful = lawful_nothing setup;
+  rooms = λ room. nothing_inside cube sizes port setup.script steps room ∙ sym (nothing_in _ room);
+  moves = λ room. within_nothing _ room;
+  forth = opening_way _ 0 sizes;
+  back = opening_way _ 1 sizes;
+  others = λ direction. nothing_begun _ (2 + direction);
+  host = opening_host_is setup cube sizes port steps;
+  state = opening_state_is cube sizes port setup.script steps;
+  most = most;
+}
+
+-- the topology of one cube and one link is that of the network built from them
+one_link_row : (setup : Setup) (one : IsOneCube setup) (link : LinkRow) → link ≡ one.link → one.link ≡ record { join = record { a = places.Host 0; b = places.Port 0 one.port }; setup = link.setup }
+one_link_row setup one link link_is =
+    ap₂ (λ (a b : Place). record { join = record { a = a; b = b }; setup = one.link.setup }) one.host_end one.cube_end ∙
+    ap (λ (r : LinkRow). record { join = record { a = places.Host 0; b = places.Port 0 one.port }; setup = r.setup }) (sym link_is)
+
+pub one_topology : (setup : Setup) (one : IsOneCube setup) (cube : CubeSetup) (link : LinkRow) (port steps : ℕ) → cube ≡ one.cube → link ≡ one.link → port ≡ one.port
+    → setup.topology ≡ topology_of (opening_net cube link.setup port setup.script steps)
+one_topology setup one cube link port steps cube_is link_is port_is =
+    ap₂ (λ (cubes : List CubeSetup) (links : List LinkRow). record { cubes = cubes; links = links }) (one.cubes ∙ ap (λ (c : CubeSetup). c ∷ []) (sym cube_is)) (one.links ∙ ap (λ (r : LinkRow). r ∷ []) (one_link_row setup one link link_is)) ∙
+    ap (λ n. topology_of (opening_net cube link.setup n setup.script steps)) (sym port_is)
+
+-- what holds of each value holds of a good answer
+pub ok_then : {A E : Type 0} (P Q : A → Type 0) (result : Result A E) → ((x : A) → P x → Q x) → IfOk result P → IfOk result Q
+ok_then P Q (Ok x) more is = more x is
+ok_then P Q (Err e) more is = tt
+
+pub built_stands : (setup : Setup) (one : IsOneCube setup) (cube : CubeSetup) (link : LinkRow) (port steps : ℕ) (script : List ItemFields) → All (IsStepFor setup.topology) setup.schedule → cube ≡ one.cube → link ≡ one.link → port ≡ port_at link.join.b
+    → script ≡ setup.script → steps ≡ length setup.schedule → StandsFor (opening_net cube link.setup port script steps) setup
+built_stands setup one cube link port steps script steps_there cube_is link_is port_is script_is steps_is =
+    let port_one : port ≡ one.port = port_is ∙ ap (λ (r : LinkRow). port_at r.join.b) link_is ∙ ap port_at one.cube_end in
+    subst (λ s. StandsFor (opening_net cube link.setup port s steps) setup) (sym script_is)
+    (opening_stands setup cube link.setup port steps one steps_there (one_topology setup one cube link port steps cube_is link_is port_one) (omega (arith, steps_is)))
+
+-- the only element
+pub only_at : {X : Type 0} (xs ys : List X) (x one : X) → xs ≡ ys → ys ≡ one ∷ [] → x ≡ slice_index_or xs 0 x → x ≡ one
+only_at xs ys x one same is at = at ∙ ap (λ l. slice_index_or l 0 x) (same ∙ is)
+
+pub opened_shape : (cube : CubeFields) (setup own : CubeSetup) → cube ≡ opening_cube 0 own.shape own.queue → own ≡ setup → (cube.state.shape ≡ setup.shape) × (cube.size ≡ setup.queue)
+unfolding opening
+opened_shape cube setup own is same = (ap (λ (c : CubeFields). c.state.shape) is ∙ ap (λ (s : CubeSetup). s.shape) same, ap (λ (c : CubeFields). c.size) is ∙ ap (λ (s : CubeSetup). s.queue) same)

@@ -1,0 +1,158 @@
+-- A network holds no packet exactly where its journal is drained.
+use Rattle.std.proofs.Common.{◌≡◌, ◌≤◌, ◌<◌, ◌+◌, ◌-◌, ◌&&◌, ◌==◌, ◌⊎◌, ◌↔◌, inl, inr, ◌∙◌, ℕ, zero, suc, Bool, true, false, List, [], ◌∷◌, ◌++◌, length, drop, sum_by, refl, sym, ap, subst, arith, length-drop}
+use Rattle.std.specs.Prelude.{slice_index_or, IsTrue}
+use Rattle.std.proofs.lemmas.List.Sums.{sum_by-cons}
+use Rattle.std.proofs.lemmas.List.{drop_all}
+use Rattle.hmc_codes.specs.declared.lift.Lift.{Lift}
+use Rattle.hmc_codes.specs.declared.lift.Lift.TheVariants as lifts
+use Rattle.hmc_packet.specs.Packet.{PacketFields, flits_of}
+use Rattle.hmc_vault.specs.Vault.{VaultFields, bank_at, held_by}
+use Rattle.hmc_cube.specs.Cube.{no_vault, held_in_cube}
+use Rattle.hmc_journal.specs.declared.entry.Entry.{Entry}
+use Rattle.hmc_journal.specs.Drained.{IsDrained, is_drained}
+use Rattle.hmc_journal.specs.Rooms.{Room, arrival, left, entered, contents, begun}
+use Rattle.hmc_journal.specs.Rooms.Room.{Output, Port, Host, Vault, Bank, Registers, Answers}
+use Rattle.hmc_journal.specs.Setup.{Topology, Setup}
+use Rattle.hmc_journal.specs.Wires.{accepted, flits_in}
+use Rattle.hmc_journal.proofs.Arrived.{arrived}
+use Rattle.hmc_journal.proofs.Sound.{kept}
+use Rattle.hmc_journal.proofs.Tokens.{accepted_few}
+use Rattle.hmc_net.specs.Held.{NetFields, topology_of, vault_in, packets_if, only, first_or_second, held, holding_of, inside}
+use Rattle.hmc_net.specs.Stands.{IsWay, StandsFor}
+use Rattle.hmc_net.specs.Still.{IsIdle, IsStill}
+use Rattle.hmc_net.specs.Wire.{WireFields}
+use Rattle.hmc_net.proofs.DrainedTest.{drained_by_test, test_by_drained}
+use Rattle.hmc_net.proofs.Rooms.{buffer_is}
+
+-- ---- sums that are nothing
+
+sum_zero : {X : Type 0} (f : X → ℕ) (d : X) (xs : List X) → ((i : ℕ) → f (slice_index_or xs i d) ≡ 0) → sum_by f xs ≡ 0
+sum_zero f d [] none = refl
+sum_zero f d (x ∷ xs) none = omega (arith, sum_by-cons f x xs, none 0, sum_zero f d xs (λ i. none (suc i)))
+
+zero_sum : {X : Type 0} (f : X → ℕ) (d : X) (xs : List X) (i : ℕ) → f d ≡ 0 → sum_by f xs ≡ 0 → f (slice_index_or xs i d) ≡ 0
+zero_sum f d [] i default none = default
+zero_sum f d (x ∷ xs) zero default none = omega (arith, sum_by-cons f x xs)
+zero_sum f d (x ∷ xs) (suc i) default none = zero_sum f d xs i default (omega (arith, sum_by-cons f x xs))
+
+length_none : {X : Type 0} (xs : List X) → length xs ≡ 0 → xs ≡ []
+length_none [] none = refl
+length_none (x ∷ xs) none = absurd (omega arith)
+
+flits_none : (packets : List PacketFields) → flits_in packets ≡ 0 → packets ≡ []
+flits_none [] none = refl
+flits_none (packet ∷ rest) none = absurd (omega (arith, sum_by-cons flits_of packet rest))
+
+-- ---- a cube
+
+vault_still : (vault : VaultFields) → held_by vault ≡ 0 → (vault.entering ≡ []) × ((bank : ℕ) → bank_at vault bank ≡ []) × (vault.answers ≡ [])
+vault_still vault none =
+    let banks : sum_by length vault.banks ≡ 0 = omega arith in
+    (length_none vault.entering (omega arith), (λ bank. length_none (bank_at vault bank) (zero_sum length [] vault.banks bank refl banks)), length_none vault.answers (omega arith))
+
+still_vault : (vault : VaultFields) → vault.entering ≡ [] → ((bank : ℕ) → bank_at vault bank ≡ []) → vault.answers ≡ [] → held_by vault ≡ 0
+still_vault vault entering banks answers =
+    omega (arith, ap length entering, ap length answers, sum_zero length [] vault.banks (λ i. ap length (banks i)))
+
+vaults_still : (net : NetFields) (vault : ℕ) → held_in_cube net.cube ≡ 0 → held_by (vault_in net.cube.vaults vault) ≡ 0
+vaults_still net vault none = zero_sum held_by no_vault net.cube.vaults vault refl (omega arith)
+
+-- ---- rooms
+
+only_none : (cube : ℕ) (packets : List PacketFields) → packets ≡ [] → only cube packets ≡ []
+only_none zero packets none = none
+only_none (suc cube) packets none = refl
+
+if_none : (test : Bool) (packets : List PacketFields) → packets ≡ [] → packets_if test packets ≡ []
+if_none true packets none = none
+if_none false packets none = refl
+
+still_inside : (net : NetFields) (room : Room) → IsStill net → inside net room ≡ []
+still_inside net (Output zero) still = still.forth.output
+still_inside net (Output (suc zero)) still = still.back.output
+still_inside net (Output (suc (suc direction))) still = refl
+still_inside net (Port cube port) still = if_none _ net.buffer still.buffer
+still_inside net (Host host) still = only_none host net.host_buffer still.host_buffer
+still_inside net (Vault cube vault) still = only_none cube _ (vault_still (vault_in net.cube.vaults vault) (vaults_still net vault still.cube)).0
+still_inside net (Bank cube vault bank) still = only_none cube _ ((vault_still (vault_in net.cube.vaults vault) (vaults_still net vault still.cube)).1 bank)
+still_inside net (Registers cube) still = let none = still.cube in only_none cube net.cube.waiting (length_none net.cube.waiting (omega arith))
+still_inside net (Answers cube (lifts.Vault vault)) still = only_none cube _ (vault_still (vault_in net.cube.vaults vault) (vaults_still net vault still.cube)).2
+still_inside net (Answers cube lifts.Registers) still = let none = still.cube in only_none cube net.cube.answers (length_none net.cube.answers (omega arith))
+
+-- ---- directions
+
+-- what a direction needs to be told: how many packets came, how many left the buffer
+begun_accepted : (topology : Topology) (past : List Entry) (direction : ℕ) (wire : WireFields) → IsWay topology past direction wire → left past (arrival topology direction) ≤ length (entered topology past (arrival topology direction))
+    → length (entered topology past (arrival topology direction)) ≡ length (accepted direction past) → wire.away ≡ 0 → contents topology past (arrival topology direction) ≡ [] → length (begun topology past direction) ≡ length (accepted direction past)
+unfolding contents
+begun_accepted topology past direction wire way within came none empty =
+    let gone : drop (left past (arrival topology direction)) (begun topology past direction) ≡ [] = flits_none _ (sym way.away ∙ none) in
+    omega (arith, way.passed, within, came, ap length gone, ap length empty, length-drop (left past (arrival topology direction)) (begun topology past direction), length-drop (left past (arrival topology direction)) (entered topology past (arrival topology direction)))
+
+accepted_begun : (topology : Topology) (past : List Entry) (direction : ℕ) (wire : WireFields) → IsWay topology past direction wire
+    → length (entered topology past (arrival topology direction)) ≡ length (accepted direction past) → length (begun topology past direction) ≡ length (accepted direction past) → contents topology past (arrival topology direction) ≡ [] → wire.away ≡ 0
+unfolding contents
+accepted_begun topology past direction wire way came same empty =
+    let most : length (begun topology past direction) ≤ left past (arrival topology direction) =
+    omega (arith, came, same, ap length empty, length-drop (left past (arrival topology direction)) (entered topology past (arrival topology direction))) in
+    way.away ∙ ap flits_in (drop_all (left past (arrival topology direction)) (begun topology past direction) most)
+
+came : (net : NetFields) (setup : Setup) (direction : ℕ) → StandsFor net setup → (direction ≡ 0) ⊎ (direction ≡ 1)
+    → length (entered (topology_of net) net.journal.past (arrival (topology_of net) direction)) ≡ length (accepted direction net.journal.past)
+came net setup direction stands real =
+    ap (λ t. length (entered t net.journal.past (arrival t direction))) (sym stands.topology) ∙ ap length (arrived setup net.journal.past direction stands.one_cube real stands.lawful)
+
+accepted_nothing : (net : NetFields) (setup : Setup) (direction : ℕ) → StandsFor net setup → length (begun (topology_of net) net.journal.past (2 + direction)) ≡ length (accepted (2 + direction) net.journal.past)
+accepted_nothing net setup direction stands =
+    let few : length (accepted (2 + direction) net.journal.past) ≤ length (begun setup.topology net.journal.past (2 + direction)) = accepted_few setup stands.one_cube.port net.journal.past (2 + direction) (kept setup net.journal.past stands.one_cube stands.lawful) in
+    omega (arith, ap length (stands.others direction), ap (λ t. length (begun t net.journal.past (2 + direction))) stands.topology)
+
+still_wires : (net : NetFields) (setup : Setup) (direction : ℕ) → StandsFor net setup → IsStill net → length (begun (topology_of net) net.journal.past direction) ≡ length (accepted direction net.journal.past)
+still_wires net setup zero stands still =
+    begun_accepted (topology_of net) net.journal.past 0 net.forth stands.forth (stands.moves (Port 0 net.port)) (came net setup 0 stands (inl refl)) still.forth.away (sym (stands.rooms (Port 0 net.port)) ∙ still_inside net (Port 0 net.port) still)
+still_wires net setup (suc zero) stands still =
+    begun_accepted (topology_of net) net.journal.past 1 net.back stands.back (stands.moves (Host 0)) (came net setup 1 stands (inr refl)) still.back.away (sym (stands.rooms (Host 0)) ∙ still_inside net (Host 0) still)
+still_wires net setup (suc (suc direction)) stands still =
+    let e : 2 + direction ≡ suc (suc direction) = omega arith in
+    subst (λ d. length (begun (topology_of net) net.journal.past d) ≡ length (accepted d net.journal.past)) e (accepted_nothing net setup direction stands)
+
+pub still_drained : (net : NetFields) (setup : Setup) → StandsFor net setup → IsStill net → IsDrained setup.topology net.journal.past
+still_drained net setup stands still = subst (λ t. IsDrained t net.journal.past) (sym stands.topology) (record {
+  rooms = λ room. sym (stands.rooms room) ∙ still_inside net room still;
+  wires = λ direction. still_wires net setup direction stands still;
+})
+
+drained_cube : (net : NetFields) → ((room : Room) → inside net room ≡ []) → held_in_cube net.cube ≡ 0
+drained_cube net none =
+    omega (
+      arith,
+      ap length (none (Registers 0)),
+      ap length (none (Answers 0 lifts.Registers)),
+      sum_zero held_by no_vault net.cube.vaults (λ i. still_vault (vault_in net.cube.vaults i) (none (Vault 0 i)) (λ bank. none (Bank 0 i bank)) (none (Answers 0 (lifts.Vault i)))),
+    )
+
+drained_net : (net : NetFields) (setup : Setup) → StandsFor net setup → IsDrained (topology_of net) net.journal.past → IsStill net
+drained_net net setup stands drained =
+    let none : (room : Room) → inside net room ≡ [] = λ room. stands.rooms room ∙ drained.rooms room in
+    record {
+      forth = record { output = none (Output 0); away = accepted_begun (topology_of net) net.journal.past 0 net.forth stands.forth (came net setup 0 stands (inl refl)) (drained.wires 0) (drained.rooms (Port 0 net.port)) };
+      back = record { output = none (Output 1); away = accepted_begun (topology_of net) net.journal.past 1 net.back stands.back (came net setup 1 stands (inr refl)) (drained.wires 1) (drained.rooms (Host 0)) };
+      buffer = sym (buffer_is net net.port refl) ∙ none (Port 0 net.port);
+      host_buffer = none (Host 0);
+      cube = drained_cube net none;
+    }
+
+pub drained_still : (net : NetFields) (setup : Setup) → StandsFor net setup → IsDrained setup.topology net.journal.past → IsStill net
+drained_still net setup stands drained = drained_net net setup stands (subst (λ t. IsDrained t net.journal.past) stands.topology drained)
+
+same_test : (result test : Bool) → (IsTrue result → test ≡ true) → (test ≡ true → IsTrue result) → result ≡ test
+same_test true test forth back = sym (forth refl)
+same_test false false forth back = refl
+same_test false true forth back = back refl
+
+-- so it is what the test of all rooms says
+pub drained_test : (net : NetFields) (setup : Setup) (result : Bool) → StandsFor net setup → IsTrue result ↔ IsStill net → result ≡ is_drained setup.topology net.journal.past
+drained_test net setup result stands is =
+    same_test result (is_drained setup.topology net.journal.past)
+    (λ yes. test_by_drained setup.topology net.journal.past (still_drained net setup stands (is.0 yes)))
+    (λ yes. is.1 (drained_still net setup stands (drained_by_test setup net.journal.past stands.one_cube stands.lawful yes)))

@@ -1,0 +1,76 @@
+-- What an entry leaves of the network, but for the journal.
+use Rattle.std.specs.Prelude.{ℕ, zero, suc, ◌+◌, Bool, List, [], ◌∷◌, ◌++◌, drop}
+use Rattle.hmc_codes.specs.declared.unit.Unit.{Unit as RequestUnit}
+use Rattle.hmc_codes.specs.declared.unit.Unit.TheVariants as units
+use Rattle.hmc_packet.specs.Packet.{PacketFields, flits_of}
+use Rattle.hmc_packet.specs.Transactions.{asked}
+use Rattle.hmc_crossbar.specs.declared.to.To.{To}
+use Rattle.hmc_crossbar.specs.declared.to.To.TheVariants as tos
+use Rattle.hmc_vault.specs.declared.execute.Executed.{Executed as Execution}
+use Rattle.hmc_vault.specs.declared.execute.Executed.TheVariants.{Ran}
+use Rattle.hmc_vault.specs.declared.spread.Spread.TheVariants.{Moved}
+use Rattle.hmc_cube.specs.Cube.{CubeFields}
+use Rattle.hmc_cube.specs.After.{after_enter, after_spread, after_execute, after_registers, after_lift}
+use Rattle.hmc_cube.specs.Places.{answers_at}
+use Rattle.hmc_host.specs.Tags.{with_out}
+use Rattle.hmc_host.specs.declared.settled.Settled.TheVariants as settles
+use Rattle.hmc_host.specs.Settle.{after_settle}
+use Rattle.hmc_journal.specs.declared.outcome.Goal.{Goal}
+use Rattle.hmc_journal.specs.declared.outcome.Goal.TheVariants as goals
+use Rattle.hmc_journal.specs.declared.outcome.Outcome.{Outcome}
+use Rattle.hmc_journal.specs.declared.entry.Entry.{Entry}
+use Rattle.hmc_journal.specs.declared.entry.Entry.TheVariants.{Gave, Sent, Landed, Shifted, Dropped, Spread, Executed, Lifted, Took, Discarded}
+use Rattle.hmc_journal.specs.Rooms.{front_of, tag_number}
+use Rattle.hmc_journal.specs.Wires.{packets_by}
+use Rattle.hmc_net.specs.Held.{NetFields}
+use Rattle.hmc_net.specs.Wire.{handed, released, read_with, after_send, after_land}
+
+-- a flit was sent
+abbrev pub after_sent : (direction : ℕ) → Entry → NetFields → NetFields
+after_sent zero entry net = record net { forth = after_send entry net.forth }
+after_sent (suc direction) entry net = record net { back = after_send entry net.back }
+
+-- a flit landed; the packet that is whole with it enters the buffer
+abbrev pub after_landed : (direction : ℕ) → List ℕ → Outcome → Entry → NetFields → NetFields
+after_landed zero flit outcome entry net =
+    record net { forth = after_land entry net.forth; buffer = net.buffer ++ packets_by outcome (read_with flit net.forth) }
+after_landed (suc direction) flit outcome entry net =
+    record net { back = after_land entry net.back; host_buffer = net.host_buffer ++ packets_by outcome (read_with flit net.back) }
+
+-- the front left the port's buffer, or the host's
+abbrev pub without_front : NetFields → NetFields
+without_front net = record net { buffer = drop 1 net.buffer; forth = released (flits_of (front_of net.buffer)) net.forth }
+
+abbrev pub without_host_front : NetFields → NetFields
+without_host_front net = record net { host_buffer = drop 1 net.host_buffer; back = released (flits_of (front_of net.host_buffer)) net.back }
+
+-- the place in a cube that a goal is
+abbrev pub to_of : Goal → To
+to_of (goals.Vault vault) = tos.Vault vault
+to_of goals.Registers = tos.Registers
+to_of (goals.Port port) = tos.Port port
+
+-- a unit executed the front of its queue
+abbrev pub after_unit : RequestUnit → Execution → CubeFields → CubeFields
+after_unit (units.Bank cube vault bank) execution fields = after_execute vault bank execution fields
+after_unit (units.Registers cube) execution fields = after_registers execution fields
+
+abbrev pub after : Entry → NetFields → NetFields
+after (Gave host tag poisoned request) net = record net {
+  host = record net.host { given = net.host.given + 1; tags = with_out tag net.host.tags };
+  forth = handed (asked request (tag_number tag) host poisoned) net.forth;
+}
+after (Sent direction what flit) net = after_sent direction (Sent direction what flit) net
+after (Landed direction flit outcome) net = after_landed direction flit outcome (Landed direction flit outcome) net
+after (Shifted cube port goal) net = record (without_front net) { cube = after_enter (to_of goal) (front_of net.buffer) net.cube }
+after (Dropped cube port) net = without_front net
+after (Spread cube vault bank) net = record net { cube = after_spread vault (Moved bank) net.cube }
+after (Executed unit host tag request answer) net = record net { cube = after_unit unit (Ran host (tag_number tag) request answer) net.cube }
+after (Lifted cube from port) net = record net { cube = after_lift from net.cube; back = handed (front_of (answers_at net.cube from)) net.back }
+after (Took host tag answer) net = record (without_host_front net) { host = after_settle (settles.Took tag answer) net.host }
+after (Discarded host) net = without_host_front net
+after _ net = net
+
+-- the entry is noted too
+abbrev pub noted : Entry → NetFields → NetFields
+noted entry net = record (after entry net) { journal = record net.journal { past = entry ∷ net.journal.past } }

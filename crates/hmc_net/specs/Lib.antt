@@ -1,0 +1,10 @@
+pub mod Wire
+pub mod WireKept
+pub mod Held
+pub mod After
+pub mod Ready
+pub mod Stands
+pub mod Opening
+pub mod Still
+pub mod Went
+pub mod Acts

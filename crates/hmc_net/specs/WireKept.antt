@@ -1,0 +1,29 @@
+-- What each direction keeps.
+use Rattle.std.specs.Prelude.{◌≡◌, ◌≤◌, ◌<◌, ℕ, List, All, length}
+use Rattle.hmc_packet.specs.Packet.{PacketFields, IsPacket, flits_of}
+use Rattle.hmc_packet.specs.Spelling.{HasPointer, spelling}
+use Rattle.hmc_packet.specs.Tail.{pointers}
+use Rattle.hmc_journal.specs.Sight.{Sending}
+use Rattle.hmc_net.specs.Wire.{WireFields, IsTransaction}
+
+-- a packet of which some flits were sent and some are left, and its spelling with some pointer
+pub record IsBegun (sending : Sending) (flits : List (List ℕ)) : Type 0 where
+  pub packet : IsPacket sending.packet
+  pub transaction : IsTransaction sending.packet
+  pub pointer : ℕ
+  pub below : pointer < pointers
+  pub spelled : flits ≡ spelling sending.packet pointer
+  pub some_left : 1 ≤ sending.left
+  pub some_sent : sending.left < flits_of sending.packet
+
+-- counters below their moduli, no more flits under way than there are tokens, transactions in an output queue of its size, a line of its
+-- size, and less than a whole packet gathered
+pub record IsWire (wire : WireFields) (output line : ℕ) : Type 0 where
+  pub frp : wire.frp < pointers
+  pub seq : wire.seq < 8
+  pub accepted : wire.accepted < pointers
+  pub away : wire.away ≤ wire.sizes.tokens
+  pub transactions : All IsTransaction wire.output
+  pub output_size : output ≡ wire.sizes.output
+  pub line_size : line ≡ wire.sizes.line
+  pub gathered : length wire.pending ≤ 16

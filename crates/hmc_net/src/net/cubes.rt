@@ -1,0 +1,177 @@
+//! The steps of cubes.
+
+ghost use Rattle.std.specs.Prelude.{◌≡◌, ◌≤◌, ◌<◌, ◌^◌};
+ghost use Rattle.hmc_codes.specs.Commands.{is_posted};
+ghost use Rattle.hmc_journal.specs.Next.{choice, tag_of};
+ghost use Rattle.hmc_net.specs.Acts.{ran_by, goal_by, spread_by};
+ghost use Rattle.hmc_net.specs.After.{after, to_of};
+ghost use Rattle.hmc_net.specs.Held.{topology_of, sight_by};
+ghost use Rattle.hmc_net.specs.Ready.{IsReady, IsLiftFor};
+
+use crate::Net;
+use crate::net::idle;
+use hmc_case::CubeSetup;
+use hmc_codes::{Command, Lift, Unit};
+use hmc_crossbar::To;
+use hmc_cube::{Executed, Spread};
+use hmc_journal::{Cause, Entry, Goal};
+use hmc_packet::Packet;
+use hmc_schedule::Step;
+use hmc_tokens::Intake;
+
+impl Net {
+    // The front of the port's buffer goes on, or is dropped.
+    pub(crate) fn shift(&mut self, port: u8) -> Entry
+        requires there { port ≡ self.old.port }
+        requires ready { IsReady self.old }
+        ensures entry { result ≡ choice (topology_of self.old) (sight_by self.old) (Step.Shift 0 port) }
+        ensures held { self.new ≡ after result self.old }
+    {
+        let Some(front) = self.buffer.front() else {
+            return idle(Step::Shift(0, port), Cause::Empty);
+        };
+        let flits = front.flits();
+        if front.poisoned {
+            let _ = self.buffer.take_out();
+            self.forth.leave(flits);
+            return Entry::Dropped { cube: 0, port };
+        }
+        let goal = goal_of(&self.setup, &front);
+        if !self.cube.room(to_of(goal)) {
+            return idle(Step::Shift(0, port), Cause::Full);
+        }
+        let _ = self.buffer.take_out();
+        self.forth.leave(flits);
+        self.cube.enter(to_of(goal), front);
+        Entry::Shifted {
+            cube: 0,
+            port,
+            goal,
+        }
+    }
+
+    // The front of a vault's queue goes to its bank.
+    pub(crate) fn spread(&mut self, vault: u8) -> Entry
+        requires { vault < 2 ^ self.old.setup.shape.vault_bits }
+        ensures entry { result ≡ choice (topology_of self.old) (sight_by self.old) (Step.Spread 0 vault) }
+        ensures held { self.new ≡ after result self.old }
+    {
+        self.cube.keeps();
+        spread_by(vault, self.cube.spread(vault))
+    }
+
+    // A bank executes the front of its queue.
+    pub(crate) fn bank(&mut self, vault: u8, bank: u8) -> Entry
+        requires vault { vault < 2 ^ self.old.setup.shape.vault_bits }
+        requires bank { bank < 2 ^ self.old.setup.shape.bank_bits }
+        requires ready { IsReady self.old }
+        ensures entry { result ≡ choice (topology_of self.old) (sight_by self.old) (Step.Bank 0 vault bank) }
+        ensures held { self.new ≡ after result self.old }
+    {
+        self.cube.keeps();
+        let unit = Unit::Bank {
+            cube: 0,
+            vault,
+            bank,
+        };
+        let ran = self.cube.execute(vault, bank);
+        ran_by(unit, Step::Bank(0, vault, bank), &ran)
+    }
+
+    // The registers execute the front of their queue.
+    pub(crate) fn registers(&mut self) -> Entry
+        requires { IsReady self.old }
+        ensures entry { result ≡ choice (topology_of self.old) (sight_by self.old) (Step.Registers 0) }
+        ensures held { self.new ≡ after result self.old }
+    {
+        let ran = self.cube.registers();
+        ran_by(Unit::Registers { cube: 0 }, Step::Registers(0), &ran)
+    }
+
+    // An answer goes to the output queue of the port.
+    pub(crate) fn lift(&mut self, from: Lift) -> Entry
+        requires there { IsLiftFor (topology_of self.old) 0 from }
+        requires ready { IsReady self.old }
+        ensures entry { result ≡ choice (topology_of self.old) (sight_by self.old) (Step.Lift 0 from) }
+        ensures held { self.new ≡ after result self.old }
+    {
+        let Some(front) = self.cube.lift_front(from) else {
+            return idle(Step::Lift(0, from), Cause::Empty);
+        };
+        if !self.back.room() {
+            return idle(Step::Lift(0, from), Cause::Full);
+        }
+        let _ = self.cube.lift(from);
+        self.back.hand(front);
+        Entry::Lifted {
+            cube: 0,
+            from,
+            port: self.port,
+        }
+    }
+}
+
+// Where a packet goes in such a cube.
+fn goal_of(setup: &CubeSetup, packet: &Packet) -> Goal
+    ensures { result ≡ goal_by setup.now.shape packet.now }
+{
+    match packet.command {
+        Command::Mdrd | Command::Mdwr => Goal::Registers,
+        _ => Goal::Vault(setup.shape.spot(packet.address).vault),
+    }
+}
+
+// The place in the cube that a goal is.
+fn to_of(goal: Goal) -> To
+    ensures { result ≡ to_of goal }
+{
+    match goal {
+        Goal::Vault(vault) => To::Vault(vault),
+        Goal::Registers => To::Registers,
+        Goal::Port(port) => To::Port(port),
+    }
+}
+
+// What a spread did, as an entry.
+fn spread_by(vault: u8, spread: Spread) -> Entry
+    ensures { result ≡ spread_by vault spread }
+{
+    match spread {
+        Spread::Empty => idle(Step::Spread(0, vault), Cause::Empty),
+        Spread::Full => idle(Step::Spread(0, vault), Cause::Full),
+        Spread::Moved { bank } => Entry::Spread {
+            cube: 0,
+            vault,
+            bank,
+        },
+    }
+}
+
+// What an execution did, as an entry.
+fn ran_by(unit: Unit, step: Step, ran: &Executed) -> Entry
+    ensures { result ≡ ran_by unit step ran.now }
+{
+    match ran {
+        Executed::Empty => idle(step, Cause::Empty),
+        Executed::Full => idle(step, Cause::Full),
+        Executed::Ran {
+            host,
+            tag,
+            request,
+            answer,
+        } => Entry::Executed {
+            unit,
+            host: *host,
+            tag: tag_of(request.command, *tag),
+            request: *request,
+            answer: *answer,
+        },
+    }
+}
+
+// The tag of a request, which it has where it is answered.
+fn tag_of(command: Command, tag: u16) -> Option<u16>
+    ensures { result ≡ tag_of (is_posted command) tag }
+{
+    if command.posted() { None } else { Some(tag) }
+}

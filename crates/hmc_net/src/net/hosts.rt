@@ -1,0 +1,96 @@
+//! The steps of hosts.
+
+ghost use Rattle.std.specs.Prelude.{◌≡◌, ◌≤◌};
+ghost use Rattle.hmc_journal.specs.Next.{choice, gave, took};
+ghost use Rattle.hmc_net.specs.Acts.{IsGiven, given_to};
+ghost use Rattle.hmc_net.specs.After.{after, without_host_front};
+ghost use Rattle.hmc_net.specs.Held.{topology_of, sight_by};
+ghost use Rattle.hmc_net.specs.Ready.{IsReady};
+
+use crate::net::idle;
+use crate::{Net, Wire};
+use hmc_host::{Given, Settled};
+use hmc_journal::{Cause, Entry};
+use hmc_schedule::Step;
+use hmc_tokens::Intake;
+
+impl Net {
+    // The host gives its next request to the link.
+    pub(crate) fn give(&mut self) -> Entry
+        ensures entry { result ≡ choice (topology_of self.old) (sight_by self.old) (Step.Give 0) }
+        ensures held { self.new ≡ after result self.old }
+    {
+        let room = self.forth.room();
+        let given = self.host.give(room);
+        hand_given(&mut self.forth, &given);
+        gave(&given)
+    }
+
+    // The host takes the answer of the packet that came first, or drops that.
+    pub(crate) fn take(&mut self) -> Entry
+        requires { IsReady self.old }
+        ensures entry { result ≡ choice (topology_of self.old) (sight_by self.old) (Step.Take 0) }
+        ensures held { self.new ≡ after result self.old }
+    {
+        let Some(front) = self.host_buffer.front() else {
+            return idle(Step::Take(0), Cause::Empty);
+        };
+        let _ = self.host_buffer.take_out();
+        self.back.leave(front.flits());
+        let settled = self.host.settle(&front);
+        took(&settled)
+    }
+}
+
+// Hands to the link what the host gave, if it gave something.
+fn hand_given(forth: &mut Wire, given: &Given)
+    requires { IsGiven given.now forth.old }
+    ensures { forth.new ≡ given_to given.now forth.old }
+{
+    if let Given::Gave {
+        packet,
+        request,
+        ..
+    } = given
+    {
+        request.keeps();
+        forth.hand(*packet);
+    }
+}
+
+// What the host gave, as an entry.
+fn gave(given: &Given) -> Entry
+    ensures { result ≡ gave 0 given.now }
+{
+    match given {
+        Given::Ended => idle(Step::Give(0), Cause::Ended),
+        Given::Fence => idle(Step::Give(0), Cause::Fence),
+        Given::Tags => idle(Step::Give(0), Cause::Tags),
+        Given::Full => idle(Step::Give(0), Cause::Full),
+        Given::Gave {
+            request,
+            tag,
+            poisoned,
+            ..
+        } => Entry::Gave {
+            host: 0,
+            tag: *tag,
+            poisoned: *poisoned,
+            request: *request,
+        },
+    }
+}
+
+// What the host took, as an entry.
+fn took(settled: &Settled) -> Entry
+    ensures { result ≡ took 0 settled.now }
+{
+    match settled {
+        Settled::Discarded => Entry::Discarded { host: 0 },
+        Settled::Took { tag, answer } => Entry::Took {
+            host: 0,
+            tag: *tag,
+            answer: *answer,
+        },
+    }
+}

@@ -1,0 +1,131 @@
+//! A packet that is being sent.
+
+ghost use Rattle.std.specs.Prelude.{◌≡◌, ◌≤◌, ◌<◌, ◌-◌, ℕ, [], length, slice_index_or};
+ghost use Rattle.hmc_packet.specs.Packet.{IsPacket, flits_of};
+ghost use Rattle.hmc_packet.specs.Parts.{lng_of};
+ghost use Rattle.hmc_packet.specs.Spelling.{spelling};
+ghost use Rattle.hmc_packet.specs.Tail.{pointers};
+ghost use Rattle.hmc_journal.specs.Next.{flit_of};
+ghost use Rattle.hmc_journal.specs.Sight.{numbered, sending_with};
+ghost use Rattle.hmc_net.specs.Wire.{IsTransaction};
+
+use arrayvec::ArrayVec;
+use hmc_codes::Flit;
+use hmc_packet::{Packet, spell};
+use std::marker::Model;
+
+/// A packet of which some flits were sent and some are left. Contracts see the packet and how many are left.
+#[derive(Drop)]
+pub struct Sending {
+    packet: Packet,
+    left: u8,
+    // Its flits, which but for the last are those with any return pointer.
+    flits: ArrayVec<Flit, 17>,
+}
+
+impl Model for Sending {
+    ghost use Rattle.hmc_journal.specs.Sight.{Sending as Sent};
+    ghost use Rattle.hmc_net.specs.WireKept.{IsBegun};
+
+    ghost Value = { Sent };
+
+    ghost view = { λ s. record { packet = s.packet; left = s.left } };
+
+    ghost invariant = { λ s. IsBegun (record { packet = s.packet; left = s.left }) s.flits.items };
+}
+
+/// The first flit of a packet, and what is left of it.
+#[derive(Drop)]
+pub struct Begun {
+    pub flit: Flit,
+    pub sending: Option<Sending>,
+}
+
+impl Sending {
+    /// The next flit, which is sent with this return pointer if it is the last.
+    pub fn flit(&self, returned: u16) -> Flit
+        requires { returned < pointers }
+        ensures { result ≡ flit_of self.now.packet returned (flits_of self.now.packet - self.now.left) }
+    {
+        let at = usize::from(self.packet.flits() - self.left);
+        if self.left == 1 {
+            spell(&self.packet, returned)[at]
+        } else {
+            self.flits[at]
+        }
+    }
+
+    /// What is left when one more flit was sent.
+    pub fn rest(self) -> Option<Sending>
+        ensures { result ≡ sending_with (self.left - 1) self.packet }
+    {
+        if self.left == 1 {
+            return None;
+        }
+        Some(Sending {
+            packet: self.packet,
+            left: self.left - 1,
+            flits: self.flits,
+        })
+    }
+}
+
+/// Begins a packet behind so many flits and packets.
+pub fn begin(packet: &Packet, frp: u16, seq: u8, returned: u16) -> Begun
+    requires transaction { IsTransaction packet.now }
+    requires frp { frp < pointers }
+    requires seq { seq < 8 }
+    requires returned { returned < pointers }
+    ensures flit { result.flit ≡ flit_of (numbered frp seq packet.now) returned 0 }
+    ensures lng { lng_of result.flit ≡ flits_of packet.now }
+    ensures sending { result.sending ≡ sending_with (lng_of result.flit - 1) (numbered frp seq packet.now) }
+{
+    let packet = numbered(packet, frp, seq);
+    packet.keeps();
+    let flits = spell(&packet, returned);
+    let left = packet.flits() - 1;
+    let flit = flits[0];
+    let sending = left_of(packet, left, flits);
+    Begun { flit, sending }
+}
+
+// What is left of a packet, if anything is.
+fn left_of(packet: Packet, left: u8, flits: ArrayVec<Flit, 17>) -> Option<Sending>
+    requires spelled { (pointer : ℕ) × (pointer < pointers) × (flits.items ≡ spelling packet pointer) }
+    requires transaction { IsTransaction packet }
+    requires sent { left < flits_of packet }
+    ensures { result ≡ sending_with left packet }
+{
+    if left == 0 {
+        return None;
+    }
+    Some(Sending {
+        packet,
+        left,
+        flits,
+    })
+}
+
+// The packet behind so many flits and packets.
+fn numbered(packet: &Packet, frp: u16, seq: u8) -> Packet
+    requires transaction { IsTransaction packet.now }
+    requires frp { frp < pointers }
+    requires seq { seq < 8 }
+    ensures { result ≡ numbered frp seq packet.now }
+{
+    let flits = u16::from(packet.flits());
+    Packet {
+        command: packet.command,
+        tag: packet.tag,
+        address: packet.address,
+        cube: packet.cube,
+        slid: packet.slid,
+        flag: packet.flag,
+        errstat: packet.errstat,
+        rtc: 0,
+        seq: (seq + 1) % 8,
+        frp: (frp + flits) % 512,
+        poisoned: packet.poisoned,
+        payload: packet.payload,
+    }
+}
