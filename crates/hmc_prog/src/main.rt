@@ -1,6 +1,8 @@
 //! The program: the words of the command line, standard input and standard output, handed to `replay`.
 #![tactic(auto)]
 
+ghost use Rattle.std.specs.Prelude.{◌≡◌, ◌≢◌};
+
 use hmc_outside::{StdSink, StdSource};
 use hmc_replay::replay;
 use std::env::Env;
@@ -14,12 +16,22 @@ const WANT_OF_MEMORY: u8 = 1;
 /// The status for words that are no defined form, as `replay` answers it.
 const USAGE: u8 = 2;
 
+// The status to end with where the words of the command line can't be had. A word that isn't UTF-8 text is in no form.
+fn status_of(kind: ErrorKind) -> u8
+    ensures memory { kind ≡ ErrorKind.OutOfMemory → result ≡ 1 }
+    ensures usage { kind ≢ ErrorKind.OutOfMemory → result ≡ 2 }
+{
+    match kind {
+        ErrorKind::OutOfMemory => WANT_OF_MEMORY,
+        _ => USAGE,
+    }
+}
+
 // The words behind the program's own name; else the status to end with.
 fn words(rt: &(impl Env + AllocGlobal)) -> Result<Vec<String>, u8> {
     let mut words = match env::args(rt) {
         Ok(words) => words,
-        Err(error) if error.kind() == ErrorKind::OutOfMemory => return Err(WANT_OF_MEMORY),
-        Err(_) => return Err(USAGE),
+        Err(error) => return Err(status_of(error.kind())),
     };
     let _ = words.next();
     words.collect(rt.alloc()).map_err(|_| WANT_OF_MEMORY)

@@ -1,12 +1,6 @@
-pub mod Digits
-pub mod LinesRead
 pub mod Writing
 pub mod Outputs
-pub mod Passing
-pub mod Numbered
-pub mod Quiet
-pub mod Serving
-pub mod Answerable
-pub mod Scripts
-pub mod Memories
-pub mod Worked
+pub mod CubeLines
+pub mod Counting
+pub mod Finals
+pub mod Reports

@@ -24,6 +24,10 @@ pub on_err : {T E P : Type 0} (result : Result T E) → P → OnErr result P
 on_err (Ok x) p = tt
 on_err (Err e) p = p
 
+pub on_ok : {T E P : Type 0} (result : Result T E) → P → OnOk result P
+on_ok (Ok x) p = p
+on_ok (Err e) p = tt
+
 pub on_ok_by : {T E P Q : Type 0} (result : Result T E) → (P → Q) → OnOk result P → OnOk result Q
 on_ok_by (Ok x) f p = f p
 on_ok_by (Err e) f p = tt

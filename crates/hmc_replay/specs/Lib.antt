@@ -1,9 +1,5 @@
-pub mod Front
 pub mod Input
-pub mod Reads
+pub mod Counting
 pub mod Report
-pub mod Script
 pub mod Top
 pub mod Causes
-pub mod Numbers
-pub mod Run

@@ -1,17 +1,17 @@
 //! The top call `replay`: from words and input to a report and a status.
 //!
-//! Contracts speak of the report by `report_of` (specs/Top), which is the text of a journal and of what it leaves, and of
-//! what the journal tells by `Tells` (hmc_journal, specs/Served).
+//! Contracts speak of the report by `report_of` (specs/Top), which is the text of the one journal of a case and of what
+//! the journal leaves, and of what that journal tells by `IsTold` (hmc_journal, specs/Told).
 #![tactic(auto)]
 
+mod counts;
 mod input;
+mod lines;
 mod output;
 mod report;
 mod run;
-mod script;
-mod serve;
+mod stepping;
 mod top;
-mod wire;
 
 pub use top::replay;
 

@@ -1,183 +1,213 @@
-//! The report of a script: the journal's lines, and the final lines behind them.
+//! The report of a run: the lines of its entries, and the final lines.
 
-ghost use Rattle.std.specs.Prelude.{◌≡◌, ◌≤◌, ◌<◌, ◌+◌, ◌*◌, ◌/◌, ◌^◌, ◌∷◌, ◌++◌, [], length, codes, IfOk, OnOk, OnErr, IsErrOf, string_bytes};
+ghost use Rattle.std.specs.Prelude.{◌≡◌, ◌≤◌, ◌<◌, ◌+◌, ◌^◌, ◌++◌, length, IfOk, OnOk, OnErr, IsErrOf, string_bytes};
 ghost use Rattle.std.specs.Io.KnownBytes.{Appends};
-ghost use Rattle.std.specs.List.{All};
-ghost use Rattle.std.specs.Fmt.{decimal};
-ghost use Rattle.hex.specs.Hex.{encode_lower};
-ghost use Rattle.hmc_codes.specs.Text.{line, hex_number};
 ghost use Rattle.hmc_outside.specs.Rose.{Rose};
 ghost use Rattle.hmc_outside.specs.Front.{AppendsFront};
-ghost use Rattle.hmc_serial.specs.Machine.{cube_at};
-ghost use Rattle.hmc_journal.specs.Served.{journal_of, Tells};
-ghost use Rattle.hmc_replay.specs.Script.{IsPlain};
-ghost use Rattle.hmc_replay.specs.Report.{is_zero, memory_line, memory_lines, host_line, cube_line, drained_line, counts_text, final_lines, opening};
+ghost use Rattle.hmc_case.specs.Case.{CaseFields};
+ghost use Rattle.hmc_journal.specs.Counts.{HostCounts, CubeCounts};
+ghost use Rattle.hmc_host.specs.Tags.{number_out};
+ghost use Rattle.hmc_journal.specs.Drained.{is_drained};
+ghost use Rattle.hmc_journal.specs.Final.{host_line, cube_line, state_line};
+ghost use Rattle.hmc_journal.specs.Lawful.{IsWhole, journal_of};
+ghost use Rattle.hmc_journal.specs.Setup.{Setup, setup_of};
+ghost use Rattle.hmc_journal.specs.Told.{IsTold};
+ghost use Rattle.hmc_net.specs.Stands.{StandsFor};
+ghost use Rattle.hmc_replay.specs.Counting.{counts_of};
+ghost use Rattle.hmc_replay.specs.Report.{host_counted, cube_counted, cube_and_state, counts_text, registers_and_counts, final_lines};
 ghost use Rattle.hmc_replay.specs.Top.{report_of};
 
+use crate::counts::{Counts, count};
+use crate::lines::{write_memory, write_registers};
 use crate::output::{OutputError, write_entries, write_line};
-use crate::serve::run_script;
-use hmc_codes::{Memory, Request};
-use hmc_journal::{served_is_told, text_is_in_order};
+use crate::stepping::replayed;
+use hmc_case::Case;
+use hmc_codes::Memory;
+use hmc_cube::Cube;
+use hmc_journal::{lawful_is_carried, lawful_is_serial, one_journal, text_is_in_order};
+use hmc_net::Net;
 use hmc_outside::Sink;
-use hmc_serial::Plain;
 use std::alloc::Global;
 
-/// The bytes of a line of memory.
-const BLOCK: u64 = 16;
-
-fn is_zero(block: &[u8]) -> bool
-    ensures { result ≡ is_zero block.now }
-{
-    block.iter().all(|byte| *byte == 0)
+/// What the lines behind those of the cube's memory and registers say: the counts, how many tags are out, and whether
+/// nothing is on its way.
+#[derive(Clone, Copy)]
+pub struct Ending {
+    pub counts: Counts,
+    pub out: u16,
+    pub drained: bool,
 }
 
-fn block_text(alloc: Global, cube: u8, block: u64, bytes: &[u8]) -> Result<String, Memory>
-    requires { 16 * block < 2 ^ 64 }
-    ensures { IfOk result (λ text. string_bytes text ≡ line (codes "memory" ∷ decimal cube ∷ hex_number (16 * block) ∷ encode_lower bytes.now ∷ [])) }
+#[tactic(auto, unfolding(hmc_journal::specs::Final::host_line))]
+fn host_text(alloc: Global, host: u8, counts: &Counts, out: u16) -> Result<String, Memory>
+    ensures { IfOk result (λ text. string_bytes text ≡ host_line host (host_counted counts.now out)) }
 {
-    let place = BLOCK * block;
-    let bytes = hex::encode(alloc, bytes)?;
-    Ok(format!(in alloc; "memory {cube} 0x{place:x} {bytes}\n")?)
-}
-
-#[tactic(auto, using(hmc_outside::proofs::FrontLemmas::fronts), unfolding(crate::specs::Report::memory_line))]
-fn write_block<O: Sink>(
-    alloc: Global,
-    sink: &mut O,
-    cube: u8,
-    block: u64,
-    bytes: &[u8],
-) -> Result<(), OutputError>
-    requires { 16 * block < 2 ^ 64 }
-    ensures written { OnOk result (Appends (O.held sink.old) (O.held sink.new) (memory_line cube block bytes.now)) }
-    ensures front { OnErr result (AppendsFront (O.held sink.old) (O.held sink.new) (memory_line cube block bytes.now)) }
-    ensures fault { IsErrOf result OutputError.Fault → Rose (O.faults sink.old) (O.faults sink.new) }
-    ensures counted { O.faults sink.old ≤ O.faults sink.new }
-{
-    if is_zero(bytes) {
-        return Ok(());
-    }
-    let text = block_text(alloc, cube, block, bytes)?;
-    write_line(sink, text.as_str())
-}
-
-// The blocks of the one cube that aren't all zero.
-fn write_memory<O: Sink>(alloc: Global, sink: &mut O, plain: &Plain) -> Result<(), OutputError>
-    requires { length plain.now ≡ 1 }
-    ensures written { OnOk result (Appends (O.held sink.old) (O.held sink.new) (memory_lines 0 (cube_at plain.now 0).memory (length (cube_at plain.now 0).memory / 16))) }
-    ensures front { OnErr result (AppendsFront (O.held sink.old) (O.held sink.new) (memory_lines 0 (cube_at plain.now 0).memory (length (cube_at plain.now 0).memory / 16))) }
-    ensures fault { IsErrOf result OutputError.Fault → Rose (O.faults sink.old) (O.faults sink.new) }
-    ensures counted { O.faults sink.old ≤ O.faults sink.new }
-{
-    plain.keeps();
-    let blocks = plain.capacity(0) / BLOCK;
-    'lines: for block in 0..blocks {
-        let bytes = plain.get16(0, BLOCK * block);
-        match write_block(alloc, sink, 0, block, &bytes) {
-            Ok(()) => {}
-            Err(error) => return Err(error),
-        }
-    }
-    Ok(())
-}
-
-#[tactic(auto, unfolding(crate::specs::Report::host_line))]
-fn host_text(alloc: Global, host: u8, given: usize, taken: usize) -> Result<String, Memory>
-    requires { taken ≤ given }
-    ensures { IfOk result (λ text. string_bytes text ≡ host_line host given taken) }
-{
-    let out = given - taken;
+    let given = counts.given;
+    let taken = counts.taken;
     Ok(format!(in alloc; "host {host} {given} {taken} {out}\n")?)
 }
 
-#[tactic(auto, unfolding(crate::specs::Report::cube_line))]
-fn cube_text(alloc: Global, cube: u8, executed: usize) -> Result<String, Memory>
-    ensures { IfOk result (λ text. string_bytes text ≡ cube_line cube executed) }
+#[tactic(auto, unfolding(hmc_journal::specs::Final::cube_line))]
+fn cube_text(alloc: Global, cube: u8, counts: &Counts) -> Result<String, Memory>
+    ensures { IfOk result (λ text. string_bytes text ≡ cube_line cube (cube_counted counts.now)) }
 {
-    let dropped = 0u32;
+    let executed = counts.executed;
+    let dropped = counts.dropped;
     Ok(format!(in alloc; "cube {cube} {executed} {dropped}\n")?)
 }
 
 #[tactic(auto, using(hmc_outside::proofs::FrontLemmas::fronts))]
-fn write_host<O: Sink>(alloc: Global, sink: &mut O, count: usize) -> Result<(), OutputError>
-    ensures written { OnOk result (Appends (O.held sink.old) (O.held sink.new) (host_line 0 count count)) }
-    ensures front { OnErr result (AppendsFront (O.held sink.old) (O.held sink.new) (host_line 0 count count)) }
+fn write_host<O: Sink>(alloc: Global, sink: &mut O, ending: &Ending) -> Result<(), OutputError>
+    ensures written { OnOk result (Appends (O.held sink.old) (O.held sink.new) (host_line 0 (host_counted ending.now.counts ending.now.out))) }
+    ensures front { OnErr result (AppendsFront (O.held sink.old) (O.held sink.new) (host_line 0 (host_counted ending.now.counts ending.now.out))) }
     ensures fault { IsErrOf result OutputError.Fault → Rose (O.faults sink.old) (O.faults sink.new) }
     ensures counted { O.faults sink.old ≤ O.faults sink.new }
 {
-    let text = host_text(alloc, 0, count, count)?;
+    let text = host_text(alloc, 0, &ending.counts, ending.out)?;
     write_line(sink, text.as_str())
 }
 
 #[tactic(auto, using(hmc_outside::proofs::FrontLemmas::fronts))]
-fn write_cube<O: Sink>(alloc: Global, sink: &mut O, count: usize) -> Result<(), OutputError>
-    ensures written { OnOk result (Appends (O.held sink.old) (O.held sink.new) (cube_line 0 count)) }
-    ensures front { OnErr result (AppendsFront (O.held sink.old) (O.held sink.new) (cube_line 0 count)) }
+fn write_cube<O: Sink>(alloc: Global, sink: &mut O, ending: &Ending) -> Result<(), OutputError>
+    ensures written { OnOk result (Appends (O.held sink.old) (O.held sink.new) (cube_line 0 (cube_counted ending.now.counts))) }
+    ensures front { OnErr result (AppendsFront (O.held sink.old) (O.held sink.new) (cube_line 0 (cube_counted ending.now.counts))) }
     ensures fault { IsErrOf result OutputError.Fault → Rose (O.faults sink.old) (O.faults sink.new) }
     ensures counted { O.faults sink.old ≤ O.faults sink.new }
 {
-    let text = cube_text(alloc, 0, count)?;
+    let text = cube_text(alloc, 0, &ending.counts)?;
     write_line(sink, text.as_str())
+}
+
+fn state_text(drained: bool) -> &'static str
+    ensures { result.now ≡ state_line drained }
+{
+    if drained {
+        "state drained\n"
+    } else {
+        "state busy\n"
+    }
+}
+
+fn write_state<O: Sink>(sink: &mut O, drained: bool) -> Result<(), OutputError>
+    ensures written { OnOk result (Appends (O.held sink.old) (O.held sink.new) (state_line drained)) }
+    ensures front { OnErr result (AppendsFront (O.held sink.old) (O.held sink.new) (state_line drained)) }
+    ensures fault { IsErrOf result OutputError.Fault → Rose (O.faults sink.old) (O.faults sink.new) }
+    ensures counted { O.faults sink.old ≤ O.faults sink.new }
+{
+    write_line(sink, state_text(drained))
 }
 
 fn write_cube_and_state<O: Sink>(
     alloc: Global,
     sink: &mut O,
-    count: usize,
+    ending: &Ending,
 ) -> Result<(), OutputError>
-    ensures written { OnOk result (Appends (O.held sink.old) (O.held sink.new) (cube_line 0 count ++ drained_line)) }
-    ensures front { OnErr result (AppendsFront (O.held sink.old) (O.held sink.new) (cube_line 0 count ++ drained_line)) }
+    ensures written { OnOk result (Appends (O.held sink.old) (O.held sink.new) (cube_and_state (cube_counted ending.now.counts) ending.now.drained)) }
+    ensures front { OnErr result (AppendsFront (O.held sink.old) (O.held sink.new) (cube_and_state (cube_counted ending.now.counts) ending.now.drained)) }
     ensures fault { IsErrOf result OutputError.Fault → Rose (O.faults sink.old) (O.faults sink.new) }
     ensures counted { O.faults sink.old ≤ O.faults sink.new }
 {
-    write_cube(alloc, sink, count)?;
-    write_line(sink, "state drained\n")
+    write_cube(alloc, sink, ending)?;
+    write_state(sink, ending.drained)
 }
 
-// All requests were given, executed and answered.
-fn write_counts<O: Sink>(alloc: Global, sink: &mut O, count: usize) -> Result<(), OutputError>
-    ensures written { OnOk result (Appends (O.held sink.old) (O.held sink.new) (counts_text count count count)) }
-    ensures front { OnErr result (AppendsFront (O.held sink.old) (O.held sink.new) (counts_text count count count)) }
+fn write_counts<O: Sink>(alloc: Global, sink: &mut O, ending: &Ending) -> Result<(), OutputError>
+    ensures written { OnOk result (Appends (O.held sink.old) (O.held sink.new) (counts_text (host_counted ending.now.counts ending.now.out) (cube_counted ending.now.counts) ending.now.drained)) }
+    ensures front { OnErr result (AppendsFront (O.held sink.old) (O.held sink.new) (counts_text (host_counted ending.now.counts ending.now.out) (cube_counted ending.now.counts) ending.now.drained)) }
     ensures fault { IsErrOf result OutputError.Fault → Rose (O.faults sink.old) (O.faults sink.new) }
     ensures counted { O.faults sink.old ≤ O.faults sink.new }
 {
-    write_host(alloc, sink, count)?;
-    write_cube_and_state(alloc, sink, count)
+    write_host(alloc, sink, ending)?;
+    write_cube_and_state(alloc, sink, ending)
 }
 
-// The lines behind the journal.
+fn write_registers_and_counts<O: Sink>(
+    alloc: Global,
+    sink: &mut O,
+    cube: &Cube,
+    ending: &Ending,
+) -> Result<(), OutputError>
+    ensures written { OnOk result (Appends (O.held sink.old) (O.held sink.new) (registers_and_counts cube.now.state (host_counted ending.now.counts ending.now.out) (cube_counted ending.now.counts) ending.now.drained)) }
+    ensures front { OnErr result (AppendsFront (O.held sink.old) (O.held sink.new) (registers_and_counts cube.now.state (host_counted ending.now.counts ending.now.out) (cube_counted ending.now.counts) ending.now.drained)) }
+    ensures fault { IsErrOf result OutputError.Fault → Rose (O.faults sink.old) (O.faults sink.new) }
+    ensures counted { O.faults sink.old ≤ O.faults sink.new }
+{
+    write_registers(alloc, sink, 0, cube)?;
+    write_counts(alloc, sink, ending)
+}
+
+// The lines behind those of the entries.
 fn write_final<O: Sink>(
     alloc: Global,
     sink: &mut O,
-    plain: &Plain,
-    count: usize,
+    cube: &Cube,
+    ending: &Ending,
 ) -> Result<(), OutputError>
-    requires { length plain.now ≡ 1 }
-    ensures written { OnOk result (Appends (O.held sink.old) (O.held sink.new) (final_lines (cube_at plain.now 0).memory count)) }
-    ensures front { OnErr result (AppendsFront (O.held sink.old) (O.held sink.new) (final_lines (cube_at plain.now 0).memory count)) }
+    ensures written { OnOk result (Appends (O.held sink.old) (O.held sink.new) (final_lines cube.now.state (host_counted ending.now.counts ending.now.out) (cube_counted ending.now.counts) ending.now.drained)) }
+    ensures front { OnErr result (AppendsFront (O.held sink.old) (O.held sink.new) (final_lines cube.now.state (host_counted ending.now.counts ending.now.out) (cube_counted ending.now.counts) ending.now.drained)) }
     ensures fault { IsErrOf result OutputError.Fault → Rose (O.faults sink.old) (O.faults sink.new) }
     ensures counted { O.faults sink.old ≤ O.faults sink.new }
 {
-    write_memory(alloc, sink, plain)?;
-    write_counts(alloc, sink, count)
+    write_memory(alloc, sink, 0, cube)?;
+    write_registers_and_counts(alloc, sink, cube, ending)
 }
 
-/// Runs a script, and writes its report.
-pub fn write_report<O: Sink>(
+// What the lines behind those of the cube's memory and registers say of a network.
+fn ending_of(net: &Net) -> Ending
+    ensures counts { result.counts ≡ counts_of net.now.journal.past }
+    ensures out { result.out ≡ number_out net.now.host.tags }
+    ensures drained { (setup : Setup) → StandsFor net.now setup → result.drained ≡ is_drained setup.topology net.now.journal.past }
+{
+    Ending {
+        counts: count(net.journal().entries()),
+        out: net.tags_out(0),
+        drained: net.drained(),
+    }
+}
+
+// Nothing is done: what the journal of a network behind all steps of a case tells is the contract.
+fn tells(net: &Net)
+    ensures whole { (setup : Setup) → IsWhole setup net.now.journal.past → net.now.journal.past ≡ journal_of setup }
+    ensures told { (setup : Setup) → StandsFor net.now setup → IsWhole setup net.now.journal.past → IsTold setup (journal_of setup) }
+{
+    one_journal();
+    lawful_is_serial();
+    lawful_is_carried();
+    let _ = net;
+}
+
+// The report of a network behind all steps of its case.
+fn write_net<O: Sink>(
     alloc: Global,
     sink: &mut O,
-    script: &[Request],
+    case: &Case,
+    net: &Net,
 ) -> Result<(), OutputError>
-    requires { All IsPlain script.now }
-    ensures written { OnOk result (Appends (O.held sink.old) (O.held sink.new) (report_of script.now)) }
-    ensures tells { OnOk result (Tells opening script.now (journal_of opening script.now)) }
-    ensures front { OnErr result (AppendsFront (O.held sink.old) (O.held sink.new) (report_of script.now)) }
+    requires stands { StandsFor net.now (setup_of case.now) }
+    requires whole { IsWhole (setup_of case.now) net.now.journal.past }
+    ensures written { OnOk result (Appends (O.held sink.old) (O.held sink.new) (report_of case.now)) }
+    ensures front { OnErr result (AppendsFront (O.held sink.old) (O.held sink.new) (report_of case.now)) }
     ensures fault { IsErrOf result OutputError.Fault → Rose (O.faults sink.old) (O.faults sink.new) }
     ensures counted { O.faults sink.old ≤ O.faults sink.new }
 {
-    served_is_told();
     text_is_in_order();
-    let run = run_script(alloc, script)?;
-    write_entries(alloc, sink, run.journal.entries())?;
-    write_final(alloc, sink, &run.plain, script.len())
+    tells(net);
+    let _ = case;
+    let ending = ending_of(net);
+    let entries = net.journal().entries();
+    write_entries(alloc, sink, entries)?;
+    write_final(alloc, sink, net.cube(0), &ending)
+}
+
+/// Replays a case, and writes its report.
+pub fn write_report<O: Sink>(alloc: Global, sink: &mut O, case: &Case) -> Result<(), OutputError>
+    ensures written { OnOk result (Appends (O.held sink.old) (O.held sink.new) (report_of case.now)) }
+    ensures told { OnOk result (IsTold (setup_of case.now) (journal_of (setup_of case.now))) }
+    ensures front { OnErr result (AppendsFront (O.held sink.old) (O.held sink.new) (report_of case.now)) }
+    ensures fault { IsErrOf result OutputError.Fault → Rose (O.faults sink.old) (O.faults sink.new) }
+    ensures counted { O.faults sink.old ≤ O.faults sink.new }
+{
+    let net = replayed(alloc, case)?;
+    tells(&net);
+    write_net(alloc, sink, case, &net)
 }

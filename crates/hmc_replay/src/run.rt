@@ -1,17 +1,18 @@
 //! From input to output.
 
-ghost use Rattle.std.specs.Prelude.{◌≡◌, ◌≤◌, ◌<◌, ◌⊎◌, ℕ, List, length, IsSome, IfSome, IsErrOf, IfErr, IsOk, OnOk, OnErr, MatchOption, None};
+ghost use Rattle.std.specs.Prelude.{◌≡◌, ◌≤◌, ◌<◌, ◌⊎◌, ℕ, List, length, IsSome, IfSome, IsErrOf, IfErr, IsOk, OnOk, OnErr, MatchResult, IfOk, string_bytes};
 ghost use Rattle.std.specs.Io.KnownBytes.{Appends, Consumes, IsAtEnd};
 ghost use Rattle.hmc_outside.specs.Rose.{Rose};
 ghost use Rattle.hmc_outside.specs.Front.{AppendsFront};
 ghost use Rattle.hmc_replay.specs.Causes.{cause_of_input, cause_of_output};
-ghost use Rattle.hmc_replay.specs.Script.{script_of};
-ghost use Rattle.hmc_replay.specs.Top.{most_bytes, output_of, IsReported};
+ghost use Rattle.hmc_case.specs.Case.{case_of};
+ghost use Rattle.hmc_replay.specs.Top.{most_bytes, output_of, bad_line, IsReported, IsRefused};
 
 use crate::input::{InputError, read_input};
 use crate::output::{OutputError, write_line};
 use crate::report::write_report;
-use crate::script::{ScriptError, read_script};
+use hmc_case::{Case, CaseFault, CaseKind, Section};
+use hmc_codes::Memory;
 use hmc_outside::{Sink, Source};
 use std::alloc::Global;
 
@@ -26,7 +27,7 @@ pub enum RunError {
     WriteFault,
     /// More bytes came than an input may have.
     TooLong,
-    /// The input is no script.
+    /// The input is no case.
     BadCase,
 }
 
@@ -53,21 +54,53 @@ impl From<OutputError> for RunError {
     }
 }
 
+// The line for what is no case.
+#[tactic(auto, unfolding(crate::specs::Top::bad_line))]
+fn bad_text(alloc: Global, section: Section, line: u32, kind: CaseKind) -> Result<String, Memory>
+    ensures { IfOk result (λ text. string_bytes text ≡ bad_line (record { section = section; line = line; kind = kind })) }
+{
+    Ok(format!(in alloc; "bad {section} {line} {kind}\n")?)
+}
+
+// Writes the line for what is no case.
+#[tactic(auto, using(hmc_outside::proofs::FrontLemmas::fronts))]
+fn refuse<O: Sink>(
+    alloc: Global,
+    sink: &mut O,
+    section: Section,
+    line: u32,
+    kind: CaseKind,
+) -> Result<(), OutputError>
+    ensures written { OnOk result (Appends (O.held sink.old) (O.held sink.new) (bad_line (record { section = section; line = line; kind = kind }))) }
+    ensures front { OnErr result (AppendsFront (O.held sink.old) (O.held sink.new) (bad_line (record { section = section; line = line; kind = kind }))) }
+    ensures fault { IsErrOf result OutputError.Fault → Rose (O.faults sink.old) (O.faults sink.new) }
+    ensures counted { O.faults sink.old ≤ O.faults sink.new }
+{
+    let text = bad_text(alloc, section, line, kind)?;
+    write_line(sink, text.as_str())
+}
+
 // Writes what is to be written for an input.
 fn answer<O: Sink>(alloc: Global, sink: &mut O, input: &[u8]) -> Result<(), RunError>
-    ensures judged { MatchOption (script_of input.now) (IsOk result → ⊥) (λ _. IsErrOf result RunError.BadCase → ⊥) }
+    ensures judged { MatchResult (case_of input.now) (λ _. IsErrOf result RunError.BadCase → ⊥) (λ _. IsOk result → ⊥) }
     ensures done { OnOk result (IsReported input.now (O.held sink.old) (O.held sink.new)) }
-    ensures bad { IsErrOf result RunError.BadCase → Appends (O.held sink.old) (O.held sink.new) (output_of input.now) }
+    ensures bad { IsErrOf result RunError.BadCase → IsRefused input.now (O.held sink.old) (O.held sink.new) }
     ensures front { OnErr result (AppendsFront (O.held sink.old) (O.held sink.new) (output_of input.now)) }
     ensures fault { IsErrOf result RunError.WriteFault → Rose (O.faults sink.old) (O.faults sink.new) }
     ensures only { IfErr result (λ e. e ≡ RunError.BadCase ⊎ e ≡ RunError.Memory ⊎ e ≡ RunError.WriteFault) }
     ensures counted { O.faults sink.old ≤ O.faults sink.new }
 {
-    match read_script(alloc, input) {
-        Ok(script) => Ok(write_report(alloc, sink, &script)?),
-        Err(ScriptError::Memory) => Err(RunError::Memory),
-        Err(ScriptError::Form) => {
-            write_line(sink, "bad script 0 form\n")?;
+    match Case::read(alloc, input) {
+        Ok(case) => Ok(write_report(alloc, sink, &case)?),
+        Err(CaseFault::Memory) => Err(RunError::Memory),
+        Err(
+            CaseFault::Bad {
+                section,
+                line,
+                kind,
+            },
+        ) => {
+            refuse(alloc, sink, section, line, kind)?;
             Err(RunError::BadCase)
         }
     }
@@ -79,7 +112,7 @@ pub fn run<S: Source, O: Sink>(alloc: Global, source: &mut S, sink: &mut O) -> R
     ensures ended { (IsOk result ⊎ IsErrOf result RunError.BadCase ⊎ IsErrOf result RunError.WriteFault) → IsAtEnd (S.left source.new) }
     ensures too_long { IsErrOf result RunError.TooLong → IfSome (S.left source.old) (λ input. most_bytes < length input) }
     ensures stopped { IsErrOf result RunError.TooLong → (bytes : List ℕ) × (length bytes ≡ 4194305) × Consumes (S.left source.old) (S.left source.new) bytes }
-    ensures bad { IsErrOf result RunError.BadCase → IfSome (S.left source.old) (λ input. (script_of input ≡ None) × Appends (O.held sink.old) (O.held sink.new) (output_of input)) }
+    ensures bad { IsErrOf result RunError.BadCase → IfSome (S.left source.old) (λ input. IsRefused input (O.held sink.old) (O.held sink.new)) }
     ensures read_fault { IsErrOf result RunError.ReadFault → Rose (S.faults source.old) (S.faults source.new) }
     ensures write_fault { IsErrOf result RunError.WriteFault → Rose (O.faults sink.old) (O.faults sink.new) }
 

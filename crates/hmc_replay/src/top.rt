@@ -1,11 +1,10 @@
 //! The top call.
 
-ghost use Rattle.std.specs.Prelude.{◌≡◌, ◌≤◌, ◌<◌, ◌⊎◌, ◌↔◌, ℕ, List, [], ◌∷◌, length, map, string_bytes, None, true, false, IsSome, IfSome};
+ghost use Rattle.std.specs.Prelude.{◌≡◌, ◌≤◌, ◌<◌, ◌⊎◌, ◌↔◌, ℕ, List, [], ◌∷◌, length, map, string_bytes, true, false, IfSome};
 ghost use Rattle.std.specs.Io.KnownBytes.{Appends, Consumes, IsAtEnd};
 ghost use Rattle.hmc_outside.specs.Rose.{Rose};
 ghost use Rattle.hmc_outside.specs.Front.{AppendsFront};
-ghost use Rattle.hmc_replay.specs.Script.{script_of};
-ghost use Rattle.hmc_replay.specs.Top.{is_run, most_bytes, bad_line, output_of, IsReported, OneOf};
+ghost use Rattle.hmc_replay.specs.Top.{is_run, most_bytes, output_of, IsCaseText, IsFaulty, IsReported, IsRefused, OneOf};
 
 use crate::run::{RunError, run};
 use hmc_outside::{Sink, Source};
@@ -28,9 +27,9 @@ fn is_run(words: &[String]) -> bool
 /// | 3 | the source failed | nothing |
 /// | 4 | the sink failed | a front of it |
 /// | 5 | more than 4,194,304 bytes came | nothing |
-/// | 6 | the input is no script | a line that says so |
+/// | 6 | the input is no case | a line with its first fault |
 ///
-/// docs/report.md has the form of scripts and reports.
+/// docs/case.md has the form of a case, and docs/report.md that of a report.
 pub fn replay<S: Source, O: Sink>(
     alloc: Global,
     words: &[String],
@@ -39,7 +38,7 @@ pub fn replay<S: Source, O: Sink>(
 ) -> u8
     ensures range { result ≤ 6 }
 
-    // 0: the input is a script, and its report was written whole. Then, and before any judgement, it was read to its end.
+    // 0: the input is a case, and its report was written whole. Then, and before any judgement, it was read to its end.
     ensures ended { OneOf (0 ∷ 4 ∷ 6 ∷ []) result → IsAtEnd (S.left source.new) }
     ensures done { result ≡ 0 → IfSome (S.left source.old) (λ input. IsReported input (O.held sink.old) (O.held sink.new)) }
 
@@ -55,9 +54,8 @@ pub fn replay<S: Source, O: Sink>(
     ensures stopped { result ≡ 5 → (bytes : List ℕ) × (length bytes ≡ 4194305) × Consumes (S.left source.old) (S.left source.new) bytes }
     ensures too_long { result ≡ 5 → IfSome (S.left source.old) (λ input. most_bytes < length input) }
 
-    // 6: only where the input is no script; the line says so.
-    ensures bad { result ≡ 6 → IfSome (S.left source.old) (λ input. script_of input ≡ None) }
-    ensures bad_line { result ≡ 6 → IfSome (S.left source.old) (λ input. Appends (O.held sink.old) (O.held sink.new) bad_line) }
+    // 6: only where the input is no case; the line names its first fault.
+    ensures bad { result ≡ 6 → IfSome (S.left source.old) (λ input. IsRefused input (O.held sink.old) (O.held sink.new)) }
 
     // What is written is a front of what is to be written, and nothing before the input was read.
     ensures front { IfSome (S.left source.old) (λ input. AppendsFront (O.held sink.old) (O.held sink.new) (output_of input)) }
@@ -65,9 +63,9 @@ pub fn replay<S: Source, O: Sink>(
 
     // Each input has its status, unless memory is wanted or a fault comes first: 3 outranks 5 and 6, and 4 outranks 6.
     ensures completes { is_run (map string_bytes words.now) ≡ true → IfSome (S.left source.old)
-        (λ input. length input ≤ most_bytes → IsSome (script_of input) → OneOf (0 ∷ 1 ∷ 3 ∷ 4 ∷ []) result) }
+        (λ input. length input ≤ most_bytes → IsCaseText input → OneOf (0 ∷ 1 ∷ 3 ∷ 4 ∷ []) result) }
     ensures refuses { is_run (map string_bytes words.now) ≡ true → IfSome (S.left source.old)
-        (λ input. length input ≤ most_bytes → script_of input ≡ None → OneOf (6 ∷ 1 ∷ 3 ∷ 4 ∷ []) result) }
+        (λ input. length input ≤ most_bytes → IsFaulty input → OneOf (6 ∷ 1 ∷ 3 ∷ 4 ∷ []) result) }
     ensures stops { is_run (map string_bytes words.now) ≡ true → IfSome (S.left source.old)
         (λ input. most_bytes < length input → OneOf (5 ∷ 1 ∷ 3 ∷ []) result) }
 {

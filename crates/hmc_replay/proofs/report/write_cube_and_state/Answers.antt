@@ -6,7 +6,7 @@ pub returns-in_err-write_cube-clause-front : goal.returns-in_err-write_cube-clau
 returns-in_err-write_cube-clause-front g c = on_err _ (front_of_first _ _ _ _ _ refl c.in_err-write_cube.ensures.front)
 
 pub returns-clause-written : goal.returns-clause-written
-returns-clause-written g c = on_ok_by _ (both_written _ _ _ _ _ _ refl c.in_ok-write_cube.ensures.written) c.write_line.ensures.written
+returns-clause-written g c = on_ok_by _ (both_written _ _ _ _ _ _ refl c.in_ok-write_cube.ensures.written) c.write_state.ensures.written
 
 pub returns-clause-front : goal.returns-clause-front
-returns-clause-front g c = on_err_by _ (front_of_second _ _ _ _ _ _ refl c.in_ok-write_cube.ensures.written) c.write_line.ensures.front
+returns-clause-front g c = on_err_by _ (front_of_second _ _ _ _ _ _ refl c.in_ok-write_cube.ensures.written) c.write_state.ensures.front

@@ -6,7 +6,7 @@ pub returns-in_err-write_memory-clause-front : goal.returns-in_err-write_memory-
 returns-in_err-write_memory-clause-front g c = on_err _ (front_of_first _ _ _ _ _ refl c.in_err-write_memory.ensures.front)
 
 pub returns-clause-written : goal.returns-clause-written
-returns-clause-written g c = on_ok_by _ (both_written _ _ _ _ _ _ refl c.in_ok-write_memory.ensures.written) c.write_counts.ensures.written
+returns-clause-written g c = on_ok_by _ (both_written _ _ _ _ _ _ refl c.in_ok-write_memory.ensures.written) c.write_registers_and_counts.ensures.written
 
 pub returns-clause-front : goal.returns-clause-front
-returns-clause-front g c = on_err_by _ (front_of_second _ _ _ _ _ _ refl c.in_ok-write_memory.ensures.written) c.write_counts.ensures.front
+returns-clause-front g c = on_err_by _ (front_of_second _ _ _ _ _ _ refl c.in_ok-write_memory.ensures.written) c.write_registers_and_counts.ensures.front
