@@ -15,7 +15,7 @@ use Rattle.hmc_packet.specs.Header.{header_word, header_of, header_is_clean}
 use Rattle.hmc_packet.specs.Packet.{PacketFields, IsPacket, flits_of, null_packet}
 use Rattle.hmc_packet.specs.Spelling.{HasPointer, header_fields, word_bytes, covered, bytes_of, cut, spelling}
 use Rattle.hmc_packet.specs.Parts.{header_in}
-use Rattle.hmc_packet.specs.Head.{head_with, head_in, head_slid, head_of, SameHead}
+use Rattle.hmc_packet.specs.Head.{head_with, head_in, head_slid, packet_head, SameHead}
 use Rattle.hmc_packet.proofs.HeaderLemmas as headers
 use Rattle.hmc_packet.proofs.PacketLemmas.{flits_of-few, IsHeader-fields}
 use Rattle.hmc_packet.proofs.PartLemmas.{length-word_bytes}
@@ -109,7 +109,7 @@ not_flow-other : (layout : Layout) → is_flow layout ≡ false → layout ≢ l
 not_flow-other layout no_flow null = let clash : true ≡ false = ap is_flow (sym null) ∙ no_flow in absurd cc
 
 -- a request's or response's first flit tells its head
-pub head_in-first : (p : PacketFields) (rrp : ℕ) (first : List ℕ) (rest : List (List ℕ)) → IsPacket p → HasPointer p rrp → is_flow (layout_of p.command) ≡ false → spelling p rrp ≡ first ∷ rest → head_in first ≡ Some (head_of p)
+pub head_in-first : (p : PacketFields) (rrp : ℕ) (first : List ℕ) (rest : List (List ℕ)) → IsPacket p → HasPointer p rrp → is_flow (layout_of p.command) ≡ false → spelling p rrp ≡ first ∷ rest → head_in first ≡ Some (packet_head p)
 unfolding head_in head_with
 head_in-first p rrp first rest is pointer no_flow spelled =
     let layout = layout_of p.command in

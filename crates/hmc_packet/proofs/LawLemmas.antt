@@ -11,7 +11,7 @@ use Rattle.hmc_packet.specs.Packet.{PacketFields, flits_of}
 use Rattle.hmc_packet.specs.Spelling.{null_flit}
 use Rattle.hmc_packet.specs.Parts.{lng_of}
 use Rattle.hmc_packet.specs.Reading.{read_of}
-use Rattle.hmc_packet.specs.Head.{named_by, head_in, head_of}
+use Rattle.hmc_packet.specs.Head.{named_by, head_in, packet_head}
 use Rattle.hmc_packet.specs.Laws.{IsSentAs}
 use Rattle.hmc_packet.proofs.CommandLemmas.{null_layout-null}
 use Rattle.hmc_packet.proofs.LinkLemmas.{lng_of-first, named_by-first, not_null-first, command-first, long-first}
@@ -29,7 +29,7 @@ sent-command p rrp first rest sent some = named_by-first p rrp first rest sent.p
 pub sent-some : (p : PacketFields) (rrp : ℕ) (first : List ℕ) (rest : List (List ℕ)) → IsSentAs p rrp first rest → p.command ≢ Null → first ≢ null_flit
 sent-some p rrp first rest sent some = not_null-first p rrp first rest sent.packet (other p.command some) sent.flits
 
-pub sent-head : (p : PacketFields) (rrp : ℕ) (first : List ℕ) (rest : List (List ℕ)) → IsSentAs p rrp first rest → is_flow (layout_of p.command) ≡ false → head_in first ≡ Some (head_of p)
+pub sent-head : (p : PacketFields) (rrp : ℕ) (first : List ℕ) (rest : List (List ℕ)) → IsSentAs p rrp first rest → is_flow (layout_of p.command) ≡ false → head_in first ≡ Some (packet_head p)
 sent-head p rrp first rest sent no_flow = head_in-first p rrp first rest sent.packet sent.pointer no_flow sent.flits
 
 pub sent-alone : (p : PacketFields) (rrp : ℕ) (first : List ℕ) (rest : List (List ℕ)) (seen : Seen) → IsSentAs p rrp first rest → read_of (first ∷ []) ≡ Ok seen → seen.packet.command ≡ p.command

@@ -31,8 +31,8 @@ head_slid layouts.Reply slid = slid
 head_slid _ slid = 0
 
 -- the head of a packet
-abbrev pub head_of : PacketFields → Head
-head_of p = record { command = p.command; flits = flits_of p; cube = p.cube; slid = head_slid (layout_of p.command) p.slid }
+abbrev pub packet_head : PacketFields → Head
+packet_head p = record { command = p.command; flits = flits_of p; cube = p.cube; slid = head_slid (layout_of p.command) p.slid }
 
 -- what headers and payloads carry is the same; tails and checks may differ
 pub record SameHead (p q : PacketFields) : Type 0 where

@@ -13,7 +13,7 @@ ghost use Rattle.hmc_packet.specs.Spelling.{HasPointer, spelling, null_flit, tra
 ghost use Rattle.hmc_packet.specs.Parts.{lng_of};
 ghost use Rattle.hmc_packet.specs.Reading.{read_of};
 ghost use Rattle.hmc_packet.specs.Transactions.{asked, replied, CanReply, IsAnswer, request_in, answer_in};
-ghost use Rattle.hmc_packet.specs.Head.{named_by, head_in, head_of, SameHead};
+ghost use Rattle.hmc_packet.specs.Head.{named_by, head_in, packet_head, SameHead};
 ghost use Rattle.hmc_packet.specs.Laws.{IsSentAs};
 
 /// A spelling has as many flits as its packet, 1 to 17, of 16 bytes each.
@@ -33,7 +33,7 @@ pub fn first_flit_names_length_and_command()
 
 /// The first flit of a request or a response tells its head.
 pub fn first_flit_tells_the_head()
-    ensures { (p : PacketFields) (rrp : ℕ) (first : List ℕ) (rest : List (List ℕ)) → IsSentAs p rrp first rest → is_flow (layout_of p.command) ≡ false → head_in first ≡ Some (head_of p) }
+    ensures { (p : PacketFields) (rrp : ℕ) (first : List ℕ) (rest : List (List ℕ)) → IsSentAs p rrp first rest → is_flow (layout_of p.command) ≡ false → head_in first ≡ Some (packet_head p) }
 {}
 
 /// The flits before the last don't depend on what the tail carries, so not on the return pointer.
