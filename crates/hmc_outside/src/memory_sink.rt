@@ -1,5 +1,5 @@
 //! A sink in memory, which fails at listed calls and where its room ends.
-ghost use Rattle.std.specs.Prelude.{◌≡◌, ◌⊎◌, ◌+◌, ◌++◌, ◌<◌, ◌≤◌, ◌↔◌, [], ℕ, Some, length, take, min, vec_capacity, IsErr, IsSome, IfOk, IfNone, IfSome, OnOk, OnErr};
+ghost use Rattle.std.specs.Prelude.{◌≡◌, ◌⊎◌, ◌+◌, ◌++◌, ◌<◌, ◌≤◌, ◌↔◌, [], Some, length, take, min, vec_capacity, IsErr, IsSome, IfOk, IfNone, IfSome, OnOk, OnErr};
 ghost use Rattle.std.specs.Io.KnownBytes.{Appends};
 ghost use Rattle.hmc_outside.specs.Rose.{Rose};
 ghost use Rattle.hmc_outside.specs.Front.{AppendsFront};
@@ -74,6 +74,7 @@ impl Sink for MemorySink {
         ensures appended { OnOk result (Appends (Some self.old.held) (Some self.new.held) bytes.now) }
         ensures front { OnErr result (AppendsFront (Some self.old.held) (Some self.new.held) bytes.now) }
         ensures counted { self.old.faults ≤ self.new.faults }
+        ensures steady { OnOk result (self.new.faults ≡ self.old.faults) }
         ensures cause { OnErr result (Rose self.old.faults self.new.faults) }
 
         // Exactly.

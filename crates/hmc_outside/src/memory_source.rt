@@ -1,5 +1,5 @@
 //! A source in memory, which fails at listed calls.
-ghost use Rattle.std.specs.Prelude.{◌≡◌, ◌<◌, ◌≤◌, ◌↔◌, ◌++◌, ℕ, Some, length, take, drop, min, Contains, IsTrue, IsErr, IfOk, OnOk, OnErr};
+ghost use Rattle.std.specs.Prelude.{◌≡◌, ◌<◌, ◌≤◌, ◌↔◌, ◌++◌, Some, length, take, drop, min, Contains, IsTrue, IsErr, IfOk, OnOk, OnErr};
 ghost use Rattle.std.specs.Io.KnownBytes.{Consumes, Keeps, IsAtEnd};
 ghost use Rattle.hmc_outside.specs.Rose.{Rose, raised};
 ghost use Rattle.hmc_outside.specs.SourceState.{opened, after_read, after_failure};
@@ -66,6 +66,7 @@ impl Source for MemorySource {
         ensures ended { IfOk result (λ n. n ≡ 0 → 0 < length into.old → IsAtEnd (Some self.new.left)) }
         ensures unchanged { OnErr result (Keeps (Some self.old.left) (Some self.new.left)) }
         ensures counted { self.old.faults ≤ self.new.faults }
+        ensures steady { OnOk result (self.new.faults ≡ self.old.faults) }
         ensures cause { OnErr result (Rose self.old.faults self.new.faults) }
 
         // Exactly.

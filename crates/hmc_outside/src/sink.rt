@@ -1,5 +1,5 @@
 //! Where output bytes go.
-ghost use Rattle.std.specs.Prelude.{◌≤◌, ℕ, List, Option, OnOk, OnErr};
+ghost use Rattle.std.specs.Prelude.{◌≡◌, ◌≤◌, ℕ, List, Option, OnOk, OnErr};
 ghost use Rattle.std.specs.Io.KnownBytes.{Appends};
 ghost use Rattle.hmc_outside.specs.Rose.{Rose};
 ghost use Rattle.hmc_outside.specs.Front.{AppendsFront};
@@ -19,5 +19,6 @@ pub trait Sink {
         ensures appended { OnOk result (Appends (held self.old) (held self.new) bytes.now) }
         ensures front { OnErr result (AppendsFront (held self.old) (held self.new) bytes.now) }
         ensures counted { faults self.old ≤ faults self.new }
+        ensures steady { OnOk result (faults self.new ≡ faults self.old) }
         ensures cause { OnErr result (Rose (faults self.old) (faults self.new)) };
 }

@@ -43,11 +43,11 @@ impl<W: Write> Sink for StdSink<W> {
         ensures appended { OnOk result (Appends (W.contents (writer_of self.old)) (W.contents (writer_of self.new)) bytes.now) }
         ensures front { OnErr result (AppendsFront (W.contents (writer_of self.old)) (W.contents (writer_of self.new)) bytes.now) }
         ensures counted { fault_count self.old ≤ fault_count self.new }
+        ensures steady { OnOk result (fault_count self.new ≡ fault_count self.old) }
         ensures cause { OnErr result (Rose (fault_count self.old) (fault_count self.new)) }
 
         // Exactly.
         ensures one_fault { OnErr result (fault_count self.new ≡ raised (fault_count self.old)) }
-        ensures no_fault { OnOk result (fault_count self.new ≡ fault_count self.old) }
     {
         let written = write_whole(&mut self.writer, bytes);
         if written.is_err() {

@@ -44,11 +44,11 @@ impl<R: Read> Source for StdSource<R> {
         ensures ended { IfOk result (λ n. n ≡ 0 → 0 < length into.old → IsAtEnd (R.remaining (reader_of self.new))) }
         ensures unchanged { OnErr result (Keeps (R.remaining (reader_of self.old)) (R.remaining (reader_of self.new))) }
         ensures counted { fault_count self.old ≤ fault_count self.new }
+        ensures steady { OnOk result (fault_count self.new ≡ fault_count self.old) }
         ensures cause { OnErr result (Rose (fault_count self.old) (fault_count self.new)) }
 
         // Exactly.
         ensures one_fault { OnErr result (fault_count self.new ≡ raised (fault_count self.old)) }
-        ensures no_fault { OnOk result (fault_count self.new ≡ fault_count self.old) }
     {
         let given = read_once(&mut self.reader, into);
         if given.is_err() {
