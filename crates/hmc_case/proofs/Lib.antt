@@ -5,3 +5,4 @@ pub mod PartsLemmas
 pub mod HostsLemmas
 pub mod PlanLemmas
 pub mod ReadingLemmas
+mod Worked

@@ -10,7 +10,7 @@ use Rattle.hmc_text.specs.Reading.{◌>>=◌}
 use Rattle.hmc_case.specs.Net.{NetFields, IsNet, net_of}
 use Rattle.hmc_case.specs.Parts.{table_in, parts_of}
 use Rattle.hmc_case.specs.Plan.{plan_of}
-use Rattle.hmc_case.specs.Reading.{Fault, at_line}
+use Rattle.hmc_case.specs.Reading.{Fault, in_section}
 use Rattle.hmc_case.specs.declared.fault.CaseKind.{CaseKind}
 use Rattle.hmc_case.specs.declared.fault.CaseKind.TheVariants as kinds
 use Rattle.hmc_case.specs.declared.fault.Section.{Section}
@@ -30,8 +30,8 @@ pub record CaseFields : Type 0 where
 -- The document comes first, then its keys, then the cubes and links, then the script, and the schedule last.
 unfoldable pub case_of : List ℕ → Result CaseFields Fault
 case_of bytes = do
-  table ← at_line Toml 0 (table_in bytes)
-  parts ← at_line Top 0 (parts_of table)
+  table ← in_section Toml 0 (table_in bytes)
+  parts ← in_section Top 0 (parts_of table)
   net ← net_of parts.cubes parts.links
   script ← in_text Script kinds.Script (script_of net.hosts (length net.cubes) parts.script)
   schedule ← in_text Schedule kinds.Schedule (schedule_of (plan_of net) parts.schedule)

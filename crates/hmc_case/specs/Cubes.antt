@@ -4,7 +4,7 @@ use Rattle.toml.specs.Data.{Data, Items}
 use Rattle.hmc_case.specs.Keys.{table_of, number_at}
 use Rattle.hmc_text.specs.Reading.{◌>>=◌}
 use Rattle.hmc_case.specs.Setup.{CubeFields}
-use Rattle.hmc_case.specs.Reading.{Fault, at_line, in_turn}
+use Rattle.hmc_case.specs.Reading.{Fault, in_section, in_turn}
 use Rattle.hmc_case.specs.declared.fault.CaseKind.{CaseKind}
 use Rattle.hmc_case.specs.declared.fault.Section.TheVariants.{Cube}
 use Rattle.hmc_case.specs.declared.keys.Part.TheVariants as parts
@@ -21,7 +21,7 @@ cube_of value = do
 
 -- the cubes, numbered from 0
 abbrev pub next_cube : List CubeFields → Data → Result CubeFields Fault
-next_cube cubes value = at_line Cube (length cubes) (cube_of value)
+next_cube cubes value = in_section Cube (length cubes) (cube_of value)
 
 abbrev pub cubes_of : Items → Result (List CubeFields) Fault
 cubes_of values = in_turn next_cube [] values

@@ -1,4 +1,4 @@
-pub mod Words
+pub mod Kind
 pub mod Reading
 pub mod Keys
 pub mod Parts

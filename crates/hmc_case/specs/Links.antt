@@ -5,7 +5,7 @@ use Rattle.hmc_codes.specs.Link.{LinkFields}
 use Rattle.hmc_text.specs.Reading.{◌>>=◌}
 use Rattle.hmc_case.specs.Keys.{table_of, text_at, number_at}
 use Rattle.hmc_case.specs.Places.{ends_of, may_join}
-use Rattle.hmc_case.specs.Reading.{Fault, at_line, in_turn}
+use Rattle.hmc_case.specs.Reading.{Fault, in_section, in_turn}
 use Rattle.hmc_case.specs.declared.fault.CaseKind.{CaseKind}
 use Rattle.hmc_case.specs.declared.fault.Section.TheVariants.{Link}
 use Rattle.hmc_case.specs.declared.keys.Part.TheVariants as parts
@@ -33,7 +33,7 @@ link_of cubes links value = do
 
 -- the next link, numbered from 0
 abbrev pub next_link : ℕ → List LinkRow → Data → Result LinkRow Fault
-next_link cubes links value = at_line Link (length links) (link_of cubes links value)
+next_link cubes links value = in_section Link (length links) (link_of cubes links value)
 
 -- all links, each whole before the next
 abbrev pub links_of : ℕ → Items → Result (List LinkRow) Fault

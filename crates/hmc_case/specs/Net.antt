@@ -6,9 +6,9 @@ use Rattle.hmc_text.specs.Reading.{◌>>=◌}
 use Rattle.hmc_case.specs.Cubes.{cubes_of}
 use Rattle.hmc_case.specs.Links.{links_of}
 use Rattle.hmc_case.specs.Places.{IsJoinOf}
-use Rattle.hmc_case.specs.Reading.{Fault, at_line}
+use Rattle.hmc_case.specs.Reading.{Fault, in_section}
 use Rattle.hmc_case.specs.Setup.{CubeFields}
-use Rattle.hmc_case.specs.Together.{total_capacity, in_capacity, hosts_of, numbered}
+use Rattle.hmc_case.specs.Together.{total_capacity, in_capacity, hosts_of, count_of_hosts}
 use Rattle.hmc_case.specs.Walks.{in_one_part}
 use Rattle.hmc_case.specs.declared.fault.Section.TheVariants.{Net}
 use Rattle.hmc_case.specs.declared.setup.LinkRow.{LinkRow}
@@ -23,14 +23,13 @@ pub record NetFields : Type 0 where
 unfoldable pub net_of : Items → Items → Result NetFields Fault
 net_of cube_values link_values = do
   cubes ← cubes_of cube_values
-  capacity ← at_line Net 0 (in_capacity cubes)
+  capacity ← in_section Net 0 (in_capacity cubes)
   links ← links_of (length cubes) link_values
-  hosts ← at_line Net 0 (numbered (hosts_of links))
-  one_part ← at_line Net 0 (in_one_part links (length cubes))
+  hosts ← in_section Net 0 (count_of_hosts (hosts_of links))
+  one_part ← in_section Net 0 (in_one_part links (length cubes))
   Ok (record { cubes = cubes; links = links; hosts = hosts })
 
--- 1 to 8 cubes of at most 2^24 bytes together, 1 to 32 links, 1 to 8 hosts, which are those of the links; until there are networks, one cube
--- and one link
+-- one cube of at most 2^24 bytes and one link, until there are networks; 1 to 8 hosts, which are those of the links
 pub record IsNet (net : NetFields) : Type 0 where
   pub one_cube : length net.cubes ≡ 1
   pub one_link : length net.links ≡ 1

@@ -19,9 +19,9 @@ pub record Fault : Type 0 where
   pub kind : CaseKind
 
 -- the fault is that of this line of this section
-abbrev pub at_line : {A : Type 0} → Section → ℕ → Result A CaseKind → Result A Fault
-at_line section line (Ok x) = Ok x
-at_line section line (Err kind) = Err (record { section = section; line = line; kind = kind })
+abbrev pub in_section : {A : Type 0} → Section → ℕ → Result A CaseKind → Result A Fault
+in_section section line (Ok x) = Ok x
+in_section section line (Err kind) = Err (record { section = section; line = line; kind = kind })
 
 -- a row for each item, read in turn with those before it
 unfoldable pub in_turn : {A : Type 0} → (List A → Data → Result A Fault) → List A → Items → Result (List A) Fault

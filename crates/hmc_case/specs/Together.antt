@@ -40,8 +40,8 @@ are_from_zero numbers =
     && list_all (λ number. list_any (λ other. other == number) numbers) (range_with_len 0 (length numbers))
 
 -- how many hosts there are: one at least, numbered from 0 without a gap
-unfoldable pub numbered : List ℕ → Result ℕ CaseKind
-numbered hosts = do
+unfoldable pub count_of_hosts : List ℕ → Result ℕ CaseKind
+count_of_hosts hosts = do
   some ← or_refuse kinds.Hosts (nat_le 1 (length hosts))
   from_zero ← or_refuse kinds.Hosts (are_from_zero hosts)
   Ok (length hosts)

@@ -5,7 +5,7 @@ ghost use Rattle.toml.specs.View.{view, array_view};
 ghost use Rattle.hmc_case.specs.Reading.{Answers, Gains};
 ghost use Rattle.hmc_case.specs.Cubes.{cube_of, next_cube, cubes_of};
 
-use crate::fault::at_line;
+use crate::fault::in_section;
 use crate::keys::{Part, number_at, table_of};
 use crate::rows::append;
 use crate::{CaseFault, CaseKind, CubeSetup, Section};
@@ -40,7 +40,7 @@ fn read_cube(cubes: &mut Vec<CubeSetup>, value: &Value) -> Result<(), CaseFault>
     ensures { Gains cubes.old.items cubes.new.items result (next_cube cubes.old.items (view value.now)) }
 {
     let number = cubes.len() as u32;
-    let cube = at_line(Section::Cube, number, cube_of(value))?;
+    let cube = in_section(Section::Cube, number, cube_of(value))?;
     append(cubes, cube)?;
     Ok(())
 }

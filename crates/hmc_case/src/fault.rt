@@ -1,7 +1,7 @@
 //! What is wrong with a case.
 
 ghost use Rattle.std.specs.Prelude.{◌≡◌, ◌≢◌, Some, IsTrue, OnOk};
-ghost use Rattle.hmc_case.specs.Reading.{Answers, at_line, or_refuse};
+ghost use Rattle.hmc_case.specs.Reading.{Answers, in_section, or_refuse};
 ghost use Rattle.hmc_case.specs.declared.fault.CaseFault.TheVariants as faults;
 
 use hmc_codes::Memory;
@@ -30,7 +30,7 @@ pub enum Section {
 }
 
 impl fmt::Display for Section {
-    ghost use Rattle.hmc_case.specs.Words.{section_word};
+    ghost use Rattle.hmc_case.specs.Kind.{section_word};
 
     ghost output = { λ section. Some (section_word section) };
 
@@ -81,7 +81,7 @@ pub enum CaseKind {
 }
 
 impl fmt::Display for CaseKind {
-    ghost use Rattle.hmc_case.specs.Words.{kind_word};
+    ghost use Rattle.hmc_case.specs.Kind.{kind_word};
 
     ghost output = { λ kind. Some (kind_word kind) };
 
@@ -138,8 +138,8 @@ impl From<AllocError> for CaseFault {
 }
 
 /// What was read, or else the fault of this line of this section.
-pub fn at_line<T>(section: Section, line: u32, read: Result<T, CaseKind>) -> Result<T, CaseFault>
-    ensures value { Answers (λ x. x) result (at_line section line read) }
+pub fn in_section<T>(section: Section, line: u32, read: Result<T, CaseKind>) -> Result<T, CaseFault>
+    ensures value { Answers (λ x. x) result (in_section section line read) }
     ensures told { result ≢ Err faults.Memory }
 {
     match read {

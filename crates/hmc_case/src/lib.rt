@@ -27,6 +27,3 @@ mod walk;
 pub use case::Case;
 pub use fault::{CaseFault, CaseKind, Section};
 pub use setup::{CubeSetup, LinkRow};
-
-#[cfg(test)]
-mod tests;

@@ -7,7 +7,7 @@ ghost use Rattle.hmc_case.specs.Reading.{Answers, Gains};
 ghost use Rattle.hmc_case.specs.Places.{IsJoinOf};
 ghost use Rattle.hmc_case.specs.Links.{sizes_of, link_of, next_link, links_of};
 
-use crate::fault::at_line;
+use crate::fault::in_section;
 use crate::keys::{Part, number_at, table_of, text_at};
 use crate::place::{ends_of, may_join};
 use crate::rows::append;
@@ -57,7 +57,7 @@ fn read_link(cubes: u8, links: &mut Vec<LinkRow>, value: &Value) -> Result<(), C
         → OnOk result (All (λ link. IsJoinOf 8 cubes link.join) links.new.items) }
 {
     let number = links.len() as u32;
-    let link = at_line(Section::Link, number, link_of(cubes, links, value))?;
+    let link = in_section(Section::Link, number, link_of(cubes, links, value))?;
     append(links, link)?;
     Ok(())
 }

@@ -6,7 +6,7 @@ ghost use Rattle.hmc_case.specs.Reading.{Answers};
 ghost use Rattle.hmc_case.specs.Net.{net_of};
 
 use crate::cube::cubes_of;
-use crate::fault::at_line;
+use crate::fault::in_section;
 use crate::link::links_of;
 use crate::together::{host_count, in_capacity};
 use crate::walk::in_one_part;
@@ -42,11 +42,11 @@ pub fn net_of(alloc: Global, cubes: &Array, links: &Array) -> Result<Net, CaseFa
     ensures { Answers (λ net. net) result (net_of (array_view cubes.now) (array_view links.now)) }
 {
     let cubes = cubes_of(alloc, cubes)?;
-    at_line(Section::Net, 0, in_capacity(&cubes))?;
+    in_section(Section::Net, 0, in_capacity(&cubes))?;
     let number = cubes.len() as u8;
     let links = links_of(alloc, number, links)?;
     let hosts = host_count(alloc, &links)?;
-    at_line(Section::Net, 0, in_one_part(&links, number))?;
+    in_section(Section::Net, 0, in_one_part(&links, number))?;
     Ok(Net {
         cubes,
         links,

@@ -3,7 +3,7 @@
 ghost use Rattle.std.specs.Prelude.{◌≡◌, vec_len, IfOk};
 ghost use Rattle.toml.specs.View.{table_view, array_view};
 ghost use Rattle.hmc_text.specs.Reading.{Gives};
-ghost use Rattle.hmc_case.specs.Reading.{Answers, at_line};
+ghost use Rattle.hmc_case.specs.Reading.{Answers, in_section};
 ghost use Rattle.hmc_case.specs.Parts.{table_in, parts_of};
 ghost use Rattle.hmc_case.specs.declared.fault.Section.TheVariants as sections;
 
@@ -25,7 +25,7 @@ pub struct Parts<'a> {
 
 /// The bytes as a TOML document.
 pub fn table_in(alloc: Global, bytes: &[u8]) -> Result<Table, CaseFault>
-    ensures { Answers (λ table. table_view table) result (at_line sections.Toml 0 (table_in bytes.now)) }
+    ensures { Answers (λ table. table_view table) result (in_section sections.Toml 0 (table_in bytes.now)) }
 {
     let bad = CaseFault::Bad {
         section: Section::Toml,
@@ -72,7 +72,7 @@ fn parts_of(table: &Table) -> Result<Parts<'_>, CaseKind>
 /// The keys of the document, or the fault of section `top`.
 pub fn parts_in(table: &Table) -> Result<Parts<'_>, CaseFault>
     ensures value { Answers (λ parts. record { cubes = array_view parts.cubes.now; links = array_view parts.links.now; script = parts.script.now; schedule = parts.schedule.now })
-        result (at_line sections.Top 0 (parts_of (table_view table.now))) }
+        result (in_section sections.Top 0 (parts_of (table_view table.now))) }
     ensures cubes { IfOk result (λ parts. vec_len parts.cubes.now ≡ 1) }
     ensures links { IfOk result (λ parts. vec_len parts.links.now ≡ 1) }
 {

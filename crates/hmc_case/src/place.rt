@@ -83,7 +83,7 @@ fn is_same_cube(place: Place, other: Place) -> bool
 }
 
 /// Whether the two are one host or one port.
-pub fn is_same(place: Place, other: Place) -> bool
+fn is_same(place: Place, other: Place) -> bool
     ensures { result ≡ is_same place other }
 {
     match (place, other) {

@@ -1,6 +1,5 @@
 //! What a case says of a cube and of a link.
 
-ghost use Rattle.std.specs.Prelude.{◌≡◌};
 ghost use Rattle.hmc_case.specs.Setup.{IsCube};
 
 use hmc_codes::{Join, LinkSetup, Shape};

@@ -1,6 +1,6 @@
 //! The script and the schedule of a case.
 
-ghost use Rattle.std.specs.Prelude.{◌≡◌, ◌≤◌, IfOk};
+ghost use Rattle.std.specs.Prelude.{◌≤◌, IfOk};
 ghost use Rattle.std.specs.List.{All};
 ghost use Rattle.hmc_schedule.specs.Plan.{IsStepOf};
 ghost use Rattle.hmc_schedule.specs.Schedule.{schedule_of};

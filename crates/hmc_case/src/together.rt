@@ -2,11 +2,11 @@
 
 ghost use Rattle.std.specs.Prelude.{◌≡◌, ◌≤◌, ◌<◌, ◌==◌, true, nat_le, nat_lt, length, IsTrue, IfOk, OnOk};
 ghost use Rattle.std.specs.List.{All, list_any, list_all, range_with_len};
-ghost use Rattle.hmc_case.specs.Reading.{Answers, at_line};
+ghost use Rattle.hmc_case.specs.Reading.{Answers, in_section};
 ghost use Rattle.hmc_case.specs.declared.fault.Section.TheVariants as sections;
-ghost use Rattle.hmc_case.specs.Together.{total_capacity, in_capacity, host_number, host_of, hosts_of, are_from_zero, numbered};
+ghost use Rattle.hmc_case.specs.Together.{total_capacity, in_capacity, host_number, host_of, hosts_of, are_from_zero, count_of_hosts};
 
-use crate::fault::{at_line, refuse_unless};
+use crate::fault::{in_section, refuse_unless};
 use crate::{CaseFault, CaseKind, CubeSetup, LinkRow, Section};
 use hmc_codes::Place;
 use std::alloc::{AllocError, Global};
@@ -92,10 +92,10 @@ fn are_from_zero(numbers: &[u8]) -> bool
 }
 
 // How many hosts there are: one at least, numbered from 0 without a gap.
-#[tactic(auto, unfolding(crate::specs::Together::numbered))]
-fn numbered(hosts: &[u8]) -> Result<u8, CaseKind>
+#[tactic(auto, unfolding(crate::specs::Together::count_of_hosts))]
+fn count_of_hosts(hosts: &[u8]) -> Result<u8, CaseKind>
     requires { All (λ host. host < 8) hosts.now }
-    ensures value { result ≡ numbered hosts.now }
+    ensures value { result ≡ count_of_hosts hosts.now }
     ensures some { IfOk result (λ count. 1 ≤ count) }
     ensures few { IfOk result (λ count. count ≤ 8) }
     ensures below { IfOk result (λ count. list_all (λ host. nat_lt host count) hosts.now ≡ true) }
@@ -110,12 +110,12 @@ fn numbered(hosts: &[u8]) -> Result<u8, CaseKind>
 /// How many hosts the links join: one at least, numbered from 0 without a gap.
 pub fn host_count(alloc: Global, links: &[LinkRow]) -> Result<u8, CaseFault>
     requires { All (λ host. host < 8) (hosts_of links.now) }
-    ensures value { Answers (λ count. count) result (at_line sections.Net 0 (numbered (hosts_of links.now))) }
+    ensures value { Answers (λ count. count) result (in_section sections.Net 0 (count_of_hosts (hosts_of links.now))) }
     ensures some { IfOk result (λ count. 1 ≤ count) }
     ensures few { IfOk result (λ count. count ≤ 8) }
     ensures below { IfOk result (λ count. list_all (λ host. nat_lt host count) (hosts_of links.now) ≡ true) }
     ensures all { IfOk result (λ count. count ≡ length (hosts_of links.now)) }
 {
     let hosts = hosts_of(alloc, links)?;
-    at_line(Section::Net, 0, numbered(&hosts))
+    in_section(Section::Net, 0, count_of_hosts(&hosts))
 }

@@ -2,3 +2,4 @@ pub mod RoundLemmas
 pub mod RoomLemmas
 pub mod WorkLemmas
 pub mod ParseLemmas
+mod Worked

@@ -2,7 +2,7 @@
 use Rattle.std.specs.Prelude.{ℕ, List, length, codes, Result, Ok, if◌then◌else◌}
 use Rattle.std.specs.Str.{bytes_eq}
 use Rattle.hmc_text.specs.Reading.{◌>>=◌, or_fault, next_word, no_word}
-use Rattle.hmc_text.specs.Words.{is_silent}
+use Rattle.hmc_text.specs.Words.{is_passed_over}
 use Rattle.hmc_schedule.specs.declared.fault.ScheduleKind.{ScheduleKind}
 use Rattle.hmc_schedule.specs.declared.fault.ScheduleKind.TheVariants as kinds
 use Rattle.hmc_schedule.specs.declared.meaning.Meaning.{Meaning}
@@ -93,7 +93,7 @@ said_of plan words = do
 
 -- what the words of a line say
 unfoldable pub meaning_of : PlanFields → List (List ℕ) → Result Meaning ScheduleKind
-meaning_of plan words = if is_silent words then Ok Nothing else said_of plan words
+meaning_of plan words = if is_passed_over words then Ok Nothing else said_of plan words
 
 -- P holds of the step, if a line names one
 abbrev pub IfOne : (Step → Type 0) → Meaning → Type 0

@@ -11,7 +11,7 @@ use crate::operands::{count_word, index_word, lift_word, mask_words, port_words,
 use crate::verb::{Verb, verb_of};
 use crate::{Plan, ScheduleKind, Step};
 use hmc_text::reading::{next_word, no_word};
-use hmc_text::words::is_silent;
+use hmc_text::words::is_passed_over;
 
 /// What a line says.
 #[derive(Clone, Copy)]
@@ -162,7 +162,7 @@ pub fn meaning_of(plan: &Plan, line: &[u8]) -> Result<Meaning, ScheduleKind>
     ensures value { result ≡ meaning_of plan.now (words_of line.now) }
     ensures works { IfOk result (IfOne (IsWorking plan.now)) }
 {
-    if is_silent(line) {
+    if is_passed_over(line) {
         return Ok(Meaning::Nothing);
     }
     said(plan, line)

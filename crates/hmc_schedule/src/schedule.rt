@@ -6,7 +6,7 @@ use crate::Step;
 use std::marker::Model;
 
 /// The most steps of a schedule.
-pub const MOST_STEPS: usize = 1_000_000;
+pub(crate) const MOST_STEPS: usize = 1_000_000;
 
 /// At most 1,000,000 steps, in order. Contracts see the list of them.
 #[derive(Drop)]

@@ -12,7 +12,7 @@ use Rattle.hmc_script.specs.declared.fault.ScriptKind.{ScriptKind}
 use Rattle.hmc_script.specs.declared.meaning.Meaning.{Meaning}
 use Rattle.hmc_script.specs.declared.meaning.Meaning.TheVariants.{Fence, Ask}
 use Rattle.hmc_script.specs.Items.{ItemFields, IsScript, IsWithin}
-use Rattle.hmc_script.specs.Law.{PrintedIsRead}
+use Rattle.hmc_script.specs.Laws.{PrintedIsRead}
 use Rattle.hmc_text.specs.Lines.{lines_of}
 use Rattle.hmc_script.specs.Meaning.{meaning_of}
 use Rattle.hmc_text.specs.Reading.{◌>>=◌}

@@ -7,3 +7,4 @@ pub mod RequestWords
 pub mod MeaningText
 pub mod LawLemmas
 pub mod PayloadLemmas
+mod Worked

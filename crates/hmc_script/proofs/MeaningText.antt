@@ -24,7 +24,7 @@ use Rattle.hmc_script.specs.Payload.{payload_of, no_payload, some_payload, paylo
 use Rattle.hmc_script.specs.Text.{request_line}
 use Rattle.hmc_text.specs.Reading as reading
 use Rattle.hmc_text.specs.Reading.{◌>>=◌, or_fault}
-use Rattle.hmc_text.specs.Words.{is_silent}
+use Rattle.hmc_text.specs.Words.{is_passed_over}
 
 number_word-is : (kind : ScriptKind) (limit n : ℕ) (w : List ℕ) (ws : List (List ℕ)) → number_of w ≡ Some n → n < limit → number_word kind limit (w ∷ ws) ≡ Ok (n, ws)
 unfolding reading.number_word
@@ -71,7 +71,7 @@ request_of-request_words cubes r is within =
     let payload = payload_word-operand r.command r.payload (is_mdwr r.command) refl is.payload is.bytes is.zeros in
     rw (command, cube, address, payload) refl
 
-not_silent : (host : ℕ) (ws : List (List ℕ)) → host < 8 → is_silent (decimal host ∷ ws) ≡ false
+not_silent : (host : ℕ) (ws : List (List ℕ)) → host < 8 → is_passed_over (decimal host ∷ ws) ≡ false
 not_silent host ws small =
     let digit : slice_index (decimal host) 0 ≡ 48 + host = ap (λ w. slice_index w 0) (decimal_digit host (omega arith)) in
     rw digit (grind (arith, nat_tests))

@@ -5,4 +5,4 @@ pub mod Meaning
 pub mod Items
 pub mod Script
 pub mod Text
-pub mod Law
+pub mod Laws

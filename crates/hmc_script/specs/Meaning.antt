@@ -11,7 +11,7 @@ use Rattle.hmc_script.specs.Commands.{command_of}
 use Rattle.hmc_script.specs.Payload.{payload_word}
 use Rattle.hmc_text.specs.Reading as reading
 use Rattle.hmc_text.specs.Reading.{◌>>=◌, or_fault, next_word, no_word}
-use Rattle.hmc_text.specs.Words.{is_silent}
+use Rattle.hmc_text.specs.Words.{is_passed_over}
 
 -- a number below the limit, or else this kind of fault
 abbrev pub number_word : ScriptKind → ℕ → List (List ℕ) → Result (ℕ × List (List ℕ)) ScriptKind
@@ -56,7 +56,7 @@ said_of hosts cubes words = do
 
 -- what the words of a line say
 unfoldable pub meaning_of : ℕ → ℕ → List (List ℕ) → Result Meaning ScriptKind
-meaning_of hosts cubes words = if is_silent words then Ok Nothing else said_of hosts cubes words
+meaning_of hosts cubes words = if is_passed_over words then Ok Nothing else said_of hosts cubes words
 
 -- the host and the cube that a line names are among so many
 abbrev pub IsSaidWithin : ℕ → ℕ → Meaning → Type 0

@@ -13,7 +13,7 @@ use Rattle.hmc_script.specs.declared.fault.ScriptKind.TheVariants as kinds
 use Rattle.hmc_text.specs.Number.{below, number_of}
 use Rattle.hmc_text.specs.Reading.{◌>>=◌, or_fault, next_word, no_word}
 
--- the bytes are a payload of a request with this command
+-- the bytes are a payload of a request with this command, as IsRequest (hmc_codes) asks
 pub record IsPayload (command : Command) (payload : List ℕ) : Type 0 where
   pub length : length payload ≡ payload_len_of command
   pub bytes : IsBytes payload

@@ -11,6 +11,7 @@
 mod command;
 mod fault;
 mod item;
+mod laws;
 mod meaning;
 mod parse;
 mod payload;
@@ -19,7 +20,7 @@ mod script;
 
 pub use fault::{ScriptFault, ScriptKind};
 pub use item::Item;
-pub use print::printed_is_read;
+pub use laws::printed_is_read;
 pub use script::Script;
 
 #[cfg(test)]

@@ -13,7 +13,7 @@ use crate::command::command_of;
 use crate::payload::payload_word;
 use hmc_codes::{Command, Payload, Request};
 use hmc_text::reading::{self, next_word, no_word};
-use hmc_text::words::is_silent;
+use hmc_text::words::is_passed_over;
 
 /// What a line says.
 #[derive(Clone, Copy)]
@@ -120,7 +120,7 @@ pub fn meaning_of(hosts: u8, cubes: u8, line: &[u8]) -> Result<Meaning, ScriptKi
     ensures value { result ≡ meaning_of hosts cubes (words_of line.now) }
     ensures within { IfOk result (IsSaidWithin hosts cubes) }
 {
-    if is_silent(line) {
+    if is_passed_over(line) {
         return Ok(Meaning::Nothing);
     }
     said(hosts, cubes, line)

@@ -4,7 +4,6 @@ ghost use Rattle.std.specs.Prelude.{◌≡◌, ◌++◌, ℕ, Ok, IfOk, OnOk, st
 ghost use Rattle.std.specs.List.{All};
 ghost use Rattle.hmc_codes.specs.Text.{request_text};
 ghost use Rattle.hmc_script.specs.Items.{IsWithin};
-ghost use Rattle.hmc_script.specs.Law.{PrintedIsRead};
 ghost use Rattle.hmc_script.specs.Script.{script_of};
 ghost use Rattle.hmc_script.specs.Text.{fence_text, request_line, item_text, script_text};
 
@@ -74,8 +73,3 @@ impl Script {
         print_items(alloc, self.items())
     }
 }
-
-/// Nothing is done. The contract is the law that what is printed is read again as the same script.
-pub fn printed_is_read()
-    ensures { PrintedIsRead }
-{}

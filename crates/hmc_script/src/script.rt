@@ -9,7 +9,7 @@ use std::alloc::Global;
 use std::marker::Model;
 
 /// The most requests of a script.
-pub const MOST_ITEMS: usize = 65536;
+pub(crate) const MOST_ITEMS: usize = 65536;
 
 /// At most 65,536 requests of hosts, in order. Contracts see the list of them.
 #[derive(Drop)]

@@ -3,3 +3,4 @@ pub mod WordsLemmas
 pub mod LinesLemmas
 pub mod NumberLemmas
 pub mod InTurnLemmas
+mod Worked

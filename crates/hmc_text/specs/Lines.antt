@@ -25,7 +25,7 @@ abbrev pub lines_behind : List ℕ → List (List ℕ)
 lines_behind [] = []
 lines_behind (feed ∷ text) = lines_of text
 
--- how many bytes are left, a line feed in front of them counted
+-- how many bytes are left, a line feed in front of them counted: a loop over lines ends, since each line leaves fewer
 abbrev pub bytes_left : Option (Bor (List ℕ)) → ℕ
 bytes_left None = 0
 bytes_left (Some text) = length text.now + 1

@@ -21,6 +21,6 @@ first_word [] = None
 first_word (w ∷ ws) = Some (w, ws)
 
 -- no word, or a comment: its first byte is 35, a `#`
-abbrev pub is_silent : List (List ℕ) → Bool
-is_silent [] = true
-is_silent (w ∷ ws) = slice_index w 0 == 35
+abbrev pub is_passed_over : List (List ℕ) → Bool
+is_passed_over [] = true
+is_passed_over (w ∷ ws) = slice_index w 0 == 35

@@ -3,7 +3,7 @@
 use crate::lines::first_line;
 use crate::number::{below, number};
 use crate::reading::{next_word, no_word, number_word};
-use crate::words::{first_word, is_silent};
+use crate::words::{first_word, is_passed_over};
 use std::test::Fail;
 
 #[test]
@@ -46,7 +46,7 @@ fn blanks_part_words(rt: HostRuntime) -> Result<(), Fail> {
         (" \t ", None, true),
     ];
     for (line, word, silent) in table {
-        assert_eq!(rt; is_silent(line.as_bytes()), silent, "at {line:?}");
+        assert_eq!(rt; is_passed_over(line.as_bytes()), silent, "at {line:?}");
         let same = match (first_word(line.as_bytes()), word) {
             (Some((first, rest)), Some((word, behind))) => {
                 first == word.as_bytes() && rest == behind.as_bytes()

@@ -2,7 +2,7 @@
 
 ghost use Rattle.std.specs.Prelude.{◌≡◌, ◌≤◌, length, option_map};
 ghost use Rattle.std.specs.List.{prefix_len, position_or_len};
-ghost use Rattle.hmc_text.specs.Words.{is_blank, words_of, first_word, is_silent};
+ghost use Rattle.hmc_text.specs.Words.{is_blank, words_of, first_word, is_passed_over};
 
 fn is_blank(byte: u8) -> bool
     ensures { result ≡ is_blank byte }
@@ -38,8 +38,8 @@ pub fn first_word(line: &[u8]) -> Option<(&[u8], &[u8])>
 }
 
 /// Whether the line says nothing: it has no word, or is a comment, whose first word begins with `#`.
-pub fn is_silent(line: &[u8]) -> bool
-    ensures { result ≡ is_silent (words_of line.now) }
+pub fn is_passed_over(line: &[u8]) -> bool
+    ensures { result ≡ is_passed_over (words_of line.now) }
 {
     match first_word(line) {
         Some((word, _)) => word.first() == Some(&b'#'),
