@@ -1,1 +1,2 @@
 pub mod CubeLemmas
+mod Worked

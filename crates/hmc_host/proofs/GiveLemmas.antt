@@ -12,7 +12,7 @@ use Rattle.hmc_host.specs.declared.given.Given.{Given}
 use Rattle.hmc_host.specs.declared.given.Given.TheVariants.{Ended, Fence, Tags, Full, Gave}
 use Rattle.hmc_host.specs.Tags.{lowest_free, IsFree, IsOut, IsLowestFree, with_out}
 use Rattle.hmc_host.specs.Host.{HostFields, IsHost}
-use Rattle.hmc_host.specs.Give.{is_awaited, tag_for, gave, next_item, next_says, give_says, after_give, taken_tag}
+use Rattle.hmc_host.specs.Give.{wants_tag, tag_for, gave, next_item, next_says, give_says, after_give, taken_tag}
 
 -- ---- tags
 
@@ -85,11 +85,11 @@ next_not_ended host (Some item) room is = absurd (held_not_ended _ _ _ host.numb
 
 next_lacks : (host : HostFields) (next : Option ItemFields) (room : Bool) → next_says host next room ≡ Tags → is_none (lowest_free host.tags) ≡ true
 next_lacks host None room is = absurd cc
-next_lacks host (Some item) room is = (and_parts (is_awaited item) _ (held_lacks _ _ _ host.number item (tag_for item host.tags) is)).1
+next_lacks host (Some item) room is = (and_parts (wants_tag item) _ (held_lacks _ _ _ host.number item (tag_for item host.tags) is)).1
 
 next_tag : (host : HostFields) (next : Option ItemFields) (room : Bool) (tag : ℕ) → taken_tag (next_says host next room) ≡ Some tag → lowest_free host.tags ≡ Some tag
 next_tag host None room tag is = absurd cc
-next_tag host (Some item) room tag is = tag_is_lowest (is_awaited item) host.tags tag (held_tag _ _ _ host.number item (tag_for item host.tags) tag is)
+next_tag host (Some item) room tag is = tag_is_lowest (wants_tag item) host.tags tag (held_tag _ _ _ host.number item (tag_for item host.tags) tag is)
 
 -- ---- the clauses of a give
 

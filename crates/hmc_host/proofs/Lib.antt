@@ -1,3 +1,4 @@
 pub mod TagLemmas
 pub mod HostLemmas
 pub mod GiveLemmas
+mod Worked

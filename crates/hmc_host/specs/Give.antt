@@ -9,17 +9,17 @@ use Rattle.hmc_host.specs.declared.given.Given.TheVariants.{Ended, Fence, Tags, 
 use Rattle.hmc_host.specs.Tags.{is_some_out, lowest_free, with_out}
 use Rattle.hmc_host.specs.Host.{HostFields}
 
--- a request is to be answered unless it is posted or poisoned
-abbrev pub is_awaited : ItemFields → Bool
-is_awaited item = not item.poisoned && not (is_posted item.request.command)
+-- a request is to be answered, and so wants a tag, unless it is posted or poisoned
+abbrev pub wants_tag : ItemFields → Bool
+wants_tag item = not item.poisoned && not (is_posted item.request.command)
 
 -- the tag that a request goes out under: the lowest that isn't out, where it is to be answered
 abbrev pub tag_for : ItemFields → (tags : List Bool) → Option ℕ
-tag_for item tags = (if is_awaited item then lowest_free tags else None)
+tag_for item tags = (if wants_tag item then lowest_free tags else None)
 
 -- no tag is left for a request that needs one
 abbrev pub lacks_tag : ItemFields → (tags : List Bool) → Bool
-lacks_tag item tags = is_awaited item && is_none (lowest_free tags)
+lacks_tag item tags = wants_tag item && is_none (lowest_free tags)
 
 -- a host's request goes out under a tag, or under tag 0 where it has none
 abbrev pub gave : (number : ℕ) → ItemFields → (tag : Option ℕ) → Given

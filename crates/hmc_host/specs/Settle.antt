@@ -20,7 +20,7 @@ abbrev pub took : (tag : ℕ) → Option Answer → Settled
 took tag (Some answer) = Took tag answer
 took tag None = Discarded
 
--- what the host answers: a poisoned packet is dropped, and another's answer is taken
+-- what the host answers: a poisoned packet is dropped, and of each other one the answer is taken
 abbrev pub settle_says : PacketFields → Settled
 settle_says packet = (if packet.poisoned then Discarded else took packet.tag (answer_in packet))
 

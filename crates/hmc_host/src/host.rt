@@ -4,7 +4,7 @@ ghost use Rattle.std.specs.Prelude.{◌≡◌, ◌≢◌, ◌<◌, ◌≤◌, �
 ghost use Rattle.std.specs.Option.{ForSome};
 ghost use Rattle.hmc_host.specs.Tags.{number_out, IsFree, IsOut, IsLowestFree};
 ghost use Rattle.hmc_host.specs.Host.{opening_host, items_of, IsHost};
-ghost use Rattle.hmc_host.specs.Give.{is_awaited, tag_for, gave, give_says, after_give, taken_tag};
+ghost use Rattle.hmc_host.specs.Give.{wants_tag, tag_for, gave, give_says, after_give, taken_tag};
 ghost use Rattle.hmc_host.specs.Settle.{IsAwaited, settle_says, after_settle};
 
 use crate::tags::Tags;
@@ -60,7 +60,8 @@ impl Host {
 
     /// How many tags are out, at most 2,048.
     pub fn out(&self) -> u16
-        ensures { result ≡ number_out self.now.tags }
+        ensures number { result ≡ number_out self.now.tags }
+        ensures few { result ≤ 2048 }
     {
         self.tags.out()
     }
@@ -70,7 +71,7 @@ impl Host {
         ensures answer { result ≡ give_says self.old room }
         ensures leaves { self.new ≡ after_give result self.old }
 
-        // The causes in the order in which they count, and the tag.
+        // Where it ends, where it lacks a tag, and which tag it takes.
         ensures ended { (result ≡ Given.Ended) ↔ (self.old.given ≡ length self.old.items) }
         ensures tags { result ≡ Given.Tags → (tag : ℕ) → tag < 2048 → IsOut self.old.tags tag }
         ensures lowest { ForSome (taken_tag result) (IsLowestFree self.old.tags) }
@@ -112,7 +113,7 @@ impl Host {
             return Given::Fence;
         }
         let tag = tag_for(item, &self.tags);
-        if is_awaited(item) && tag.is_none() {
+        if wants_tag(item) && tag.is_none() {
             return Given::Tags;
         }
         if !room {
@@ -135,8 +136,8 @@ impl Host {
 }
 
 // Whether a request is to be answered.
-fn is_awaited(item: &Item) -> bool
-    ensures { result ≡ is_awaited item.now }
+fn wants_tag(item: &Item) -> bool
+    ensures { result ≡ wants_tag item.now }
 {
     !item.poisoned && !item.request.command.posted()
 }
@@ -145,7 +146,7 @@ fn is_awaited(item: &Item) -> bool
 fn tag_for(item: &Item, tags: &Tags) -> Option<u16>
     ensures { result ≡ tag_for item.now tags.now }
 {
-    if is_awaited(item) {
+    if wants_tag(item) {
         tags.lowest_free()
     } else {
         None

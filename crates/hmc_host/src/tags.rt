@@ -1,6 +1,6 @@
 //! The tags of a host.
 
-ghost use Rattle.std.specs.Prelude.{◌≡◌, ◌<◌, IfOk, false, length, slice_set};
+ghost use Rattle.std.specs.Prelude.{◌≡◌, ◌≤◌, ◌<◌, IfOk, false, length, slice_set};
 ghost use Rattle.std.specs.Option.{ForSome};
 ghost use Rattle.hmc_host.specs.Tags.{none_out, number_out, is_some_out, lowest_free, with_out, IsFree, IsOut};
 
@@ -47,9 +47,10 @@ impl Tags {
         let _ = &self.flags;
     }
 
-    /// How many tags are out.
+    /// How many tags are out, at most all.
     pub fn out(&self) -> u16
-        ensures { result ≡ number_out self.now }
+        ensures number { result ≡ number_out self.now }
+        ensures few { result ≤ 2048 }
     {
         self.number
     }

@@ -1,2 +1,3 @@
 pub mod QueueLemmas
 pub mod FlitLemmas
+mod Worked

@@ -4,3 +4,4 @@ pub mod ExecuteLemmas
 pub mod VaultLemmas
 pub mod SpreadLemmas
 pub mod CubeLemmas
+mod Worked
