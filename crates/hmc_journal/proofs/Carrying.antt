@@ -1,6 +1,6 @@
 -- A lawful journal of one cube and one link is carried, and settled where nothing is on its way.
 use Rattle.std.proofs.Common.{◌≡◌, ◌≤◌, ◌∙◌, inl, inr, ℕ, zero, suc, Bool, Option, Some, None, List, [], ◌∷◌, ◌++◌, All, map, take, drop, length, refl, sym, ap, ap₂, subst, arith, append-nil, append_assoc, length-append, length-drop, length-take}
-use Rattle.std.proofs.lemmas.List.{map-append, length-map, drop_all, nil_from_length}
+use Rattle.std.proofs.lemmas.List.{length-map, drop_all, nil_from_length}
 use Rattle.hmc_codes.specs.Request.{RequestFields}
 use Rattle.hmc_codes.specs.declared.answer.Answer.{Answer}
 use Rattle.hmc_codes.specs.declared.lift.Lift.{Lift}
@@ -17,8 +17,9 @@ use Rattle.hmc_journal.specs.Filters.{answered_into, Asking, Taking, Reply, give
 use Rattle.hmc_journal.specs.Lawful.{Lawful}
 use Rattle.hmc_journal.specs.Housed.{IsOneCube}
 use Rattle.hmc_journal.specs.Drained.{IsDrained}
-use Rattle.hmc_journal.specs.Carried.{IsFront, unnumbered, asking_in, asks_in, takings_in, takings_gone, IsCarried, IsSettled}
-use Rattle.hmc_journal.proofs.Wire.{behind, numbering, numbering_from}
+use Rattle.hmc_journal.specs.Carried.{IsPrefix, asking_in, asks_in, takings_in, takings_gone, IsCarried, IsSettled}
+use Rattle.hmc_journal.proofs.Order.{wire_order}
+use Rattle.hmc_journal.proofs.Wire.{behind, numbering, numbering_from, numbering_from-append}
 use Rattle.hmc_journal.proofs.Moves.{gone, gone-contents}
 use Rattle.hmc_journal.proofs.OneLink.{one_link}
 use Rattle.hmc_journal.proofs.Standing.{IsAsking, request_in-numbered, All-front}
@@ -30,33 +31,29 @@ use Rattle.hmc_journal.proofs.Tokens.{accepted_front, length-numbering}
 use Rattle.hmc_journal.proofs.Phases.{Phase, Told, IsFree, holds_nothing}
 use Rattle.hmc_journal.proofs.Phases.Phase.{Free, Held}
 use Rattle.hmc_journal.proofs.Phases.Errand.{Asks, Tells}
-use Rattle.hmc_journal.proofs.Stretches.{passed, stretch, IsBlind, map-view}
-use Rattle.hmc_journal.proofs.Errands.{errands}
+use Rattle.hmc_journal.proofs.RoomsAndWires.{passed, stretch}
+use Rattle.hmc_journal.proofs.TagWork.{errands}
 use Rattle.hmc_journal.proofs.TagStep.{is_out}
 use Rattle.hmc_journal.proofs.Tags.{has_phase}
-use Rattle.hmc_journal.proofs.Telescope.{IsGathered, asks_gathered, takings_gathered, port_to_vault, port_to_registers}
+use Rattle.hmc_journal.proofs.RoomToRoom.{IsGathered, asks_gathered, takings_gathered, port_to_vault, port_to_registers}
 use Rattle.hmc_journal.proofs.Units.{vault_to_bank, unit_executed}
 use Rattle.hmc_journal.proofs.Ends.{given_entered, answers_entered, taken_gone}
-use Rattle.hmc_journal.proofs.Strangers.{stranger, asks_no_stranger, IsForeign, asks_no_foreign, foreign_executed}
+use Rattle.hmc_journal.proofs.OtherHosts.{stranger, asks_no_stranger, IsForeign, asks_no_foreign, foreign_executed}
 
 -- what entered a room is what left it, and what stands there
 in_room : {X : Type 0} (view : List PacketFields → List X) → IsGathered view → (topology : Topology) (past : List Entry) (room : Room) → view (entered topology past room) ≡ view (gone topology past room) ++ view (contents topology past room)
 in_room view gathered topology past room = ap view (gone-contents topology past room) ∙ gathered.append (gone topology past room) (contents topology past room)
 
 -- the wires
-unnumbered_blind : IsBlind unnumbered
-unfolding behind
-unnumbered_blind before packet = refl
-
-link_front : (setup : Setup) (port : ℕ) (past : List Entry) (d : ℕ) → Kept setup port past → IsFront (map unnumbered (accepted d past)) (map unnumbered (entered setup.topology past (Output d)))
+link_front : (setup : Setup) (port : ℕ) (past : List Entry) (d : ℕ) → Kept setup port past → IsPrefix (accepted d past) (numbering (entered setup.topology past (Output d)))
 unfolding gone begun
 link_front setup port past d keeps =
     let front = accepted_front setup port past d keeps in
-    let rest = contents setup.topology past (Output d) in (
-      map unnumbered front.0 ++ map unnumbered rest,
-      ap (map unnumbered) (gone-contents setup.topology past (Output d)) ∙ map-append unnumbered (gone setup.topology past (Output d)) rest
-          ∙ ap (λ (l : List PacketFields). l ++ map unnumbered rest) (sym (map-view unnumbered unnumbered_blind [] (begun setup.topology past d)) ∙ ap (map unnumbered) front.1 ∙ map-append unnumbered (accepted d past) front.0)
-          ∙ append_assoc (map unnumbered (accepted d past)) (map unnumbered front.0) (map unnumbered rest),
+    let out = gone setup.topology past (Output d) in
+    let waiting = contents setup.topology past (Output d) in (
+      front.0 ++ numbering_from out waiting,
+      ap numbering (gone-contents setup.topology past (Output d)) ∙ numbering_from-append [] out waiting
+          ∙ ap (λ (l : List PacketFields). l ++ numbering_from out waiting) front.1 ∙ append_assoc (accepted d past) front.0 (numbering_from out waiting),
     )
 
 asking_same : (topology : Topology) (unit : RequestUnit) (before : List PacketFields) (packet : PacketFields) (found : Option RequestFields) → asking_in topology 0 unit (behind before packet) found ≡ asking_in topology 0 unit packet found
@@ -146,36 +143,36 @@ route setup one (units.Bank (suc cube) vault bank) past lawful = foreign_route s
 route setup one (units.Registers (suc cube)) past lawful = foreign_route setup one (units.Registers (suc cube)) past lawful tt
 
 -- each part, for host 0 and for any other
-none_front : {X : Type 0} (front whole : List X) → front ≡ [] → IsFront front whole
+none_front : {X : Type 0} (front whole : List X) → front ≡ [] → IsPrefix front whole
 none_front front whole none = (whole, ap (λ l. l ++ whole) (sym none))
 
-given_front : (setup : Setup) (one : IsOneCube setup) (past : List Entry) (host : ℕ) (unit : RequestUnit) → Lawful setup past → IsFront (asks_in setup.topology host unit (accepted 0 past)) (given_to setup.topology host unit past)
+given_front : (setup : Setup) (one : IsOneCube setup) (past : List Entry) (host : ℕ) (unit : RequestUnit) → Lawful setup past → IsPrefix (asks_in setup.topology host unit (accepted 0 past)) (given_to setup.topology host unit past)
 given_front setup one past zero unit lawful = let given = is_given setup one unit past lawful in (_, given.given)
 given_front setup one past (suc h) unit lawful = none_front _ _ (asks_no_stranger setup.topology h unit (accepted 0 past) (asking_accepted setup one past lawful))
 
-executed_front : (setup : Setup) (one : IsOneCube setup) (past : List Entry) (host : ℕ) (unit : RequestUnit) → Lawful setup past → IsFront (executed_by host unit past) (asks_in setup.topology host unit (accepted 0 past))
+executed_front : (setup : Setup) (one : IsOneCube setup) (past : List Entry) (host : ℕ) (unit : RequestUnit) → Lawful setup past → IsPrefix (executed_by host unit past) (asks_in setup.topology host unit (accepted 0 past))
 executed_front setup one past zero unit lawful = (waiting setup.topology one.port past unit, route setup one unit past lawful)
 executed_front setup one past (suc h) unit lawful = none_front _ _ ((stranger setup one h past lawful).executed unit)
 
-taken_front : (setup : Setup) (one : IsOneCube setup) (past : List Entry) (host : ℕ) → Lawful setup past → IsFront (taken_by host past) (takings_in (accepted 1 past))
+taken_front : (setup : Setup) (one : IsOneCube setup) (past : List Entry) (host : ℕ) → Lawful setup past → IsPrefix (taken_by host past) (takings_in (accepted 1 past))
 taken_front setup one past zero lawful = (
   takings_in (contents setup.topology past (Host 0)),
   ap takings_in (at_host setup one past lawful) ∙ in_room takings_in takings_gathered setup.topology past (Host 0) ∙ ap (λ (l : List Taking). l ++ takings_in (contents setup.topology past (Host 0))) (taken_gone setup one past lawful),
 )
 taken_front setup one past (suc h) lawful = none_front _ _ (stranger setup one h past lawful).taken
 
-lifted_front : (setup : Setup) (one : IsOneCube setup) (past : List Entry) (cube : ℕ) (from : Lift) → Lawful setup past → IsFront (takings_gone setup.topology (Answers cube from) past) (answered_into (Answers cube from) past)
+lifted_front : (setup : Setup) (one : IsOneCube setup) (past : List Entry) (cube : ℕ) (from : Lift) → Lawful setup past → IsPrefix (takings_gone setup.topology (Answers cube from) past) (answered_into (Answers cube from) past)
 unfolding gone
 lifted_front setup one past cube from lawful =
     (takings_in (contents setup.topology past (Answers cube from)), answers_entered setup one cube from past lawful ∙ in_room takings_in takings_gathered setup.topology past (Answers cube from))
 
 -- what a phase tells
-answered_by : (phase : Phase) (asked : List RequestFields) (replies : List Reply) (answers : List Answer) (out : Bool) → Told phase asked replies answers out → IsFront answers (map (λ (r : Reply). r.answer) replies)
+answered_by : (phase : Phase) (asked : List RequestFields) (replies : List Reply) (answers : List Answer) (out : Bool) → Told phase asked replies answers out → IsPrefix answers (map (λ (r : Reply). r.answer) replies)
 answered_by Free asked replies answers out told = ([], told.answered ∙ sym (append-nil answers))
 answered_by (Held room (Asks request)) asked replies answers out told = ([], told.answered ∙ sym (append-nil answers))
 answered_by (Held room (Tells answer)) asked replies answers out told = (answer ∷ [], told.answered)
 
-replied_by : (phase : Phase) (asked : List RequestFields) (replies : List Reply) (answers : List Answer) (out : Bool) → Told phase asked replies answers out → IsFront (map (λ (r : Reply). r.request) replies) asked
+replied_by : (phase : Phase) (asked : List RequestFields) (replies : List Reply) (answers : List Answer) (out : Bool) → Told phase asked replies answers out → IsPrefix (map (λ (r : Reply). r.request) replies) asked
 replied_by Free asked replies answers out told = ([], told.replied ∙ sym (append-nil _))
 replied_by (Held room (Asks request)) asked replies answers out told = (request ∷ [], told.replied)
 replied_by (Held room (Tells answer)) asked replies answers out told = ([], told.replied ∙ sym (append-nil _))
@@ -194,11 +191,11 @@ out_by (Held room (Tells answer)) asked replies answers out told =
     let b : length (map (λ (r : Reply). r.answer) replies) ≡ length (answers ++ answer ∷ []) = ap length told.answered in
     omega (arith, length-map replies (λ (r : Reply). r.request), length-map replies (λ (r : Reply). r.answer), length-append answers (answer ∷ []))
 
-answered_front : (setup : Setup) (one : IsOneCube setup) (past : List Entry) (host tag : ℕ) → Lawful setup past → IsFront (answers_under host tag past) (map (λ reply. reply.answer) (replies_under host tag past))
+answered_front : (setup : Setup) (one : IsOneCube setup) (past : List Entry) (host tag : ℕ) → Lawful setup past → IsPrefix (answers_under host tag past) (map (λ reply. reply.answer) (replies_under host tag past))
 answered_front setup one past zero tag lawful = let has = has_phase setup past one tag lawful in answered_by has.phase _ _ _ _ has.stands.told
 answered_front setup one past (suc h) tag lawful = none_front _ _ ((stranger setup one h past lawful).answers tag)
 
-replied_front : (setup : Setup) (one : IsOneCube setup) (past : List Entry) (host tag : ℕ) → Lawful setup past → IsFront (map (λ reply. reply.request) (replies_under host tag past)) (asked_under host tag past)
+replied_front : (setup : Setup) (one : IsOneCube setup) (past : List Entry) (host tag : ℕ) → Lawful setup past → IsPrefix (map (λ reply. reply.request) (replies_under host tag past)) (asked_under host tag past)
 replied_front setup one past zero tag lawful = let has = has_phase setup past one tag lawful in replied_by has.phase _ _ _ _ has.stands.told
 replied_front setup one past (suc h) tag lawful = none_front _ _ (ap (map (λ reply. reply.request)) ((stranger setup one h past lawful).replies tag))
 
@@ -209,11 +206,12 @@ one_out setup one past (suc h) tag lawful = let none : length (asked_under (suc 
 pub is_carried : (setup : Setup) (past : List Entry) → IsOneCube setup → Lawful setup past → IsCarried setup.topology past
 is_carried setup past one lawful =
     let link = one_link setup one in record {
+      wires = λ direction. wire_order setup direction past lawful;
       links = λ direction. link_front setup one.port past direction (kept setup past one lawful);
-      given = λ host unit. subst (λ (d : ℕ). IsFront (asks_in setup.topology host unit (accepted d past)) (given_to setup.topology host unit past)) (sym (link.from_host host)) (given_front setup one past host unit lawful);
-      executed = λ host unit. subst (λ (d : ℕ). IsFront (executed_by host unit past) (asks_in setup.topology host unit (accepted d past))) (sym (link.from_host host)) (executed_front setup one past host unit lawful);
+      given = λ host unit. subst (λ (d : ℕ). IsPrefix (asks_in setup.topology host unit (accepted d past)) (given_to setup.topology host unit past)) (sym (link.from_host host)) (given_front setup one past host unit lawful);
+      executed = λ host unit. subst (λ (d : ℕ). IsPrefix (executed_by host unit past) (asks_in setup.topology host unit (accepted d past))) (sym (link.from_host host)) (executed_front setup one past host unit lawful);
       lifted = λ cube from. lifted_front setup one past cube from lawful;
-      taken = λ host. subst (λ (d : ℕ). IsFront (taken_by host past) (takings_in (accepted (other d) past))) (sym (link.from_host host)) (taken_front setup one past host lawful);
+      taken = λ host. subst (λ (d : ℕ). IsPrefix (taken_by host past) (takings_in (accepted (other d) past))) (sym (link.from_host host)) (taken_front setup one past host lawful);
       answered = λ host tag. answered_front setup one past host tag lawful;
       replied = λ host tag. replied_front setup one past host tag lawful;
       out = λ host tag. one_out setup one past host tag lawful;

@@ -11,7 +11,7 @@ use Rattle.hmc_codes.specs.declared.unit.Unit.TheVariants as units
 use Rattle.hmc_packet.specs.Packet.{PacketFields}
 use Rattle.hmc_packet.specs.Transactions.{replied, asked, answer_in}
 use Rattle.hmc_packet.proofs.TransactionLemmas.{request_in-asked, answer_in-replied}
-use Rattle.hmc_host.specs.Give.{is_awaited}
+use Rattle.hmc_host.specs.Give.{wants_tag}
 use Rattle.hmc_host.specs.Tags.{lowest_free}
 use Rattle.hmc_journal.specs.declared.outcome.Goal.{Goal}
 use Rattle.hmc_journal.specs.declared.outcome.Goal.TheVariants as goals
@@ -34,7 +34,7 @@ use Rattle.hmc_journal.proofs.Standing.{replied_tag, IsAsking, Stands, IsAsking-
 use Rattle.hmc_journal.proofs.Entering.{sends, replying, Kept, front_stands, own_item, tag_small, same_request, no_port}
 use Rattle.hmc_journal.proofs.Sound.{kept}
 use Rattle.hmc_journal.proofs.TagStep.{discarded_step}
-use Rattle.hmc_journal.proofs.Telescope.{asks_gathered, takings_gathered, gathered_of_gone, none_leaves, none_enters, leaving_front, entering_if, sent_leaves, unless_enters, asks_of}
+use Rattle.hmc_journal.proofs.RoomToRoom.{asks_gathered, takings_gathered, gathered_of_gone, none_leaves, none_enters, leaving_front, entering_if, sent_leaves, unless_enters, asks_of}
 use Rattle.hmc_journal.specs.Hosts.{tags_out}
 
 -- the tag of a request that isn't poisoned is told by its packet
@@ -64,7 +64,7 @@ is_giving setup one past host tag poisoned request right keeps =
     let zeroth : host ≡ 0 = sym own.0 ∙ own.1.host in
     let request_is : IsRequest request = subst IsRequest (sym right.is_request) own.1.request in
     let packet = asked request (tag_number tag) host poisoned in
-    let small = tag_small (is_awaited right.item) (tags_out host past) tag (keeps.tags host) right.is_tagged in
+    let small = tag_small (wants_tag right.item) (tags_out host past) tag (keeps.tags host) right.is_tagged in
     let asking = IsAsking-asked request (tag_number tag) host poisoned request_is (ap (λ (r : RequestFields). r.cube) right.is_request ∙ own.1.cube) small zeroth in record {
       zeroth = zeroth;
       asking = asking;

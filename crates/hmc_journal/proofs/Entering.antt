@@ -13,7 +13,7 @@ use Rattle.hmc_codes.specs.declared.unit.Unit.TheVariants as units
 use Rattle.hmc_packet.specs.Packet.{PacketFields}
 use Rattle.hmc_packet.specs.Transactions.{asked, replied, request_in, CanReply, IsAnswer}
 use Rattle.hmc_host.specs.Tags.{lowest_free}
-use Rattle.hmc_host.specs.Give.{is_awaited, next_item}
+use Rattle.hmc_host.specs.Give.{wants_tag, next_item}
 use Rattle.hmc_script.specs.Items.{ItemFields}
 use Rattle.hmc_serial.specs.Cube.{IsCube}
 use Rattle.hmc_serial.specs.Machine.{State, cube_at, answer_to}
@@ -85,7 +85,7 @@ unfolding host_of
 given_enters setup one past host tag poisoned request has kept =
     let own = own_item setup past host has.item one has.is_next in
     let room : Output (direction_from setup.topology (places.Host host)) ≡ Output 0 = ap Output ((one_link setup one).from_host host) in
-    let small = tag_small (is_awaited has.item) (tags_out host past) tag (kept.tags host) has.is_tagged in
+    let small = tag_small (wants_tag has.item) (tags_out host past) tag (kept.tags host) has.is_tagged in
     let zeroth : host ≡ 0 = sym own.0 ∙ own.1.host in
     let asking = IsAsking-asked request (tag_number tag) host poisoned (subst IsRequest (sym has.is_request) own.1.request) (ap (λ (r : RequestFields). r.cube) has.is_request ∙ own.1.cube) small zeroth in
     subst (λ (r : Room). Stands setup.topology one.port r (asked request (tag_number tag) host poisoned)) (sym room) asking

@@ -1,6 +1,7 @@
 pub mod InOrder
 pub mod OneJournal
 pub mod Right
+pub mod Order
 pub mod Serial
 pub mod Wire
 pub mod Moves
@@ -13,14 +14,16 @@ pub mod Sound
 pub mod Arrived
 pub mod Tokens
 pub mod Phases
-pub mod Stretches
-pub mod Errands
+pub mod RoomsAndWires
+pub mod TagWork
 pub mod TagStep
 pub mod Tags
-pub mod Houses
-pub mod Telescope
+pub mod Housed
+pub mod RoomToRoom
 pub mod Units
 pub mod Ends
-pub mod Strangers
+pub mod OtherHosts
 pub mod Carrying
+pub mod DrainedTest
+pub mod Telling
 mod Worked

@@ -19,7 +19,7 @@ use Rattle.hmc_serial.specs.Machine.{answer_to}
 use Rattle.hmc_host.specs.declared.given.Given.TheVariants as givens
 use Rattle.hmc_host.specs.declared.settled.Settled.TheVariants as settles
 use Rattle.hmc_host.specs.Tags.{is_some_out, lowest_free}
-use Rattle.hmc_host.specs.Give.{is_awaited, tag_for, lacks_tag, next_item, next_says, give_says, gave as host_gave}
+use Rattle.hmc_host.specs.Give.{wants_tag, tag_for, lacks_tag, next_item, next_says, give_says, gave as host_gave}
 use Rattle.hmc_host.specs.Settle.{took as host_took}
 use Rattle.hmc_journal.specs.declared.outcome.Goal.{Goal}
 use Rattle.hmc_journal.specs.declared.outcome.Outcome.{Outcome}
@@ -50,7 +50,7 @@ pub record HasGiven (setup : Setup) (past : List Entry) (host : ℕ) (tag : Opti
   pub is_next : next_item (host_of setup past host) ≡ Some item
   pub is_poisoned : poisoned ≡ item.poisoned
   pub is_request : request ≡ item.request
-  pub is_tagged : IsTagged (is_awaited item) (lowest_free (host_of setup past host).tags) tag
+  pub is_tagged : IsTagged (wants_tag item) (lowest_free (host_of setup past host).tags) tag
 
 -- a first flit, for which there are tokens, or a further one
 pub record Begins (setup : Setup) (past : List Entry) (direction : ℕ) (flit : List ℕ) : Type 0 where
@@ -134,7 +134,7 @@ fronted setup past step room [] does is right = tt
 fronted setup past step room (front ∷ rest) does is right = right (record { front = front; rest = rest; is = is })
 
 -- give
-tagged : (item : ItemFields) (tags : List Bool) (awaited : Bool) (free : Option ℕ) → is_awaited item ≡ awaited → lowest_free tags ≡ free → (awaited && is_none free) ≡ false
+tagged : (item : ItemFields) (tags : List Bool) (awaited : Bool) (free : Option ℕ) → wants_tag item ≡ awaited → lowest_free tags ≡ free → (awaited && is_none free) ≡ false
     → IsTagged awaited free (if awaited then free else None)
 tagged item tags true (Some tag) needs found lacks = (tag, refl, refl)
 tagged item tags true None needs found lacks = cc
@@ -150,7 +150,7 @@ give_item setup past host item false false true is lack = record {
   is_next = is;
   is_poisoned = refl;
   is_request = refl;
-  is_tagged = tagged item (host_of setup past host).tags (is_awaited item) (lowest_free (host_of setup past host).tags) refl refl lack;
+  is_tagged = tagged item (host_of setup past host).tags (wants_tag item) (lowest_free (host_of setup past host).tags) refl refl lack;
 }
 
 give : (setup : Setup) (past : List Entry) (host : ℕ) (room : Bool) (item : Option ItemFields) → next_item (host_of setup past host) ≡ item → Right setup past (gave host (next_says (host_of setup past host) item room))

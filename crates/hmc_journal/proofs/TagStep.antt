@@ -32,8 +32,8 @@ use Rattle.hmc_journal.proofs.Standing.{replied_tag, Stands}
 use Rattle.hmc_journal.proofs.Entering.{Kept, front_stands, asking_at, same_request, reply_tag, sends, replying}
 use Rattle.hmc_journal.proofs.Phases.{Errand, Moves, HasPhase, nothing_moves, moves_on, replies_to, answers_with}
 use Rattle.hmc_journal.proofs.Phases.Errand.{Asks}
-use Rattle.hmc_journal.proofs.Stretches.{passed, stretch, passes, passed_within, HasPassing}
-use Rattle.hmc_journal.proofs.Errands.{asking_by, telling_by, errand, errand_list, errands, errand_poisoned, errand_asking, errand_replying, has_landing, entry_moves}
+use Rattle.hmc_journal.proofs.RoomsAndWires.{passed, stretch, passes, passed_within, HasPassing}
+use Rattle.hmc_journal.proofs.TagWork.{asking_by, telling_by, errand, errand_list, errands, errand_poisoned, errand_asking, errand_replying, has_landing, entry_moves}
 
 -- the errands of a tag in each stretch
 abbrev pub errands_at : Topology → List Entry → (tag : ℕ) → Room → List Errand

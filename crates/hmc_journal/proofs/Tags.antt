@@ -12,7 +12,7 @@ use Rattle.hmc_packet.specs.Packet.{PacketFields}
 use Rattle.hmc_packet.specs.Transactions.{asked, answer_in}
 use Rattle.hmc_packet.proofs.TransactionLemmas.{request_in-asked}
 use Rattle.hmc_host.specs.Tags.{lowest_free, with_out, none_out}
-use Rattle.hmc_host.specs.Give.{is_awaited}
+use Rattle.hmc_host.specs.Give.{wants_tag}
 use Rattle.hmc_journal.specs.declared.entry.Entry.{Entry}
 use Rattle.hmc_journal.specs.declared.entry.Entry.TheVariants.{Gave, Sent, Landed, Shifted, Dropped, Spread, Executed, Lifted, Took, Discarded, Idle}
 use Rattle.hmc_journal.specs.Setup.{Setup, Topology}
@@ -28,8 +28,8 @@ use Rattle.hmc_journal.proofs.Entering.{Kept, front_stands, own_item}
 use Rattle.hmc_journal.proofs.Sound.{kept}
 use Rattle.hmc_journal.proofs.Phases.{Errand, Moves, HasPhase, nothing_moves, asks}
 use Rattle.hmc_journal.proofs.Phases.Phase.{Free}
-use Rattle.hmc_journal.proofs.Stretches.{passed, stretch, passes}
-use Rattle.hmc_journal.proofs.Errands.{asking_by, errand_by, errand, errand_list, errands, entry_moves}
+use Rattle.hmc_journal.proofs.RoomsAndWires.{passed, stretch, passes}
+use Rattle.hmc_journal.proofs.TagWork.{asking_by, errand_by, errand, errand_list, errands, entry_moves}
 use Rattle.hmc_journal.proofs.TagStep.{errands_at, TagHasPhase, within, landed_step, sent_step, idle_step, shifted_step, dropped_step, spread_step, lifted_step, discarded_step, execute_step, took_step}
 
 -- a request that is given under no tag: it is poisoned, or posted
@@ -96,9 +96,9 @@ gave_step setup one past number host tag poisoned request right kept has =
     let own = own_item setup past host right.item one right.is_next in
     let zeroth : host ≡ 0 = sym own.0 ∙ own.1.host in
     let moves = entry_moves setup.topology (Gave host tag poisoned request) past number (within setup one.port past kept) tt in
-    let awaited : (not poisoned && not (is_posted request.command)) ≡ is_awaited right.item = ap₂ (λ (b : Bool) (r : RequestFields). not b && not (is_posted r.command)) right.is_poisoned right.is_request in
+    let awaited : (not poisoned && not (is_posted request.command)) ≡ wants_tag right.item = ap₂ (λ (b : Bool) (r : RequestFields). not b && not (is_posted r.command)) right.is_poisoned right.is_request in
     let is : IsRequest request = subst IsRequest (sym right.is_request) own.1.request in
-    let given = gave_by setup past number host tag poisoned request (is_awaited right.item) zeroth is awaited right.is_tagged moves has in
+    let given = gave_by setup past number host tag poisoned request (wants_tag right.item) zeroth is awaited right.is_tagged moves has in
     let here : (host == 0) ≡ true = eq-eqb host 0 zeroth in
     subst (λ (b : Bool). HasPhase (errands_at setup.topology (Gave host tag poisoned request ∷ past) number) (with_more (b && same_tag tag number) (request ∷ []) (asked_under 0 number past)) (replies_under 0 number past) (answers_under 0 number past)
     (slice_index_or (tags_if b (with_out tag (tags_out 0 past)) (tags_out 0 past)) number false)) (sym here) given

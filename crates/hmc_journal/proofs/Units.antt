@@ -26,7 +26,7 @@ use Rattle.hmc_journal.proofs.Right.{Right, HasSpread, HasExecuted}
 use Rattle.hmc_journal.proofs.Moves.{taken_off, with_more-append, gone, leaving, entering, front_is, room_is}
 use Rattle.hmc_journal.proofs.Standing.{IsAsking, IsBound, Stands}
 use Rattle.hmc_journal.proofs.Entering.{Kept, front_stands, same_request}
-use Rattle.hmc_journal.proofs.Telescope.{asks_gathered, gathered_of_gone, Hops, untouched, hop, none_leaves, leaving_front, entering_if, sent_leaves, unless_enters, asks_of, asks_other, unit_is}
+use Rattle.hmc_journal.proofs.RoomToRoom.{asks_gathered, gathered_of_gone, Hops, untouched, hop, none_leaves, leaving_front, entering_if, sent_leaves, unless_enters, asks_of, asks_other, unit_is}
 
 -- the unit of a packet that stands in a vault or in a bank
 goal_vault : (registers : Bool) (v b vault : ℕ) → (if registers then goals.Registers else goals.Vault v) ≡ goals.Vault vault → (if registers then units.Registers 0 else units.Bank 0 v b) ≡ units.Bank 0 vault b

@@ -1,4 +1,4 @@
--- A sound wire: what is sent on a direction is what lands, so what the receiver makes of all flits on the line is known.
+-- What is sent on a direction is what lands, so what the receiver makes of all flits on the line is known.
 use Rattle.std.proofs.Common.{◌≡◌, ◌≢◌, ◌≤◌, ◌<◌, ◌+◌, ◌-◌, ◌%◌, ◌∙◌, ℕ, zero, suc, Bool, true, false, if◌then◌else◌, List, [], ◌∷◌, ◌++◌, length, take, slice_index_or, Ok, refl, sym, ap, ap₂, subst, arith, append_assoc, append-nil, lt-ltb, le-ltb, le-leb, length-append}
 use Rattle.std.proofs.lemmas.List.{take_more, take_all, take-take, length-take-le, take_at, get_or_push}
 use Rattle.hmc_codes.specs.Table.{line_of}
@@ -20,6 +20,7 @@ use Rattle.hmc_journal.specs.declared.outcome.Outcome.{Outcome}
 use Rattle.hmc_journal.specs.declared.outcome.Outcome.TheVariants.{Quiet, Gathered, Accepted, Poisoned}
 use Rattle.hmc_journal.specs.Wires.{gathered_by, packet_in, packets_by, flits_in}
 use Rattle.hmc_journal.specs.Sight.{numbered, last_numbered}
+unfoldable pub use Rattle.hmc_journal.specs.Sight.{behind, numbering_from, numbering}
 use Rattle.hmc_journal.specs.Next.{judged, outcome_with, outcome_of}
 
 -- a packet of a transaction, which counts on a wire
@@ -30,10 +31,6 @@ pub record IsCounted (packet : PacketFields) : Type 0 where
 pub not_null : (packet : PacketFields) → IsCounted packet → packet.command ≢ Null
 unfolding line_of
 not_null packet is null = let e : is_flow (layout_of packet.command) ≡ true = ap (λ c. is_flow (layout_of c)) null in absurd (cc (e, is.layout))
-
--- a packet behind others
-unfoldable pub behind : List PacketFields → PacketFields → PacketFields
-behind before packet = numbered (flits_in before) (length before) packet
 
 flits_of-behind : (before : List PacketFields) (packet : PacketFields) → flits_of (behind before packet) ≡ flits_of packet
 unfolding behind
@@ -46,13 +43,12 @@ IsCounted-behind before packet is = record {
   layout = is.layout;
 }
 
--- packets as they are numbered on a wire
-unfoldable pub numbering_from : List PacketFields → List PacketFields → List PacketFields
-numbering_from before [] = []
-numbering_from before (packet ∷ packets) = behind before packet ∷ numbering_from (before ++ packet ∷ []) packets
-
-abbrev pub numbering : List PacketFields → List PacketFields
-numbering packets = numbering_from [] packets
+pub numbering_from-append : (before packets more : List PacketFields) → numbering_from before (packets ++ more) ≡ numbering_from before packets ++ numbering_from (before ++ packets) more
+unfolding numbering_from
+numbering_from-append before [] more = ap (λ (b : List PacketFields). numbering_from b more) (sym (append-nil before))
+numbering_from-append before (first ∷ packets) more =
+    ap (λ (l : List PacketFields). behind before first ∷ l) (numbering_from-append (before ++ first ∷ []) packets more
+    ∙ ap (λ (b : List PacketFields). numbering_from (before ++ first ∷ []) packets ++ numbering_from b more) (append_assoc before (first ∷ []) packets))
 
 numbering_from-push : (before packets : List PacketFields) (packet : PacketFields) → numbering_from before (packets ++ packet ∷ []) ≡ numbering_from before packets ++ behind (before ++ packets) packet ∷ []
 unfolding numbering_from

@@ -1,4 +1,4 @@
--- Each entry keeps the wires sound.
+-- With each entry what lands on a direction goes on being what was sent.
 use Rattle.std.proofs.Common.{◌≡◌, ◌≤◌, ◌<◌, ◌+◌, ◌-◌, ◌∙◌, ◌==◌, ℕ, zero, suc, Bool, true, false, List, [], ◌∷◌, ◌++◌, length, drop, refl, sym, ap, ap₂, subst, arith, eqb-true, eq-eqb, append_assoc, append-nil, length-append, length-drop}
 use Rattle.std.proofs.lemmas.List.{drop-append-le, drop_more}
 use Rattle.hmc_codes.specs.declared.unit.Unit.TheVariants as units

@@ -1,17 +1,18 @@
 -- Definitions computed at one cube of two vaults of two banks, whose port 0 is joined to host 0. Each queue has room for one packet.
-use Rattle.std.proofs.Common.{◌≡◌, ℕ, Bool, List, [], ◌∷◌, Some, None, true, false, refl}
+use Rattle.std.proofs.Common.{◌≡◌, ℕ, Bool, List, [], ◌∷◌, ◌++◌, Some, None, true, false, refl}
 use Rattle.std.specs.Prelude.{map, replicate}
 use mathlib.Core.Bool.{xor}
 use Rattle.hmc_codes.specs.Request.{RequestFields}
 use Rattle.hmc_codes.specs.Table.{line_of}
-use Rattle.hmc_codes.specs.declared.answer.Answer.TheVariants.{Done, Read, Silent}
-use Rattle.hmc_codes.specs.declared.command.Command.TheVariants.{Rd16, Pinc8}
+use Rattle.hmc_codes.specs.declared.answer.Answer.TheVariants.{Done, Read, Stored, Silent}
+use Rattle.hmc_codes.specs.declared.command.Command.TheVariants.{Rd16, Pinc8, Mdrd}
 use Rattle.hmc_codes.specs.declared.lift.Lift.TheVariants as lifts
 use Rattle.hmc_codes.specs.declared.place.Place.TheVariants as places
 use Rattle.hmc_codes.specs.declared.unit.Unit.TheVariants as units
 use Rattle.hmc_script.specs.Items.{ItemFields}
 use Rattle.hmc_schedule.specs.declared.step.Step.TheVariants as steps
-use Rattle.hmc_packet.specs.declared.what.What.TheVariants.{New}
+use Rattle.hmc_packet.specs.declared.what.What.TheVariants.{New, Null}
+use Rattle.hmc_packet.specs.Packet.{null_packet}
 use Rattle.hmc_crc.specs.Bits.{bits_below, bits_of, number_of}
 use Rattle.hmc_crc.specs.Remainder.{coefficients, divisor, zeros, plus, divide, remainder, crc_of}
 use Rattle.hmc_packet.specs.Codes.{commands, first_with}
@@ -31,21 +32,26 @@ use Rattle.hmc_serial.specs.Machine.{opening_state, apply, answer_to}
 use Rattle.hmc_serial.specs.Perform.{perform_on}
 use Rattle.hmc_host.specs.Give.{give_says}
 use Rattle.hmc_host.specs.Tags.{none_out, number_out, lowest_free}
-use Rattle.hmc_journal.specs.declared.outcome.Cause.TheVariants.{Ended, Fence, Full}
+use Rattle.hmc_journal.specs.declared.outcome.Cause.TheVariants.{Ended, Fence, Empty, Full}
 use Rattle.hmc_journal.specs.declared.outcome.Goal.TheVariants.{Vault}
-use Rattle.hmc_journal.specs.declared.outcome.Outcome.TheVariants.{Gathered, Accepted, Poisoned}
+use Rattle.hmc_journal.specs.declared.outcome.Outcome.TheVariants.{Quiet, Gathered, Accepted, Poisoned}
 use Rattle.hmc_journal.specs.declared.entry.Entry.{Entry}
-use Rattle.hmc_journal.specs.declared.entry.Entry.TheVariants.{Gave, Sent, Landed, Shifted, Dropped, Spread, Executed, Lifted, Took, Idle}
-use Rattle.hmc_journal.specs.Setup.{Topology, Setup, direction_from, direction_among, port_towards, unit_of}
+use Rattle.hmc_journal.specs.declared.entry.Entry.TheVariants.{Gave, Sent, Landed, Shifted, Dropped, Spread, Executed, Lifted, Took, Discarded, Idle}
+use Rattle.hmc_journal.specs.Setup.{Topology, Setup, other, start_of, end_of, shapes_of, direction_from, direction_among, port_towards, unit_of}
 use Rattle.hmc_journal.specs.Wires.{sent_flits, landed_flits, line_flits, unsent, pending, landed_packet, accepted, returned}
 use Rattle.hmc_journal.specs.Rooms.{contents, entered, left, leaves, enters, moved, begun}
-use Rattle.hmc_journal.specs.Rooms.Room.{Output}
+use Rattle.hmc_journal.specs.Rooms.Room.{Output, Answers}
 use Rattle.hmc_journal.specs.Hosts.{given_count, tags_out, host_of}
-use Rattle.hmc_journal.specs.Sight.{sight_of, way_of, state_of}
-use Rattle.hmc_journal.specs.Serial.{state_after}
-use Rattle.hmc_journal.specs.Next.{next, choice}
+use Rattle.hmc_journal.specs.Sight.{sight_of, way_of, state_of, numbered, numbering, numbering_from, behind}
+use Rattle.hmc_journal.specs.Serial.{state_after, IsSerial}
+use Rattle.hmc_journal.specs.Next.{next, choice, outcome_of}
 use Rattle.hmc_journal.specs.Drained.{is_drained}
 use Rattle.hmc_journal.specs.Lawful.{journal_of, journal_behind}
+use Rattle.hmc_journal.specs.Lines.{line_of as entry_line}
+use Rattle.hmc_journal.specs.Text.{text_of}
+use Rattle.hmc_journal.specs.Counts.{taken_count, executed_count, dropped_count, host_counts, cube_counts}
+use Rattle.hmc_journal.specs.Filters.{given_by, given_to, executed_by, asked_under, replies_under, answers_under, answered_into, taken_by}
+use Rattle.hmc_journal.specs.Carried.{asks_in, takings_in}
 
 abbrev one_cube : Topology
 one_cube = record {
@@ -196,3 +202,186 @@ unfolding journal_of journal_behind next choice sight_of host_of given_count tag
     spelling flits_with cut bytes_of covered check_of word_bytes half_bytes header_word tail_word asked replied answer_in answer_by request_in payload_of state_of state_after opening_state opening opening_registers apply answer_to perform_on action_of atomic_of memory_error
     read_of is_null_alone is_null null_flit has_length lng_of word_of half_of bytes_read judged command_in fitting commands first_with line_of is_clean header_is_clean tail_is_clean header_of tail_of poison_in packet_from seen_in crc_of remainder divide plus zeros divisor coefficients bits_below bits_of number_of xor
 journal_of-read = refl
+
+-- Of two links the first joins host 0 to port 0, and the second port 1 to host 1.
+abbrev two_links : Topology
+two_links = record one_cube {
+  links =
+      record { join = record { a = places.Host 0; b = places.Port 0 0 }; setup = record { line = 1; tokens = 17; retry = 17; output = 2 } } ∷
+      record { join = record { a = places.Port 0 1; b = places.Host 1 }; setup = record { line = 2; tokens = 18; retry = 19; output = 3 } } ∷ [];
+}
+
+other-each : map other (0 ∷ 1 ∷ 2 ∷ 3 ∷ []) ≡ 1 ∷ 0 ∷ 3 ∷ 2 ∷ []
+other-each = refl
+
+start_of-each : map (start_of two_links) (0 ∷ 1 ∷ 2 ∷ 3 ∷ []) ≡ places.Host 0 ∷ places.Port 0 0 ∷ places.Port 0 1 ∷ places.Host 1 ∷ []
+start_of-each = refl
+
+end_of-each : map (end_of two_links) (0 ∷ 1 ∷ 2 ∷ 3 ∷ []) ≡ places.Port 0 0 ∷ places.Host 0 ∷ places.Host 1 ∷ places.Port 0 1 ∷ []
+end_of-each = refl
+
+direction_from-each : map (direction_from two_links) (places.Host 0 ∷ places.Port 0 0 ∷ places.Port 0 1 ∷ places.Host 1 ∷ []) ≡ 0 ∷ 1 ∷ 2 ∷ 3 ∷ []
+unfolding direction_from direction_among
+direction_from-each = refl
+
+port_towards-each : map (port_towards two_links 0) (0 ∷ 1 ∷ []) ≡ 0 ∷ 1 ∷ []
+unfolding port_towards direction_from direction_among
+port_towards-each = refl
+
+-- the vault is bit 8 of an address, the bank bit 9
+abbrev load : RequestFields
+load = record { command = Mdrd; cube = 0; address = 7; payload = [] }
+
+unit_of-each : map (unit_of one_cube) (read_at 0x40 ∷ read_at 0x140 ∷ read_at 0x240 ∷ read_at 0x740 ∷ load ∷ [])
+    ≡ units.Bank 0 0 0 ∷ units.Bank 0 1 0 ∷ units.Bank 0 0 1 ∷ units.Bank 0 1 1 ∷ units.Registers 0 ∷ []
+unfolding unit_of
+unit_of-each = refl
+
+-- FRP counts flits and SEQ packets, from zero again behind 511 and 7
+numbered-next : numbered 3 2 (asked (read_at 0x40) 9 0 false) ≡ record (asked (read_at 0x40) 9 0 false) { frp = 4; seq = 3 }
+unfolding asked
+numbered-next = refl
+
+numbered-again : numbered 511 7 (asked (read_at 0x40) 9 0 false) ≡ asked (read_at 0x40) 9 0 false
+unfolding asked
+numbered-again = refl
+
+numbering-three : map (λ packet. packet.frp ∷ packet.seq ∷ []) (numbering (asked (read_at 0x40) 0 0 false ∷ replied (Read false (replicate 16 0)) 0 0 0 ∷ asked posted 0 0 false ∷ [])) ≡ (1 ∷ 1 ∷ []) ∷ (3 ∷ 2 ∷ []) ∷ (4 ∷ 3 ∷ []) ∷ []
+unfolding numbering_from behind asked replied
+numbering-three = refl
+
+-- zeros between packets are a NULL; within a packet of 17 flits they are gathered
+abbrev long_head : List ℕ
+long_head = 0xcf ∷ 0x08 ∷ replicate 14 0
+
+outcome_of-zeros : outcome_of [] null_flit ∷ outcome_of (long_head ∷ []) null_flit ∷ outcome_of (long_head ∷ replicate 14 null_flit) null_flit ∷ [] ≡ Quiet ∷ Gathered ∷ Gathered ∷ []
+unfolding is_null null_flit lng_of word_of
+outcome_of-zeros = refl
+
+-- Host 0 asks four times, one of these poisoned and one posted, and host 1 once; three are executed, and one answer is taken.
+abbrev mixed : List Entry
+mixed =
+    Took 0 0 (Read false (replicate 16 0)) ∷ Executed (units.Bank 0 0 0) 0 None posted Silent ∷
+    Executed (units.Bank 0 0 0) 1 (Some 0) (read_at 0x40) (Done true) ∷
+    Executed (units.Bank 0 0 0) 0 (Some 0) (read_at 0x40) (Read false (replicate 16 0)) ∷ Dropped 0 0 ∷ Gave 0 None false posted ∷
+    Gave 1 (Some 0) false (read_at 0x40) ∷ Gave 0 (Some 1) false (read_at 0x140) ∷ gave_poisoned ∷ gave_first ∷ []
+
+given_by-mixed : map (λ host. given_by host mixed) (0 ∷ 1 ∷ [])
+    ≡ (record { poisoned = false; request = read_at 0x40 } ∷ record { poisoned = true; request = read_at 0x80 } ∷ record { poisoned = false; request = read_at 0x140 } ∷ record { poisoned = false; request = posted } ∷ []) ∷
+    (record { poisoned = false; request = read_at 0x40 } ∷ []) ∷ []
+unfolding given_by
+given_by-mixed = refl
+
+given_to-mixed : given_to one_cube 0 (units.Bank 0 0 0) mixed ≡ record { tag = Some 0; request = read_at 0x40 } ∷ record { tag = None; request = posted } ∷ []
+unfolding given_to unit_of
+given_to-mixed = refl
+
+given_to-other_bank : given_to one_cube 0 (units.Bank 0 1 0) mixed ≡ record { tag = Some 1; request = read_at 0x140 } ∷ []
+unfolding given_to unit_of
+given_to-other_bank = refl
+
+executed_by-mixed : executed_by 0 (units.Bank 0 0 0) mixed ≡ record { tag = Some 0; request = read_at 0x40 } ∷ record { tag = None; request = posted } ∷ []
+unfolding executed_by
+executed_by-mixed = refl
+
+asked_under-mixed : map (λ tag. asked_under 0 tag mixed) (0 ∷ 1 ∷ 2 ∷ []) ≡ (read_at 0x40 ∷ []) ∷ (read_at 0x140 ∷ []) ∷ [] ∷ []
+unfolding asked_under
+asked_under-mixed = refl
+
+replies_under-mixed : replies_under 0 0 mixed ≡ record { request = read_at 0x40; answer = Read false (replicate 16 0) } ∷ []
+unfolding replies_under
+replies_under-mixed = refl
+
+answers_under-mixed : map (λ host. answers_under host 0 mixed) (0 ∷ 1 ∷ []) ≡ (Read false (replicate 16 0) ∷ []) ∷ [] ∷ []
+unfolding answers_under
+answers_under-mixed = refl
+
+answered_into-mixed : answered_into (Answers 0 (lifts.Vault 0)) mixed ≡ record { tag = 0; answer = Read false (replicate 16 0) } ∷ record { tag = 0; answer = Done true } ∷ []
+unfolding answered_into line_of
+answered_into-mixed = refl
+
+taken_by-mixed : map (λ host. taken_by host mixed) (0 ∷ 1 ∷ []) ≡ (record { tag = 0; answer = Read false (replicate 16 0) } ∷ []) ∷ [] ∷ []
+unfolding taken_by
+taken_by-mixed = refl
+
+-- a tag that a poisoned or posted request would have had isn't out
+host_counts-mixed : host_counts mixed 0 ≡ record { given = 4; taken = 1; out = 1 }
+unfolding host_counts given_count taken_count tags_out none_out
+host_counts-mixed = refl
+
+cube_counts-mixed : map (cube_counts mixed) (0 ∷ 1 ∷ []) ≡ record { executed = 3; dropped = 1 } ∷ record { executed = 0; dropped = 0 } ∷ []
+unfolding cube_counts executed_count dropped_count
+cube_counts-mixed = refl
+
+-- a packet carries its host's request to its unit, unless it is poisoned
+asks_in-each : asks_in one_cube 0 (units.Bank 0 0 0)
+    (asked (read_at 0x40) 3 0 false ∷ asked (read_at 0x40) 0 0 true ∷ asked (read_at 0x40) 4 1 false ∷ asked (read_at 0x140) 5 0 false ∷ asked posted 6 0 false ∷ [])
+    ≡ record { tag = Some 3; request = read_at 0x40 } ∷ record { tag = None; request = posted } ∷ []
+unfolding asks_in asked request_in payload_of unit_of line_of
+asks_in-each = refl
+
+takings_in-each : takings_in (replied (Done true) 5 0 0 ∷ record (replied Stored 6 0 0) { poisoned = true } ∷ null_packet ∷ replied Stored 7 0 0 ∷ [])
+    ≡ record { tag = 5; answer = Done true } ∷ record { tag = 7; answer = Stored } ∷ []
+unfolding takings_in replied answer_in answer_by
+takings_in-each = refl
+
+-- the executions run on a plain machine
+serial-read : IsSerial (opening_state (shapes_of one_cube)) answered_once
+unfolding IsSerial state_after opening_state opening opening_registers answer_to perform_on action_of memory_error line_of
+serial-read = (refl, tt)
+
+-- the oldest entry's line comes first
+text_of-order : text_of (Discarded 1 ∷ Dropped 0 2 ∷ []) ≡ entry_line (Dropped 0 2) ++ entry_line (Discarded 1)
+unfolding text_of
+text_of-order = refl
+
+-- where each room is empty but a packet is on the line, something is on its way
+is_drained-line : is_drained one_cube (Sent 0 New first_flit ∷ gave_first ∷ []) ≡ false
+unfolding is_drained contents entered left leaves enters moved unsent begun accepted direction_from direction_among
+is_drained-line = refl
+
+-- a full line takes no flit, and an empty one gives none
+next-line_full : next one_read (Sent 0 New first_flit ∷ gave_first ∷ []) (steps.Send 0) ≡ Idle (steps.Send 0) Full
+unfolding next choice sight_of way_of line_flits sent_flits landed_flits
+next-line_full = refl
+
+next-line_empty : next one_read [] (steps.Land 0 (replicate 16 0)) ≡ Idle (steps.Land 0 (replicate 16 0)) Empty
+unfolding next choice sight_of way_of line_flits sent_flits landed_flits
+next-line_empty = refl
+
+-- with one token a packet waits until the one before has left the receiving buffer
+abbrev one_token : Setup
+one_token = record four_reads {
+  topology = record one_cube {
+    links = record { join = record { a = places.Host 0; b = places.Port 0 0 }; setup = record { line = 2; tokens = 1; retry = 17; output = 2 } } ∷ [];
+  };
+}
+
+abbrev begun_once : List Entry
+begun_once = Landed 0 first_flit Accepted ∷ Sent 0 New first_flit ∷ gave_third ∷ gave_first ∷ []
+
+-- the third request as it is sent second
+abbrev second_flit : List ℕ
+second_flit = 0xb0 ∷ 0x10 ∷ 0 ∷ 0xc0 ∷ 0 ∷ 0 ∷ 0 ∷ 0 ∷ 0 ∷ 0x04 ∷ 0x08 ∷ 0 ∷ 0xa9 ∷ 0x91 ∷ 0x4a ∷ 0xd1 ∷ []
+
+next-no_token : next one_token begun_once (steps.Send 0) ≡ Sent 0 Null null_flit
+unfolding next choice sight_of way_of line_flits sent_flits landed_flits contents entered left leaves enters moved unsent begun accepted returned landed_packet pending direction_from direction_among read_of is_null_alone is_null null_flit has_length lng_of word_of half_of bytes_read judged command_in fitting commands first_with line_of is_clean header_is_clean tail_is_clean header_of tail_of poison_in packet_from seen_in crc_of remainder divide plus zeros divisor coefficients bits_below bits_of number_of xor asked
+next-no_token = refl
+
+next-token : next one_token (Shifted 0 0 (Vault 0) ∷ begun_once) (steps.Send 0) ≡ Sent 0 New second_flit
+unfolding next choice sight_of way_of line_flits sent_flits landed_flits contents entered left leaves enters moved unsent begun accepted returned landed_packet pending direction_from direction_among read_of is_null_alone is_null null_flit has_length lng_of word_of half_of bytes_read judged command_in fitting commands first_with line_of is_clean header_is_clean tail_is_clean header_of tail_of poison_in packet_from seen_in crc_of remainder divide plus zeros divisor coefficients bits_below bits_of number_of xor spelling flits_with cut bytes_of covered check_of word_bytes half_bytes header_word tail_word asked replied
+next-token = refl
+
+-- a bank's queue, and an output queue, that are full
+next-bank_full : next four_reads (Shifted 0 0 (Vault 0) ∷ Landed 0 first_flit Accepted ∷ at_bank first_flit []) (steps.Spread 0 0) ≡ Idle (steps.Spread 0 0) Full
+unfolding next choice sight_of contents entered left leaves enters moved unsent landed_packet pending direction_from direction_among read_of is_null_alone is_null null_flit has_length lng_of word_of half_of bytes_read judged command_in fitting commands first_with line_of is_clean header_is_clean tail_is_clean header_of tail_of poison_in packet_from seen_in crc_of remainder divide plus zeros divisor coefficients bits_below bits_of number_of xor
+next-bank_full = refl
+
+next-output_full : next four_reads (Lifted 0 lifts.Registers 0 ∷ Lifted 0 lifts.Registers 0 ∷ answered_once) (steps.Lift 0 (lifts.Vault 0)) ≡ Idle (steps.Lift 0 (lifts.Vault 0)) Full
+unfolding next choice sight_of contents entered left leaves enters moved unsent landed_packet pending direction_from direction_among read_of is_null_alone is_null null_flit has_length lng_of word_of half_of bytes_read judged command_in fitting commands first_with line_of is_clean header_is_clean tail_is_clean header_of tail_of poison_in packet_from seen_in crc_of remainder divide plus zeros divisor coefficients bits_below bits_of number_of xor port_towards replied
+next-output_full = refl
+
+-- a host drops a poisoned packet
+next-discarded : next four_reads (Landed 1 poisoned_flit Poisoned ∷ []) (steps.Take 0) ≡ Discarded 0
+unfolding next choice sight_of contents entered left leaves enters moved unsent landed_packet pending direction_from direction_among read_of is_null_alone is_null null_flit has_length lng_of word_of half_of bytes_read judged command_in fitting commands first_with line_of is_clean header_is_clean tail_is_clean header_of tail_of poison_in packet_from seen_in crc_of remainder divide plus zeros divisor coefficients bits_below bits_of number_of xor
+next-discarded = refl

@@ -6,23 +6,30 @@ use Rattle.hmc_codes.specs.declared.answer.Answer.{Answer}
 use Rattle.hmc_codes.specs.declared.lift.Lift.{Lift}
 use Rattle.hmc_codes.specs.declared.place.Place.TheVariants as places
 use Rattle.hmc_codes.specs.declared.unit.Unit.{Unit as RequestUnit}
+use Rattle.hmc_host.specs.Host.{items_of}
 use Rattle.hmc_packet.specs.Packet.{PacketFields}
 use Rattle.hmc_packet.specs.Transactions.{request_in, answer_in}
+use Rattle.hmc_script.specs.Items.{ItemFields}
 use Rattle.hmc_journal.specs.declared.entry.Entry.{Entry}
-use Rattle.hmc_journal.specs.Filters.{Asking, Taking, same_unit, given_to, executed_by, asked_under, replies_under, answers_under, answered_into, taken_by}
+use Rattle.hmc_journal.specs.Filters.{ScriptRequest, Asking, Taking, same_unit, given_by, given_to, executed_by, asked_under, replies_under, answers_under, answered_into, taken_by}
 use Rattle.hmc_journal.specs.Next.{tag_of}
 use Rattle.hmc_journal.specs.Rooms.{Room, left, entered}
 use Rattle.hmc_journal.specs.Rooms.Room.{Output, Answers}
 use Rattle.hmc_journal.specs.Setup.{Topology, unit_of, other, direction_from}
-use Rattle.hmc_journal.specs.Wires.{accepted}
+use Rattle.hmc_journal.specs.Sight.{numbering}
+use Rattle.hmc_journal.specs.Wires.{sent_flits, landed_flits, accepted}
 
--- the one list is a front of the other
-abbrev pub IsFront : {X : Type 0} → List X → List X → Type 0
-IsFront {X = X} front whole = (rest : List X) × (whole ≡ front ++ rest)
+-- the one list is a prefix of the other
+abbrev pub IsPrefix : {X : Type 0} → List X → List X → Type 0
+IsPrefix {X = X} front whole = (rest : List X) × (whole ≡ front ++ rest)
 
--- a packet without the numbers that a link gives it
-abbrev pub unnumbered : PacketFields → PacketFields
-unnumbered packet = record packet { rtc = 0; seq = 0; frp = 0 }
+-- a request of a script
+abbrev pub said : ItemFields → ScriptRequest
+said item = record { poisoned = item.poisoned; request = item.request }
+
+-- what each host gave is what the script says for it, in order
+pub record IsScripted (script : List ItemFields) (journal : List Entry) : Type 0 where
+  pub given : (host : ℕ) → IsPrefix (given_by host journal) (map said (items_of host script))
 
 -- the request of a host to a unit that a packet carries, unless it is poisoned
 abbrev pub asking_in : Topology → (host : ℕ) → RequestUnit → PacketFields → Option RequestFields → List Asking
@@ -55,20 +62,28 @@ away_from topology host = direction_from topology (places.Host host)
 abbrev pub towards : Topology → ℕ → ℕ
 towards topology host = other (away_from topology host)
 
--- Each direction is a list, first in and first out. A unit executes what a host's packets carried to it, which is what the host gave it, in
--- order. Its answers are lifted in order, and a host takes what packets carried to it; each answer is that of its request, and a tag has at
--- most one request out.
+-- Each direction is a list, first in and first out; a unit executes what a host gave it, in order; and each answer is that of its request.
 pub record IsCarried (topology : Topology) (journal : List Entry) : Type 0 where
-  pub links : (direction : ℕ) → IsFront (map unnumbered (accepted direction journal)) (map unnumbered (entered topology journal (Output direction)))
-  pub given : (host : ℕ) (unit : RequestUnit) → IsFront (asks_in topology host unit (accepted (away_from topology host) journal)) (given_to topology host unit journal)
-  pub executed : (host : ℕ) (unit : RequestUnit) → IsFront (executed_by host unit journal) (asks_in topology host unit (accepted (away_from topology host) journal))
-  pub lifted : (cube : ℕ) (from : Lift) → IsFront (takings_gone topology (Answers cube from) journal) (answered_into (Answers cube from) journal)
-  pub taken : (host : ℕ) → IsFront (taken_by host journal) (takings_in (accepted (towards topology host) journal))
-  pub answered : (host tag : ℕ) → IsFront (answers_under host tag journal) (map (λ reply. reply.answer) (replies_under host tag journal))
-  pub replied : (host tag : ℕ) → IsFront (map (λ reply. reply.request) (replies_under host tag journal)) (asked_under host tag journal)
+  -- the flits that landed at the end of a direction are a prefix of those that were sent on it
+  pub wires : (direction : ℕ) → IsPrefix (landed_flits direction journal) (sent_flits direction journal)
+  -- the packets accepted there are a prefix of those handed to it, as the link numbers them
+  pub links : (direction : ℕ) → IsPrefix (accepted direction journal) (numbering (entered topology journal (Output direction)))
+  -- the requests of a host to a unit that packets carried to its cube are a prefix of those that the host gave to the unit
+  pub given : (host : ℕ) (unit : RequestUnit) → IsPrefix (asks_in topology host unit (accepted (away_from topology host) journal)) (given_to topology host unit journal)
+  -- and those that the unit executed are a prefix of the carried ones
+  pub executed : (host : ℕ) (unit : RequestUnit) → IsPrefix (executed_by host unit journal) (asks_in topology host unit (accepted (away_from topology host) journal))
+  -- the answers that left a queue of answers for the link are a prefix of those executed into it
+  pub lifted : (cube : ℕ) (from : Lift) → IsPrefix (takings_gone topology (Answers cube from) journal) (answered_into (Answers cube from) journal)
+  -- the answers that a host took are a prefix of those that packets carried to it
+  pub taken : (host : ℕ) → IsPrefix (taken_by host journal) (takings_in (accepted (towards topology host) journal))
+  -- under each tag of a host the answers taken are a prefix of the answers executed
+  pub answered : (host tag : ℕ) → IsPrefix (answers_under host tag journal) (map (λ reply. reply.answer) (replies_under host tag journal))
+  -- the requests executed are a prefix of those asked
+  pub replied : (host tag : ℕ) → IsPrefix (map (λ reply. reply.request) (replies_under host tag journal)) (asked_under host tag journal)
+  -- and at most one that was asked isn't answered yet
   pub out : (host tag : ℕ) → length (asked_under host tag journal) ≤ suc (length (answers_under host tag journal))
 
--- where nothing is on its way, all of them were executed and taken
+-- where nothing is on its way, each unpoisoned request was executed, and each request with a tag was answered
 pub record IsSettled (topology : Topology) (journal : List Entry) : Type 0 where
   pub executed : (host : ℕ) (unit : RequestUnit) → executed_by host unit journal ≡ given_to topology host unit journal
   pub taken : (host tag : ℕ) → length (answers_under host tag journal) ≡ length (asked_under host tag journal)

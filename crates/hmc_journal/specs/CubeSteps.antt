@@ -2,7 +2,7 @@
 use Rattle.std.specs.Prelude.{ℕ, ◌&&◌, Bool, true, false, not, if◌then◌else◌, Option, Some, None}
 use Rattle.hmc_codes.specs.Commands.{is_posted}
 use Rattle.hmc_codes.specs.Request.{RequestFields}
-use Rattle.hmc_codes.specs.Shape.{vault_of}
+use Rattle.hmc_codes.specs.Shape.{ShapeFields, vault_of}
 use Rattle.hmc_codes.specs.declared.lift.Lift.{Lift}
 use Rattle.hmc_codes.specs.declared.place.Place.TheVariants as places
 use Rattle.hmc_codes.specs.declared.unit.Unit.{Unit as RequestUnit}
@@ -22,11 +22,14 @@ use Rattle.hmc_journal.specs.Rooms.Room.{Bank}
 use Rattle.hmc_journal.specs.Sight.{Sight}
 use Rattle.hmc_journal.specs.Waiting.{is_full, with_front, unless_full}
 
--- shift: a poisoned packet is dropped, and each other one goes, where there is room, to the registers or to the vault of its address
-abbrev pub goal_of : Topology → (cube : ℕ) → PacketFields → Goal
-goal_of topology cube packet =
-    if is_for_registers packet.command then goals.Registers else goals.Vault (vault_of (shape_of topology cube) packet.address)
+-- where a packet goes in a cube of this shape: to the registers, or to the vault of its address
+abbrev pub goal_by : ShapeFields → PacketFields → Goal
+goal_by shape packet = if is_for_registers packet.command then goals.Registers else goals.Vault (vault_of shape packet.address)
 
+abbrev pub goal_of : Topology → (cube : ℕ) → PacketFields → Goal
+goal_of topology cube packet = goal_by (shape_of topology cube) packet
+
+-- shift: a poisoned packet is dropped, and each other one goes where it is for, if there is room
 abbrev pub shifted_to : Topology → Sight → (cube port : ℕ) → Goal → Entry
 shifted_to topology sight cube port goal =
     unless_full (steps.Shift cube port) (is_full topology sight (goal_room topology cube goal)) (Shifted cube port goal)

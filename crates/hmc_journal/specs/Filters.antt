@@ -1,5 +1,5 @@
--- What a journal gathers, the oldest first: by host and unit the requests that were given and those that were executed, and by host and tag
--- what was asked, replied and taken.
+-- What a journal gathers, the oldest first: by host the requests that were given, by host and unit those that were given to it and executed
+-- there, and by host and tag what was asked, replied and taken.
 use Rattle.std.specs.Prelude.{ℕ, Bool, false, not, ◌==◌, ◌&&◌, List, [], ◌∷◌, Option, Some, None}
 use Rattle.hmc_codes.specs.Commands.{is_posted}
 use Rattle.hmc_codes.specs.Request.{RequestFields}
@@ -11,6 +11,11 @@ use Rattle.hmc_journal.specs.declared.entry.Entry.TheVariants.{Gave, Executed, T
 use Rattle.hmc_journal.specs.Setup.{Topology, unit_of}
 use Rattle.hmc_journal.specs.Wires.{with_more}
 use Rattle.hmc_journal.specs.Rooms.{Room, same_room, answers_of, tag_number}
+
+-- a request as a script says it
+pub record ScriptRequest : Type 0 where
+  pub poisoned : Bool
+  pub request : RequestFields
 
 -- a request with its tag, which it has where it is answered
 pub record Asking : Type 0 where
@@ -37,6 +42,12 @@ same_unit _ _ = false
 abbrev pub same_tag : Option ℕ → ℕ → Bool
 same_tag None tag = false
 same_tag (Some t) tag = t == tag
+
+-- all requests that a host gave
+unfoldable pub given_by : (host : ℕ) → List Entry → List ScriptRequest
+given_by h [] = []
+given_by h (Gave host tag poisoned request ∷ past) = with_more (host == h) (record { poisoned = poisoned; request = request } ∷ []) (given_by h past)
+given_by h (_ ∷ past) = given_by h past
 
 -- the requests that a host gave to a unit, but for poisoned ones
 unfoldable pub given_to : Topology → (host : ℕ) → RequestUnit → List Entry → List Asking

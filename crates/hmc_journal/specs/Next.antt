@@ -1,4 +1,5 @@
--- The entry of a step: what it does, by what it sees, or the first cause why it does nothing.
+-- The table of steps: the entry of a step, by what it sees. What an entry does is said in LinkSteps (gave, sent, landed, took) and in
+-- CubeSteps (shifted, spread_to, executed, lifted_to); `with_front` and `unless_full` give the causes of idle steps.
 use Rattle.std.specs.Prelude.{not, List}
 use Rattle.hmc_codes.specs.Shape.{bank_of}
 use Rattle.hmc_codes.specs.declared.place.Place.TheVariants as places
@@ -16,7 +17,7 @@ use Rattle.hmc_journal.specs.Rooms.Room.{Output, Port, Host, Vault, Answers}
 use Rattle.hmc_journal.specs.Sight.{Sight, sight_of}
 pub use Rattle.hmc_journal.specs.Waiting.{size_of, is_full, with_front, unless_full}
 pub use Rattle.hmc_journal.specs.LinkSteps.{gave, flit_of, begun_with, sent_flit, sent, judged, outcome_with, outcome_of, landed, took}
-pub use Rattle.hmc_journal.specs.CubeSteps.{goal_of, shifted_to, shifted, spread_to, tag_of, executed_by, executed, lifted_to}
+pub use Rattle.hmc_journal.specs.CubeSteps.{goal_by, goal_of, shifted_to, shifted, spread_to, tag_of, executed_by, executed, lifted_to}
 
 -- the entry of a step by what it sees; the last three steps are in no schedule yet
 unfoldable pub choice : Topology → Sight → Step → Entry

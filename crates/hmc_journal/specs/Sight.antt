@@ -1,5 +1,5 @@
 -- What a step sees of the journal.
-use Rattle.std.specs.Prelude.{ℕ, zero, suc, ◌+◌, ◌-◌, ◌%◌, List, length, take, drop, slice_index_or, Option, Some, None}
+use Rattle.std.specs.Prelude.{ℕ, zero, suc, ◌+◌, ◌-◌, ◌%◌, List, [], ◌∷◌, ◌++◌, length, take, drop, slice_index_or, Option, Some, None}
 use Rattle.hmc_packet.specs.Packet.{PacketFields, null_packet, flits_of}
 use Rattle.hmc_packet.specs.Tail.{pointers}
 use Rattle.hmc_host.specs.Host.{HostFields}
@@ -16,15 +16,21 @@ pub record Sending : Type 0 where
   pub packet : PacketFields
   pub left : ℕ
 
--- a direction: the flits on its line; the packet that is being sent; the flits and the packets begun, as pointers count them; the return
--- pointer; the flits begun that haven't left the receiving buffer; and the flits gathered there
+-- a direction of a link
 pub record Way : Type 0 where
+  -- the flits on its line, the oldest first
   pub line : List (List ℕ)
+  -- the packet of which flits are left to send
   pub sending : Option Sending
+  -- the flits of all packets begun, modulo the pointers' 512
   pub frp : ℕ
+  -- the packets begun, modulo 8
   pub seq : ℕ
+  -- the return pointer: the flits of all packets accepted on the other direction, modulo 512
   pub returned : ℕ
+  -- the flits of the packets begun that haven't left the receiving buffer
   pub away : ℕ
+  -- the landed flits of a packet that isn't whole
   pub pending : List (List ℕ)
 
 -- the packets in each room, memory and registers, each host, and each direction
@@ -37,6 +43,18 @@ pub record Sight : Type 0 where
 -- a packet behind so many flits and packets: it returns no tokens
 abbrev pub numbered : (frp seq : ℕ) → PacketFields → PacketFields
 numbered frp seq packet = record packet { rtc = 0; frp = (frp + flits_of packet) % pointers; seq = (seq + 1) % 8 }
+
+-- a packet behind those before it
+unfoldable pub behind : List PacketFields → PacketFields → PacketFields
+behind before packet = numbered (flits_in before) (length before) packet
+
+-- packets as a direction numbers them
+unfoldable pub numbering_from : List PacketFields → List PacketFields → List PacketFields
+numbering_from before [] = []
+numbering_from before (packet ∷ packets) = behind before packet ∷ numbering_from (before ++ packet ∷ []) packets
+
+abbrev pub numbering : List PacketFields → List PacketFields
+numbering packets = numbering_from [] packets
 
 -- the last of some packets, numbered behind the others
 abbrev pub last_numbered : List PacketFields → PacketFields

@@ -2,18 +2,21 @@
 use Rattle.std.specs.Prelude.{◌≡◌, ◌++◌, true, List}
 use Rattle.hmc_serial.specs.Machine.{opening_state}
 use Rattle.hmc_journal.specs.declared.entry.Entry.{Entry}
-use Rattle.hmc_journal.specs.Carried.{IsCarried, IsSettled}
+use Rattle.hmc_journal.specs.Carried.{IsScripted, IsCarried, IsSettled}
 use Rattle.hmc_journal.specs.Drained.{is_drained}
 use Rattle.hmc_journal.specs.Lawful.{IsWhole}
 use Rattle.hmc_journal.specs.Serial.{IsSerial}
 use Rattle.hmc_journal.specs.Setup.{Setup, shapes_of}
 
+-- A journal has its newest entry first, so what it was at a moment is the end of it.
 pub record IsTold (setup : Setup) (journal : List Entry) : Type 0 where
-  -- there is an entry for each step of the schedule, and each is what its step gives behind the entries before it
+  -- there is an entry for each step of the schedule, and each is the one that its step gives behind the entries before it
   pub whole : IsWhole setup journal
+  -- what the hosts gave is what the script says, in order
+  pub scripted : IsScripted setup.script journal
   -- the executions, run in order on a plain machine, give every answer
   pub serial : IsSerial (opening_state (shapes_of setup.topology)) journal
   -- at every moment: what was executed was carried there, and what was answered was carried back, in order and under its tag
   pub carried : (later past : List Entry) → journal ≡ later ++ past → IsCarried setup.topology past
-  -- where nothing is on its way, all was executed and answered
+  -- where the report says `drained`, all was executed and answered
   pub settled : is_drained setup.topology journal ≡ true → IsSettled setup.topology journal

@@ -1,6 +1,6 @@
 //! The journal.
 
-ghost use Rattle.std.specs.Prelude.{◌≡◌, ◌≤◌, ◌<◌, ◌+◌, [], ◌∷◌, ◌++◌, reverse, length, IfOk};
+ghost use Rattle.std.specs.Prelude.{◌≡◌, ◌<◌, ◌+◌, [], ◌∷◌, ◌++◌, reverse, length, IfOk};
 ghost use Rattle.std.specs.Vec.{vec_capacity};
 
 use crate::Entry;
@@ -17,7 +17,7 @@ pub struct Journal {
 }
 
 impl Model for Journal {
-    ghost use Rattle.std.specs.Prelude.{reverse, length, ◌≤◌};
+    ghost use Rattle.std.specs.Prelude.{reverse, length};
     ghost use Rattle.std.specs.Vec.{vec_capacity};
     ghost use Rattle.hmc_journal.specs.Journal.{JournalFields, IsJournal};
 

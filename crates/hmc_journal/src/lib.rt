@@ -13,6 +13,7 @@ mod outcome;
 pub use entry::Entry;
 pub use journal::Journal;
 pub use laws::{
-    lawful_is_carried, lawful_is_housed, lawful_is_serial, one_journal, text_is_in_order,
+    journal_is_told, lawful_is_carried, lawful_is_housed, lawful_is_scripted, lawful_is_serial,
+    one_journal, text_is_in_order,
 };
 pub use outcome::{Cause, Goal, Outcome};

@@ -17,8 +17,8 @@ use Rattle.hmc_journal.proofs.Sound.{kept}
 use Rattle.hmc_journal.proofs.Tokens.{lands_within, stands_first}
 use Rattle.hmc_journal.proofs.Phases.{Errand, Phase, held, is_free}
 use Rattle.hmc_journal.proofs.Phases.Errand.{Tells}
-use Rattle.hmc_journal.proofs.Stretches.{passed, stretch}
-use Rattle.hmc_journal.proofs.Errands.{telling_by, errand, errands, errand_replying}
+use Rattle.hmc_journal.proofs.RoomsAndWires.{passed, stretch}
+use Rattle.hmc_journal.proofs.TagWork.{telling_by, errand, errands, errand_replying}
 use Rattle.hmc_journal.proofs.TagStep.{is_out, TagHasPhase}
 use Rattle.hmc_journal.proofs.Tags.{has_phase}
 

@@ -27,7 +27,7 @@ use Rattle.hmc_journal.proofs.Entering.{Kept}
 use Rattle.hmc_journal.proofs.Tokens.{lands_front}
 use Rattle.hmc_journal.proofs.Phases.{Errand, Moves, errands_if}
 use Rattle.hmc_journal.proofs.Phases.Errand.{Asks, Tells}
-use Rattle.hmc_journal.proofs.Stretches.{passed, stretch, passes, passed-more, HasPassing, passing_inside, IsBlind, output_view}
+use Rattle.hmc_journal.proofs.RoomsAndWires.{passed, stretch, passes, passed-more, HasPassing, passing_inside, IsBlind, output_view}
 
 abbrev pub asking_by : (posted same : Bool) → RequestFields → Option Errand
 asking_by true same request = None

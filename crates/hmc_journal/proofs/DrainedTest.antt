@@ -1,0 +1,251 @@
+-- Nothing is on its way where the test of all rooms that there are says so: in the others there is nothing.
+use Rattle.std.proofs.Common.{◌≡◌, ◌<◌, ◌+◌, ◌*◌, ◌/◌, ◌%◌, ◌^◌, ◌∙◌, ◌==◌, ◌&&◌, ℕ, zero, suc, Bool, true, false, if◌then◌else◌, Option, Some, None, List, [], ◌∷◌, ◌++◌, All, length, map, refl, sym, ap, subst, arith, eqb-true}
+use Rattle.std.specs.List.{list_all, flat_map}
+use Rattle.std.proofs.lemmas.List.Elements.{All-head, All-nil, All-cons, All-append, All-drop, All-get_or}
+use Rattle.std.proofs.lemmas.List.Sums.{AllPass-from_list_all}
+use Rattle.std.proofs.lemmas.List.Folds.{list_all-append, list_all-map}
+use Rattle.std.proofs.lemmas.List.FromFn.{length-range_with_len, get_or-range_with_len}
+use Rattle.std.proofs.lemmas.Nat.{pow_pos}
+use Rattle.std.proofs.lemmas.Bool.Decides.{nat_tests}
+use Rattle.hmc_codes.specs.Commands.{is_posted}
+use Rattle.hmc_codes.specs.Shape.{vault_of, bank_of}
+use Rattle.hmc_codes.specs.declared.lift.Lift.TheVariants as lifts
+use Rattle.hmc_codes.specs.declared.place.Place.{Place}
+use Rattle.hmc_codes.specs.declared.place.Place.TheVariants as places
+use Rattle.hmc_codes.specs.declared.unit.Unit.{Unit as RequestUnit}
+use Rattle.hmc_codes.specs.declared.unit.Unit.TheVariants as units
+use Rattle.hmc_packet.specs.Packet.{PacketFields}
+use Rattle.hmc_journal.specs.declared.entry.Entry.{Entry}
+use Rattle.hmc_journal.specs.declared.entry.Entry.TheVariants.{Gave, Landed, Shifted, Spread, Executed, Lifted}
+use Rattle.hmc_journal.specs.declared.outcome.Goal.{Goal}
+use Rattle.hmc_journal.specs.declared.outcome.Goal.TheVariants as goals
+use Rattle.hmc_journal.specs.declared.outcome.Outcome.{Outcome}
+use Rattle.hmc_journal.specs.declared.outcome.Outcome.TheVariants as outcomes
+use Rattle.hmc_journal.specs.Setup.{Topology, Setup, shape_of, is_for_registers, end_of}
+use Rattle.hmc_journal.specs.Wires.{accepted}
+use Rattle.hmc_journal.specs.Rooms.{Room, arrival, buffer_at, begun, contents, entered, left, enters, goal_room, is_at, queue_of, answers_of, unless_posted, taken_in, packet_if}
+use Rattle.hmc_journal.specs.Rooms.Room.{Output, Port, Host, Vault, Bank, Registers, Answers}
+use Rattle.hmc_journal.specs.Drained.{IsDrained, is_drained, upto, direction_rooms, cube_rooms, vault_rooms}
+use Rattle.hmc_journal.specs.Housed.{IsOneCube}
+use Rattle.hmc_journal.specs.Lawful.{Lawful}
+use Rattle.hmc_journal.proofs.Right.{Right, right_entry, lawful_past}
+use Rattle.hmc_journal.proofs.Moves.{room_is}
+use Rattle.hmc_journal.proofs.Standing.{Stands, IsBound}
+use Rattle.hmc_journal.proofs.Entering.{Kept, contents_stand, front_stands, begun_stand}
+use Rattle.hmc_journal.proofs.OneLink.{one_link}
+use Rattle.hmc_journal.proofs.Sound.{kept}
+use Rattle.hmc_journal.proofs.Tokens.{accepted_few}
+
+-- tests of lists
+both_hold : (a b : Bool) → (a && b) ≡ true → (a ≡ true) × (b ≡ true)
+both_hold true b is = (refl, is)
+both_hold false b is = cc
+
+upto_at : (p : ℕ → Bool) (n k : ℕ) → list_all p (upto n) ≡ true → k < n → p k ≡ true
+upto_at p n k all h =
+    let within : k < length (upto n) = omega (arith, length-range_with_len 0 n) in
+    let there = All-get_or (λ (i : ℕ). p i ≡ true) (upto n) k 0 within (AllPass-from_list_all p (upto n) all) in
+    let same : 0 + k ≡ k = omega arith in
+    subst (λ (i : ℕ). p i ≡ true) (get_or-range_with_len 0 n k 0 h ∙ same) there
+
+flat_list : {X : Type 0} (p : X → Bool) (f : ℕ → List X) (ns : List ℕ) → list_all p (flat_map f ns) ≡ true → list_all (λ n. list_all p (f n)) ns ≡ true
+flat_list p f [] all = refl
+flat_list p f (n ∷ ns) all =
+    let both = both_hold (list_all p (f n)) (list_all p (flat_map f ns)) (sym (list_all-append p (f n) (flat_map f ns)) ∙ all) in
+    rw both.0 (flat_list p f ns both.1)
+
+flat_at : {X : Type 0} (p : X → Bool) (f : ℕ → List X) (n k : ℕ) → list_all p (flat_map f (upto n)) ≡ true → k < n → list_all p (f k) ≡ true
+flat_at p f n k all h = upto_at (λ i. list_all p (f i)) n k (flat_list p f (upto n) all) h
+
+none_by : {X : Type 0} (xs : List X) → (length xs == 0) ≡ true → xs ≡ []
+none_by [] is = refl
+none_by (x ∷ xs) is = let none : length (x ∷ xs) ≡ 0 = eqb-true (length (x ∷ xs)) 0 is in absurd (omega arith)
+
+-- a list is empty where its front says so
+by_front : {X : Type 0} (P : X → Type 0) (xs : List X) → All P xs → ((x : X) → P x → xs ≡ []) → xs ≡ []
+by_front P [] all none = refl
+by_front P (x ∷ xs) all none = none x (All-head P x xs all)
+
+-- a vault, and a bank, that an address names is there
+named_vault : (registers : Bool) (v vault : ℕ) → (if registers then goals.Registers else goals.Vault v) ≡ goals.Vault vault → v ≡ vault
+named_vault true v vault is = cc
+named_vault false v vault is = cc
+
+below_power : (n bits : ℕ) → n % 2 ^ bits < 2 ^ bits
+below_power n bits = let some : 0 < 2 ^ bits = pow_pos bits in omega arith
+
+vault_there : (topology : Topology) (vault : ℕ) (packet : PacketFields) → IsBound topology (goals.Vault vault) packet → vault < 2 ^ (shape_of topology 0).vault_bits
+vault_there topology vault packet is =
+    let named : vault_of (shape_of topology 0) packet.address ≡ vault = named_vault (is_for_registers packet.command) (vault_of (shape_of topology 0) packet.address) vault is.is_goal in
+    subst (λ (n : ℕ). n < 2 ^ (shape_of topology 0).vault_bits) named (below_power (packet.address / 256) (shape_of topology 0).vault_bits)
+
+bank_there : (topology : Topology) (bank : ℕ) (packet : PacketFields) → bank_of (shape_of topology 0) packet.address ≡ bank → bank < 2 ^ (shape_of topology 0).bank_bits
+bank_there topology bank packet is =
+    subst (λ (n : ℕ). n < 2 ^ (shape_of topology 0).bank_bits) is (below_power (packet.address / 256 / 2 ^ (shape_of topology 0).vault_bits) (shape_of topology 0).bank_bits)
+
+-- answers of a vault enter from one of its banks alone
+from_bank : (posted : Bool) (unit : RequestUnit) (vault : ℕ) → unless_posted posted (answers_of unit) ≡ Some (Answers 0 (lifts.Vault vault)) → (bank : ℕ) × (queue_of unit ≡ Bank 0 vault bank)
+from_bank true unit vault is = cc
+from_bank false (units.Bank cube v bank) vault is = (bank, cc)
+from_bank false (units.Registers cube) vault is = cc
+
+not_buffer : (outcome : Outcome) (place : Place) (vault : ℕ) → taken_in outcome (buffer_at place) ≡ Some (Answers 0 (lifts.Vault vault)) → ⊥
+not_buffer outcomes.Accepted (places.Host host) vault is = cc
+not_buffer outcomes.Accepted (places.Port cube port) vault is = cc
+not_buffer outcomes.Poisoned (places.Host host) vault is = cc
+not_buffer outcomes.Poisoned (places.Port cube port) vault is = cc
+not_buffer outcomes.Quiet place vault is = cc
+not_buffer outcomes.Gathered place vault is = cc
+
+not_goal : (topology : Topology) (cube : ℕ) (goal : Goal) (vault : ℕ) → Some (goal_room topology cube goal) ≡ Some (Answers 0 (lifts.Vault vault)) → ⊥
+not_goal topology cube (goals.Vault v) vault is = cc
+not_goal topology cube goals.Registers vault is = cc
+not_goal topology cube (goals.Port port) vault is = cc
+
+entering_there : (setup : Setup) (one : IsOneCube setup) (entry : Entry) (past : List Entry) (vault : ℕ) → Right setup past entry → Kept setup one.port past → enters setup.topology entry ≡ Some (Answers 0 (lifts.Vault vault))
+    → vault < 2 ^ (shape_of setup.topology 0).vault_bits
+unfolding enters
+entering_there setup one (Gave host tag poisoned request) past vault right kept is = cc
+entering_there setup one (Landed direction flit outcome) past vault right kept is = absurd (not_buffer outcome (end_of setup.topology direction) vault is)
+entering_there setup one (Shifted cube port goal) past vault right kept is = absurd (not_goal setup.topology cube goal vault is)
+entering_there setup one (Spread cube v bank) past vault right kept is = cc
+entering_there setup one (Executed unit host tag request answer) past vault right kept is =
+    let from = from_bank (is_posted request.command) unit vault is in
+    let stands = front_stands setup one.port past (queue_of unit) kept right.at in
+    let bound = subst (λ (room : Room). Stands setup.topology one.port room right.at.front) from.1 stands in
+    vault_there setup.topology vault right.at.front bound.bound
+entering_there setup one (Lifted cube from port) past vault right kept is = cc
+entering_there setup one _ past vault right kept is = cc
+
+at_room : (to : Option Room) (room : Room) → is_at to room ≡ true → to ≡ Some room
+at_room None room is = cc
+at_room (Some there) room is = ap Some (room_is there room is)
+
+entered_if : (P : PacketFields → Type 0) (here : Bool) (packet : Unit {0} → PacketFields) → (here ≡ true → P (packet tt)) → All P (packet_if here packet)
+entered_if P true packet holds = All-cons P (packet tt) [] (holds refl) (All-nil P)
+entered_if P false packet holds = All-nil P
+
+answers_there : (setup : Setup) (past : List Entry) (vault : ℕ) → IsOneCube setup → Lawful setup past → All (λ (packet : PacketFields). vault < 2 ^ (shape_of setup.topology 0).vault_bits) (entered setup.topology past (Answers 0 (lifts.Vault vault)))
+unfolding entered
+answers_there setup [] vault one lawful = All-nil (λ (packet : PacketFields). vault < 2 ^ (shape_of setup.topology 0).vault_bits)
+answers_there setup (entry ∷ past) vault one lawful =
+    let P : PacketFields → Type 0 = λ packet. vault < 2 ^ (shape_of setup.topology 0).vault_bits in
+    let before = lawful_past setup entry past lawful in
+    All-append P (entered setup.topology past (Answers 0 (lifts.Vault vault))) _ (answers_there setup past vault one before)
+    (entered_if P (is_at (enters setup.topology entry) (Answers 0 (lifts.Vault vault))) _
+    (λ here. entering_there setup one entry past vault (right_entry setup entry past lawful) (kept setup past one before) (at_room (enters setup.topology entry) (Answers 0 (lifts.Vault vault)) here)))
+
+-- what the test says of each room that there is
+record IsEmptied (topology : Topology) (past : List Entry) : Type 0 where
+  output : (direction : ℕ) → direction < 2 → contents topology past (Output direction) ≡ []
+  arrivals : (direction : ℕ) → direction < 2 → contents topology past (arrival topology direction) ≡ []
+  registers : contents topology past (Registers 0) ≡ []
+  register_answers : contents topology past (Answers 0 lifts.Registers) ≡ []
+  vaults : (vault : ℕ) → vault < 2 ^ (shape_of topology 0).vault_bits → contents topology past (Vault 0 vault) ≡ []
+  banks : (vault bank : ℕ) → vault < 2 ^ (shape_of topology 0).vault_bits → bank < 2 ^ (shape_of topology 0).bank_bits → contents topology past (Bank 0 vault bank) ≡ []
+  answers : (vault : ℕ) → vault < 2 ^ (shape_of topology 0).vault_bits → contents topology past (Answers 0 (lifts.Vault vault)) ≡ []
+  wires : (direction : ℕ) → direction < 2 → length (begun topology past direction) ≡ length (accepted direction past)
+
+-- whether a room is empty
+abbrev empties : Topology → List Entry → Room → Bool
+empties topology past room = length (contents topology past room) == 0
+
+vault_part : (p : Room → Bool) (topology : Topology) (vault : ℕ) → list_all p (vault_rooms topology 0 vault) ≡ true
+    → (p (Vault 0 vault) ≡ true) × (list_all p (map (Bank 0 vault) (upto (2 ^ (shape_of topology 0).bank_bits))) ≡ true) × (p (Answers 0 (lifts.Vault vault)) ≡ true)
+vault_part p topology vault all =
+    let banks = map (Bank 0 vault) (upto (2 ^ (shape_of topology 0).bank_bits)) in
+    let first = both_hold (p (Vault 0 vault)) (list_all p (banks ++ Answers 0 (lifts.Vault vault) ∷ [])) all in
+    let second = both_hold (list_all p banks) (list_all p (Answers 0 (lifts.Vault vault) ∷ [])) (sym (list_all-append p banks (Answers 0 (lifts.Vault vault) ∷ [])) ∙ first.1) in
+    (first.0, second.0, (both_hold (p (Answers 0 (lifts.Vault vault))) true second.1).0)
+
+bank_part : (p : Room → Bool) (vault n bank : ℕ) → list_all p (map (Bank 0 vault) (upto n)) ≡ true → bank < n → p (Bank 0 vault bank) ≡ true
+bank_part p vault n bank all h = upto_at (λ b. p (Bank 0 vault b)) n bank (sym (list_all-map p (Bank 0 vault) (upto n)) ∙ all) h
+
+emptied : (topology : Topology) (past : List Entry) → length topology.cubes ≡ 1 → length topology.links ≡ 1 → is_drained topology past ≡ true → IsEmptied topology past
+unfolding is_drained
+emptied topology past one_cube one_link all =
+    let p = empties topology past in
+    let directions = flat_map (direction_rooms topology) (upto (2 * length topology.links)) in
+    let cubes = flat_map (cube_rooms topology) (upto (length topology.cubes)) in
+    let two = both_hold (list_all p (directions ++ cubes)) _ all in
+    let rooms = both_hold (list_all p directions) (list_all p cubes) (sym (list_all-append p directions cubes) ∙ two.0) in
+    let cube = flat_at p (cube_rooms topology) (length topology.cubes) 0 rooms.1 (omega arith) in
+    let registers = both_hold (p (Registers 0)) _ cube in
+    let register_answers = both_hold (p (Answers 0 lifts.Registers)) _ registers.1 in
+    let vault = λ (v : ℕ) (h : v < 2 ^ (shape_of topology 0).vault_bits). vault_part p topology v (flat_at p (vault_rooms topology 0) (2 ^ (shape_of topology 0).vault_bits) v register_answers.1 h) in
+    let way = λ (d : ℕ) (h : d < 2). flat_at p (direction_rooms topology) (2 * length topology.links) d rooms.0 (omega arith) in record {
+      output = λ d h. none_by _ (both_hold (p (Output d)) _ (way d h)).0;
+      arrivals = λ d h. none_by _ (both_hold (p (arrival topology d)) true (both_hold (p (Output d)) _ (way d h)).1).0;
+      registers = none_by _ registers.0;
+      register_answers = none_by _ register_answers.0;
+      vaults = λ v h. none_by _ (vault v h).0;
+      banks = λ v b h k. none_by _ (bank_part p v (2 ^ (shape_of topology 0).bank_bits) b (vault v h).1 k);
+      answers = λ v h. none_by _ (vault v h).2;
+      wires = λ d h. eqb-true _ _ (upto_at (λ direction. length (begun topology past direction) == length (accepted direction past)) (2 * length topology.links) d two.1 (omega arith));
+    }
+
+contents_there : (setup : Setup) (past : List Entry) (vault : ℕ) → IsOneCube setup → Lawful setup past → All (λ (packet : PacketFields). vault < 2 ^ (shape_of setup.topology 0).vault_bits) (contents setup.topology past (Answers 0 (lifts.Vault vault)))
+unfolding contents
+contents_there setup past vault one lawful =
+    All-drop (λ (packet : PacketFields). vault < 2 ^ (shape_of setup.topology 0).vault_bits) (left past (Answers 0 (lifts.Vault vault))) (entered setup.topology past (Answers 0 (lifts.Vault vault))) (answers_there setup past vault one lawful)
+
+room_empty : (setup : Setup) (past : List Entry) (one : IsOneCube setup) → Lawful setup past → IsEmptied setup.topology past → (room : Room) → contents setup.topology past room ≡ []
+room_empty setup past one lawful is room =
+    by_front (Stands setup.topology one.port room) (contents setup.topology past room) (contents_stand setup one.port past room (kept setup past one lawful)) (by_room room)
+  where
+    by_room : (room : Room) (packet : PacketFields) → Stands setup.topology one.port room packet → contents setup.topology past room ≡ []
+    by_room (Output zero) packet stands = is.output 0 (omega arith)
+    by_room (Output (suc zero)) packet stands = is.output 1 (omega arith)
+    by_room (Output (suc (suc d))) packet stands = absurd stands
+    by_room (Port zero here) packet stands =
+        ap (λ (p : ℕ). contents setup.topology past (Port 0 p)) stands.is_port ∙ ap (contents setup.topology past) (sym (one_link setup one).arrival_there) ∙ is.arrivals 0 (omega arith)
+    by_room (Port (suc cube) here) packet stands = absurd stands
+    by_room (Host zero) packet stands = ap (contents setup.topology past) (sym (one_link setup one).arrival_back) ∙ is.arrivals 1 (omega arith)
+    by_room (Host (suc host)) packet stands = absurd stands
+    by_room (Vault zero vault) packet stands = is.vaults vault (vault_there setup.topology vault packet stands)
+    by_room (Vault (suc cube) vault) packet stands = absurd stands
+    by_room (Bank zero vault bank) packet stands =
+        is.banks vault bank (vault_there setup.topology vault packet stands.bound) (bank_there setup.topology bank packet stands.is_bank)
+    by_room (Bank (suc cube) vault bank) packet stands = absurd stands
+    by_room (Registers zero) packet stands = is.registers
+    by_room (Registers (suc cube)) packet stands = absurd stands
+    by_room (Answers zero lifts.Registers) packet stands = is.register_answers
+    by_room (Answers zero (lifts.Vault vault)) packet stands =
+        by_front (λ (p : PacketFields). vault < 2 ^ (shape_of setup.topology 0).vault_bits) _ (contents_there setup past vault one lawful) (λ p there. is.answers vault there)
+    by_room (Answers (suc cube) from) packet stands = absurd stands
+
+-- on a direction that isn't there nothing was begun, and so nothing was accepted
+far_wire : (setup : Setup) (past : List Entry) (one : IsOneCube setup) (direction : ℕ) → Lawful setup past → length (begun setup.topology past (suc (suc direction))) ≡ length (accepted (suc (suc direction)) past)
+far_wire setup past one direction lawful =
+    let is_kept = kept setup past one lawful in
+    let none : begun setup.topology past (suc (suc direction)) ≡ [] =
+    by_front (Stands setup.topology one.port (Output (suc (suc direction)))) (begun setup.topology past (suc (suc direction))) (begun_stand setup one.port past (suc (suc direction)) is_kept) (λ packet stands. absurd stands)
+    in
+    let few = accepted_few setup one.port past (suc (suc direction)) is_kept in
+    let zeroth : length (begun setup.topology past (suc (suc direction))) ≡ 0 = ap length none in
+    omega arith
+
+pub drained_by_test : (setup : Setup) (past : List Entry) → IsOneCube setup → Lawful setup past → is_drained setup.topology past ≡ true → IsDrained setup.topology past
+drained_by_test setup past one lawful all = record { rooms = room_empty setup past one lawful is; wires = by_direction }
+  where
+    is : IsEmptied setup.topology past
+    is = emptied setup.topology past (ap length one.cubes) (ap length one.links) all
+
+    by_direction : (direction : ℕ) → length (begun setup.topology past direction) ≡ length (accepted direction past)
+    by_direction zero = is.wires 0 (omega arith)
+    by_direction (suc zero) = is.wires 1 (omega arith)
+    by_direction (suc (suc direction)) = far_wire setup past one direction lawful
+
+-- each of them says so where nothing is on its way
+all_pass : {X : Type 0} (p : X → Bool) (xs : List X) → ((x : X) → p x ≡ true) → list_all p xs ≡ true
+all_pass p [] all = refl
+all_pass p (x ∷ xs) all = rw (all x) (all_pass p xs all)
+
+same_count : (n m : ℕ) → n ≡ m → (n == m) ≡ true
+same_count n m is = grind (arith, nat_tests)
+
+pub test_by_drained : (topology : Topology) (past : List Entry) → IsDrained topology past → is_drained topology past ≡ true
+unfolding is_drained
+test_by_drained topology past drained =
+    rw (all_pass (λ room. length (contents topology past room) == 0) _ (λ room. same_count (length (contents topology past room)) 0 (ap length (drained.rooms room))))
+    (all_pass (λ direction. length (begun topology past direction) == length (accepted direction past)) _ (λ direction. same_count _ _ (drained.wires direction)))
