@@ -1,9 +1,9 @@
 -- A case of one cube and one link is one that a network is built of, and its steps are steps of the network's parts.
-use Rattle.std.proofs.Common.{◌≡◌, ◌≤◌, ◌<◌, ◌+◌, ◌*◌, ◌^◌, ◌&&◌, ◌||◌, ◌==◌, ◌∙◌, ℕ, zero, suc, Bool, true, false, Option, Some, None, List, [], ◌∷◌, length, map, slice_get, refl, sym, ap, ap₂, subst, arith}
-use Rattle.std.specs.Prelude.{slice_index_or, filter_map}
-use Rattle.std.specs.List.{All, range_with_len, list_any, cons_option}
+use Rattle.std.proofs.Common.{◌≡◌, ◌≤◌, ◌<◌, ◌||◌, ◌==◌, ◌∙◌, ℕ, zero, suc, Bool, true, false, Option, Some, None, List, [], ◌∷◌, length, map, refl, sym, ap, ap₂, subst, arith}
+use Rattle.std.specs.Prelude.{slice_index_or}
+use Rattle.std.specs.List.{All, range_with_len, cons_option}
 use Rattle.std.proofs.lemmas.Bool.Decides.{nat_tests}
-use Rattle.std.proofs.lemmas.List.Elements.{All-head, All-weaker, All-from_get_or, All-get_or}
+use Rattle.std.proofs.lemmas.List.Elements.{All-head, All-weaker}
 use Rattle.hmc_codes.specs.Link.{LinkFields, IsLinkSetup}
 use Rattle.hmc_codes.specs.Request.{IsRequest}
 use Rattle.hmc_codes.specs.declared.lift.Lift.{Lift}
@@ -16,14 +16,13 @@ use Rattle.hmc_schedule.specs.declared.step.Step.TheVariants as steps
 use Rattle.hmc_schedule.specs.Plan.{IsStepOf, IsPortOf, IsVaultOf, IsLiftOf, banks_at}
 use Rattle.hmc_case.specs.Case.{CaseFields, IsCase}
 use Rattle.hmc_case.specs.Net.{NetFields as CaseNet, IsNet}
-use Rattle.hmc_case.specs.Places.{is_host, is_same, is_taken, IsPlaceOf, IsJoinOf}
+use Rattle.hmc_case.specs.Places.{is_host, is_taken, IsPlaceOf, IsJoinOf}
 use Rattle.hmc_case.specs.Plan.{plan_of}
 use Rattle.hmc_case.specs.Setup.{CubeFields, IsCube}
 use Rattle.hmc_case.specs.Together.{host_of, hosts_of}
 use Rattle.hmc_case.specs.declared.setup.LinkRow.{LinkRow}
 use Rattle.hmc_journal.specs.Housed.{IsOwnItem, IsOneCube}
-use Rattle.hmc_journal.specs.Setup.{Topology}
-use Rattle.hmc_net.specs.Opening.{setup_of}
+use Rattle.hmc_journal.specs.Setup.{Topology, setup_of}
 use Rattle.hmc_net.specs.Ready.{IsVaultFor, IsBankFor, IsLiftFor, IsStepFor}
 
 -- a link from host 0 to a port of cube 0

@@ -1,5 +1,5 @@
 -- What a step of a host or a link gives, by the words of the parts.
-use Rattle.std.proofs.Common.{◌≡◌, ◌≤◌, ◌<◌, ◌+◌, ◌-◌, ◌%◌, ◌∙◌, ℕ, zero, suc, Bool, true, false, not, nat_le, if◌then◌else◌, Option, Some, None, List, [], ◌∷◌, ◌++◌, length, drop, slice_get, refl, sym, ap, ap₂, subst, arith, append-nil}
+use Rattle.std.proofs.Common.{◌≡◌, ◌≤◌, ◌+◌, ◌∙◌, ℕ, Bool, true, false, not, nat_le, if◌then◌else◌, Option, Some, None, List, [], ◌∷◌, ◌++◌, length, drop, slice_get, refl, sym, ap, ap₂, subst, arith, append-nil}
 use Rattle.std.specs.Option.{unwrap_or}
 use Rattle.std.specs.List.{All}
 use Rattle.std.proofs.lemmas.List.Elements.{All-head}
@@ -7,11 +7,9 @@ use Rattle.std.proofs.lemmas.List.Sums.{sum_by-cons}
 use Rattle.hmc_codes.specs.Link.{LinkFields}
 use Rattle.hmc_codes.specs.Request.{RequestFields, IsRequest}
 use Rattle.hmc_codes.specs.Table.{line_of}
-use Rattle.hmc_codes.specs.Commands.{layout_of, family_of}
-use Rattle.hmc_codes.specs.declared.answer.Answer.{Answer}
+use Rattle.hmc_codes.specs.Commands.{layout_of}
 use Rattle.hmc_codes.specs.declared.layout.Layout.{Layout}
 use Rattle.hmc_codes.specs.declared.layout.Layout.TheVariants as layouts
-use Rattle.hmc_codes.specs.declared.family.Family.TheVariants as families
 use Rattle.hmc_packet.specs.Codes.{is_flow}
 use Rattle.hmc_packet.specs.Packet.{PacketFields, flits_of}
 use Rattle.hmc_packet.specs.Transactions.{asked}
@@ -22,8 +20,7 @@ use Rattle.hmc_host.specs.declared.given.Given.TheVariants as givens
 use Rattle.hmc_host.specs.declared.settled.Settled.{Settled}
 use Rattle.hmc_host.specs.declared.settled.Settled.TheVariants as settles
 use Rattle.hmc_host.specs.Host.{HostFields}
-use Rattle.hmc_host.specs.Tags.{is_some_out}
-use Rattle.hmc_host.specs.Give.{give_says, next_says, next_item, item_says, lacks_tag, tag_for, after_give, gave as host_gave}
+use Rattle.hmc_host.specs.Give.{give_says, next_says, next_item, lacks_tag, tag_for, after_give, gave as host_gave}
 use Rattle.hmc_host.specs.Settle.{settle_says, after_settle}
 use Rattle.hmc_schedule.specs.declared.step.Step.{Step}
 use Rattle.hmc_schedule.specs.declared.step.Step.TheVariants as steps
@@ -31,11 +28,10 @@ use Rattle.hmc_journal.specs.declared.outcome.Cause.TheVariants as causes
 use Rattle.hmc_journal.specs.declared.outcome.Outcome.{Outcome}
 use Rattle.hmc_journal.specs.declared.outcome.Outcome.TheVariants as outcomes
 use Rattle.hmc_journal.specs.declared.entry.Entry.{Entry}
-use Rattle.hmc_journal.specs.declared.entry.Entry.TheVariants.{Sent, Landed, Idle}
+use Rattle.hmc_journal.specs.declared.entry.Entry.TheVariants.{Sent, Idle}
 use Rattle.hmc_packet.specs.declared.what.What.TheVariants.{New, Null}
 use Rattle.hmc_packet.specs.Spelling.{null_flit}
-use Rattle.hmc_journal.specs.Housed.{IsAnswerFor}
-use Rattle.hmc_journal.specs.Next.{choice, gave, unless_full, sent, sent_flit, begun_with, landed, with_front, took}
+use Rattle.hmc_journal.specs.Next.{choice, gave, unless_full, sent, sent_flit, landed, with_front, took}
 use Rattle.hmc_journal.specs.Rooms.{tag_number, front_of}
 use Rattle.hmc_journal.specs.Setup.{direction_from, direction_among}
 use Rattle.hmc_journal.specs.Sight.{Sending, Way}

@@ -1,5 +1,5 @@
 -- What a step of the cube gives, by the words of its parts.
-use Rattle.std.proofs.Common.{◌≡◌, ◌≢◌, ◌≤◌, ◌<◌, ◌+◌, ◌-◌, ◌%◌, ◌^◌, ◌&&◌, ◌↔◌, ◌⊎◌, inl, inr, ◌∙◌, ℕ, zero, suc, Bool, true, false, not, nat_le, nat_lt, IsTrue, if◌then◌else◌, Option, Some, None, List, [], ◌∷◌, ◌++◌, length, drop, slice_get, refl, sym, ap, ap₂, subst, arith}
+use Rattle.std.proofs.Common.{◌≡◌, ◌<◌, ◌&&◌, ◌⊎◌, inl, inr, ◌∙◌, ℕ, Bool, true, false, not, nat_le, nat_lt, if◌then◌else◌, Option, Some, None, List, [], ◌∷◌, ◌++◌, length, drop, slice_get, refl, sym, ap, ap₂, subst, arith}
 use Rattle.std.specs.Prelude.{slice_index_or, slice_set}
 use Rattle.std.specs.List.{All}
 use Rattle.std.proofs.lemmas.Bool.Decides.{nat_tests}
@@ -9,7 +9,7 @@ use Rattle.hmc_codes.specs.Table.{line_of}
 use Rattle.hmc_codes.specs.declared.layout.Layout.{Layout}
 use Rattle.hmc_codes.specs.declared.layout.Layout.TheVariants as layouts
 use Rattle.hmc_packet.specs.Codes.{is_flow}
-use Rattle.hmc_codes.specs.Commands.{is_posted, layout_of, family_of, family_of_layout}
+use Rattle.hmc_codes.specs.Commands.{is_posted, layout_of, family_of_layout}
 use Rattle.hmc_codes.specs.Request.{RequestFields}
 use Rattle.hmc_codes.specs.Shape.{ShapeFields, vault_of, bank_of}
 use Rattle.hmc_codes.specs.declared.answer.Answer.{Answer}
@@ -20,7 +20,7 @@ use Rattle.hmc_codes.specs.declared.lift.Lift.{Lift}
 use Rattle.hmc_codes.specs.declared.lift.Lift.TheVariants as lifts
 use Rattle.hmc_codes.specs.declared.unit.Unit.{Unit as RequestUnit}
 use Rattle.hmc_codes.specs.declared.unit.Unit.TheVariants as units
-use Rattle.hmc_packet.specs.Packet.{PacketFields, flits_of}
+use Rattle.hmc_packet.specs.Packet.{PacketFields}
 use Rattle.hmc_packet.specs.Transactions.{request_in, replied}
 use Rattle.hmc_serial.specs.Cube.{CubeState}
 use Rattle.hmc_serial.specs.Machine.{answer_to, no_cube}
@@ -32,11 +32,10 @@ use Rattle.hmc_vault.specs.Spread.{spread_says, front_goes, goes_to}
 use Rattle.hmc_vault.specs.declared.execute.Executed.{Executed as Execution}
 use Rattle.hmc_vault.specs.declared.execute.Executed.TheVariants as runs_as
 use Rattle.hmc_vault.specs.Execute.{execute_says, carried_runs, must_wait, replies_to, cube_after}
-use Rattle.hmc_vault.specs.Packets.{IsForBanks}
 use Rattle.hmc_cube.specs.Cube.{CubeFields, vault_at, with_vault, no_vault}
 use Rattle.hmc_cube.specs.After.{bank_says, registers_say, after_execute, after_registers}
-use Rattle.hmc_cube.specs.Kept.{AreParts, IsVaultOf}
-use Rattle.hmc_cube.specs.Places.{IsForRegisters, IsFor, entrance, answers_at}
+use Rattle.hmc_cube.specs.Kept.{IsVaultOf}
+use Rattle.hmc_cube.specs.Places.{IsFor, entrance, answers_at}
 use Rattle.hmc_schedule.specs.declared.step.Step.{Step}
 use Rattle.hmc_schedule.specs.declared.step.Step.TheVariants as steps
 use Rattle.hmc_journal.specs.declared.outcome.Cause.TheVariants as causes
@@ -46,13 +45,13 @@ use Rattle.hmc_journal.specs.declared.entry.Entry.{Entry}
 use Rattle.hmc_journal.specs.declared.entry.Entry.TheVariants as entries
 use Rattle.hmc_journal.specs.declared.entry.Entry.TheVariants.{Idle}
 use Rattle.hmc_journal.specs.Housed.{IsAsk, IsReply}
-use Rattle.hmc_journal.specs.Next.{choice, is_full, with_front, unless_full, shifted, shifted_to, goal_of, spread_to, tag_of, executed_by, executed, lifted_to}
+use Rattle.hmc_journal.specs.Next.{choice, is_full, with_front, unless_full, shifted, shifted_to, goal_by, goal_of, spread_to, tag_of, executed_by, lifted_to}
 use Rattle.hmc_journal.specs.Rooms.{goal_room, tag_number}
 use Rattle.hmc_journal.specs.Rooms.Room.{Output}
-use Rattle.hmc_journal.specs.Setup.{is_for_registers, port_towards, direction_from, direction_among}
-use Rattle.hmc_net.specs.Acts.{ran_by, goal_by, spread_by}
+use Rattle.hmc_journal.specs.Setup.{is_for_registers, port_towards}
+use Rattle.hmc_net.specs.Acts.{ran_by, spread_by}
 use Rattle.hmc_net.specs.After.{after, to_of}
-use Rattle.hmc_net.specs.Held.{NetFields, topology_of, sight_by, inside, answers_in}
+use Rattle.hmc_net.specs.Held.{NetFields, topology_of, sight_by, answers_in}
 use Rattle.hmc_net.specs.Ready.{IsReady}
 use Rattle.hmc_net.specs.Wire.{IsTransaction, has_room}
 use Rattle.hmc_net.proofs.WireLemmas.{below_is_room}

@@ -1,22 +1,20 @@
 -- What an entry is that a step gives: a part that is there, and a front where one leaves.
-use Rattle.std.proofs.Common.{◌≡◌, ◌≤◌, ◌<◌, ◌+◌, ◌-◌, ◌%◌, ◌/◌, ◌^◌, ◌&&◌, ◌==◌, ◌∙◌, ℕ, zero, suc, Bool, true, false, not, nat_le, if◌then◌else◌, Option, Some, None, List, [], ◌∷◌, ◌++◌, length, refl, sym, ap, subst, arith}
+use Rattle.std.proofs.Common.{◌≡◌, ◌≤◌, ◌<◌, ◌+◌, ◌%◌, ◌^◌, ◌&&◌, ◌∙◌, ℕ, zero, suc, Bool, true, false, not, nat_le, if◌then◌else◌, Option, Some, None, List, [], ◌∷◌, length, refl, sym, ap, subst, arith}
 use Rattle.std.specs.List.{All}
 use Rattle.std.proofs.lemmas.List.Elements.{All-head}
 use Rattle.std.proofs.Math.Nat.{pow-le-pow_right}
 use Rattle.hmc_codes.specs.Commands.{layout_of, is_ask, is_posted}
 use Rattle.hmc_codes.specs.Request.{RequestFields}
-use Rattle.hmc_codes.specs.Shape.{ShapeFields, vault_of, bank_of}
-use Rattle.hmc_codes.specs.declared.answer.Answer.{Answer}
+use Rattle.hmc_codes.specs.Shape.{vault_of, bank_of}
 use Rattle.hmc_codes.specs.declared.lift.Lift.{Lift}
 use Rattle.hmc_codes.specs.declared.lift.Lift.TheVariants as lifts
-use Rattle.hmc_codes.specs.declared.place.Place.TheVariants as places
 use Rattle.hmc_codes.specs.declared.unit.Unit.{Unit as RequestUnit}
 use Rattle.hmc_codes.specs.declared.unit.Unit.TheVariants as units
 use Rattle.hmc_packet.specs.declared.what.What.{What}
 use Rattle.hmc_packet.specs.declared.what.What.TheVariants.{New, Null}
 use Rattle.hmc_packet.specs.Packet.{PacketFields, flits_of}
 use Rattle.hmc_packet.specs.Spelling.{null_flit}
-use Rattle.hmc_packet.specs.Transactions.{request_in, answer_in}
+use Rattle.hmc_packet.specs.Transactions.{request_in}
 use Rattle.hmc_schedule.specs.declared.step.Step.{Step}
 use Rattle.hmc_schedule.specs.declared.step.Step.TheVariants as steps
 use Rattle.hmc_host.specs.declared.given.Given.{Given}
@@ -30,12 +28,12 @@ use Rattle.hmc_journal.specs.declared.outcome.Outcome.{Outcome}
 use Rattle.hmc_journal.specs.declared.entry.Entry.{Entry}
 use Rattle.hmc_journal.specs.declared.entry.Entry.TheVariants.{Gave, Sent, Landed, Shifted, Dropped, Spread, Executed, Lifted, Took, Discarded, Idle}
 use Rattle.hmc_journal.specs.Housed.{IsAsk, IsReply}
-use Rattle.hmc_journal.specs.Setup.{Topology, cube_at, shape_of, link_of, is_for_registers, port_towards, direction_from, direction_among}
-use Rattle.hmc_journal.specs.Rooms.{Room, queue_of, answers_of, goal_room, output_from}
-use Rattle.hmc_journal.specs.Rooms.Room.{Output, Port, Host, Vault, Bank, Registers, Answers}
-use Rattle.hmc_journal.specs.Sight.{Sending, Way, Sight, numbered}
-use Rattle.hmc_journal.specs.Next.{choice, is_full, with_front, unless_full, gave, begun_with, sent_flit, sent, flit_of, landed, outcome_of, goal_of, shifted_to, shifted, spread_to, tag_of, executed_by, executed, lifted_to, took}
-use Rattle.hmc_net.specs.Held.{NetFields, topology_of, vault_in, held, holding_of, inside, sight_by, way_at}
+use Rattle.hmc_journal.specs.Setup.{is_for_registers, port_towards, direction_from, direction_among}
+use Rattle.hmc_journal.specs.Rooms.{queue_of, goal_room}
+use Rattle.hmc_journal.specs.Rooms.Room.{Port, Host, Vault, Answers}
+use Rattle.hmc_journal.specs.Sight.{Sending, Way}
+use Rattle.hmc_journal.specs.Next.{choice, is_full, with_front, unless_full, gave, begun_with, sent_flit, landed, outcome_of, goal_of, executed_by, took}
+use Rattle.hmc_net.specs.Held.{NetFields, topology_of, vault_in, inside, sight_by, way_at}
 use Rattle.hmc_net.specs.Ready.{IsReady, IsStepFor}
 use Rattle.hmc_net.specs.Wire.{WireFields}
 

@@ -1,14 +1,13 @@
 -- A room is changed, and the others stay.
-use Rattle.std.proofs.Common.{◌≡◌, ◌≢◌, ◌≤◌, ◌<◌, ◌+◌, ◌&&◌, ◌==◌, ◌∙◌, ℕ, zero, suc, Bool, true, false, Option, Some, None, List, [], ◌∷◌, ◌++◌, length, drop, refl, sym, ap, subst, arith}
+use Rattle.std.proofs.Common.{◌≡◌, ◌≢◌, ◌<◌, ◌&&◌, ◌==◌, ◌∙◌, ℕ, zero, suc, Bool, true, false, List, [], length, refl, sym, ap, arith}
 use Rattle.std.specs.Prelude.{slice_set, slice_index_or}
-use Rattle.std.proofs.lemmas.List.{get_or-set_same, get_or-set_other, length-set}
+use Rattle.std.proofs.lemmas.List.{get_or-set_same, get_or-set_other}
 use Rattle.std.proofs.lemmas.Bool.Decides.{nat_tests}
-use Rattle.hmc_codes.specs.declared.lift.Lift.{Lift}
 use Rattle.hmc_codes.specs.declared.lift.Lift.TheVariants as lifts
 use Rattle.hmc_packet.specs.Packet.{PacketFields}
 use Rattle.hmc_vault.specs.Vault.{VaultFields, bank_at}
 use Rattle.hmc_cube.specs.Cube.{no_vault}
-use Rattle.hmc_journal.specs.Rooms.{Room, same_room, is_at}
+use Rattle.hmc_journal.specs.Rooms.{Room, same_room}
 use Rattle.hmc_journal.specs.Rooms.Room.{Output, Port, Host, Vault, Bank, Registers, Answers}
 use Rattle.hmc_net.specs.Held.{Holding, vault_in, packets_if, only, held}
 

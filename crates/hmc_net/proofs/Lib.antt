@@ -15,6 +15,5 @@ pub mod Choices
 pub mod CubeChoices
 pub mod Stepping
 pub mod Opening
-pub mod DrainedTest
 pub mod Stillness
 pub mod Cases

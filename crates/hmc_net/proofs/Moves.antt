@@ -1,5 +1,5 @@
 -- The rooms behind one more entry: the front of one leaves, and a packet enters another.
-use Rattle.std.proofs.Common.{◌≡◌, ◌≤◌, ◌<◌, ◌+◌, ◌-◌, ◌&&◌, ◌==◌, ◌∙◌, ℕ, zero, suc, Bool, true, false, Option, Some, None, List, [], ◌∷◌, ◌++◌, length, take, drop, refl, sym, ap, ap₂, subst, arith, append_assoc, append-nil, length-append, length-drop}
+use Rattle.std.proofs.Common.{◌≡◌, ◌≤◌, ◌+◌, ◌&&◌, ◌==◌, ◌∙◌, ℕ, zero, suc, Bool, true, false, Option, Some, None, List, [], ◌∷◌, ◌++◌, length, take, drop, refl, sym, ap, ap₂, arith, append-nil, length-append, length-drop}
 use Rattle.std.specs.Prelude.{slice_index_or}
 use Rattle.std.proofs.lemmas.List.{drop-append-le, take-append-le, take_more}
 use Rattle.std.proofs.lemmas.Bool.Decides.{nat_tests}
@@ -11,7 +11,7 @@ use Rattle.hmc_journal.specs.Setup.{Topology}
 use Rattle.hmc_journal.specs.Rooms.{Room, same_room, same_lift, is_at, leaves, enters, moved, one_if, packet_if, front_of, left, entered, contents, begun}
 use Rattle.hmc_journal.specs.Rooms.Room.{Output, Port, Host, Vault, Bank, Registers, Answers}
 use Rattle.hmc_net.specs.Held.{Holding, held}
-use Rattle.hmc_net.proofs.Holding.{Change, changed, change_if, IsRoomIn, held_changed}
+use Rattle.hmc_net.proofs.Holding.{changed, change_if, IsRoomIn, held_changed}
 
 -- lists
 drop_suc : {X : Type 0} (n : ℕ) (xs : List X) → drop (suc n) xs ≡ drop 1 (drop n xs)

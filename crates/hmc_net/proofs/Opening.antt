@@ -1,9 +1,8 @@
 -- A new network stands for its case and the empty journal.
-use Rattle.std.proofs.Common.{◌≡◌, ◌≤◌, ◌<◌, ◌+◌, ◌%◌, ◌^◌, ◌∙◌, ℕ, zero, suc, Bool, true, false, Option, Some, None, Result, Ok, Err, IfOk, List, [], ◌∷◌, ◌++◌, length, drop, take, refl, sym, ap, ap₂, subst, arith}
+use Rattle.std.proofs.Common.{◌≡◌, ◌≤◌, ◌+◌, ◌^◌, ◌∙◌, ℕ, zero, suc, Bool, true, false, Result, Ok, Err, IfOk, List, [], ◌∷◌, length, refl, sym, ap, ap₂, subst, arith}
 use Rattle.std.specs.Prelude.{replicate, slice_index_or}
 use Rattle.std.specs.List.{All}
 use Rattle.hmc_codes.specs.Link.{LinkFields}
-use Rattle.hmc_codes.specs.declared.lift.Lift.{Lift}
 use Rattle.hmc_codes.specs.declared.lift.Lift.TheVariants as lifts
 use Rattle.hmc_codes.specs.declared.place.Place.{Place}
 use Rattle.hmc_codes.specs.declared.place.Place.TheVariants as places
@@ -24,7 +23,7 @@ use Rattle.hmc_journal.specs.Serial.{state_after}
 use Rattle.hmc_journal.specs.Setup.{Topology, Setup, port_at}
 use Rattle.hmc_journal.specs.Sight.{state_of}
 use Rattle.hmc_journal.specs.Wires.{sent_flits, landed_flits, line_flits, unsent, pending, accepted}
-use Rattle.hmc_net.specs.Held.{NetFields, topology_of, vault_in, packets_if, only, first_or_second, answers_in, held, holding_of, inside}
+use Rattle.hmc_net.specs.Held.{topology_of, vault_in, packets_if, only, first_or_second, inside}
 use Rattle.hmc_net.specs.Opening.{opening_net}
 use Rattle.hmc_net.specs.Ready.{IsStepFor}
 use Rattle.hmc_net.specs.Stands.{IsWay, StandsFor}

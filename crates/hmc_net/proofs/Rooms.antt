@@ -1,39 +1,28 @@
 -- What an entry leaves of the rooms is what they hold behind it.
-use Rattle.std.proofs.Common.{◌≡◌, ◌≤◌, ◌<◌, ◌+◌, ◌-◌, ◌%◌, ◌/◌, ◌&&◌, ◌==◌, ◌∙◌, ℕ, zero, suc, Bool, true, false, not, if◌then◌else◌, Option, Some, None, List, [], ◌∷◌, ◌++◌, length, take, drop, refl, sym, ap, ap₂, subst, arith, append-nil}
-use Rattle.std.specs.Prelude.{slice_set}
-use Rattle.std.proofs.lemmas.List.{get_or-set_same, length-set, set-set}
-use Rattle.hmc_codes.specs.Commands.{is_posted}
+use Rattle.std.proofs.Common.{◌≡◌, ◌==◌, ◌∙◌, ℕ, zero, suc, Bool, if◌then◌else◌, Option, Some, None, List, [], ◌∷◌, ◌++◌, refl, sym, ap, arith, append-nil}
 use Rattle.hmc_codes.specs.Request.{RequestFields}
-use Rattle.hmc_codes.specs.declared.answer.Answer.{Answer}
-use Rattle.hmc_codes.specs.declared.lift.Lift.{Lift}
-use Rattle.hmc_codes.specs.declared.lift.Lift.TheVariants as lifts
 use Rattle.hmc_codes.specs.declared.place.Place.TheVariants as places
-use Rattle.hmc_codes.specs.declared.unit.Unit.TheVariants as units
 use Rattle.hmc_packet.specs.declared.what.What.{What}
-use Rattle.hmc_packet.specs.declared.what.What.TheVariants.{New, Null, Train, Clear, Start, Pret, Tret, Again}
+use Rattle.hmc_packet.specs.declared.what.What.TheVariants.{New, Null}
 use Rattle.hmc_packet.specs.Packet.{PacketFields}
 use Rattle.hmc_packet.specs.Reading.{read_of}
-use Rattle.hmc_packet.specs.Transactions.{replied}
-use Rattle.hmc_vault.specs.Vault.{VaultFields, bank_at}
-use Rattle.hmc_vault.specs.Execute.{replies_to}
-use Rattle.hmc_cube.specs.Cube.{no_vault}
 use Rattle.hmc_journal.specs.declared.outcome.Goal.{Goal}
 use Rattle.hmc_journal.specs.declared.outcome.Goal.TheVariants as goals
 use Rattle.hmc_journal.specs.declared.outcome.Outcome.{Outcome}
 use Rattle.hmc_journal.specs.declared.outcome.Outcome.TheVariants as outcomes
 use Rattle.hmc_journal.specs.declared.entry.Entry.{Entry}
-use Rattle.hmc_journal.specs.declared.entry.Entry.TheVariants.{Gave, Sent, Landed, Shifted, Dropped, Spread, Executed, Lifted, Took, Discarded, Idle}
-use Rattle.hmc_journal.specs.Setup.{Topology, direction_from, direction_among}
-use Rattle.hmc_journal.specs.Rooms.{Room, leaves, enters, moved, begins, front_of, tag_number, contents, queue_of}
-use Rattle.hmc_journal.specs.Rooms.Room.{Output, Port, Host, Vault, Bank, Registers, Answers}
+use Rattle.hmc_journal.specs.declared.entry.Entry.TheVariants.{Gave, Sent, Landed, Shifted, Dropped}
+use Rattle.hmc_journal.specs.Setup.{direction_from, direction_among}
+use Rattle.hmc_journal.specs.Rooms.{Room, leaves, enters, moved, begins, front_of, contents}
+use Rattle.hmc_journal.specs.Rooms.Room.{Output, Port, Vault, Registers}
 use Rattle.hmc_journal.specs.Sight.{Sending, sending_with}
-use Rattle.hmc_journal.specs.Wires.{unsent, pending, landed_packet, packet_in, packets_by}
-use Rattle.hmc_net.specs.Held.{NetFields, Holding, topology_of, vault_in, packets_if, held, holding_of, inside}
+use Rattle.hmc_journal.specs.Wires.{unsent, pending, landed_packet, packet_in}
+use Rattle.hmc_net.specs.Held.{NetFields, topology_of, packets_if, holding_of, inside}
 use Rattle.hmc_net.specs.After.{after}
-use Rattle.hmc_net.specs.Wire.{read_with, continued_by}
+use Rattle.hmc_net.specs.Wire.{continued_by}
 use Rattle.hmc_net.proofs.Holding.{same_number}
 use Rattle.hmc_net.proofs.Moves.{IsLeft, IsThere, without, with_packet, entering_packet}
-use Rattle.hmc_net.proofs.Fits.{HasFront, HasFlit, IsNewOf, IsEntryOf}
+use Rattle.hmc_net.proofs.Fits.{HasFront, IsNewOf, IsEntryOf}
 
 -- the rooms hold what the journal tells, and the directions send and gather it
 pub record AreTold (net : NetFields) : Type 0 where

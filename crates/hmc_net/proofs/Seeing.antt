@@ -1,5 +1,5 @@
 -- What a step sees of a network is what it sees of the journal that the network stands for, and what the laws promise of it.
-use Rattle.std.proofs.Common.{◌≡◌, ◌≤◌, ◌<◌, ◌+◌, ◌-◌, ◌%◌, ◌^◌, ◌∙◌, ℕ, zero, suc, Bool, true, false, Option, Some, None, List, [], ◌∷◌, ◌++◌, length, drop, map, slice_get, refl, sym, ap, ap₂, subst, arith}
+use Rattle.std.proofs.Common.{◌≡◌, ◌≤◌, ◌∙◌, ℕ, zero, suc, Some, List, [], ◌∷◌, ◌++◌, length, drop, map, slice_get, refl, sym, ap, ap₂, subst, arith}
 use Rattle.std.specs.List.{All}
 use Rattle.std.proofs.lemmas.List.Elements.{All-head, All-tail}
 use Rattle.std.proofs.lemmas.List.Sums.{sum_by-cons}
@@ -7,10 +7,7 @@ use Rattle.hmc_codes.specs.declared.lift.Lift.{Lift}
 use Rattle.hmc_codes.specs.declared.lift.Lift.TheVariants as lifts
 use Rattle.hmc_packet.specs.Packet.{PacketFields, flits_of}
 use Rattle.hmc_packet.specs.Reading.{read_of}
-use Rattle.hmc_vault.specs.Vault.{bank_at}
-use Rattle.hmc_cube.specs.Cube.{vault_at}
 use Rattle.hmc_cube.specs.Places.{answers_at}
-use Rattle.hmc_cube.specs.Kept.{AreParts}
 use Rattle.hmc_host.specs.Host.{HostFields}
 use Rattle.hmc_serial.specs.Machine.{State}
 use Rattle.hmc_schedule.specs.declared.step.Step.{Step}
@@ -20,15 +17,13 @@ use Rattle.hmc_journal.specs.Hosts.{host_of}
 use Rattle.hmc_journal.specs.Housed.{IsAsk, IsReply, IsAnswerFor, IsHoused}
 use Rattle.hmc_journal.specs.Next.{next, choice, outcome_of}
 use Rattle.hmc_journal.specs.Rooms.{Room, arrival, left, contents, begun}
-use Rattle.hmc_journal.specs.Rooms.Room.{Output, Port, Host, Vault, Bank, Registers, Answers}
+use Rattle.hmc_journal.specs.Rooms.Room.{Port, Host, Bank, Registers, Answers}
 use Rattle.hmc_journal.specs.Setup.{Topology, Setup, link_of}
 use Rattle.hmc_journal.specs.Sight.{Way, Sight, way_of, state_of, sight_of}
 use Rattle.hmc_journal.specs.Wires.{line_flits, pending, returned, landed_packet, packet_in, packets_by, flits_in}
-use Rattle.hmc_net.specs.Held.{NetFields, topology_of, held, holding_of, inside, sight_by, way_at, host_by}
+use Rattle.hmc_net.specs.Held.{NetFields, topology_of, inside, sight_by, way_at, host_by}
 use Rattle.hmc_net.specs.Ready.{IsFitting, IsReady, IsStepFor}
 use Rattle.hmc_net.specs.Stands.{IsWay, StandsFor, IsNext}
-use Rattle.hmc_net.specs.Wire.{read_with}
-use Rattle.hmc_net.proofs.Fits.{IsShaped}
 use Rattle.hmc_net.proofs.Rooms.{buffer_is}
 use Rattle.hmc_net.proofs.WaysAfter.{AreFirst}
 

@@ -1,12 +1,11 @@
 -- A network that stands for a journal stands for it with one more entry.
-use Rattle.std.proofs.Common.{◌≡◌, ◌≤◌, ◌<◌, ◌+◌, ◌-◌, ◌%◌, ◌==◌, ◌∙◌, ℕ, zero, suc, Bool, true, false, Option, Some, None, List, [], ◌∷◌, ◌++◌, length, drop, slice_get, refl, sym, ap, ap₂, subst, arith}
+use Rattle.std.proofs.Common.{◌≡◌, ◌≤◌, ◌<◌, ◌+◌, ◌==◌, ◌∙◌, ℕ, zero, suc, false, Option, List, [], ◌∷◌, length, refl, sym, ap, subst, arith}
 use Rattle.std.specs.Prelude.{slice_set}
 use Rattle.std.proofs.lemmas.Bool.Decides.{nat_tests}
 use Rattle.hmc_codes.specs.Request.{RequestFields}
 use Rattle.hmc_codes.specs.declared.lift.Lift.TheVariants as lifts
 use Rattle.hmc_codes.specs.declared.unit.Unit.TheVariants as units
 use Rattle.hmc_packet.specs.declared.what.What.TheVariants.{New}
-use Rattle.hmc_packet.specs.Packet.{PacketFields}
 use Rattle.hmc_host.specs.Host.{HostFields}
 use Rattle.hmc_host.specs.Tags.{with_out}
 use Rattle.hmc_serial.specs.Cube.{CubeState}
@@ -15,7 +14,7 @@ use Rattle.hmc_serial.specs.Perform.{perform_on}
 use Rattle.hmc_schedule.specs.declared.step.Step.{Step}
 use Rattle.hmc_journal.specs.declared.outcome.Goal.TheVariants as goals
 use Rattle.hmc_journal.specs.declared.entry.Entry.{Entry}
-use Rattle.hmc_journal.specs.declared.entry.Entry.TheVariants.{Gave, Sent, Landed, Shifted, Dropped, Spread, Executed, Lifted, Took, Discarded, Idle}
+use Rattle.hmc_journal.specs.declared.entry.Entry.TheVariants.{Gave, Sent, Landed, Shifted, Executed, Lifted, Took}
 use Rattle.hmc_journal.specs.Hosts.{host_of, given_count, tags_out}
 use Rattle.hmc_journal.specs.Lawful.{Follows, Lawful}
 use Rattle.hmc_journal.specs.Next.{next}
@@ -32,7 +31,7 @@ use Rattle.hmc_net.proofs.Moves.{IsLeft, IsThere, without, with_packet, entering
 use Rattle.hmc_net.proofs.Fits.{IsEntryOf}
 use Rattle.hmc_net.proofs.Rooms.{AreTold, IsMove}
 use Rattle.hmc_net.proofs.CubeRooms.{moves_of}
-use Rattle.hmc_net.proofs.Ways.{IsBehind, begun_same}
+use Rattle.hmc_net.proofs.Ways.{begun_same}
 use Rattle.hmc_net.proofs.WaysAfter.{AreFirst, AreWays, IsLast}
 use Rattle.hmc_net.proofs.WaysOf.{ways_of}
 

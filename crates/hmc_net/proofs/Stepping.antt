@@ -1,6 +1,5 @@
 -- A step of a network that stands for a case.
-use Rattle.std.proofs.Common.{◌≡◌, ◌≤◌, ◌<◌, ◌^◌, ◌∙◌, ℕ, zero, suc, Option, Some, None, List, [], ◌∷◌, length, slice_get, refl, sym, ap, ap₂, subst, arith}
-use Rattle.std.specs.Prelude.{slice_index_or}
+use Rattle.std.proofs.Common.{◌≡◌, ◌<◌, ◌^◌, ◌∙◌, ℕ, zero, suc, Some, List, [], ◌∷◌, length, slice_get, refl, sym, ap, ap₂, subst, arith}
 use Rattle.std.proofs.lemmas.List.Elements.{All-get_or}
 use Rattle.hmc_codes.specs.Shape.{ShapeFields}
 use Rattle.hmc_codes.specs.declared.lift.Lift.{Lift}
@@ -17,7 +16,7 @@ use Rattle.hmc_journal.specs.Next.{choice, next}
 use Rattle.hmc_journal.specs.Setup.{Setup}
 use Rattle.hmc_net.specs.Held.{NetFields, topology_of, sight_by}
 use Rattle.hmc_net.specs.After.{after, noted}
-use Rattle.hmc_net.specs.Ready.{IsReady, IsStepFor, IsLiftFor}
+use Rattle.hmc_net.specs.Ready.{IsStepFor, IsLiftFor}
 use Rattle.hmc_net.specs.Stands.{StandsFor, IsNext}
 use Rattle.hmc_net.proofs.Fits.{IsShaped, IsEntryOf, choice_is}
 use Rattle.hmc_net.proofs.Standing.{IsRight, stands_after}

@@ -1,9 +1,8 @@
 -- A network holds no packet exactly where its journal is drained.
-use Rattle.std.proofs.Common.{◌≡◌, ◌≤◌, ◌<◌, ◌+◌, ◌-◌, ◌&&◌, ◌==◌, ◌⊎◌, ◌↔◌, inl, inr, ◌∙◌, ℕ, zero, suc, Bool, true, false, List, [], ◌∷◌, ◌++◌, length, drop, sum_by, refl, sym, ap, subst, arith, length-drop}
+use Rattle.std.proofs.Common.{◌≡◌, ◌≤◌, ◌+◌, ◌⊎◌, ◌↔◌, inl, inr, ◌∙◌, ℕ, zero, suc, Bool, true, false, List, [], ◌∷◌, length, drop, sum_by, refl, sym, ap, subst, arith, length-drop}
 use Rattle.std.specs.Prelude.{slice_index_or, IsTrue}
 use Rattle.std.proofs.lemmas.List.Sums.{sum_by-cons}
 use Rattle.std.proofs.lemmas.List.{drop_all}
-use Rattle.hmc_codes.specs.declared.lift.Lift.{Lift}
 use Rattle.hmc_codes.specs.declared.lift.Lift.TheVariants as lifts
 use Rattle.hmc_packet.specs.Packet.{PacketFields, flits_of}
 use Rattle.hmc_vault.specs.Vault.{VaultFields, bank_at, held_by}
@@ -17,11 +16,11 @@ use Rattle.hmc_journal.specs.Wires.{accepted, flits_in}
 use Rattle.hmc_journal.proofs.Arrived.{arrived}
 use Rattle.hmc_journal.proofs.Sound.{kept}
 use Rattle.hmc_journal.proofs.Tokens.{accepted_few}
-use Rattle.hmc_net.specs.Held.{NetFields, topology_of, vault_in, packets_if, only, first_or_second, held, holding_of, inside}
+use Rattle.hmc_net.specs.Held.{NetFields, topology_of, vault_in, packets_if, only, inside}
 use Rattle.hmc_net.specs.Stands.{IsWay, StandsFor}
-use Rattle.hmc_net.specs.Still.{IsIdle, IsStill}
+use Rattle.hmc_net.specs.Still.{IsStill}
 use Rattle.hmc_net.specs.Wire.{WireFields}
-use Rattle.hmc_net.proofs.DrainedTest.{drained_by_test, test_by_drained}
+use Rattle.hmc_journal.proofs.DrainedTest.{drained_by_test, test_by_drained}
 use Rattle.hmc_net.proofs.Rooms.{buffer_is}
 
 -- ---- sums that are nothing

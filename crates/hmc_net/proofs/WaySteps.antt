@@ -1,23 +1,21 @@
 -- A direction behind a flit that was sent or landed, and behind a packet that left the buffer.
-use Rattle.std.proofs.Common.{◌≡◌, ◌≤◌, ◌<◌, ◌+◌, ◌-◌, ◌%◌, ◌∙◌, ℕ, zero, suc, Bool, true, false, Option, Some, None, List, [], ◌∷◌, ◌++◌, length, take, drop, map, sum_by, refl, sym, ap, ap₂, subst, arith, append-nil, length-append, length-drop}
-use Rattle.std.specs.Prelude.{slice_index_or}
-use Rattle.std.proofs.lemmas.List.{drop-append-le, get_or_push}
+use Rattle.std.proofs.Common.{◌≡◌, ◌≤◌, ◌+◌, ◌-◌, ◌%◌, ◌∙◌, ℕ, suc, true, false, Option, List, [], ◌∷◌, ◌++◌, length, drop, map, sym, ap, ap₂, subst, arith, length-append, length-drop}
+use Rattle.std.proofs.lemmas.List.{drop-append-le}
 use Rattle.std.proofs.lemmas.List.Sums.{sum_by-append, sum_by-cons}
-use Rattle.std.proofs.Math.Seq.{take-append_seam}
-use Rattle.hmc_packet.specs.Packet.{PacketFields, null_packet, flits_of}
+use Rattle.hmc_packet.specs.Packet.{PacketFields, flits_of}
 use Rattle.hmc_packet.specs.Parts.{lng_of}
 use Rattle.hmc_packet.specs.Reading.{read_of}
 use Rattle.hmc_packet.specs.Tail.{pointers}
 use Rattle.hmc_journal.specs.declared.outcome.Outcome.{Outcome}
 use Rattle.hmc_journal.specs.declared.entry.Entry.{Entry}
 use Rattle.hmc_journal.specs.Setup.{Topology}
-use Rattle.hmc_journal.specs.Rooms.{Room, is_at, leaves, one_if, packet_if, front_of, arrival, left, entered, contents, begun}
+use Rattle.hmc_journal.specs.Rooms.{Room, is_at, front_of, arrival, left, contents, begun}
 use Rattle.hmc_journal.specs.Rooms.Room.{Output}
 use Rattle.hmc_journal.specs.Sight.{Sending, numbered, last_numbered, sending_with}
-use Rattle.hmc_journal.specs.Wires.{sent_flits, landed_flits, line_flits, one_sent, unsent, gathered_by, pending, landed_packet, packet_in, packets_by, accepted, flits_in}
+use Rattle.hmc_journal.specs.Wires.{sent_flits, landed_flits, line_flits, unsent, gathered_by, pending, landed_packet, packet_in, packets_by, accepted, flits_in}
 use Rattle.hmc_net.specs.Stands.{IsWay}
 use Rattle.hmc_net.specs.Wire.{WireFields, begun_by, gathered, released, read_with}
-use Rattle.hmc_net.proofs.Moves.{IsLeft, begun_step, drop_one_more}
+use Rattle.hmc_net.proofs.Moves.{drop_one_more}
 use Rattle.hmc_net.proofs.Ways.{AreSameFlits, flits_more, mod_more, mod_eight, numbered_mod, last_more, IsBehind, begun_same, begun_one_more, left_after, left_same}
 
 -- one more flit on the line

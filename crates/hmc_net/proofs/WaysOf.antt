@@ -1,29 +1,23 @@
 -- Landings and the moves of packets leave the two directions as the journal tells of them behind each.
-use Rattle.std.proofs.Common.{◌≡◌, ◌≤◌, ◌<◌, ◌+◌, ◌-◌, ◌&&◌, ◌==◌, ◌∙◌, ℕ, zero, suc, Bool, true, false, Option, Some, None, List, [], ◌∷◌, ◌++◌, length, drop, map, refl, sym, ap, ap₂, subst, arith}
-use Rattle.hmc_codes.specs.declared.lift.Lift.TheVariants as lifts
+use Rattle.std.proofs.Common.{◌≡◌, ◌==◌, ◌∙◌, ℕ, zero, suc, true, Some, None, List, [], ◌∷◌, ◌++◌, refl, sym, ap, subst, arith}
 use Rattle.hmc_codes.specs.declared.unit.Unit.TheVariants as units
-use Rattle.hmc_packet.specs.declared.what.What.{What}
-use Rattle.hmc_packet.specs.declared.what.What.TheVariants.{New, Null}
 use Rattle.hmc_packet.specs.Packet.{PacketFields, flits_of}
 use Rattle.hmc_packet.specs.Transactions.{asked}
 use Rattle.hmc_cube.specs.Places.{answers_at}
 use Rattle.hmc_journal.specs.declared.outcome.Outcome.{Outcome}
 use Rattle.hmc_journal.specs.declared.entry.Entry.{Entry}
 use Rattle.hmc_journal.specs.declared.entry.Entry.TheVariants.{Gave, Sent, Landed, Shifted, Dropped, Spread, Executed, Lifted, Took, Discarded, Idle}
-use Rattle.hmc_journal.specs.Setup.{Topology}
-use Rattle.hmc_journal.specs.Rooms.{Room, is_at, leaves, begins, front_of, tag_number, arrival, left, begun, contents}
+use Rattle.hmc_journal.specs.Rooms.{is_at, leaves, front_of, tag_number}
 use Rattle.hmc_journal.specs.Rooms.Room.{Output, Port, Host}
-use Rattle.hmc_journal.specs.Sight.{Sending, last_numbered, sending_with}
-use Rattle.hmc_journal.specs.Wires.{sent_flits, landed_flits, one_sent, unsent, pending, accepted}
+use Rattle.hmc_journal.specs.Wires.{sent_flits, landed_flits, unsent, pending, accepted}
 use Rattle.hmc_net.specs.Held.{NetFields, topology_of, inside}
 use Rattle.hmc_net.specs.After.{after, without_front, without_host_front}
 use Rattle.hmc_net.specs.Stands.{IsWay}
-use Rattle.hmc_net.specs.Wire.{WireFields, continued_by}
 use Rattle.hmc_net.proofs.Holding.{same_number}
-use Rattle.hmc_net.proofs.Fits.{HasFront, IsNewOf, IsEntryOf}
-use Rattle.hmc_net.proofs.Rooms.{AreTold, front_told, buffer_is, begins_at, continues_at}
-use Rattle.hmc_net.proofs.Ways.{IsBehind, AreSameFlits, same_way}
-use Rattle.hmc_net.proofs.WaySteps.{IsSentFlit, IsLandedFlit, begun_way, further_way, landed_way, released_way}
+use Rattle.hmc_net.proofs.Fits.{HasFront, IsEntryOf}
+use Rattle.hmc_net.proofs.Rooms.{AreTold, buffer_is}
+use Rattle.hmc_net.proofs.Ways.{AreSameFlits, same_way}
+use Rattle.hmc_net.proofs.WaySteps.{IsLandedFlit, landed_way, released_way}
 use Rattle.hmc_net.proofs.WaysAfter.{IsQuiet, AreFirst, AreWays, IsLast, quiet_flits, quiet_ways, sent_ways}
 
 -- ---- landings

@@ -1,7 +1,6 @@
 -- The words of the parts as entries.
-use Rattle.std.specs.Prelude.{◌≡◌, ℕ, true, if◌then◌else◌, List, [], ◌∷◌, Option, Some, None}
+use Rattle.std.specs.Prelude.{◌≡◌, ℕ, true, List, [], ◌∷◌, Option, Some, None}
 use Rattle.hmc_codes.specs.Commands.{is_posted}
-use Rattle.hmc_codes.specs.Shape.{ShapeFields, vault_of}
 use Rattle.hmc_codes.specs.declared.unit.Unit.{Unit as RequestUnit}
 use Rattle.hmc_packet.specs.Packet.{PacketFields}
 use Rattle.hmc_packet.specs.Transactions.{asked}
@@ -14,14 +13,11 @@ use Rattle.hmc_vault.specs.declared.spread.Spread.TheVariants as spreads
 use Rattle.hmc_schedule.specs.declared.step.Step.{Step}
 use Rattle.hmc_schedule.specs.declared.step.Step.TheVariants as steps
 use Rattle.hmc_journal.specs.declared.outcome.Cause.TheVariants as causes
-use Rattle.hmc_journal.specs.declared.outcome.Goal.{Goal}
-use Rattle.hmc_journal.specs.declared.outcome.Goal.TheVariants as goals
 use Rattle.hmc_journal.specs.declared.entry.Entry.{Entry}
 use Rattle.hmc_journal.specs.declared.entry.Entry.TheVariants as entries
 use Rattle.hmc_journal.specs.declared.entry.Entry.TheVariants.{Executed, Idle}
 use Rattle.hmc_journal.specs.Next.{tag_of}
 use Rattle.hmc_journal.specs.Rooms.{tag_number}
-use Rattle.hmc_journal.specs.Setup.{is_for_registers}
 use Rattle.hmc_net.specs.Wire.{WireFields, has_room, handed}
 
 -- what an execution by a unit is as an entry
@@ -44,10 +40,6 @@ given_to _ wire = wire
 abbrev pub IsGiven : Given → WireFields → Type 0
 IsGiven (Gave packet request tag poisoned) wire = (has_room wire ≡ true) × (packet ≡ asked request (tag_number tag) 0 poisoned)
 IsGiven _ wire = Unit {0}
-
--- where a packet goes from the port's buffer
-abbrev pub goal_by : ShapeFields → PacketFields → Goal
-goal_by shape packet = if is_for_registers packet.command then goals.Registers else goals.Vault (vault_of shape packet.address)
 
 -- what a spread is as an entry
 abbrev pub spread_by : (vault : ℕ) → Spread → Entry

@@ -4,19 +4,9 @@ use Rattle.hmc_codes.specs.Link.{LinkFields}
 use Rattle.hmc_script.specs.Items.{ItemFields}
 use Rattle.hmc_cube.specs.Cube.{opening_cube}
 use Rattle.hmc_host.specs.Host.{opening_host}
-use Rattle.hmc_case.specs.Case.{CaseFields}
 use Rattle.hmc_case.specs.declared.setup.CubeSetup.{CubeSetup}
-use Rattle.hmc_journal.specs.Setup.{Setup}
 use Rattle.hmc_net.specs.Held.{NetFields}
 use Rattle.hmc_net.specs.Wire.{opening_wire}
-
--- what stands where, what hosts ask, and the steps
-abbrev pub setup_of : CaseFields → Setup
-setup_of case = record {
-  topology = record { cubes = case.net.cubes; links = case.net.links };
-  script = case.script;
-  schedule = case.schedule;
-}
 
 -- nothing happened, and the journal has room for so many steps
 abbrev pub opening_net : CubeSetup → LinkFields → (port : ℕ) → (script : List ItemFields) → (steps : ℕ) → NetFields

@@ -1,7 +1,7 @@
 -- What each direction keeps.
 use Rattle.std.specs.Prelude.{◌≡◌, ◌≤◌, ◌<◌, ℕ, List, All, length}
-use Rattle.hmc_packet.specs.Packet.{PacketFields, IsPacket, flits_of}
-use Rattle.hmc_packet.specs.Spelling.{HasPointer, spelling}
+use Rattle.hmc_packet.specs.Packet.{IsPacket, flits_of}
+use Rattle.hmc_packet.specs.Spelling.{spelling}
 use Rattle.hmc_packet.specs.Tail.{pointers}
 use Rattle.hmc_journal.specs.Sight.{Sending}
 use Rattle.hmc_net.specs.Wire.{WireFields, IsTransaction}

@@ -1,7 +1,7 @@
 //! The network: its host, its link and its cube, one step at a time.
 //!
-//! Until there are chains and several hosts it is one cube and one link, which joins host 0 to a port of the cube over a
-//! sound wire.
+//! Until there are chains and several hosts it is one cube and one link, which joins host 0 to a port of the cube and lands
+//! each flit as it was sent.
 //!
 //! The model: a network is the record of its parts as their own layers see them, and its journal (`NetFields`). That it
 //! stands for a case (`StandsFor`) says that the journal is lawful and that each part is as the journal tells: the packets in
@@ -16,6 +16,10 @@
 //!
 //! The layer above rests on `StandsFor` and on the laws of lawful journals alone. A `Wire` is one direction of the link: the
 //! output queue, the line, and what the sender and the receiver know.
+//!
+//! In `specs/`, `Stands` has that relation, over the parts in `Held` and the wires in `Wire`, and `Opening` the network of a
+//! case. The others are steps of the proof: what the parts' words are as entries (`Acts`), what an entry leaves (`After`), what
+//! parts keep and a step relies on (`WireKept`, `Ready`), when nothing is on its way (`Still`), and `Went`.
 #![tactic(auto)]
 
 mod net;

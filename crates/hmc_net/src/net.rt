@@ -5,10 +5,10 @@ ghost use Rattle.hmc_tokens.specs.FlitBuffer.{packets_of};
 ghost use Rattle.hmc_host.specs.Tags.{number_out};
 ghost use Rattle.hmc_journal.specs.Drained.{is_drained};
 ghost use Rattle.hmc_journal.specs.Next.{choice, next};
-ghost use Rattle.hmc_journal.specs.Setup.{Setup, port_at};
-ghost use Rattle.hmc_net.specs.After.{after, noted};
+ghost use Rattle.hmc_journal.specs.Setup.{Setup, setup_of, port_at};
+ghost use Rattle.hmc_net.specs.After.{after};
 ghost use Rattle.hmc_net.specs.Held.{topology_of, sight_by};
-ghost use Rattle.hmc_net.specs.Opening.{setup_of, opening_net};
+ghost use Rattle.hmc_net.specs.Opening.{opening_net};
 ghost use Rattle.hmc_net.specs.Ready.{IsReady, IsStepFor};
 ghost use Rattle.hmc_net.specs.Stands.{StandsFor, IsNext};
 ghost use Rattle.hmc_net.specs.Still.{IsStill};
@@ -52,7 +52,7 @@ pub struct Net {
 impl Model for Net {
     ghost use Rattle.hmc_tokens.specs.FlitBuffer.{packets_of, size_of};
     ghost use Rattle.hmc_net.specs.Held.{NetFields};
-    ghost use Rattle.hmc_net.specs.Opening.{setup_of, opening_net};
+    ghost use Rattle.hmc_net.specs.Opening.{opening_net};
     ghost use Rattle.hmc_net.specs.Ready.{IsNet};
 
     ghost Value = { NetFields };
@@ -231,6 +231,3 @@ fn is_empty(buffer: &FlitBuffer) -> bool
 {
     buffer.front().is_none()
 }
-
-#[cfg(test)]
-mod tests;

@@ -1,7 +1,7 @@
 //! A packet that is being sent.
 
-ghost use Rattle.std.specs.Prelude.{◌≡◌, ◌≤◌, ◌<◌, ◌-◌, ℕ, [], length, slice_index_or};
-ghost use Rattle.hmc_packet.specs.Packet.{IsPacket, flits_of};
+ghost use Rattle.std.specs.Prelude.{◌≡◌, ◌<◌, ◌-◌, ℕ};
+ghost use Rattle.hmc_packet.specs.Packet.{flits_of};
 ghost use Rattle.hmc_packet.specs.Parts.{lng_of};
 ghost use Rattle.hmc_packet.specs.Spelling.{spelling};
 ghost use Rattle.hmc_packet.specs.Tail.{pointers};

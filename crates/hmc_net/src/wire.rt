@@ -1,7 +1,6 @@
 //! One direction of a link.
 
-ghost use Rattle.std.specs.Prelude.{◌≡◌, ◌≤◌, ◌<◌, ◌↔◌, IsTrue, ◌+◌, ◌-◌, ◌%◌, [], ◌∷◌, ◌++◌, true, IfOk, length, sum_by, slice_get};
-ghost use Rattle.hmc_packet.specs.Packet.{flits_of};
+ghost use Rattle.std.specs.Prelude.{◌≡◌, ◌≤◌, ◌<◌, ◌↔◌, IsTrue, ◌+◌, ◌-◌, ◌%◌, [], ◌∷◌, ◌++◌, true, IfOk, length};
 ghost use Rattle.hmc_packet.specs.Tail.{pointers};
 ghost use Rattle.hmc_journal.specs.declared.entry.Entry.TheVariants.{Sent};
 ghost use Rattle.hmc_packet.specs.Reading.{read_of};

@@ -1,9 +1,9 @@
 //! The steps of cubes.
 
-ghost use Rattle.std.specs.Prelude.{◌≡◌, ◌≤◌, ◌<◌, ◌^◌};
+ghost use Rattle.std.specs.Prelude.{◌≡◌, ◌<◌, ◌^◌};
 ghost use Rattle.hmc_codes.specs.Commands.{is_posted};
-ghost use Rattle.hmc_journal.specs.Next.{choice, tag_of};
-ghost use Rattle.hmc_net.specs.Acts.{ran_by, goal_by, spread_by};
+ghost use Rattle.hmc_journal.specs.Next.{choice, goal_by, tag_of};
+ghost use Rattle.hmc_net.specs.Acts.{ran_by, spread_by};
 ghost use Rattle.hmc_net.specs.After.{after, to_of};
 ghost use Rattle.hmc_net.specs.Held.{topology_of, sight_by};
 ghost use Rattle.hmc_net.specs.Ready.{IsReady, IsLiftFor};

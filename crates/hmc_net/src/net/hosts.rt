@@ -1,9 +1,9 @@
 //! The steps of hosts.
 
-ghost use Rattle.std.specs.Prelude.{◌≡◌, ◌≤◌};
+ghost use Rattle.std.specs.Prelude.{◌≡◌};
 ghost use Rattle.hmc_journal.specs.Next.{choice, gave, took};
 ghost use Rattle.hmc_net.specs.Acts.{IsGiven, given_to};
-ghost use Rattle.hmc_net.specs.After.{after, without_host_front};
+ghost use Rattle.hmc_net.specs.After.{after};
 ghost use Rattle.hmc_net.specs.Held.{topology_of, sight_by};
 ghost use Rattle.hmc_net.specs.Ready.{IsReady};
 

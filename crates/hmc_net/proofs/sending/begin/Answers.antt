@@ -1,9 +1,8 @@
 -- The first flit of the numbered packet.
-use Rattle.std.proofs.Common.{◌≡◌, ◌<◌, ◌-◌, ◌∙◌, [], length, slice_index_or, ap, sym, subst, arith}
-use Rattle.hmc_packet.specs.Packet.{PacketFields, IsPacket, flits_of}
+use Rattle.std.proofs.Common.{◌≡◌, ◌-◌, ◌∙◌, [], slice_index_or, ap, sym, subst, arith}
+use Rattle.hmc_packet.specs.Packet.{flits_of}
 use Rattle.hmc_packet.specs.Parts.{lng_of}
-use Rattle.hmc_packet.proofs.PacketLemmas.{flits_of-few}
-use Rattle.hmc_journal.specs.Sight.{numbered, sending_with}
+use Rattle.hmc_journal.specs.Sight.{sending_with}
 use Rattle.hmc_net.specs.Wire.{IsTransaction}
 use Rattle.hmc_net.proofs.Spelled.{has_pointer, at_spelled, lng_begun}
 use Rattle.hmc_net.proofs.sending.begin.Goals as goal

@@ -1,5 +1,5 @@
 -- An execution by a bank is an entry.
-use Rattle.std.proofs.Common.{◌≡◌, ◌<◌, ◌^◌, ◌∙◌, ap, sym, subst, arith}
+use Rattle.std.proofs.Common.{◌≡◌, ◌∙◌, ap, subst}
 use Rattle.hmc_cube.specs.After.{bank_says, after_execute}
 use Rattle.hmc_net.specs.Held.{NetFields}
 use Rattle.hmc_net.proofs.CubeChoices.{bank_entry, bank_held}

@@ -1,9 +1,8 @@
 -- The network of a case stands for it.
-use Rattle.std.proofs.Common.{◌≡◌, ◌<◌, ◌∙◌, length, ap, sym, subst}
+use Rattle.std.proofs.Common.{◌<◌, ◌∙◌, length, ap, sym, subst}
 use Rattle.std.specs.Prelude.{slice_index_or}
 use Rattle.hmc_script.specs.Items.{IsScript}
-use Rattle.hmc_journal.specs.Setup.{port_at}
-use Rattle.hmc_net.specs.Opening.{setup_of, opening_net}
+use Rattle.hmc_journal.specs.Setup.{setup_of, port_at}
 use Rattle.hmc_net.specs.Stands.{StandsFor}
 use Rattle.hmc_net.proofs.Cases.{only_one, only_of, one_cube_of, steps_fit, first_same}
 use Rattle.hmc_net.proofs.Opening.{built_stands, ok_then}

@@ -1,5 +1,4 @@
 -- No part holds a packet exactly where the test of all rooms says so.
-use Rattle.std.proofs.Common.{◌≡◌, ◌∙◌, true, false, sym}
 use Rattle.hmc_net.proofs.Stillness.{drained_test}
 use Rattle.hmc_net.proofs.net.Net.drained.Goals as goal
 

@@ -1,10 +1,9 @@
 -- What the host gives is an entry, and goes to the link.
-use Rattle.std.proofs.Common.{◌≡◌, ◌∙◌, ap, sym, subst}
-use Rattle.hmc_host.specs.Host.{HostFields}
+use Rattle.std.proofs.Common.{◌≡◌, ◌∙◌, ap, subst}
 use Rattle.hmc_host.specs.Give.{give_says, after_give}
 use Rattle.hmc_net.specs.Acts.{IsGiven, given_to}
 use Rattle.hmc_net.specs.Held.{NetFields}
-use Rattle.hmc_net.specs.Wire.{WireFields, has_room}
+use Rattle.hmc_net.specs.Wire.{has_room}
 use Rattle.hmc_net.proofs.Choices.{given_is, give_entry, give_held}
 use Rattle.hmc_net.proofs.net.Net.give.Goals as goal
 

@@ -1,5 +1,5 @@
 -- What lands is an entry, and enters the buffer when it is whole.
-use Rattle.std.proofs.Common.{◌≡◌, ◌∙◌, ◌++◌, ap, sym, subst, arith}
+use Rattle.std.proofs.Common.{◌∙◌, ◌++◌, ap, arith}
 use Rattle.hmc_tokens.specs.FlitBuffer.{packets_of}
 use Rattle.hmc_journal.specs.Next.{landed}
 use Rattle.hmc_net.specs.Acts.{packets_in}

@@ -1,11 +1,9 @@
 -- An answer that is lifted is an entry.
-use Rattle.std.proofs.Common.{◌≡◌, ◌∙◌, not, ap, sym, subst, arith}
+use Rattle.std.proofs.Common.{◌≡◌, ◌∙◌, not, ap, sym, subst}
 use Rattle.std.specs.Prelude.{slice_get}
-use Rattle.std.specs.List.{All}
 use Rattle.hmc_cube.specs.Places.{IsLift, answers_at}
 use Rattle.hmc_schedule.specs.declared.step.Step.TheVariants as steps
 use Rattle.hmc_journal.specs.declared.entry.Entry.TheVariants as entries
-use Rattle.hmc_journal.specs.Housed.{IsReply}
 use Rattle.hmc_journal.specs.Next.{unless_full}
 use Rattle.hmc_net.specs.Held.{NetFields}
 use Rattle.hmc_net.specs.Wire.{has_room}

@@ -1,5 +1,5 @@
 -- New parts fit together.
-use Rattle.std.proofs.Common.{◌≡◌, ◌∙◌, ap}
+use Rattle.std.proofs.Common.{◌∙◌, ap}
 use Rattle.hmc_codes.specs.Link.{LinkFields}
 use Rattle.hmc_host.specs.Host.{HostFields}
 use Rattle.hmc_net.specs.Wire.{WireFields}

@@ -1,5 +1,5 @@
 -- An execution by the registers is an entry.
-use Rattle.std.proofs.Common.{◌≡◌, ◌∙◌, ap, sym, subst, arith}
+use Rattle.std.proofs.Common.{◌≡◌, ◌∙◌, ap, subst}
 use Rattle.hmc_cube.specs.After.{registers_say, after_registers}
 use Rattle.hmc_net.specs.Held.{NetFields}
 use Rattle.hmc_net.proofs.CubeChoices.{registers_entry, registers_held}

@@ -1,5 +1,5 @@
 -- What is sent is an entry.
-use Rattle.std.proofs.Common.{◌≡◌, ◌∙◌, ap, sym, subst, arith}
+use Rattle.std.proofs.Common.{◌≡◌, ◌∙◌, ap, subst, arith}
 use Rattle.hmc_journal.specs.Next.{sent}
 use Rattle.hmc_net.specs.Held.{NetFields}
 use Rattle.hmc_net.specs.Wire.{way_by, after_send}

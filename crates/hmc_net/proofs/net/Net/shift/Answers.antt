@@ -1,11 +1,11 @@
 -- Where the front goes is an entry.
-use Rattle.std.proofs.Common.{◌≡◌, ◌≤◌, ◌<◌, ◌∙◌, true, false, length, ap, sym, subst, arith}
+use Rattle.std.proofs.Common.{◌≡◌, ◌≤◌, ◌<◌, ◌∙◌, true, false, length, ap, sym, subst}
 use Rattle.std.specs.Prelude.{slice_get}
 use Rattle.hmc_packet.specs.Packet.{PacketFields}
 use Rattle.hmc_cube.specs.Places.{IsFor, entrance}
 use Rattle.hmc_journal.specs.Housed.{IsAsk}
 use Rattle.hmc_journal.specs.Wires.{flits_in}
-use Rattle.hmc_net.specs.Acts.{goal_by}
+use Rattle.hmc_journal.specs.Next.{goal_by}
 use Rattle.hmc_net.specs.After.{to_of}
 use Rattle.hmc_net.specs.Held.{NetFields}
 use Rattle.hmc_net.proofs.Choices.{front_all, front_flits}

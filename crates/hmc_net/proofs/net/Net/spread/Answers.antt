@@ -1,5 +1,5 @@
 -- A spread is an entry.
-use Rattle.std.proofs.Common.{◌≡◌, ◌<◌, ◌^◌, ◌∙◌, length, ap, sym, subst, arith}
+use Rattle.std.proofs.Common.{◌≡◌, ◌<◌, ◌^◌, ◌∙◌, length, ap, subst, arith}
 use Rattle.hmc_codes.specs.Shape.{ShapeFields}
 use Rattle.hmc_vault.specs.Spread.{spread_says}
 use Rattle.hmc_cube.specs.Cube.{vault_at}

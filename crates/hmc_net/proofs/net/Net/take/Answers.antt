@@ -1,5 +1,5 @@
 -- What the host takes is an entry, and leaves its buffer.
-use Rattle.std.proofs.Common.{◌≡◌, ◌∙◌, ap, sym, subst}
+use Rattle.std.proofs.Common.{◌∙◌, ap, sym}
 use Rattle.std.specs.Prelude.{drop, slice_get}
 use Rattle.hmc_tokens.specs.FlitBuffer.{packets_of}
 use Rattle.hmc_net.specs.Held.{NetFields}

@@ -1,5 +1,5 @@
 -- All flits but the last are those with any pointer.
-use Rattle.std.proofs.Common.{◌≡◌, ◌<◌, ◌-◌, ◌∙◌, [], length, slice_index_or, ap, sym, arith}
+use Rattle.std.proofs.Common.{◌-◌, ◌∙◌, ap, arith}
 use Rattle.hmc_packet.specs.Packet.{flits_of}
 use Rattle.hmc_journal.specs.Sight.{Sending}
 use Rattle.hmc_journal.specs.Next.{flit_of}

@@ -1,6 +1,6 @@
 -- Each packet costs the queue 1.
 use Rattle.std.proofs.Common.{◌∙◌, ap}
-use Rattle.hmc_tokens.specs.Queue.{packets_of, size_of}
+use Rattle.hmc_tokens.specs.Queue.{packets_of}
 use Rattle.hmc_net.specs.Wire.{WireFields}
 use Rattle.hmc_net.proofs.WireLemmas.{tests_room}
 use Rattle.hmc_net.proofs.wire.Wire.room.Goals as goal
