@@ -1,10 +1,13 @@
 //! The program: the words of the command line, standard input and standard output, handed to `replay`.
 #![tactic(auto)]
 
-ghost use Rattle.std.specs.Prelude.{◌≡◌, ◌≢◌};
+ghost use Rattle.std.specs.Prelude.{◌≡◌, ◌≢◌, ◌↔◌, false, map, string_bytes, IfOk, IfErr};
+ghost use Rattle.std.specs.Process.{exit_status};
+ghost use Rattle.hmc_replay.specs.Top.{is_run, IsReported};
 
-use hmc_outside::{StdSink, StdSource};
+use hmc_outside::{Sink, Source, StdSink, StdSource};
 use hmc_replay::replay;
+use std::alloc::Global;
 use std::env::Env;
 use std::io::ErrorKind;
 use std::process::ExitCode;
@@ -37,13 +40,25 @@ fn words(rt: &(impl Env + AllocGlobal)) -> Result<Vec<String>, u8> {
     words.collect(rt.alloc()).map_err(|_| WANT_OF_MEMORY)
 }
 
-fn main(rt: HostRuntime) -> ExitCode {
-    match words(&rt) {
-        Ok(words) => {
-            let mut source = StdSource::new(rt.reader());
-            let mut sink = StdSink::new(io::writer(&rt));
-            ExitCode::from(replay(rt.alloc(), &words, &mut source, &mut sink))
-        }
+// Replays where the words can be had, and ends with the status of that; else with theirs.
+fn end<S: Source, O: Sink>(
+    alloc: Global,
+    words: Result<Vec<String>, u8>,
+    source: &mut S,
+    sink: &mut O,
+) -> ExitCode
+    ensures without_words { IfErr words (λ status. exit_status result ≡ status) }
+    ensures usage { IfOk words (λ words. (exit_status result ≡ 2) ↔ (is_run (map string_bytes words.items) ≡ false)) }
+    ensures reported { IfOk words (λ _. exit_status result ≡ 0 → IsReported (S.left source.old) (S.left source.new) (O.held sink.old) (O.held sink.new)) }
+{
+    match words {
+        Ok(words) => ExitCode::from(replay(alloc, &words, source, sink)),
         Err(status) => ExitCode::from(status),
     }
+}
+
+fn main(rt: HostRuntime) -> ExitCode {
+    let mut source = StdSource::new(rt.reader());
+    let mut sink = StdSink::new(io::writer(&rt));
+    end(rt.alloc(), words(&rt), &mut source, &mut sink)
 }

@@ -4,3 +4,4 @@ pub mod CubeLines
 pub mod Counting
 pub mod Finals
 pub mod Reports
+mod Worked

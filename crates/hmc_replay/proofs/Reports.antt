@@ -1,48 +1,28 @@
 -- The report of a case, and what its journal tells, from the network behind the case's steps.
-use Rattle.std.proofs.Common.{◌≡◌, ◌∙◌, ℕ, Bool, true, List, ◌∷◌, [], ◌++◌, length, sym, ap, subst}
+use Rattle.std.proofs.Common.{◌≡◌, ◌∙◌, ℕ, Bool, List, ◌∷◌, [], ◌++◌, sym, ap}
 use Rattle.std.specs.Prelude.{reverse}
 use Rattle.std.specs.List.{flat_map}
 use Rattle.hmc_serial.specs.Cube.{CubeState}
-use Rattle.hmc_serial.specs.Machine.{opening_state}
 use Rattle.hmc_host.specs.Host.{HostFields}
 use Rattle.hmc_host.specs.Tags.{number_out}
 use Rattle.hmc_case.specs.Case.{CaseFields}
 use Rattle.hmc_journal.specs.declared.entry.Entry.{Entry}
-use Rattle.hmc_journal.specs.Carried.{IsCarried, IsSettled}
 use Rattle.hmc_journal.specs.Counts.{HostCounts, CubeCounts, host_counts, cube_counts}
-use Rattle.hmc_journal.specs.Drained.{IsDrained, is_drained}
+use Rattle.hmc_journal.specs.Drained.{is_drained}
 use Rattle.hmc_journal.specs.Final.{final_text}
 use Rattle.hmc_journal.specs.Hosts.{host_of, tags_out}
-use Rattle.hmc_journal.specs.Lawful.{Lawful, IsWhole, journal_of}
+use Rattle.hmc_journal.specs.Lawful.{journal_of}
 use Rattle.hmc_journal.specs.Lines.{line_of}
-use Rattle.hmc_journal.specs.Serial.{IsSerial}
-use Rattle.hmc_journal.specs.Setup.{Topology, Setup, shapes_of, setup_of}
+use Rattle.hmc_journal.specs.Setup.{Topology, Setup, setup_of}
 use Rattle.hmc_journal.specs.Sight.{state_of}
 use Rattle.hmc_journal.specs.Text.{text_of}
-use Rattle.hmc_journal.specs.Told.{IsTold}
-use Rattle.hmc_net.specs.Held.{NetFields, topology_of}
+use Rattle.hmc_net.specs.Held.{NetFields}
 use Rattle.hmc_net.specs.Stands.{StandsFor}
 use Rattle.hmc_replay.specs.Counting.{counts_of}
 use Rattle.hmc_replay.specs.Report.{host_counted, cube_counted, final_lines}
 use Rattle.hmc_replay.specs.Top.{report_of}
 use Rattle.hmc_replay.specs.declared.counts.Counts.{Counts}
-use Rattle.hmc_net.proofs.DrainedTest.{drained_by_test}
 use Rattle.hmc_replay.proofs.Finals.{final_of_one}
-
-pub told_of : (setup : Setup) (past : List Entry) → IsWhole setup past → past ≡ journal_of setup → IsSerial (opening_state (shapes_of setup.topology)) past
-    → ((earlier : List Entry) → Lawful setup earlier → IsCarried setup.topology earlier) → ((later earlier : List Entry) → Lawful setup (later ++ earlier) → Lawful setup earlier)
-    → (is_drained setup.topology past ≡ true → IsSettled setup.topology past) → IsTold setup (journal_of setup)
-told_of setup past whole is serial carried fronts settled =
-    subst (IsTold setup) is (record {
-      whole = whole;
-      serial = serial;
-      carried = λ later earlier parts. carried earlier (fronts later earlier (subst (Lawful setup) parts whole.lawful));
-      settled = settled;
-    })
-
-pub settled_of : (net : NetFields) (setup : Setup) → StandsFor net setup → (IsDrained setup.topology net.journal.past → IsSettled setup.topology net.journal.past)
-    → is_drained setup.topology net.journal.past ≡ true → IsSettled setup.topology net.journal.past
-settled_of net setup stands settles test = settles (drained_by_test setup net.journal.past stands.one_cube stands.lawful test)
 
 -- what was counted is what the journal counts
 host_counted_is : (net : NetFields) (setup : Setup) (counts : Counts) (out : ℕ) → StandsFor net setup → counts ≡ counts_of net.journal.past → out ≡ number_out net.host.tags → host_counted counts out ≡ host_counts net.journal.past 0

@@ -1,5 +1,5 @@
 -- What the entries of a journal count for host 0 and cube 0.
-use Rattle.std.specs.Prelude.{◌≤◌, ℕ, ◌==◌, List, length}
+use Rattle.std.specs.Prelude.{◌≤◌, ℕ, ◌==◌, List}
 use Rattle.hmc_journal.specs.declared.entry.Entry.{Entry}
 use Rattle.hmc_journal.specs.declared.entry.Entry.TheVariants.{Gave, Executed, Took, Dropped}
 use Rattle.hmc_journal.specs.Counts.{cube_of, taken_count, executed_count, dropped_count}

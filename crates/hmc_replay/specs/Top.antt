@@ -1,12 +1,13 @@
 -- What the top call makes of its words and its input.
-use Rattle.std.specs.Prelude.{◌≡◌, ◌⊎◌, ℕ, Bool, true, false, List, [], ◌∷◌, ◌++◌, codes, bytes_eq, Option, Some, None, Result, Ok, Err}
+use Rattle.std.specs.Prelude.{◌≡◌, ◌≤◌, ◌⊎◌, ℕ, suc, nat_le, if◌then◌else◌, Bool, false, List, [], ◌∷◌, ◌++◌, length, codes, bytes_eq, Option, Result, Ok, Err}
 use Rattle.std.specs.Fmt.{decimal}
-use Rattle.std.specs.Io.KnownBytes.{Appends}
+use Rattle.std.specs.Io.KnownBytes.{Appends, Consumes}
+use Rattle.hmc_outside.specs.Front.{AppendsFront}
 use Rattle.hmc_codes.specs.Text.{line}
 use Rattle.hmc_case.specs.Case.{CaseFields, case_of}
 use Rattle.hmc_case.specs.Reading.{Fault}
-use Rattle.hmc_case.specs.Words.{section_word, kind_word}
-use Rattle.hmc_journal.specs.Setup.{Setup, setup_of}
+use Rattle.hmc_case.specs.Kind.{section_word, kind_word}
+use Rattle.hmc_journal.specs.Setup.{setup_of}
 use Rattle.hmc_journal.specs.Final.{final_text}
 use Rattle.hmc_journal.specs.Lawful.{journal_of}
 use Rattle.hmc_journal.specs.Text.{text_of}
@@ -36,13 +37,13 @@ report_of case =
     let setup = setup_of case in
     text_of (journal_of setup) ++ final_text setup.topology (journal_of setup)
 
--- what is to be written for an input
+-- what is to be written for an input: nothing where it is too long to be judged
 abbrev pub output_for : Result CaseFields Fault → List ℕ
 output_for (Ok case) = report_of case
 output_for (Err fault) = bad_line fault
 
 abbrev pub output_of : List ℕ → List ℕ
-output_of input = output_for (case_of input)
+output_of input = if nat_le (length input) most_bytes then output_for (case_of input) else []
 
 -- the input is a case
 abbrev pub IsCaseText : List ℕ → Type 0
@@ -53,14 +54,39 @@ abbrev pub IsFaulty : List ℕ → Type 0
 IsFaulty input = (fault : Fault) × (case_of input ≡ Err fault)
 
 -- the input is a case, its report was written whole, and this is what the report's journal tells
-pub record IsReported (input : List ℕ) (held held' : Option (List ℕ)) : Type 0 where
+pub record IsReportOf (input : List ℕ) (held held' : Option (List ℕ)) : Type 0 where
   pub case : CaseFields
   pub is_case : case_of input ≡ Ok case
   pub written : Appends held held' (report_of case)
   pub told : IsTold (setup_of case) (journal_of (setup_of case))
 
 -- the input is no case, and the line that says so was written
-pub record IsRefused (input : List ℕ) (held held' : Option (List ℕ)) : Type 0 where
+pub record IsRefusalOf (input : List ℕ) (held held' : Option (List ℕ)) : Type 0 where
   pub fault : Fault
   pub is_fault : case_of input ≡ Err fault
   pub written : Appends held held' (bad_line fault)
+
+-- so many bytes came from a source, of which this is left before and behind
+pub record Came (most : ℕ) (left left' : Option (List ℕ)) : Type 0 where
+  pub input : List ℕ
+  pub few : length input ≤ most
+  pub consumed : Consumes left left' input
+
+-- what came is an input that was reported, or refused
+pub record IsReported (left left' held held' : Option (List ℕ)) : Type 0 where
+  pub came : Came most_bytes left left'
+  pub report : IsReportOf came.input held held'
+
+pub record IsRefused (left left' held held' : Option (List ℕ)) : Type 0 where
+  pub came : Came most_bytes left left'
+  pub refusal : IsRefusalOf came.input held held'
+
+-- one byte more came than an input may have
+pub record IsTooLong (left left' : Option (List ℕ)) : Type 0 where
+  pub came : Came (suc most_bytes) left left'
+  pub full : length came.input ≡ suc most_bytes
+
+-- what was written is a first part of what is to be written for what came
+pub record IsAnswered (left left' held held' : Option (List ℕ)) : Type 0 where
+  pub came : Came (suc most_bytes) left left'
+  pub written : AppendsFront held held' (output_of came.input)

@@ -1,9 +1,10 @@
 //! Reading the input to its end.
 
-ghost use Rattle.std.specs.Prelude.{◌≡◌, ◌+◌, ◌≤◌, ◌<◌, ℕ, List, length, ◌++◌, IfOk, IsErrOf};
+ghost use Rattle.std.specs.Prelude.{◌≡◌, ◌⊎◌, ◌+◌, ◌≤◌, ◌<◌, suc, length, IfOk, IsErrOf};
 ghost use Rattle.std.specs.Io.KnownBytes.{Consumes, IsAtEnd};
 ghost use Rattle.hmc_outside.specs.Rose.{Rose};
 ghost use Rattle.hmc_replay.specs.Input.{ReadsPiece};
+ghost use Rattle.hmc_replay.specs.Top.{most_bytes, Came, IsTooLong};
 ghost use Rattle.hmc_replay.specs.declared.input.InputError.TheVariants.{Memory};
 
 use hmc_outside::Source;
@@ -44,8 +45,9 @@ fn read_piece<S: Source>(
     ensures within { IfOk result (λ n. n ≤ length piece.old) }
     ensures ended { IfOk result (λ n. n ≡ 0 → 0 < length piece.old → IsAtEnd (S.left source.new)) }
     ensures fault { IsErrOf result InputError.Fault → Rose (S.faults source.old) (S.faults source.new) }
+    ensures came { Came (length piece.old) (S.left source.old) (S.left source.new) }
     ensures not_judged { IsErrOf result InputError.TooLong → ⊥ }
-    ensures counted { S.faults source.old ≤ S.faults source.new }
+    ensures told { IsErrOf result InputError.Fault ⊎ (S.faults source.new ≡ S.faults source.old) }
 {
     let Ok(n) = source.read(piece) else {
         return Err(InputError::Fault);
@@ -58,11 +60,11 @@ fn read_piece<S: Source>(
 pub fn read_input<S: Source>(alloc: Global, source: &mut S) -> Result<Vec<u8>, InputError>
     ensures whole { IfOk result (λ input. Consumes (S.left source.old) (S.left source.new) input.items) }
     ensures ended { IfOk result (λ _. IsAtEnd (S.left source.new)) }
-    ensures within { IfOk result (λ input. length input.items ≤ 4194304) }
-    ensures too_long { IsErrOf result InputError.TooLong
-        → (bytes : List ℕ) × (length bytes ≡ 4194305) × Consumes (S.left source.old) (S.left source.new) bytes }
+    ensures within { IfOk result (λ input. length input.items ≤ most_bytes) }
+    ensures too_long { IsErrOf result InputError.TooLong → IsTooLong (S.left source.old) (S.left source.new) }
+    ensures came { Came (suc most_bytes) (S.left source.old) (S.left source.new) }
     ensures fault { IsErrOf result InputError.Fault → Rose (S.faults source.old) (S.faults source.new) }
-    ensures counted { S.faults source.old ≤ S.faults source.new }
+    ensures told { IsErrOf result InputError.Fault ⊎ (S.faults source.new ≡ S.faults source.old) }
 {
     let mut input = Vec::new(alloc);
     let mut piece = [0; PIECE];

@@ -1,6 +1,6 @@
 //! The lines of a cube's memory and registers.
 
-ghost use Rattle.std.specs.Prelude.{◌≡◌, ◌≤◌, ◌<◌, ◌+◌, ◌*◌, ◌/◌, ◌^◌, ◌∷◌, [], length, codes, slice_index, IfOk, OnOk, OnErr, IsErrOf, string_bytes};
+ghost use Rattle.std.specs.Prelude.{◌≡◌, ◌⊎◌, ◌<◌, ◌+◌, ◌*◌, ◌/◌, ◌^◌, ◌∷◌, [], codes, IfOk, OnOk, OnErr, IsErrOf, string_bytes};
 ghost use Rattle.std.specs.Io.KnownBytes.{Appends};
 ghost use Rattle.std.specs.Fmt.{decimal};
 ghost use Rattle.std.specs.Int.{w32, to_be_bytes};
@@ -8,7 +8,7 @@ ghost use Rattle.hex.specs.Hex.{encode_lower};
 ghost use Rattle.hmc_codes.specs.Text.{line, hex_number};
 ghost use Rattle.hmc_outside.specs.Rose.{Rose};
 ghost use Rattle.hmc_outside.specs.Front.{AppendsFront};
-ghost use Rattle.hmc_journal.specs.Final.{is_zero, memory_line, memory_lines, memory_text, register_line, register_lines, registers_text};
+ghost use Rattle.hmc_journal.specs.Final.{is_zero, memory_line, memory_text, register_line, registers_text};
 
 use crate::output::{OutputError, write_line};
 use hmc_codes::Memory;
@@ -51,7 +51,7 @@ fn write_block<O: Sink>(
     ensures written { OnOk result (Appends (O.held sink.old) (O.held sink.new) (memory_line cube block bytes.now)) }
     ensures front { OnErr result (AppendsFront (O.held sink.old) (O.held sink.new) (memory_line cube block bytes.now)) }
     ensures fault { IsErrOf result OutputError.Fault → Rose (O.faults sink.old) (O.faults sink.new) }
-    ensures counted { O.faults sink.old ≤ O.faults sink.new }
+    ensures told { IsErrOf result OutputError.Fault ⊎ (O.faults sink.new ≡ O.faults sink.old) }
 {
     if is_zero(bytes) {
         return Ok(());
@@ -70,7 +70,7 @@ pub fn write_memory<O: Sink>(
     ensures written { OnOk result (Appends (O.held sink.old) (O.held sink.new) (memory_text number cube.now.state)) }
     ensures front { OnErr result (AppendsFront (O.held sink.old) (O.held sink.new) (memory_text number cube.now.state)) }
     ensures fault { IsErrOf result OutputError.Fault → Rose (O.faults sink.old) (O.faults sink.new) }
-    ensures counted { O.faults sink.old ≤ O.faults sink.new }
+    ensures told { IsErrOf result OutputError.Fault ⊎ (O.faults sink.new ≡ O.faults sink.old) }
 {
     cube.keeps();
     let blocks = cube.capacity() / BLOCK;
@@ -102,7 +102,7 @@ fn write_register<O: Sink>(
     ensures written { OnOk result (Appends (O.held sink.old) (O.held sink.new) (register_line cube register value)) }
     ensures front { OnErr result (AppendsFront (O.held sink.old) (O.held sink.new) (register_line cube register value)) }
     ensures fault { IsErrOf result OutputError.Fault → Rose (O.faults sink.old) (O.faults sink.new) }
-    ensures counted { O.faults sink.old ≤ O.faults sink.new }
+    ensures told { IsErrOf result OutputError.Fault ⊎ (O.faults sink.new ≡ O.faults sink.old) }
 {
     if value == 0 {
         return Ok(());
@@ -121,7 +121,7 @@ pub fn write_registers<O: Sink>(
     ensures written { OnOk result (Appends (O.held sink.old) (O.held sink.new) (registers_text number cube.now.state)) }
     ensures front { OnErr result (AppendsFront (O.held sink.old) (O.held sink.new) (registers_text number cube.now.state)) }
     ensures fault { IsErrOf result OutputError.Fault → Rose (O.faults sink.old) (O.faults sink.new) }
-    ensures counted { O.faults sink.old ≤ O.faults sink.new }
+    ensures told { IsErrOf result OutputError.Fault ⊎ (O.faults sink.new ≡ O.faults sink.old) }
 {
     cube.keeps();
     'lines: for place in 0..SCRATCH {

@@ -1,6 +1,6 @@
 //! Writing a report, each line by one write.
 
-ghost use Rattle.std.specs.Prelude.{◌≡◌, ◌≤◌, OnOk, OnErr, IsErrOf};
+ghost use Rattle.std.specs.Prelude.{◌≡◌, ◌⊎◌, OnOk, OnErr, IsErrOf};
 ghost use Rattle.std.specs.Io.KnownBytes.{Appends};
 ghost use Rattle.std.specs.List.{flat_map};
 ghost use Rattle.hmc_outside.specs.Rose.{Rose};
@@ -34,7 +34,7 @@ pub fn write_line<O: Sink>(sink: &mut O, line: &str) -> Result<(), OutputError>
     ensures written { OnOk result (Appends (O.held sink.old) (O.held sink.new) line.now) }
     ensures front { OnErr result (AppendsFront (O.held sink.old) (O.held sink.new) line.now) }
     ensures fault { IsErrOf result OutputError.Fault → Rose (O.faults sink.old) (O.faults sink.new) }
-    ensures counted { O.faults sink.old ≤ O.faults sink.new }
+    ensures told { IsErrOf result OutputError.Fault ⊎ (O.faults sink.new ≡ O.faults sink.old) }
 {
     match sink.write(line.as_bytes()) {
         Ok(()) => Ok(()),
@@ -47,7 +47,7 @@ fn write_entry<O: Sink>(alloc: Global, sink: &mut O, entry: &Entry) -> Result<()
     ensures written { OnOk result (Appends (O.held sink.old) (O.held sink.new) (line_of entry.now)) }
     ensures front { OnErr result (AppendsFront (O.held sink.old) (O.held sink.new) (line_of entry.now)) }
     ensures fault { IsErrOf result OutputError.Fault → Rose (O.faults sink.old) (O.faults sink.new) }
-    ensures counted { O.faults sink.old ≤ O.faults sink.new }
+    ensures told { IsErrOf result OutputError.Fault ⊎ (O.faults sink.new ≡ O.faults sink.old) }
 {
     let line = entry.line(alloc)?;
     write_line(sink, line.as_str())
@@ -62,7 +62,7 @@ pub fn write_entries<O: Sink>(
     ensures written { OnOk result (Appends (O.held sink.old) (O.held sink.new) (flat_map line_of entries.now)) }
     ensures front { OnErr result (AppendsFront (O.held sink.old) (O.held sink.new) (flat_map line_of entries.now)) }
     ensures fault { IsErrOf result OutputError.Fault → Rose (O.faults sink.old) (O.faults sink.new) }
-    ensures counted { O.faults sink.old ≤ O.faults sink.new }
+    ensures told { IsErrOf result OutputError.Fault ⊎ (O.faults sink.new ≡ O.faults sink.old) }
 {
     for entry in entries {
         match write_entry(alloc, sink, entry) {

@@ -1,11 +1,9 @@
 //! The report of a run: the lines of its entries, and the final lines.
 
-ghost use Rattle.std.specs.Prelude.{◌≡◌, ◌≤◌, ◌<◌, ◌+◌, ◌^◌, ◌++◌, length, IfOk, OnOk, OnErr, IsErrOf, string_bytes};
+ghost use Rattle.std.specs.Prelude.{◌≡◌, ◌⊎◌, ◌<◌, IfOk, OnOk, OnErr, IsErrOf, string_bytes};
 ghost use Rattle.std.specs.Io.KnownBytes.{Appends};
 ghost use Rattle.hmc_outside.specs.Rose.{Rose};
 ghost use Rattle.hmc_outside.specs.Front.{AppendsFront};
-ghost use Rattle.hmc_case.specs.Case.{CaseFields};
-ghost use Rattle.hmc_journal.specs.Counts.{HostCounts, CubeCounts};
 ghost use Rattle.hmc_host.specs.Tags.{number_out};
 ghost use Rattle.hmc_journal.specs.Drained.{is_drained};
 ghost use Rattle.hmc_journal.specs.Final.{host_line, cube_line, state_line};
@@ -24,7 +22,7 @@ use crate::stepping::replayed;
 use hmc_case::Case;
 use hmc_codes::Memory;
 use hmc_cube::Cube;
-use hmc_journal::{lawful_is_carried, lawful_is_serial, one_journal, text_is_in_order};
+use hmc_journal::{journal_is_told, one_journal, text_is_in_order};
 use hmc_net::Net;
 use hmc_outside::Sink;
 use std::alloc::Global;
@@ -61,7 +59,7 @@ fn write_host<O: Sink>(alloc: Global, sink: &mut O, ending: &Ending) -> Result<(
     ensures written { OnOk result (Appends (O.held sink.old) (O.held sink.new) (host_line 0 (host_counted ending.now.counts ending.now.out))) }
     ensures front { OnErr result (AppendsFront (O.held sink.old) (O.held sink.new) (host_line 0 (host_counted ending.now.counts ending.now.out))) }
     ensures fault { IsErrOf result OutputError.Fault → Rose (O.faults sink.old) (O.faults sink.new) }
-    ensures counted { O.faults sink.old ≤ O.faults sink.new }
+    ensures told { IsErrOf result OutputError.Fault ⊎ (O.faults sink.new ≡ O.faults sink.old) }
 {
     let text = host_text(alloc, 0, &ending.counts, ending.out)?;
     write_line(sink, text.as_str())
@@ -72,7 +70,7 @@ fn write_cube<O: Sink>(alloc: Global, sink: &mut O, ending: &Ending) -> Result<(
     ensures written { OnOk result (Appends (O.held sink.old) (O.held sink.new) (cube_line 0 (cube_counted ending.now.counts))) }
     ensures front { OnErr result (AppendsFront (O.held sink.old) (O.held sink.new) (cube_line 0 (cube_counted ending.now.counts))) }
     ensures fault { IsErrOf result OutputError.Fault → Rose (O.faults sink.old) (O.faults sink.new) }
-    ensures counted { O.faults sink.old ≤ O.faults sink.new }
+    ensures told { IsErrOf result OutputError.Fault ⊎ (O.faults sink.new ≡ O.faults sink.old) }
 {
     let text = cube_text(alloc, 0, &ending.counts)?;
     write_line(sink, text.as_str())
@@ -92,7 +90,7 @@ fn write_state<O: Sink>(sink: &mut O, drained: bool) -> Result<(), OutputError>
     ensures written { OnOk result (Appends (O.held sink.old) (O.held sink.new) (state_line drained)) }
     ensures front { OnErr result (AppendsFront (O.held sink.old) (O.held sink.new) (state_line drained)) }
     ensures fault { IsErrOf result OutputError.Fault → Rose (O.faults sink.old) (O.faults sink.new) }
-    ensures counted { O.faults sink.old ≤ O.faults sink.new }
+    ensures told { IsErrOf result OutputError.Fault ⊎ (O.faults sink.new ≡ O.faults sink.old) }
 {
     write_line(sink, state_text(drained))
 }
@@ -105,7 +103,7 @@ fn write_cube_and_state<O: Sink>(
     ensures written { OnOk result (Appends (O.held sink.old) (O.held sink.new) (cube_and_state (cube_counted ending.now.counts) ending.now.drained)) }
     ensures front { OnErr result (AppendsFront (O.held sink.old) (O.held sink.new) (cube_and_state (cube_counted ending.now.counts) ending.now.drained)) }
     ensures fault { IsErrOf result OutputError.Fault → Rose (O.faults sink.old) (O.faults sink.new) }
-    ensures counted { O.faults sink.old ≤ O.faults sink.new }
+    ensures told { IsErrOf result OutputError.Fault ⊎ (O.faults sink.new ≡ O.faults sink.old) }
 {
     write_cube(alloc, sink, ending)?;
     write_state(sink, ending.drained)
@@ -115,7 +113,7 @@ fn write_counts<O: Sink>(alloc: Global, sink: &mut O, ending: &Ending) -> Result
     ensures written { OnOk result (Appends (O.held sink.old) (O.held sink.new) (counts_text (host_counted ending.now.counts ending.now.out) (cube_counted ending.now.counts) ending.now.drained)) }
     ensures front { OnErr result (AppendsFront (O.held sink.old) (O.held sink.new) (counts_text (host_counted ending.now.counts ending.now.out) (cube_counted ending.now.counts) ending.now.drained)) }
     ensures fault { IsErrOf result OutputError.Fault → Rose (O.faults sink.old) (O.faults sink.new) }
-    ensures counted { O.faults sink.old ≤ O.faults sink.new }
+    ensures told { IsErrOf result OutputError.Fault ⊎ (O.faults sink.new ≡ O.faults sink.old) }
 {
     write_host(alloc, sink, ending)?;
     write_cube_and_state(alloc, sink, ending)
@@ -130,7 +128,7 @@ fn write_registers_and_counts<O: Sink>(
     ensures written { OnOk result (Appends (O.held sink.old) (O.held sink.new) (registers_and_counts cube.now.state (host_counted ending.now.counts ending.now.out) (cube_counted ending.now.counts) ending.now.drained)) }
     ensures front { OnErr result (AppendsFront (O.held sink.old) (O.held sink.new) (registers_and_counts cube.now.state (host_counted ending.now.counts ending.now.out) (cube_counted ending.now.counts) ending.now.drained)) }
     ensures fault { IsErrOf result OutputError.Fault → Rose (O.faults sink.old) (O.faults sink.new) }
-    ensures counted { O.faults sink.old ≤ O.faults sink.new }
+    ensures told { IsErrOf result OutputError.Fault ⊎ (O.faults sink.new ≡ O.faults sink.old) }
 {
     write_registers(alloc, sink, 0, cube)?;
     write_counts(alloc, sink, ending)
@@ -146,7 +144,7 @@ fn write_final<O: Sink>(
     ensures written { OnOk result (Appends (O.held sink.old) (O.held sink.new) (final_lines cube.now.state (host_counted ending.now.counts ending.now.out) (cube_counted ending.now.counts) ending.now.drained)) }
     ensures front { OnErr result (AppendsFront (O.held sink.old) (O.held sink.new) (final_lines cube.now.state (host_counted ending.now.counts ending.now.out) (cube_counted ending.now.counts) ending.now.drained)) }
     ensures fault { IsErrOf result OutputError.Fault → Rose (O.faults sink.old) (O.faults sink.new) }
-    ensures counted { O.faults sink.old ≤ O.faults sink.new }
+    ensures told { IsErrOf result OutputError.Fault ⊎ (O.faults sink.new ≡ O.faults sink.old) }
 {
     write_memory(alloc, sink, 0, cube)?;
     write_registers_and_counts(alloc, sink, cube, ending)
@@ -168,11 +166,10 @@ fn ending_of(net: &Net) -> Ending
 // Nothing is done: what the journal of a network behind all steps of a case tells is the contract.
 fn tells(net: &Net)
     ensures whole { (setup : Setup) → IsWhole setup net.now.journal.past → net.now.journal.past ≡ journal_of setup }
-    ensures told { (setup : Setup) → StandsFor net.now setup → IsWhole setup net.now.journal.past → IsTold setup (journal_of setup) }
+    ensures told { (setup : Setup) → StandsFor net.now setup → IsTold setup (journal_of setup) }
 {
     one_journal();
-    lawful_is_serial();
-    lawful_is_carried();
+    journal_is_told();
     let _ = net;
 }
 
@@ -188,7 +185,7 @@ fn write_net<O: Sink>(
     ensures written { OnOk result (Appends (O.held sink.old) (O.held sink.new) (report_of case.now)) }
     ensures front { OnErr result (AppendsFront (O.held sink.old) (O.held sink.new) (report_of case.now)) }
     ensures fault { IsErrOf result OutputError.Fault → Rose (O.faults sink.old) (O.faults sink.new) }
-    ensures counted { O.faults sink.old ≤ O.faults sink.new }
+    ensures told { IsErrOf result OutputError.Fault ⊎ (O.faults sink.new ≡ O.faults sink.old) }
 {
     text_is_in_order();
     tells(net);
@@ -205,7 +202,7 @@ pub fn write_report<O: Sink>(alloc: Global, sink: &mut O, case: &Case) -> Result
     ensures told { OnOk result (IsTold (setup_of case.now) (journal_of (setup_of case.now))) }
     ensures front { OnErr result (AppendsFront (O.held sink.old) (O.held sink.new) (report_of case.now)) }
     ensures fault { IsErrOf result OutputError.Fault → Rose (O.faults sink.old) (O.faults sink.new) }
-    ensures counted { O.faults sink.old ≤ O.faults sink.new }
+    ensures fault_told { IsErrOf result OutputError.Fault ⊎ (O.faults sink.new ≡ O.faults sink.old) }
 {
     let net = replayed(alloc, case)?;
     tells(&net);

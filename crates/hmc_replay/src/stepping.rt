@@ -1,6 +1,6 @@
 //! The steps of a case, one after another.
 
-ghost use Rattle.std.specs.Prelude.{◌≡◌, IfOk};
+ghost use Rattle.std.specs.Prelude.{IfOk};
 ghost use Rattle.hmc_journal.specs.Lawful.{IsWhole};
 ghost use Rattle.hmc_journal.specs.Setup.{setup_of};
 ghost use Rattle.hmc_net.specs.Stands.{StandsFor};

@@ -1,4 +1,4 @@
-use Rattle.std.proofs.Common.{◌≤◌}
+use Rattle.std.proofs.Common.{◌≡◌}
 use Rattle.std.specs.Io.KnownBytes.{Appends}
 use Rattle.hmc_journal.specs.Final.{memory_lines}
 use Rattle.hmc_replay.proofs.lines.write_memory.Given as goal
@@ -6,5 +6,5 @@ use Rattle.hmc_replay.proofs.lines.write_memory.Given as goal
 abbrev pub invariant-lines : goal.invariant-lines
 invariant-lines g l = record {
   written : Appends (g.O.Sink.held l.initial.sink) (g.O.Sink.held l.sink) (memory_lines l.number l.cube.state.memory l.block);
-  counted : g.O.Sink.faults l.initial.sink ≤ g.O.Sink.faults l.sink;
+  told : g.O.Sink.faults l.sink ≡ g.O.Sink.faults l.initial.sink;
 }
