@@ -8,7 +8,7 @@ ghost use Rattle.hmc_replay.specs.Top.{is_run, IsReported};
 use hmc_outside::{Sink, Source, StdSink, StdSource};
 use hmc_replay::replay;
 use std::alloc::Global;
-use std::env::Env;
+use std::env::{Args, Env};
 use std::io::ErrorKind;
 use std::process::ExitCode;
 use std::{env, io};
@@ -37,7 +37,17 @@ fn words(rt: &(impl Env + AllocGlobal)) -> Result<Vec<String>, u8> {
         Err(error) => return Err(status_of(error.kind())),
     };
     let _ = words.next();
-    words.collect(rt.alloc()).map_err(|_| WANT_OF_MEMORY)
+    collected(rt.alloc(), words)
+}
+
+// All of them, unless memory is wanted.
+fn collected(alloc: Global, words: Args) -> Result<Vec<String>, u8>
+    ensures { IfErr result (λ status. status ≡ 1) }
+{
+    match words.collect(alloc) {
+        Ok(words) => Ok(words),
+        Err(_) => Err(WANT_OF_MEMORY),
+    }
 }
 
 // Replays where the words can be had, and ends with the status of that; else with theirs.
