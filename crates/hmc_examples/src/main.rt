@@ -1,5 +1,6 @@
-//! Replays each example case, and compares its report with the one that stands beside it. The reports came from a model in
-//! another language. Then it replays each bad case of a table, and compares the fault.
+//! Replays each example case, and compares its report with the one that stands beside it. Reports came from a model in another
+//! language, or were found by hand (docs/DECISIONS.md says which). Then it replays each bad case of a table, and compares the
+//! fault.
 #![tactic(auto)]
 
 mod faults;
