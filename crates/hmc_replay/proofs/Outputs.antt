@@ -1,8 +1,8 @@
 -- What came, and what is written for it, in the words of the contract.
-use Rattle.std.proofs.Common.{◌≡◌, ◌≤◌, ◌+◌, ◌∙◌, ◌++◌, ℕ, suc, Bool, true, false, List, [], length, Option, Result, Ok, Err, OnOk, OnErr, IsErrAnd, IsErrOf, refl, sym, ap, subst, arith, leb-false, append-nil, length-append}
+use Rattle.std.proofs.Common.{inl, inr, ◌≡◌, ◌≤◌, ◌+◌, ◌∙◌, ◌++◌, ℕ, suc, Bool, true, false, List, [], length, Option, Result, Ok, Err, OnOk, OnErr, IsErrAnd, IsErrOf, refl, sym, ap, subst, arith, leb-false, append-nil, length-append}
 use Rattle.std.specs.Prelude.{nat_le, if◌then◌else◌}
-use Rattle.std.specs.Io.KnownBytes.{Consumes}
-use Rattle.std.proofs.KnownBytes.{Consumes-nil, Consumes-trans}
+use Rattle.std.specs.Io.KnownBytes.{Consumes, IsAtEnd}
+use Rattle.std.proofs.KnownBytes.{Appends-nil, Consumes-nil, Consumes-trans}
 use Rattle.hmc_case.specs.Case.{CaseFields, case_of}
 use Rattle.hmc_case.specs.Reading.{Fault}
 use Rattle.hmc_outside.specs.Front.{AppendsFront}
@@ -36,13 +36,14 @@ within_output input few = by_test (nat_le (length input) most_bytes) refl
 
 -- nothing was written
 pub answered_none : (left left' held : Option (List ℕ)) → Came (suc most_bytes) left left' → IsAnswered left left' held held
-answered_none left left' held came = record { came = came; written = AppendsFront-nil held (output_of came.input) }
+answered_none left left' held came = record { came = came; written = AppendsFront-nil held (output_of came.input); whole = inl (Appends-nil held) }
 
 -- a first part was written for an input that was read whole
-pub answered_for : (left left' held held' : Option (List ℕ)) (input : List ℕ) → length input ≤ most_bytes → Consumes left left' input → AppendsFront held held' (output_for (case_of input)) → IsAnswered left left' held held'
-answered_for left left' held held' input few consumed written = record {
+pub answered_for : (left left' held held' : Option (List ℕ)) (input : List ℕ) → length input ≤ most_bytes → Consumes left left' input → IsAtEnd left' → AppendsFront held held' (output_for (case_of input)) → IsAnswered left left' held held'
+answered_for left left' held held' input few consumed ended written = record {
   came = record { input = input; few = omega (arith, few); consumed = consumed };
   written = subst (AppendsFront held held') (sym (within_output input few)) written;
+  whole = inr ended;
 }
 
 -- a report that was written whole, or a first part

@@ -1,7 +1,7 @@
 -- What the top call makes of its words and its input.
 use Rattle.std.specs.Prelude.{◌≡◌, ◌≤◌, ◌⊎◌, ℕ, suc, nat_le, if◌then◌else◌, Bool, false, List, [], ◌∷◌, ◌++◌, length, codes, bytes_eq, Option, Result, Ok, Err}
 use Rattle.std.specs.Fmt.{decimal}
-use Rattle.std.specs.Io.KnownBytes.{Appends, Consumes}
+use Rattle.std.specs.Io.KnownBytes.{Appends, Consumes, IsAtEnd}
 use Rattle.hmc_outside.specs.Front.{AppendsFront}
 use Rattle.hmc_codes.specs.Text.{line}
 use Rattle.hmc_case.specs.Case.{CaseFields, case_of}
@@ -86,7 +86,8 @@ pub record IsTooLong (left left' : Option (List ℕ)) : Type 0 where
   pub came : Came (suc most_bytes) left left'
   pub full : length came.input ≡ suc most_bytes
 
--- what was written is a first part of what is to be written for what came
+-- what was written is a first part of what is to be written for what came, and it is nothing unless the input was read to its end
 pub record IsAnswered (left left' held held' : Option (List ℕ)) : Type 0 where
   pub came : Came (suc most_bytes) left left'
   pub written : AppendsFront held held' (output_of came.input)
+  pub whole : Appends held held' [] ⊎ IsAtEnd left'

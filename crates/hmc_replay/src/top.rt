@@ -63,8 +63,8 @@ pub fn replay<S: Source, O: Sink>(
     // 6: what came is no case; the line names its first fault.
     ensures refused { result ≡ 6 → IsRefused (S.left source.old) (S.left source.new) (O.held sink.old) (O.held sink.new) }
 
-    // Whatever the status, what was written is a first part of what is to be written for what came, and nothing before the input
-    // was read.
+    // Whatever the status, what was written is a first part of what is to be written for what came, and nothing unless the input was
+    // read to its end.
     ensures first_part { IsAnswered (S.left source.old) (S.left source.new) (O.held sink.old) (O.held sink.new) }
     ensures unwritten { (result ≡ 3) ⊎ (result ≡ 5) → sink.new ≡ sink.old }
 
