@@ -52,6 +52,12 @@ abbrev pub is_ask : Layout → Bool
 is_ask layouts.Ask = true
 is_ask _ = false
 
+-- a packet between the two ends of a link
+abbrev pub is_flow : Layout → Bool
+is_flow layouts.Ask = false
+is_flow layouts.Reply = false
+is_flow _ = true
+
 -- a request that nothing answers
 abbrev pub is_posted : Command → Bool
 is_posted command = is_ask (layout_of command) && is_none (reply_of command)

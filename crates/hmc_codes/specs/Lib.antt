@@ -2,6 +2,7 @@ pub mod Bytes
 pub mod Table
 pub mod Line
 pub mod Commands
+pub mod Codes
 pub mod Padding
 pub mod Request
 pub mod Shape

@@ -1,6 +1,6 @@
 -- A line of the table as the code has it.
 use Rattle.std.specs.Prelude.{◌≡◌}
-use Rattle.hmc_codes.specs.declared.command.Line as declared
+use Rattle.hmc_codes.specs.declared.table.Line as declared
 use Rattle.hmc_codes.specs.Table as table
 
 -- the code's line says what the table's line says

@@ -20,6 +20,7 @@ mod payload;
 mod place;
 mod request;
 mod shape;
+mod table;
 mod text;
 mod unit;
 
@@ -35,6 +36,7 @@ pub use payload::Payload;
 pub use place::{Join, Place};
 pub use request::Request;
 pub use shape::{Shape, Spot};
+pub use table::COMMANDS;
 pub use unit::Unit;
 
 /// The unit of transfer on a link: 16 bytes.

@@ -13,7 +13,7 @@ use Rattle.hmc_codes.specs.declared.command.Command.TheVariants.{WrRs, RdRs, MdR
 use Rattle.hmc_codes.specs.declared.family.Family.TheVariants as families
 use Rattle.hmc_codes.specs.declared.layout.Layout.{Layout}
 use Rattle.hmc_codes.specs.declared.layout.Layout.TheVariants as layouts
-use Rattle.hmc_packet.specs.Codes.{is_flow}
+use Rattle.hmc_codes.specs.Commands.{is_flow}
 use Rattle.hmc_packet.specs.Packet.{PacketFields}
 use Rattle.hmc_packet.specs.Transactions.{asked, replied, request_in, answer_by, answer_in, CanReply, IsAnswer, payload_of}
 use Rattle.hmc_packet.proofs.TransactionLemmas.{asks-layout, IsPacket-asked, request_in-asked, IsPacket-replied, answer_in-replied, answer_in-replies}

@@ -4,7 +4,7 @@ use Rattle.std.proofs.lemmas.List.{take_more, take_all, take-take, length-take-l
 use Rattle.hmc_codes.specs.Table.{line_of}
 use Rattle.hmc_codes.specs.Commands.{layout_of}
 use Rattle.hmc_codes.specs.declared.command.Command.TheVariants.{Null}
-use Rattle.hmc_packet.specs.Codes.{is_flow}
+use Rattle.hmc_codes.specs.Commands.{is_flow}
 use Rattle.hmc_packet.specs.Laws.{IsSentAs}
 use Rattle.hmc_packet.specs.Packet.{PacketFields, flits_of, IsPacket, null_packet}
 use Rattle.hmc_packet.specs.Parts.{lng_of}

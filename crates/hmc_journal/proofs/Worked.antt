@@ -15,7 +15,7 @@ use Rattle.hmc_packet.specs.declared.what.What.TheVariants.{New, Null}
 use Rattle.hmc_packet.specs.Packet.{null_packet}
 use Rattle.hmc_crc.specs.Bits.{bits_below, bits_of, number_of}
 use Rattle.hmc_crc.specs.Remainder.{coefficients, divisor, zeros, plus, divide, remainder, crc_of}
-use Rattle.hmc_packet.specs.Codes.{commands, first_with}
+use Rattle.hmc_codes.specs.Codes.{commands, command_of}
 use Rattle.hmc_packet.specs.Header.{header_word, header_of, header_is_clean}
 use Rattle.hmc_packet.specs.Tail.{tail_word, tail_of, tail_is_clean}
 use Rattle.hmc_packet.specs.Spelling.{word_bytes, half_bytes, covered, check_of, bytes_of, cut, null_flit, flits_with, spelling}
@@ -176,20 +176,20 @@ answered_once = Executed (units.Bank 0 0 0) 0 (Some 0) (read_at 0x40) (Read fals
 
 -- a poisoned packet is dropped, and another waits where the vault's queue is full
 next-dropped : next four_reads (Landed 0 poisoned_flit Poisoned ∷ Shifted 0 0 (Vault 0) ∷ Landed 0 first_flit Accepted ∷ []) (steps.Shift 0 0) ≡ Dropped 0 0
-unfolding next choice sight_of contents entered left leaves enters moved unsent landed_packet pending direction_from direction_among read_of is_null_alone is_null null_flit has_length lng_of word_of half_of bytes_read judged command_in fitting commands first_with line_of is_clean header_is_clean tail_is_clean header_of tail_of poison_in packet_from seen_in crc_of remainder divide plus zeros divisor coefficients bits_below bits_of number_of xor
+unfolding next choice sight_of contents entered left leaves enters moved unsent landed_packet pending direction_from direction_among read_of is_null_alone is_null null_flit has_length lng_of word_of half_of bytes_read judged command_in fitting commands command_of line_of is_clean header_is_clean tail_is_clean header_of tail_of poison_in packet_from seen_in crc_of remainder divide plus zeros divisor coefficients bits_below bits_of number_of xor
 next-dropped = refl
 
 next-waits : next four_reads (Landed 0 first_flit Accepted ∷ Shifted 0 0 (Vault 0) ∷ Landed 0 first_flit Accepted ∷ []) (steps.Shift 0 0) ≡ Idle (steps.Shift 0 0) Full
-unfolding next choice sight_of contents entered left leaves enters moved unsent landed_packet pending direction_from direction_among read_of is_null_alone is_null null_flit has_length lng_of word_of half_of bytes_read judged command_in fitting commands first_with line_of is_clean header_is_clean tail_is_clean header_of tail_of poison_in packet_from seen_in crc_of remainder divide plus zeros divisor coefficients bits_below bits_of number_of xor
+unfolding next choice sight_of contents entered left leaves enters moved unsent landed_packet pending direction_from direction_among read_of is_null_alone is_null null_flit has_length lng_of word_of half_of bytes_read judged command_in fitting commands command_of line_of is_clean header_is_clean tail_is_clean header_of tail_of poison_in packet_from seen_in crc_of remainder divide plus zeros divisor coefficients bits_below bits_of number_of xor
 next-waits = refl
 
 -- where the answers are full a posted request is executed, and another waits
 next-posted : next four_reads (at_bank posted_flit answered_once) (steps.Bank 0 0 0) ≡ Executed (units.Bank 0 0 0) 0 None posted Silent
-unfolding next choice sight_of contents entered left leaves enters moved unsent landed_packet pending direction_from direction_among read_of is_null_alone is_null null_flit has_length lng_of word_of half_of bytes_read judged command_in fitting commands first_with line_of is_clean header_is_clean tail_is_clean header_of tail_of poison_in packet_from seen_in crc_of remainder divide plus zeros divisor coefficients bits_below bits_of number_of xor request_in payload_of state_of state_after opening_state opening opening_registers apply answer_to perform_on action_of atomic_of memory_error acted_of
+unfolding next choice sight_of contents entered left leaves enters moved unsent landed_packet pending direction_from direction_among read_of is_null_alone is_null null_flit has_length lng_of word_of half_of bytes_read judged command_in fitting commands command_of line_of is_clean header_is_clean tail_is_clean header_of tail_of poison_in packet_from seen_in crc_of remainder divide plus zeros divisor coefficients bits_below bits_of number_of xor request_in payload_of state_of state_after opening_state opening opening_registers apply answer_to perform_on action_of atomic_of memory_error acted_of
 next-posted = refl
 
 next-answers_full : next four_reads (at_bank first_flit answered_once) (steps.Bank 0 0 0) ≡ Idle (steps.Bank 0 0 0) Full
-unfolding next choice sight_of contents entered left leaves enters moved unsent landed_packet pending direction_from direction_among read_of is_null_alone is_null null_flit has_length lng_of word_of half_of bytes_read judged command_in fitting commands first_with line_of is_clean header_is_clean tail_is_clean header_of tail_of poison_in packet_from seen_in crc_of remainder divide plus zeros divisor coefficients bits_below bits_of number_of xor request_in payload_of state_of state_after opening_state opening opening_registers apply answer_to perform_on action_of atomic_of memory_error acted_of
+unfolding next choice sight_of contents entered left leaves enters moved unsent landed_packet pending direction_from direction_among read_of is_null_alone is_null null_flit has_length lng_of word_of half_of bytes_read judged command_in fitting commands command_of line_of is_clean header_is_clean tail_is_clean header_of tail_of poison_in packet_from seen_in crc_of remainder divide plus zeros divisor coefficients bits_below bits_of number_of xor request_in payload_of state_of state_after opening_state opening opening_registers apply answer_to perform_on action_of atomic_of memory_error acted_of
 next-answers_full = refl
 
 -- a read, from its giving to the taking of its answer
@@ -200,7 +200,7 @@ journal_of-read : journal_of one_read ≡
     Landed 0 first_flit Accepted ∷ Sent 0 New first_flit ∷ gave_first ∷ []
 unfolding journal_of journal_behind next choice sight_of host_of given_count tags_out none_out give_says direction_from direction_among contents entered left leaves enters moved unsent landed_packet pending begun way_of line_flits sent_flits landed_flits accepted returned port_towards unit_of
     spelling flits_with cut bytes_of covered check_of word_bytes half_bytes header_word tail_word asked replied answer_in answer_by request_in payload_of state_of state_after opening_state opening opening_registers apply answer_to perform_on action_of atomic_of memory_error
-    read_of is_null_alone is_null null_flit has_length lng_of word_of half_of bytes_read judged command_in fitting commands first_with line_of is_clean header_is_clean tail_is_clean header_of tail_of poison_in packet_from seen_in crc_of remainder divide plus zeros divisor coefficients bits_below bits_of number_of xor
+    read_of is_null_alone is_null null_flit has_length lng_of word_of half_of bytes_read judged command_in fitting commands command_of line_of is_clean header_is_clean tail_is_clean header_of tail_of poison_in packet_from seen_in crc_of remainder divide plus zeros divisor coefficients bits_below bits_of number_of xor
 journal_of-read = refl
 
 -- Of two links the first joins host 0 to port 0, and the second port 1 to host 1.
@@ -365,23 +365,23 @@ abbrev second_flit : List ℕ
 second_flit = 0xb0 ∷ 0x10 ∷ 0 ∷ 0xc0 ∷ 0 ∷ 0 ∷ 0 ∷ 0 ∷ 0 ∷ 0x04 ∷ 0x08 ∷ 0 ∷ 0xa9 ∷ 0x91 ∷ 0x4a ∷ 0xd1 ∷ []
 
 next-no_token : next one_token begun_once (steps.Send 0) ≡ Sent 0 Null null_flit
-unfolding next choice sight_of way_of line_flits sent_flits landed_flits contents entered left leaves enters moved unsent begun accepted returned landed_packet pending direction_from direction_among read_of is_null_alone is_null null_flit has_length lng_of word_of half_of bytes_read judged command_in fitting commands first_with line_of is_clean header_is_clean tail_is_clean header_of tail_of poison_in packet_from seen_in crc_of remainder divide plus zeros divisor coefficients bits_below bits_of number_of xor asked
+unfolding next choice sight_of way_of line_flits sent_flits landed_flits contents entered left leaves enters moved unsent begun accepted returned landed_packet pending direction_from direction_among read_of is_null_alone is_null null_flit has_length lng_of word_of half_of bytes_read judged command_in fitting commands command_of line_of is_clean header_is_clean tail_is_clean header_of tail_of poison_in packet_from seen_in crc_of remainder divide plus zeros divisor coefficients bits_below bits_of number_of xor asked
 next-no_token = refl
 
 next-token : next one_token (Shifted 0 0 (Vault 0) ∷ begun_once) (steps.Send 0) ≡ Sent 0 New second_flit
-unfolding next choice sight_of way_of line_flits sent_flits landed_flits contents entered left leaves enters moved unsent begun accepted returned landed_packet pending direction_from direction_among read_of is_null_alone is_null null_flit has_length lng_of word_of half_of bytes_read judged command_in fitting commands first_with line_of is_clean header_is_clean tail_is_clean header_of tail_of poison_in packet_from seen_in crc_of remainder divide plus zeros divisor coefficients bits_below bits_of number_of xor spelling flits_with cut bytes_of covered check_of word_bytes half_bytes header_word tail_word asked replied
+unfolding next choice sight_of way_of line_flits sent_flits landed_flits contents entered left leaves enters moved unsent begun accepted returned landed_packet pending direction_from direction_among read_of is_null_alone is_null null_flit has_length lng_of word_of half_of bytes_read judged command_in fitting commands command_of line_of is_clean header_is_clean tail_is_clean header_of tail_of poison_in packet_from seen_in crc_of remainder divide plus zeros divisor coefficients bits_below bits_of number_of xor spelling flits_with cut bytes_of covered check_of word_bytes half_bytes header_word tail_word asked replied
 next-token = refl
 
 -- a bank's queue, and an output queue, that are full
 next-bank_full : next four_reads (Shifted 0 0 (Vault 0) ∷ Landed 0 first_flit Accepted ∷ at_bank first_flit []) (steps.Spread 0 0) ≡ Idle (steps.Spread 0 0) Full
-unfolding next choice sight_of contents entered left leaves enters moved unsent landed_packet pending direction_from direction_among read_of is_null_alone is_null null_flit has_length lng_of word_of half_of bytes_read judged command_in fitting commands first_with line_of is_clean header_is_clean tail_is_clean header_of tail_of poison_in packet_from seen_in crc_of remainder divide plus zeros divisor coefficients bits_below bits_of number_of xor
+unfolding next choice sight_of contents entered left leaves enters moved unsent landed_packet pending direction_from direction_among read_of is_null_alone is_null null_flit has_length lng_of word_of half_of bytes_read judged command_in fitting commands command_of line_of is_clean header_is_clean tail_is_clean header_of tail_of poison_in packet_from seen_in crc_of remainder divide plus zeros divisor coefficients bits_below bits_of number_of xor
 next-bank_full = refl
 
 next-output_full : next four_reads (Lifted 0 lifts.Registers 0 ∷ Lifted 0 lifts.Registers 0 ∷ answered_once) (steps.Lift 0 (lifts.Vault 0)) ≡ Idle (steps.Lift 0 (lifts.Vault 0)) Full
-unfolding next choice sight_of contents entered left leaves enters moved unsent landed_packet pending direction_from direction_among read_of is_null_alone is_null null_flit has_length lng_of word_of half_of bytes_read judged command_in fitting commands first_with line_of is_clean header_is_clean tail_is_clean header_of tail_of poison_in packet_from seen_in crc_of remainder divide plus zeros divisor coefficients bits_below bits_of number_of xor port_towards replied
+unfolding next choice sight_of contents entered left leaves enters moved unsent landed_packet pending direction_from direction_among read_of is_null_alone is_null null_flit has_length lng_of word_of half_of bytes_read judged command_in fitting commands command_of line_of is_clean header_is_clean tail_is_clean header_of tail_of poison_in packet_from seen_in crc_of remainder divide plus zeros divisor coefficients bits_below bits_of number_of xor port_towards replied
 next-output_full = refl
 
 -- a host drops a poisoned packet
 next-discarded : next four_reads (Landed 1 poisoned_flit Poisoned ∷ []) (steps.Take 0) ≡ Discarded 0
-unfolding next choice sight_of contents entered left leaves enters moved unsent landed_packet pending direction_from direction_among read_of is_null_alone is_null null_flit has_length lng_of word_of half_of bytes_read judged command_in fitting commands first_with line_of is_clean header_is_clean tail_is_clean header_of tail_of poison_in packet_from seen_in crc_of remainder divide plus zeros divisor coefficients bits_below bits_of number_of xor
+unfolding next choice sight_of contents entered left leaves enters moved unsent landed_packet pending direction_from direction_among read_of is_null_alone is_null null_flit has_length lng_of word_of half_of bytes_read judged command_in fitting commands command_of line_of is_clean header_is_clean tail_is_clean header_of tail_of poison_in packet_from seen_in crc_of remainder divide plus zeros divisor coefficients bits_below bits_of number_of xor
 next-discarded = refl

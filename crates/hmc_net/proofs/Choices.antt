@@ -10,7 +10,7 @@ use Rattle.hmc_codes.specs.Table.{line_of}
 use Rattle.hmc_codes.specs.Commands.{layout_of}
 use Rattle.hmc_codes.specs.declared.layout.Layout.{Layout}
 use Rattle.hmc_codes.specs.declared.layout.Layout.TheVariants as layouts
-use Rattle.hmc_packet.specs.Codes.{is_flow}
+use Rattle.hmc_codes.specs.Commands.{is_flow}
 use Rattle.hmc_packet.specs.Packet.{PacketFields, flits_of}
 use Rattle.hmc_packet.specs.Transactions.{asked}
 use Rattle.hmc_packet.proofs.TransactionLemmas.{asks-layout}

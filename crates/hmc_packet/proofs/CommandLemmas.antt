@@ -1,5 +1,5 @@
 -- What holds of each command, since each line of the table passes a test.
-use Rattle.std.proofs.Common.{◌≡◌, ◌∙◌, ◌≤◌, ◌<◌, ◌+◌, ◌/◌, ◌%◌, ◌^◌, ℕ, Bool, true, false, eqb, Option, Some, None, List, [], ◌∷◌, refl, sym, ap, subst, cond, arith, inl, inr}
+use Rattle.std.proofs.Common.{◌≡◌, ◌∙◌, ◌≤◌, ◌<◌, ◌+◌, ◌/◌, ◌%◌, ◌^◌, ℕ, Bool, true, false, eqb, Option, Some, None, List, [], ◌∷◌, find, refl, sym, ap, subst, cond, arith, inl, inr}
 use Rattle.std.specs.Prelude.{IfSome, nat_le, nat_lt, ◌&&◌, ◌||◌, ◌==◌, not}
 use Rattle.std.proofs.lemmas.Bool.{eqb-true, eq-eqb, leb-true, ltb-true, and_parts, or_cases}
 use Rattle.hmc_codes.specs.Table.{Line, line_of}
@@ -10,33 +10,9 @@ use Rattle.hmc_codes.specs.declared.length.Length.{Length}
 use Rattle.hmc_codes.specs.declared.length.Length.TheVariants.{Fixed, Data}
 use Rattle.hmc_codes.specs.declared.command.Command.{Command}
 use Rattle.hmc_codes.specs.declared.command.Command.TheVariants.{Null}
-use Rattle.hmc_packet.specs.Codes.{commands, first_with, command_of, is_flow}
-use Rattle.hmc_packet.proofs.CommandOf.{command_of-code_of}
-
-found-code : (code : ℕ) (d : Command) (rest : List Command) (c : Command) (b : Bool) → eqb (code_of d) code ≡ b → (first_with code rest ≡ Some c → code_of c ≡ code) → cond b (Some d) (first_with code rest) ≡ Some c → code_of c ≡ code
-found-code code d rest c true test later found =
-    let same : d ≡ c = cc in
-    subst (λ (e : Command). code_of e ≡ code) same (eqb-true _ _ test)
-found-code code d rest c false test later found = later found
-
--- what is found has the code
-first_with-code : (code : ℕ) (cs : List Command) (c : Command) → first_with code cs ≡ Some c → code_of c ≡ code
-unfolding first_with
-first_with-code code [] c is = absurd cc
-first_with-code code (d ∷ rest) c is =
-    found-code code d rest c (eqb (code_of d) code) refl (first_with-code code rest c) is
-
-pub command_of-code : (code : ℕ) (c : Command) → command_of code ≡ Some c → code_of c ≡ code
-command_of-code code c is = first_with-code code commands c is
-
-none_of : (code : ℕ) (listed : Option Command) → command_of code ≡ listed → ((c : Command) → code_of c ≡ code → None ≡ Some c) → None ≡ listed
-none_of code None is only = refl
-none_of code (Some c) is only = absurd (let clash : None ≡ Some c = only c (command_of-code code c is) in cc)
-
--- what has a code, if nothing else has it, is the command of the table
-pub command_of-is : (found : Option Command) (code : ℕ) → IfSome found (λ c. code_of c ≡ code) → ((c : Command) → code_of c ≡ code → found ≡ Some c) → found ≡ command_of code
-command_of-is (Some c) code has only = sym (ap command_of (sym has) ∙ command_of-code_of c)
-command_of-is None code has only = none_of code (command_of code) refl only
+use Rattle.hmc_codes.specs.Commands.{is_flow}
+use Rattle.hmc_codes.specs.Codes.{commands, command_of}
+use Rattle.hmc_codes.proofs.Codes.{command_of-code_of}
 
 -- each of the list passes the test
 each : (Line → Bool) → List Command → Bool
@@ -49,15 +25,16 @@ passed-found test d c later true here after found =
     subst (λ (e : Command). test (line_of e) ≡ true) same here
 passed-found test d c later false here after found = after found
 
-passed : (test : Line → Bool) (code : ℕ) (cs : List Command) (c : Command) → each test cs ≡ true → first_with code cs ≡ Some c → test (line_of c) ≡ true
-unfolding first_with each
+passed : (test : Line → Bool) (code : ℕ) (cs : List Command) (c : Command) → each test cs ≡ true → find (λ d. code_of d == code) cs ≡ Some c → test (line_of c) ≡ true
+unfolding each
 passed test code [] c all is = absurd cc
 passed test code (d ∷ rest) c all is =
     let parts = and_parts (test (line_of d)) (each test rest) all in
-    passed-found test d c (first_with code rest) (eqb (code_of d) code) parts.0 (passed test code rest c parts.1) is
+    passed-found test d c (find (λ e. code_of e == code) rest) (eqb (code_of d) code) parts.0 (passed test code rest c parts.1) is
 
 -- a test that each line of the table passes
 everywhere : (test : Line → Bool) → each test commands ≡ true → (c : Command) → test (line_of c) ≡ true
+unfolding command_of
 everywhere test all c = passed test (code_of c) commands c all (command_of-code_of c)
 
 -- ---- what the lines pass
@@ -185,7 +162,7 @@ is_null_layout-is layouts.Tret is = absurd cc
 is_null_layout-is layouts.Irtry is = absurd cc
 
 code_zero : command_of 0 ≡ Some Null
-unfolding commands first_with line_of
+unfolding commands command_of line_of
 code_zero = refl
 
 -- code 0 is that of NULL alone

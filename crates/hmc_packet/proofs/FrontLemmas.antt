@@ -10,7 +10,7 @@ use Rattle.hmc_codes.specs.declared.command.Command.{Command}
 use Rattle.hmc_packet.specs.declared.header.Header.{Header}
 use Rattle.hmc_packet.specs.declared.head.Head.{Head}
 use Rattle.hmc_packet.specs.Bits.{bits_from, bit}
-use Rattle.hmc_packet.specs.Codes.{is_flow}
+use Rattle.hmc_codes.specs.Commands.{is_flow}
 use Rattle.hmc_packet.specs.Header.{header_word, header_of, header_is_clean}
 use Rattle.hmc_packet.specs.Packet.{PacketFields, IsPacket, flits_of, null_packet}
 use Rattle.hmc_packet.specs.Spelling.{HasPointer, header_fields, word_bytes, covered, bytes_of, cut, spelling}

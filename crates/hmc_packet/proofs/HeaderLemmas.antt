@@ -6,7 +6,7 @@ use Rattle.hmc_codes.specs.declared.layout.Layout.{Layout}
 use Rattle.hmc_codes.specs.declared.layout.Layout.TheVariants as layouts
 use Rattle.hmc_packet.specs.declared.header.Header.{Header}
 use Rattle.hmc_packet.specs.Bits.{bits_from, bit}
-use Rattle.hmc_packet.specs.Codes.{is_flow}
+use Rattle.hmc_codes.specs.Commands.{is_flow}
 use Rattle.hmc_packet.specs.Header.{IsHeader, header_word, header_of, header_is_clean}
 
 -- a header without the fields that the layout lacks

@@ -10,13 +10,12 @@ use Rattle.hmc_packet.specs.declared.bad.Bad.{Bad}
 use Rattle.hmc_packet.specs.declared.bad.Bad.TheVariants as bads
 use Rattle.hmc_packet.specs.declared.seen.Seen.{Seen}
 use Rattle.hmc_packet.specs.Bits.{bits_from}
-use Rattle.hmc_packet.specs.Codes.{command_of}
+use Rattle.hmc_codes.specs.Codes.{command_of}
 use Rattle.hmc_packet.specs.Header.{header_is_clean}
 use Rattle.hmc_packet.specs.Tail.{tail_is_clean}
 use Rattle.hmc_packet.specs.Parts.{header_in, tail_in, check_in, covered_in}
 use Rattle.hmc_packet.specs.Reading.{fitting, command_in, is_clean, poison_in, seen_in, ◌>>=◌, judged, bytes_read}
-use Rattle.hmc_packet.proofs.CommandOf.{command_of-code_of}
-use Rattle.hmc_packet.proofs.CommandLemmas.{command_of-code}
+use Rattle.hmc_codes.proofs.Codes.{command_of-code, command_of-code_of}
 
 -- ---- the command
 

@@ -1,4 +1,3 @@
-pub mod CommandOf
 pub mod CommandLemmas
 pub mod PacketLemmas
 pub mod HeaderLemmas

@@ -11,7 +11,7 @@ use Rattle.hmc_codes.specs.declared.command.Command.TheVariants.{Null}
 use Rattle.hmc_packet.specs.declared.bad.Bad.{Bad}
 use Rattle.hmc_packet.specs.declared.bad.Bad.TheVariants as bads
 use Rattle.hmc_packet.specs.declared.seen.Seen.{Seen}
-use Rattle.hmc_packet.specs.Codes.{is_flow}
+use Rattle.hmc_codes.specs.Commands.{is_flow}
 use Rattle.hmc_packet.specs.Packet.{PacketFields, IsPacket, flits_of, null_packet}
 use Rattle.hmc_packet.specs.Spelling.{HasPointer, bytes_of, cut, null_flit, training_flit, spelling}
 use Rattle.hmc_packet.specs.Parts.{word_of, header_in, lng_of}

@@ -5,7 +5,7 @@ use Rattle.hmc_codes.specs.Commands.{layout_of}
 use Rattle.hmc_codes.specs.declared.command.Command.TheVariants.{Pret, Tret, Irtry}
 use Rattle.hmc_codes.specs.declared.layout.Layout.{Layout}
 use Rattle.hmc_codes.specs.declared.layout.Layout.TheVariants as layouts
-use Rattle.hmc_packet.specs.Codes.{is_flow}
+use Rattle.hmc_codes.specs.Commands.{is_flow}
 use Rattle.hmc_packet.specs.Packet.{PacketFields, IsPacket, IsLaidOut, null_packet, flits_of}
 use Rattle.hmc_packet.specs.Header.{IsHeader}
 use Rattle.hmc_packet.specs.Tail.{pointers, IsTail}

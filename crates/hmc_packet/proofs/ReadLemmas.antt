@@ -12,7 +12,7 @@ use Rattle.hmc_packet.specs.declared.header.Header.{Header}
 use Rattle.hmc_packet.specs.declared.tail.Tail.{Tail}
 use Rattle.hmc_packet.specs.declared.seen.Seen.{Seen}
 use Rattle.hmc_packet.specs.Bits.{bits_from}
-use Rattle.hmc_packet.specs.Codes.{is_flow}
+use Rattle.hmc_codes.specs.Commands.{is_flow}
 use Rattle.hmc_packet.specs.Header.{IsHeader, header_word, header_of, header_is_clean}
 use Rattle.hmc_packet.specs.Tail.{IsTail, tail_word, tail_of, tail_is_clean}
 use Rattle.hmc_packet.specs.Packet.{PacketFields, IsInRange, IsLaidOut, IsFlow, flits_of}

@@ -14,7 +14,7 @@ use Rattle.hmc_packet.specs.declared.bad.Bad.{Bad}
 use Rattle.hmc_packet.specs.declared.bad.Bad.TheVariants as bads
 use Rattle.hmc_packet.specs.declared.seen.Seen.{Seen}
 use Rattle.hmc_packet.specs.Bits.{bits_from}
-use Rattle.hmc_packet.specs.Codes.{is_flow}
+use Rattle.hmc_codes.specs.Commands.{is_flow}
 use Rattle.hmc_packet.specs.Packet.{PacketFields, IsPacket, IsLaidOut, flits_of, null_packet}
 use Rattle.hmc_packet.specs.Tail.{pointers}
 use Rattle.hmc_packet.specs.Spelling.{HasPointer, bytes_of, cut, null_flit, flits_with, spelling}

@@ -7,7 +7,7 @@ use Rattle.hmc_codes.specs.declared.answer.Answer.TheVariants.{Done, Register, S
 use Rattle.hmc_crc.specs.Bits.{bits_below, bits_of, number_of}
 use Rattle.hmc_crc.specs.Remainder.{coefficients, divisor, zeros, plus, divide, remainder, crc_of}
 use Rattle.hmc_packet.specs.declared.bad.Bad.TheVariants as bads
-use Rattle.hmc_packet.specs.Codes.{commands, first_with}
+use Rattle.hmc_codes.specs.Codes.{commands, command_of}
 use Rattle.hmc_packet.specs.Header.{header_word, header_of, header_is_clean}
 use Rattle.hmc_packet.specs.Tail.{tail_word, tail_is_clean}
 use Rattle.hmc_packet.specs.Packet.{null_packet}
@@ -29,7 +29,7 @@ spelling-poisoned = refl
 
 -- the last bits of a check are changed
 read_of-changed : read_of ((0x83 ∷ 0 ∷ 0 ∷ 0 ∷ 0 ∷ 0 ∷ 0 ∷ 0 ∷ 0 ∷ 2 ∷ 0 ∷ 0 ∷ 0x32 ∷ 0xda ∷ 0x95 ∷ 0xa4 ∷ []) ∷ []) ≡ Err bads.Crc
-unfolding read_of is_null_alone is_null null_flit has_length lng_of word_of half_of bytes_read judged command_in fitting commands first_with line_of is_clean header_is_clean tail_is_clean poison_in crc_of remainder divide plus zeros divisor coefficients bits_below bits_of number_of xor
+unfolding read_of is_null_alone is_null null_flit has_length lng_of word_of half_of bytes_read judged command_in fitting commands command_of line_of is_clean header_is_clean tail_is_clean poison_in crc_of remainder divide plus zeros divisor coefficients bits_below bits_of number_of xor
 read_of-changed = refl
 
 -- the value of a register as an answer, under tag 5 from cube 2 to host link 1
@@ -76,18 +76,18 @@ answer_in-request = refl
 
 -- the first flit of the answer above, and the same with a reserved bit
 head_in-response : head_in (0x3a ∷ 0x51 ∷ 0 ∷ 0 ∷ 0x80 ∷ 0 ∷ 0 ∷ 0x40 ∷ 0x78 ∷ 0x56 ∷ 0x34 ∷ 0x12 ∷ 0 ∷ 0 ∷ 0 ∷ 0 ∷ []) ≡ Some (record { command = MdRdRs; flits = 2; cube = 2; slid = 1 })
-unfolding head_in named_by head_with header_of header_is_clean word_of half_of command_in fitting commands first_with line_of
+unfolding head_in named_by head_with header_of header_is_clean word_of half_of command_in fitting commands command_of line_of
 head_in-response = refl
 
 head_in-reserved : head_in (0x3a ∷ 0x51 ∷ 0x80 ∷ 0 ∷ 0x80 ∷ 0 ∷ 0 ∷ 0x40 ∷ 0x78 ∷ 0x56 ∷ 0x34 ∷ 0x12 ∷ 0 ∷ 0 ∷ 0 ∷ 0 ∷ []) ≡ None
-unfolding head_in named_by head_with header_of header_is_clean word_of half_of command_in fitting commands first_with line_of
+unfolding head_in named_by head_with header_of header_is_clean word_of half_of command_in fitting commands command_of line_of
 head_in-reserved = refl
 
 -- a request's SLID stands in its tail, and a flow packet has no head
 head_in-request : head_in (0xb0 ∷ 0 ∷ 0 ∷ 0x40 ∷ 0 ∷ 0 ∷ 0 ∷ 0x60 ∷ 0 ∷ 2 ∷ 4 ∷ 0x18 ∷ 0 ∷ 0 ∷ 0 ∷ 0 ∷ []) ≡ Some (record { command = Rd16; flits = 1; cube = 3; slid = 0 })
-unfolding head_in named_by head_with header_of header_is_clean word_of half_of command_in fitting commands first_with line_of
+unfolding head_in named_by head_with header_of header_is_clean word_of half_of command_in fitting commands command_of line_of
 head_in-request = refl
 
 head_in-irtry : head_in (0x83 ∷ 0 ∷ 0 ∷ 0 ∷ 0 ∷ 0 ∷ 0 ∷ 0 ∷ 0 ∷ 2 ∷ 0 ∷ 0 ∷ 0x32 ∷ 0xda ∷ 0x95 ∷ 0xa5 ∷ []) ≡ None
-unfolding head_in named_by head_with header_of header_is_clean word_of half_of command_in fitting commands first_with line_of
+unfolding head_in named_by head_with header_of header_is_clean word_of half_of command_in fitting commands command_of line_of
 head_in-irtry = refl

@@ -1,5 +1,4 @@
 pub mod Bits
-pub mod Codes
 pub mod Header
 pub mod Tail
 pub mod Packet

@@ -15,7 +15,8 @@ use Rattle.hmc_packet.specs.declared.tail.Tail.{Tail}
 use Rattle.hmc_packet.specs.declared.seen.Seen.{Seen}
 use Rattle.hmc_packet.specs.Bits.{bits_from}
 use Rattle.hmc_packet.specs.Parts.{header_in, payload_in, tail_in, check_in, covered_in, lng_of}
-use Rattle.hmc_packet.specs.Codes.{command_of, is_flow}
+use Rattle.hmc_codes.specs.Commands.{is_flow}
+use Rattle.hmc_codes.specs.Codes.{command_of}
 use Rattle.hmc_packet.specs.Header.{header_of, header_is_clean}
 use Rattle.hmc_packet.specs.Tail.{pointers, tail_of, tail_is_clean}
 use Rattle.hmc_packet.specs.Packet.{PacketFields, IsPacket, null_packet}

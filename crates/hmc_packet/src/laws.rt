@@ -7,7 +7,7 @@ ghost use Rattle.hmc_codes.specs.declared.answer.Answer.{Answer};
 ghost use Rattle.hmc_codes.specs.declared.command.Command.TheVariants.{Null, Irtry};
 ghost use Rattle.hmc_packet.specs.declared.bad.Bad.TheVariants as bads;
 ghost use Rattle.hmc_packet.specs.declared.seen.Seen.{Seen};
-ghost use Rattle.hmc_packet.specs.Codes.{is_flow};
+ghost use Rattle.hmc_codes.specs.Commands.{is_flow};
 ghost use Rattle.hmc_packet.specs.Packet.{PacketFields, IsPacket, flits_of};
 ghost use Rattle.hmc_packet.specs.Spelling.{HasPointer, spelling, null_flit, training_flit};
 ghost use Rattle.hmc_packet.specs.Parts.{lng_of};

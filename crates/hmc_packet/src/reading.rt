@@ -3,7 +3,7 @@
 ghost use Rattle.std.specs.Prelude.{◌≡◌, ◌≤◌, ◌*◌, ◌↔◌, ℕ, not, length, IfOk, IsTrue, Ok};
 ghost use Rattle.std.specs.List.{concat};
 ghost use Rattle.hmc_packet.specs.Bits.{bits_from};
-ghost use Rattle.hmc_packet.specs.Codes.{command_of, is_flow};
+ghost use Rattle.hmc_codes.specs.Commands.{is_flow};
 ghost use Rattle.hmc_packet.specs.Packet.{PacketFields, IsPacket};
 ghost use Rattle.hmc_packet.specs.Spelling.{HasPointer, null_flit, spelling};
 ghost use Rattle.hmc_packet.specs.Parts.{word_of, half_of, header_in, payload_in, tail_in, check_in, lng_of};
@@ -108,12 +108,6 @@ fn joined(flits: &[Flit]) -> Bytes
     bytes
 }
 
-fn command_of(code: u8) -> Option<Command>
-    ensures { result ≡ command_of code }
-{
-    Command::from_code(code)
-}
-
 #[tactic(auto, unfolding(crate::specs::Reading::fitting))]
 fn fitting(code: u8, lng: u8, found: Option<Command>) -> Option<Command>
     ensures { result ≡ fitting code lng found }
@@ -135,7 +129,7 @@ pub fn command_in(header: u64) -> Option<Command>
     ensures { result ≡ command_in header }
 {
     let code = Header::code_in(header);
-    fitting(code, Header::flits_in(header), command_of(code))
+    fitting(code, Header::flits_in(header), Command::from_code(code))
 }
 
 #[tactic(auto, unfolding(crate::specs::Reading::is_clean))]

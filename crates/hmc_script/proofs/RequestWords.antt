@@ -14,6 +14,7 @@ use Rattle.hex.proofs.HexLemmas.{decode_sized-encode_lower}
 use Rattle.hmc_codes.specs.Bytes.{IsBytes}
 use Rattle.hmc_codes.proofs.BytesLemmas.{IsBytes-take}
 use Rattle.hmc_codes.specs.Table.{line_of}
+use Rattle.hmc_codes.specs.Codes.{commands}
 use Rattle.hmc_codes.specs.Commands.{word_of, family_of, payload_len_of}
 use Rattle.hmc_codes.specs.Text.{hex_number, is_mdwr, value_in}
 use Rattle.hmc_codes.specs.declared.family.Family.TheVariants as families
@@ -43,7 +44,7 @@ no_poison _ = refl
 
 -- no two requests have one word
 pub command_of-word_of : (command : Command) → family_of command ≡ families.Ask → command_of (word_of command) ≡ Some command
-unfolding line_of requests command_of
+unfolding line_of commands requests command_of
 command_of-word_of Null asks = cc
 command_of-word_of Pret asks = cc
 command_of-word_of Tret asks = cc

@@ -6,6 +6,7 @@ use Rattle.std.specs.Fmt.{digits}
 use Rattle.hex.specs.Hex.{decode_pairs}
 use Rattle.hmc_codes.specs.Request.{RequestFields}
 use Rattle.hmc_codes.specs.Table.{line_of}
+use Rattle.hmc_codes.specs.Codes.{commands as all_commands}
 use Rattle.hmc_codes.specs.Text.{request_text}
 use Rattle.hmc_codes.specs.declared.command.Command.TheVariants as commands
 use Rattle.hmc_text.specs.InTurn.{after_lines}
@@ -22,7 +23,7 @@ use Rattle.hmc_script.specs.Script.{after_meaning, after_line, script_of}
 use Rattle.hmc_script.specs.Text.{item_text, script_text}
 
 requests-count : length requests ≡ 62
-unfolding requests
+unfolding requests all_commands line_of
 requests-count = refl
 
 -- the lowest byte of a value comes first
@@ -51,11 +52,11 @@ abbrev fenced_items : List ItemFields
 fenced_items = item_of 1 false (read_at 1 0x40) ∷ item_of 0 true (read_at 0 0x40) ∷ item_of 0 false (read_at 0 0) ∷ []
 
 script_of-fences : script_of 2 2 fenced_text ≡ Ok fenced_items
-unfolding script_of after_lines after_line after_meaning lines_of words_of meaning_of said_of fence_of ask_of request_of command_word command_of requests line_of number_read number_of number_in number_behind payload_word no_payload some_payload payload_of
+unfolding script_of after_lines after_line after_meaning lines_of words_of meaning_of said_of fence_of ask_of request_of command_word command_of requests all_commands line_of number_read number_of number_in number_behind payload_word no_payload some_payload payload_of
 script_of-fences = refl
 
 script_of-fault : script_of 2 2 (codes "0 fence" ++ 10 ∷ codes "0 poison fence" ++ 10 ∷ codes "x" ++ []) ≡ Err (2, Command)
-unfolding script_of after_lines after_line after_meaning lines_of words_of meaning_of said_of fence_of ask_of request_of command_word command_of requests line_of number_read number_of number_in number_behind
+unfolding script_of after_lines after_line after_meaning lines_of words_of meaning_of said_of fence_of ask_of request_of command_word command_of requests all_commands line_of number_read number_of number_in number_behind
 script_of-fault = refl
 
 -- the fence is printed just before its request, and the one behind which nothing stands isn't

@@ -1,6 +1,8 @@
-use Rattle.hmc_codes.proofs.Codes.{only_command}
+use Rattle.hmc_codes.proofs.Codes.{command_of-found, command_of-only}
 use Rattle.hmc_codes.proofs.command.Command.from_code.Goals as goal
 
+pub returns-clause-found : goal.returns-clause-found
+returns-clause-found c = command_of-found c.at_code.result c.args.code c.at_code.ensures
+
 pub returns-clause-only : goal.returns-clause-only
-returns-clause-only c =
-    only_command c.at_code.result c.args.code c.at_code.ensures.found c.at_code.ensures.none
+returns-clause-only c = command_of-only c.at_code.result c.args.code c.at_code.ensures

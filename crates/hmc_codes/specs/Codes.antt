@@ -1,8 +1,6 @@
 -- Which command a code is.
-use Rattle.std.specs.Prelude.{ℕ, Bool, true, false, ◌==◌, if◌then◌else◌, List, [], ◌∷◌, Option, Some, None}
+use Rattle.std.specs.Prelude.{ℕ, ◌==◌, List, [], ◌∷◌, find, Option}
 use Rattle.hmc_codes.specs.Commands.{code_of}
-use Rattle.hmc_codes.specs.declared.layout.Layout.{Layout}
-use Rattle.hmc_codes.specs.declared.layout.Layout.TheVariants as layouts
 use Rattle.hmc_codes.specs.declared.command.Command.{Command}
 use Rattle.hmc_codes.specs.declared.command.Command.TheVariants.{
   Null,
@@ -89,16 +87,5 @@ commands =
     Unit6 ∷ Unit7 ∷ RdRs ∷ WrRs ∷ MdRdRs ∷ MdWrRs ∷ Error ∷ []
 
 -- the first of them with a code
-unfoldable pub first_with : ℕ → List Command → Option Command
-first_with code [] = None
-first_with code (command ∷ rest) = if code_of command == code then Some command else first_with code rest
-
--- the command with a code
-abbrev pub command_of : ℕ → Option Command
-command_of code = first_with code commands
-
--- a packet between the two ends of a link
-abbrev pub is_flow : Layout → Bool
-is_flow layouts.Ask = false
-is_flow layouts.Reply = false
-is_flow _ = true
+unfoldable pub command_of : ℕ → Option Command
+command_of code = find (λ command. code_of command == code) commands
