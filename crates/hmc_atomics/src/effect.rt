@@ -4,7 +4,10 @@ ghost use Rattle.std.specs.Prelude.{◌≡◌};
 ghost use Rattle.hmc_atomics.specs.Act.{acted_of};
 
 use crate::Atomic;
-use crate::halves::{block_becomes, half_becomes, half_number, high_of, joined, low_of};
+use crate::halves::{
+    block_becomes, block_replaced, half_becomes, half_number, half_replaced, high_of, joined,
+    low_of,
+};
 use crate::signed::{is_greater64, is_greater128, overflows64, overflows128};
 use hmc_codes::Acted;
 
@@ -34,27 +37,12 @@ pub fn act(op: Atomic, high: bool, block: [u8; 16], operand: [u8; 16]) -> Acted
         Atomic::And16 => block_becomes(block, m & o, false),
         Atomic::Nand16 => block_becomes(block, !(m & o), false),
         Atomic::Swap16 => block_becomes(block, o, false),
-        Atomic::CasEq8 => {
-            let same = h == lo;
-            half_becomes(block, high, if same { hi } else { h }, same)
-        }
-        Atomic::CasGt8 => {
-            let greater = is_greater64(lo, h);
-            half_becomes(block, high, if greater { lo } else { h }, greater)
-        }
-        Atomic::CasLt8 => {
-            let less = is_greater64(h, lo);
-            half_becomes(block, high, if less { lo } else { h }, less)
-        }
-        Atomic::CasGt16 => {
-            let greater = is_greater128(o, m);
-            block_becomes(block, if greater { o } else { m }, greater)
-        }
-        Atomic::CasLt16 => {
-            let less = is_greater128(m, o);
-            block_becomes(block, if less { o } else { m }, less)
-        }
-        Atomic::CasZero16 => block_becomes(block, if m == 0 { o } else { m }, m == 0),
+        Atomic::CasEq8 => half_replaced(block, high, h == lo, hi),
+        Atomic::CasGt8 => half_replaced(block, high, is_greater64(lo, h), lo),
+        Atomic::CasLt8 => half_replaced(block, high, is_greater64(h, lo), lo),
+        Atomic::CasGt16 => block_replaced(block, is_greater128(o, m), o),
+        Atomic::CasLt16 => block_replaced(block, is_greater128(m, o), o),
+        Atomic::CasZero16 => block_replaced(block, m == 0, o),
         Atomic::Eq8 => half_becomes(block, high, h, h == lo),
         Atomic::Eq16 => block_becomes(block, m, m == o),
     }

@@ -1,6 +1,6 @@
 //! Blocks of 16 bytes, their halves and their numbers.
 
-ghost use Rattle.std.specs.Prelude.{◌≡◌};
+ghost use Rattle.std.specs.Prelude.{◌≡◌, if◌then◌else◌};
 ghost use Rattle.std.specs.Int.{w64, w128, from_le_bytes};
 ghost use Rattle.hmc_atomics.specs.Act.{acted_block, acted_half};
 ghost use Rattle.hmc_atomics.specs.Effects.{becomes, high, joined, low};
@@ -63,6 +63,22 @@ pub fn block_becomes(block: [u8; 16], value: u128, flag: bool) -> Acted
         answer: block,
         flag,
     }
+}
+
+/// A half has a new value where the test passes, and else stays; the flag is the test.
+pub fn half_replaced(block: [u8; 16], high: bool, passes: bool, value: u64) -> Acted
+    ensures { result ≡ acted_half high block (becomes (if passes then value else from_le_bytes w64 (half_of high block)) passes) }
+{
+    let stays = half_number(block, high);
+    half_becomes(block, high, if passes { value } else { stays }, passes)
+}
+
+/// The block has a new value where the test passes, and else stays; the flag is the test.
+pub fn block_replaced(block: [u8; 16], passes: bool, value: u128) -> Acted
+    ensures { result ≡ acted_block block (becomes (if passes then value else from_le_bytes w128 block) passes) }
+{
+    let stays = u128::from_le_bytes(block);
+    block_becomes(block, if passes { value } else { stays }, passes)
 }
 
 /// The low half of a number.

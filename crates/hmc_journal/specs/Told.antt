@@ -18,5 +18,5 @@ pub record IsTold (setup : Setup) (journal : List Entry) : Type 0 where
   pub serial : IsSerial (opening_state (shapes_of setup.topology)) journal
   -- at every moment: what was executed was carried there, and what was answered was carried back, in order and under its tag
   pub carried : (later past : List Entry) → journal ≡ later ++ past → IsCarried setup.topology past
-  -- where the report says `drained`, all was executed and answered
+  -- where the report says `drained`, all requests that weren't poisoned were executed, and all under a tag were answered
   pub settled : is_drained setup.topology journal ≡ true → IsSettled setup.topology journal

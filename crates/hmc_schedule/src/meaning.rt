@@ -37,6 +37,25 @@ fn land<'a>(plan: &Plan, line: &'a [u8]) -> Result<(Step, &'a [u8]), ScheduleKin
     Ok((Step::Land(direction, mask), rest))
 }
 
+#[tactic(auto, unfolding(crate::specs::Meaning::at_port))]
+fn shift<'a>(plan: &Plan, line: &'a [u8]) -> Result<(Step, &'a [u8]), ScheduleKind>
+    ensures value { Gives (λ p. (p.0, words_of p.1.now)) result (at_port Step.Shift plan.now (words_of line.now)) }
+    ensures within { IfOk result (λ p. IsStepOf plan.now p.0) }
+    ensures built { IfOk result (λ p. IsBuilt p.0) }
+{
+    let (cube, port, rest) = port_words(plan, line)?;
+    Ok((Step::Shift(cube, port), rest))
+}
+
+#[tactic(auto, unfolding(crate::specs::Meaning::at_port))]
+fn through<'a>(plan: &Plan, line: &'a [u8]) -> Result<(Step, &'a [u8]), ScheduleKind>
+    ensures value { Gives (λ p. (p.0, words_of p.1.now)) result (at_port Step.Through plan.now (words_of line.now)) }
+    ensures within { IfOk result (λ p. IsStepOf plan.now p.0) }
+{
+    let (cube, port, rest) = port_words(plan, line)?;
+    Ok((Step::Through(cube, port), rest))
+}
+
 #[tactic(auto, unfolding(crate::specs::Meaning::spread_of))]
 fn spread<'a>(plan: &Plan, line: &'a [u8]) -> Result<(Step, &'a [u8]), ScheduleKind>
     ensures value { Gives (λ p. (p.0, words_of p.1.now)) result (spread_of plan.now (words_of line.now)) }
@@ -70,7 +89,7 @@ fn lift<'a>(plan: &Plan, line: &'a [u8]) -> Result<(Step, &'a [u8]), ScheduleKin
 }
 
 // A step of this kind, and the line behind it.
-#[tactic(auto, unfolding(crate::specs::Meaning::step_of, crate::specs::Meaning::numbered, crate::specs::Meaning::at_port))]
+#[tactic(auto, unfolding(crate::specs::Meaning::step_of, crate::specs::Meaning::numbered))]
 fn step<'a>(plan: &Plan, verb: Verb, line: &'a [u8]) -> Result<(Step, &'a [u8]), ScheduleKind>
     ensures value { Gives (λ p. (p.0, words_of p.1.now)) result (step_of plan.now verb (words_of line.now)) }
     ensures within { IfOk result (λ p. IsStepOf plan.now p.0) }
@@ -86,10 +105,7 @@ fn step<'a>(plan: &Plan, verb: Verb, line: &'a [u8]) -> Result<(Step, &'a [u8]),
             Ok((Step::Send(direction), rest))
         }
         Verb::Land => land(plan, line),
-        Verb::Shift => {
-            let (cube, port, rest) = port_words(plan, line)?;
-            Ok((Step::Shift(cube, port), rest))
-        }
+        Verb::Shift => shift(plan, line),
         Verb::Spread => spread(plan, line),
         Verb::Bank => bank(plan, line),
         Verb::Registers => {
@@ -101,10 +117,7 @@ fn step<'a>(plan: &Plan, verb: Verb, line: &'a [u8]) -> Result<(Step, &'a [u8]),
             let (host, rest) = index_word(plan.hosts, line)?;
             Ok((Step::Take(host), rest))
         }
-        Verb::Through => {
-            let (cube, port, rest) = port_words(plan, line)?;
-            Ok((Step::Through(cube, port), rest))
-        }
+        Verb::Through => through(plan, line),
         Verb::Unlock => {
             let (direction, rest) = index_word(plan.directions, line)?;
             Ok((Step::Unlock(direction), rest))

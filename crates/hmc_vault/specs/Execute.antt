@@ -54,8 +54,9 @@ cube_after _ cube = cube
 -- what an execution by a bank leaves of the vault
 abbrev pub execute_gives : (bank : ℕ) → Executed → VaultFields → VaultFields
 execute_gives bank (Ran host tag request answer) vault =
+    let ran = Ran host tag request answer in
     record vault {
-      banks = slice_set vault.banks bank (drop 1 (bank_at vault bank));
-      answers = vault.answers ++ replies_to request answer host tag;
+      banks = slice_set vault.banks bank (waiting_after ran (bank_at vault bank));
+      answers = answers_after ran vault.answers;
     }
 execute_gives bank _ vault = vault
