@@ -17,7 +17,8 @@ use Rattle.hmc_registers.specs.Registers.{opening_registers}
 use Rattle.hmc_serial.specs.Cube.{opening}
 use Rattle.hmc_cube.specs.Cube.{CubeFields, opening_cube}
 use Rattle.hmc_cube.specs.Places.{IsForRegisters}
-use Rattle.hmc_cube.specs.Kept.{whole, IsVaultOf, IsKept}
+use Rattle.hmc_cube.specs.Kept.{whole, IsKept}
+use Rattle.hmc_cube.specs.Parts.{IsVaultOf}
 
 -- reads and writes of registers are requests
 pub registers_ask : (packet : PacketFields) → IsForRegisters packet → IsAsk packet

@@ -42,7 +42,7 @@ impl Model for Cube {
 }
 
 impl Cube {
-    ghost use Rattle.hmc_cube.specs.Kept.{AreParts};
+    ghost use Rattle.hmc_cube.specs.Parts.{AreParts};
 
     /// A cube with this number and shape, whose queues have room for so many packets each and hold none. All its bytes are
     /// zero.

@@ -34,7 +34,7 @@ use Rattle.hmc_vault.specs.declared.execute.Executed.TheVariants as runs_as
 use Rattle.hmc_vault.specs.Execute.{execute_says, carried_runs, must_wait, replies_to, cube_after}
 use Rattle.hmc_cube.specs.Cube.{CubeFields, vault_at, with_vault, no_vault}
 use Rattle.hmc_cube.specs.After.{bank_says, registers_say, after_execute, after_registers}
-use Rattle.hmc_cube.specs.Kept.{IsVaultOf}
+use Rattle.hmc_cube.specs.Parts.{IsVaultOf}
 use Rattle.hmc_cube.specs.Places.{IsFor, entrance, answers_at}
 use Rattle.hmc_schedule.specs.declared.step.Step.{Step}
 use Rattle.hmc_schedule.specs.declared.step.Step.TheVariants as steps

@@ -5,7 +5,7 @@ use Rattle.hmc_codes.specs.Shape.{ShapeFields}
 use Rattle.hmc_codes.specs.declared.lift.Lift.{Lift}
 use Rattle.hmc_codes.specs.declared.lift.Lift.TheVariants as lifts
 use Rattle.hmc_cube.specs.Cube.{no_vault}
-use Rattle.hmc_cube.specs.Kept.{AreParts, IsVaultOf}
+use Rattle.hmc_cube.specs.Parts.{AreParts, IsVaultOf}
 use Rattle.hmc_cube.specs.Places.{IsLift}
 use Rattle.hmc_schedule.specs.declared.step.Step.{Step}
 use Rattle.hmc_journal.specs.declared.entry.Entry.{Entry}

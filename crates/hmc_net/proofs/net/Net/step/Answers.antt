@@ -1,6 +1,6 @@
 -- The step leaves a network that stands for the case.
 use Rattle.std.proofs.Common.{◌≡◌, ◌<◌, ◌∷◌, ◌∙◌, length, ap, ap₂, sym, subst}
-use Rattle.hmc_cube.specs.Kept.{AreParts}
+use Rattle.hmc_cube.specs.Parts.{AreParts}
 use Rattle.hmc_journal.specs.declared.entry.Entry.{Entry}
 use Rattle.hmc_net.specs.Held.{NetFields}
 use Rattle.hmc_net.specs.Went.{went_of}
