@@ -2,12 +2,12 @@
 
 ghost use Rattle.std.specs.Prelude.{◌≡◌, ◌≤◌, ◌<◌, ◌++◌, [], ◌∷◌, length, replicate, IfOk, OnOk};
 ghost use Rattle.std.specs.List.{All, flat_map};
-ghost use Rattle.hmc_text.specs.InTurn.{at_line};
+ghost use Rattle.hmc_text.specs.InTurn.{at_line, Answers};
 ghost use Rattle.hmc_schedule.specs.declared.meaning.Meaning.TheVariants as meanings;
 ghost use Rattle.hmc_schedule.specs.Meaning.{IfOne};
 ghost use Rattle.hmc_schedule.specs.Plan.{IsStepOf, IsBuilt, IsWorking};
 ghost use Rattle.hmc_schedule.specs.Round.{rounds_of};
-ghost use Rattle.hmc_schedule.specs.Schedule.{Answers, steps_of, with_more, after_line, schedule_of};
+ghost use Rattle.hmc_schedule.specs.Schedule.{steps_of, with_more, after_line, schedule_of};
 
 use crate::meaning::{Meaning, meaning_of};
 use crate::round::round;

@@ -4,8 +4,8 @@ ghost use Rattle.std.specs.Prelude.{◌≡◌, ◌≤◌, ◌<◌, ℕ, length, 
 ghost use Rattle.std.specs.List.{All};
 ghost use Rattle.hmc_script.specs.Items.{IsWithin};
 ghost use Rattle.hmc_script.specs.Meaning.{IsSaidWithin};
-ghost use Rattle.hmc_script.specs.Script.{Answers, Progress, after_meaning, after_line, script_of};
-ghost use Rattle.hmc_text.specs.InTurn.{at_line};
+ghost use Rattle.hmc_script.specs.Script.{Progress, after_meaning, after_line, script_of};
+ghost use Rattle.hmc_text.specs.InTurn.{at_line, Answers};
 
 use crate::meaning::{Meaning, meaning_of};
 use crate::script::MOST_ITEMS;

@@ -1,6 +1,8 @@
 -- The lines of a text in turn, to the first fault.
-use Rattle.std.specs.Prelude.{◌≡◌, ℕ, ◌+◌, ◌-◌, ◌^◌, min, List, [], ◌∷◌, Option, IfSome, Result, Ok, Err}
+use Rattle.std.specs.Prelude.{◌≡◌, ℕ, ◌+◌, ◌-◌, ◌^◌, min, List, [], ◌∷◌, Option, Some, None, IfSome, Result, Ok, Err}
 use Rattle.hmc_text.specs.Reading.{◌>>=◌}
+use Rattle.hmc_text.specs.declared.fault.TextFault.{TextFault}
+use Rattle.hmc_text.specs.declared.fault.TextFault.TheVariants as faults
 
 -- the fault is that of this line
 abbrev pub at_line : {A K : Type 0} → ℕ → Result A K → Result A (ℕ × K)
@@ -19,6 +21,15 @@ after_lines after_line number state (line ∷ lines) = do
   after_lines after_line (next_number number) next lines
 
 -- A call answered what reading gives, or an error that tells no fault: want of memory.
-abbrev pub AnswersBy : {X Y E K : Type 0} → (E → Option (ℕ × K)) → (X → Y) → Result X E → Result Y (ℕ × K) → Type 0
+abbrev pub AnswersBy : {X Y E F : Type 0} → (E → Option F) → (X → Y) → Result X E → Result Y F → Type 0
 AnswersBy told view (Ok x) read = read ≡ Ok (view x)
 AnswersBy told view (Err e) read = IfSome (told e) (λ fault. read ≡ Err fault)
+
+-- the fault that an error tells: none if memory ran out
+abbrev pub told : {K : Type 0} → TextFault K → Option (ℕ × K)
+told faults.Memory = None
+told (faults.Fault line kind) = Some (line, kind)
+
+-- a call answered what reading gives, unless memory ran out
+abbrev pub Answers : {X Y K : Type 0} → (X → Y) → Result X (TextFault K) → Result Y (ℕ × K) → Type 0
+Answers view result read = AnswersBy told view result read
