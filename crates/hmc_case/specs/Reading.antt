@@ -1,7 +1,7 @@
 -- Steps that may fail: the faults of a case, and rows that are read in turn.
-use Rattle.std.specs.Prelude.{◌≡◌, ℕ, Bool, true, false, List, [], ◌∷◌, ◌++◌, Option, Some, None, IfSome, Result, Ok, Err}
+use Rattle.std.specs.Prelude.{◌≡◌, ℕ, Bool, true, false, List, [], ◌∷◌, ◌++◌, Option, Some, None, Result, Ok, Err}
 use Rattle.toml.specs.Data.{Data, Items, no_items, item}
-use Rattle.hmc_text.specs.InTurn.{AnswersBy}
+use Rattle.hmc_text.specs.InTurn.{AnswersBy, TellsBy}
 use Rattle.hmc_text.specs.Reading.{◌>>=◌}
 use Rattle.hmc_case.specs.declared.fault.CaseKind.{CaseKind}
 use Rattle.hmc_case.specs.declared.fault.CaseFault.{CaseFault}
@@ -43,4 +43,4 @@ Answers view result read = AnswersBy told view result read
 -- a call put the row that was read behind the others, unless memory ran out
 abbrev pub Gains : {A : Type 0} → List A → List A → Result (Unit {0}) CaseFault → Result A Fault → Type 0
 Gains {A} old new (Ok done) read = (row : A) × (read ≡ Ok row) × (new ≡ old ++ row ∷ [])
-Gains old new (Err e) read = IfSome (told e) (λ fault. read ≡ Err fault)
+Gains old new (Err e) read = TellsBy told e read

@@ -1,10 +1,12 @@
 -- The lines of a schedule in turn.
-use Rattle.std.proofs.Common.{◌≡◌, ◌∙◌, ◌≤◌, ℕ, ◌+◌, nat_le, Bool, true, false, Result, Ok, Err, OnOk, List, [], ◌∷◌, ◌++◌, length, cond, refl, sym, subst, arith, length-append}
+use Rattle.std.proofs.Common.{◌≡◌, ◌∙◌, ◌≤◌, ℕ, ◌+◌, nat_le, Bool, true, false, Some, Result, Ok, Err, OnOk, List, [], ◌++◌, length, cond, refl, sym, subst, arith, length-append}
+use Rattle.std.specs.Borrow.{Bor}
 use Rattle.std.specs.List.{All}
 use Rattle.std.proofs.lemmas.Bool.Decides.{nat_tests}
 use Rattle.std.proofs.lemmas.List.Elements.{All-append}
 use Rattle.hmc_text.proofs.InTurnLemmas as turns
-use Rattle.hmc_text.specs.InTurn.{after_lines, at_line, Answers}
+use Rattle.hmc_text.proofs.InTurnLemmas.{after_left}
+use Rattle.hmc_text.specs.InTurn.{after_lines, at_line, Numbered, IsNextLine, Answers, TellsBy, told}
 use Rattle.hmc_text.specs.Lines.{lines_of}
 use Rattle.hmc_text.specs.declared.fault.TextFault.{TextFault}
 use Rattle.hmc_schedule.specs.declared.fault.ScheduleKind.{ScheduleKind}
@@ -34,15 +36,13 @@ all_still P number steps more new (Ok u) is all also =
 all_still P number steps more new (Err e) is all also = tt
 
 -- no line is left
-pub schedule_of-ok : (plan : PlanFields) (number : ℕ) (text : List ℕ) (steps : List Step) → after_lines (after_line plan) number steps [] ≡ after_lines (after_line plan) 1 [] (lines_of text) → schedule_of plan text ≡ Ok steps
+pub schedule_of-ok : (plan : PlanFields) (text : List ℕ) (left : Numbered) (steps : List Step) → left.lines ≡ [] → after_left (after_line plan) steps left ≡ after_lines (after_line plan) 1 [] (lines_of text) → schedule_of plan text ≡ Ok steps
 unfolding schedule_of
-schedule_of-ok plan number text steps is = sym is ∙ turns.after_lines-[] (after_line plan) number steps
+schedule_of-ok plan text left steps none is = sym is ∙ turns.none_left (after_line plan) left steps none
 
--- the fault of a line is that of the schedule, if no line before it has one
-pub first_fault : (plan : PlanFields) (number : ℕ) (text : List ℕ) (steps next : List Step) (line : List ℕ) (lines : List (List ℕ)) (fault : TextFault ScheduleKind) →
-    Answers {X = Unit {0}} (λ _. next) (Err fault) (at_line number (after_line plan steps line)) →
-    after_lines (after_line plan) number steps (line ∷ lines) ≡ after_lines (after_line plan) 1 [] (lines_of text) →
-    Answers {X = List Step} (λ steps. steps) (Err fault) (schedule_of plan text)
+-- the fault of the next line is that of the schedule, if no line before it has one
+pub first_fault : (plan : PlanFields) (text : List ℕ) (left behind : Numbered) (line : ℕ × Bor (List ℕ)) (steps : List Step) (fault : TextFault ScheduleKind) → IsNextLine left (Some line) behind →
+    TellsBy told fault (at_line line.0 (after_line plan steps line.1.now)) → after_left (after_line plan) steps left ≡ after_lines (after_line plan) 1 [] (lines_of text) → TellsBy told fault (schedule_of plan text)
 unfolding schedule_of
-first_fault plan number text steps next line lines fault read so_far =
-    turns.first_fault {X = List Step} (λ steps. steps) (after_line plan) number steps next line lines _ fault read so_far
+first_fault plan text left behind line steps fault is read so_far =
+    turns.first_fault (after_line plan) left behind line steps _ fault is read so_far

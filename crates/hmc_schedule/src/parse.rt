@@ -13,7 +13,7 @@ use crate::meaning::{Meaning, meaning_of};
 use crate::round::round;
 use crate::schedule::MOST_STEPS;
 use crate::{Plan, Schedule, ScheduleFault, ScheduleKind, Step};
-use hmc_text::lines::first_line;
+use hmc_text::lines::Lines;
 use std::alloc::{AllocError, Global};
 
 // Puts a round behind the others so many times.
@@ -122,15 +122,11 @@ impl Schedule {
         ensures built { IfOk result (All IsBuilt) }
     {
         let mut steps = Vec::new(alloc);
-        let mut number = 1u32;
-        let mut left = Some(text.as_bytes());
-        'lines: while let Some(text) = left {
-            let (line, behind) = first_line(text);
+        let mut left = Lines::of(text);
+        'lines: while let Some((number, line)) = left.next_line() {
             if let Err(fault) = read_line(alloc, plan, &mut steps, number, line) {
                 return Err(fault);
             }
-            number = number.saturating_add(1);
-            left = behind;
         }
         Ok(Schedule::of(steps))
     }
