@@ -4,5 +4,4 @@ pub mod WalkLemmas
 pub mod PartsLemmas
 pub mod HostsLemmas
 pub mod PlanLemmas
-pub mod ReadingLemmas
 mod Worked

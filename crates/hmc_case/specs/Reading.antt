@@ -1,6 +1,7 @@
 -- Steps that may fail: the faults of a case, and rows that are read in turn.
-use Rattle.std.specs.Prelude.{◌≡◌, ℕ, Bool, true, false, List, [], ◌∷◌, ◌++◌, Result, Ok, Err}
+use Rattle.std.specs.Prelude.{◌≡◌, ℕ, Bool, true, false, List, [], ◌∷◌, ◌++◌, Option, Some, None, Result, Ok, Err}
 use Rattle.toml.specs.Data.{Data, Items, no_items, item}
+use Rattle.hmc_text.specs.InTurn.{AnswersBy, TellsBy}
 use Rattle.hmc_text.specs.Reading.{◌>>=◌}
 use Rattle.hmc_case.specs.declared.fault.CaseKind.{CaseKind}
 use Rattle.hmc_case.specs.declared.fault.CaseFault.{CaseFault}
@@ -30,14 +31,16 @@ in_turn read rows (item value values) = do
   row ← read rows value
   in_turn read (rows ++ row ∷ []) values
 
+-- the fault that an error tells: none if memory ran out
+abbrev pub told : CaseFault → Option Fault
+told faults.Memory = None
+told (faults.Bad section line kind) = Some (record { section = section; line = line; kind = kind })
+
 -- a call answered what reading gives, unless memory ran out
 abbrev pub Answers : {X Y : Type 0} → (X → Y) → Result X CaseFault → Result Y Fault → Type 0
-Answers view (Ok x) read = read ≡ Ok (view x)
-Answers view (Err faults.Memory) read = Unit {0}
-Answers view (Err (faults.Bad section line kind)) read = read ≡ Err (record { section = section; line = line; kind = kind })
+Answers view result read = AnswersBy told view result read
 
 -- a call put the row that was read behind the others, unless memory ran out
 abbrev pub Gains : {A : Type 0} → List A → List A → Result (Unit {0}) CaseFault → Result A Fault → Type 0
 Gains {A} old new (Ok done) read = (row : A) × (read ≡ Ok row) × (new ≡ old ++ row ∷ [])
-Gains old new (Err faults.Memory) read = Unit {0}
-Gains old new (Err (faults.Bad section line kind)) read = read ≡ Err (record { section = section; line = line; kind = kind })
+Gains old new (Err e) read = TellsBy told e read

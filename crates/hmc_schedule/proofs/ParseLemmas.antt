@@ -1,17 +1,19 @@
 -- The lines of a schedule in turn.
-use Rattle.std.proofs.Common.{◌≡◌, ◌∙◌, ◌≤◌, ℕ, ◌+◌, nat_le, Bool, true, false, Result, Ok, Err, OnOk, List, [], ◌∷◌, ◌++◌, length, cond, refl, sym, subst, arith, length-append}
+use Rattle.std.proofs.Common.{◌≡◌, ◌∙◌, ◌≤◌, ℕ, ◌+◌, nat_le, Bool, true, false, Some, Result, Ok, Err, OnOk, List, [], ◌++◌, length, cond, refl, sym, subst, arith, length-append}
+use Rattle.std.specs.Borrow.{Bor}
 use Rattle.std.specs.List.{All}
 use Rattle.std.proofs.lemmas.Bool.Decides.{nat_tests}
 use Rattle.std.proofs.lemmas.List.Elements.{All-append}
 use Rattle.hmc_text.proofs.InTurnLemmas as turns
-use Rattle.hmc_text.specs.InTurn.{after_lines, at_line}
+use Rattle.hmc_text.proofs.InTurnLemmas.{after_left}
+use Rattle.hmc_text.specs.InTurn.{after_lines, at_line, Numbered, IsNextLine, Answers, TellsBy, told}
 use Rattle.hmc_text.specs.Lines.{lines_of}
-use Rattle.hmc_schedule.specs.declared.fault.ScheduleFault.{ScheduleFault}
+use Rattle.hmc_text.specs.declared.fault.TextFault.{TextFault}
 use Rattle.hmc_schedule.specs.declared.fault.ScheduleKind.{ScheduleKind}
 use Rattle.hmc_schedule.specs.declared.fault.ScheduleKind.TheVariants.{Steps}
 use Rattle.hmc_schedule.specs.declared.step.Step.{Step}
 use Rattle.hmc_schedule.specs.Plan.{PlanFields}
-use Rattle.hmc_schedule.specs.Schedule.{with_more, after_line, schedule_of, told, Answers}
+use Rattle.hmc_schedule.specs.Schedule.{with_more, after_line, schedule_of}
 
 -- what it means that more steps were added
 with_more-ok : (number : ℕ) (steps more new : List Step) → at_line number (with_more steps more) ≡ Ok new → (new ≡ steps ++ more) × (length steps + length more ≤ 1000000)
@@ -22,27 +24,25 @@ with_more-ok number steps more new is =
       by_room true fits is = (cc, grind (arith, nat_tests))
       by_room false full is = absurd (cc)
 
-pub few_still : (number : ℕ) (steps more new : List Step) (r : Result (Unit {0}) ScheduleFault) → Answers {X = Unit {0}} (λ _. new) r (at_line number (with_more steps more)) → OnOk r (length new ≤ 1000000)
+pub few_still : (number : ℕ) (steps more new : List Step) (r : Result (Unit {0}) (TextFault ScheduleKind)) → Answers {X = Unit {0}} (λ _. new) r (at_line number (with_more steps more)) → OnOk r (length new ≤ 1000000)
 few_still number steps more new (Ok u) is =
     let added = with_more-ok number steps more new is in
     rw (added.0, length-append steps more) added.1
 few_still number steps more new (Err e) is = tt
 
-pub all_still : (P : Step → Type 0) (number : ℕ) (steps more new : List Step) (r : Result (Unit {0}) ScheduleFault) → Answers {X = Unit {0}} (λ _. new) r (at_line number (with_more steps more)) → All P steps → All P more → OnOk r (All P new)
+pub all_still : (P : Step → Type 0) (number : ℕ) (steps more new : List Step) (r : Result (Unit {0}) (TextFault ScheduleKind)) → Answers {X = Unit {0}} (λ _. new) r (at_line number (with_more steps more)) → All P steps → All P more → OnOk r (All P new)
 all_still P number steps more new (Ok u) is all also =
     subst (All P) (sym (with_more-ok number steps more new is).0) (All-append P steps more all also)
 all_still P number steps more new (Err e) is all also = tt
 
 -- no line is left
-pub schedule_of-ok : (plan : PlanFields) (number : ℕ) (text : List ℕ) (steps : List Step) → after_lines (after_line plan) number steps [] ≡ after_lines (after_line plan) 1 [] (lines_of text) → schedule_of plan text ≡ Ok steps
+pub schedule_of-ok : (plan : PlanFields) (text : List ℕ) (left : Numbered) (steps : List Step) → left.lines ≡ [] → after_left (after_line plan) steps left ≡ after_lines (after_line plan) 1 [] (lines_of text) → schedule_of plan text ≡ Ok steps
 unfolding schedule_of
-schedule_of-ok plan number text steps is = sym is ∙ turns.after_lines-[] (after_line plan) number steps
+schedule_of-ok plan text left steps none is = sym is ∙ turns.none_left (after_line plan) left steps none
 
--- the fault of a line is that of the schedule, if no line before it has one
-pub first_fault : (plan : PlanFields) (number : ℕ) (text : List ℕ) (steps next : List Step) (line : List ℕ) (lines : List (List ℕ)) (fault : ScheduleFault) →
-    Answers {X = Unit {0}} (λ _. next) (Err fault) (at_line number (after_line plan steps line)) →
-    after_lines (after_line plan) number steps (line ∷ lines) ≡ after_lines (after_line plan) 1 [] (lines_of text) →
-    Answers {X = List Step} (λ steps. steps) (Err fault) (schedule_of plan text)
+-- the fault of the next line is that of the schedule, if no line before it has one
+pub first_fault : (plan : PlanFields) (text : List ℕ) (left behind : Numbered) (line : ℕ × Bor (List ℕ)) (steps : List Step) (fault : TextFault ScheduleKind) → IsNextLine left (Some line) behind →
+    TellsBy told fault (at_line line.0 (after_line plan steps line.1.now)) → after_left (after_line plan) steps left ≡ after_lines (after_line plan) 1 [] (lines_of text) → TellsBy told fault (schedule_of plan text)
 unfolding schedule_of
-first_fault plan number text steps next line lines fault read so_far =
-    turns.first_fault {X = List Step} told (λ steps. steps) (after_line plan) number steps next line lines _ fault read so_far
+first_fault plan text left behind line steps fault is read so_far =
+    turns.first_fault (after_line plan) left behind line steps _ fault is read so_far

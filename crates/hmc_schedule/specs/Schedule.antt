@@ -1,11 +1,9 @@
 -- The steps of a text, or its first fault.
-use Rattle.std.specs.Prelude.{ℕ, ◌+◌, nat_le, List, [], ◌∷◌, ◌++◌, length, Option, Some, None, Result, Ok, Err, if◌then◌else◌}
-use Rattle.hmc_text.specs.InTurn.{after_lines, AnswersBy}
+use Rattle.std.specs.Prelude.{ℕ, ◌+◌, nat_le, List, [], ◌∷◌, ◌++◌, length, Result, Ok, Err, if◌then◌else◌}
+use Rattle.hmc_text.specs.InTurn.{after_lines}
 use Rattle.hmc_text.specs.Lines.{lines_of}
 use Rattle.hmc_text.specs.Reading.{◌>>=◌}
 use Rattle.hmc_text.specs.Words.{words_of}
-use Rattle.hmc_schedule.specs.declared.fault.ScheduleFault.{ScheduleFault}
-use Rattle.hmc_schedule.specs.declared.fault.ScheduleFault.TheVariants as faults
 use Rattle.hmc_schedule.specs.declared.fault.ScheduleKind.{ScheduleKind}
 use Rattle.hmc_schedule.specs.declared.fault.ScheduleKind.TheVariants.{Steps}
 use Rattle.hmc_schedule.specs.declared.meaning.Meaning.{Meaning}
@@ -34,12 +32,3 @@ after_line plan steps line = do
 -- the steps, or the first fault: its line and what is wrong there
 unfoldable pub schedule_of : PlanFields → List ℕ → Result (List Step) (ℕ × ScheduleKind)
 schedule_of plan text = after_lines (after_line plan) 1 [] (lines_of text)
-
--- the fault that an error tells: none if memory ran out
-abbrev pub told : ScheduleFault → Option (ℕ × ScheduleKind)
-told faults.Memory = None
-told (faults.Fault line kind) = Some (line, kind)
-
--- a call answered what reading gives, unless memory ran out
-abbrev pub Answers : {X Y : Type 0} → (X → Y) → Result X ScheduleFault → Result Y (ℕ × ScheduleKind) → Type 0
-Answers view result read = AnswersBy told view result read

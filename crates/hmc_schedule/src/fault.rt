@@ -1,9 +1,8 @@
 //! What is wrong with a schedule.
 
-ghost use Rattle.std.specs.Prelude.{◌≡◌, Some};
-ghost use Rattle.hmc_schedule.specs.declared.fault.ScheduleFault.TheVariants as faults;
+ghost use Rattle.std.specs.Prelude.{Some};
 
-use std::alloc::AllocError;
+use hmc_text::fault::TextFault;
 use std::fmt;
 
 /// What is wrong with a line.
@@ -41,18 +40,4 @@ impl fmt::Display for ScheduleKind {
 }
 
 /// Why a text is no schedule.
-#[derive(Clone, Copy, Debug, PartialEq, Eq)]
-pub enum ScheduleFault {
-    /// Want of memory.
-    Memory,
-    /// The first fault: its line, counted from 1, and what is wrong there.
-    Fault { line: u32, kind: ScheduleKind },
-}
-
-impl From<AllocError> for ScheduleFault {
-    ghost from_gives = { λ _ fault. fault ≡ faults.Memory };
-
-    fn from(_: AllocError) -> Self {
-        ScheduleFault::Memory
-    }
-}
+pub type ScheduleFault = TextFault<ScheduleKind>;

@@ -2,18 +2,18 @@
 
 ghost use Rattle.std.specs.Prelude.{◌≡◌, ◌≤◌, ◌<◌, ◌++◌, [], ◌∷◌, length, replicate, IfOk, OnOk};
 ghost use Rattle.std.specs.List.{All, flat_map};
-ghost use Rattle.hmc_text.specs.InTurn.{at_line};
+ghost use Rattle.hmc_text.specs.InTurn.{at_line, Answers};
 ghost use Rattle.hmc_schedule.specs.declared.meaning.Meaning.TheVariants as meanings;
 ghost use Rattle.hmc_schedule.specs.Meaning.{IfOne};
 ghost use Rattle.hmc_schedule.specs.Plan.{IsStepOf, IsBuilt, IsWorking};
 ghost use Rattle.hmc_schedule.specs.Round.{rounds_of};
-ghost use Rattle.hmc_schedule.specs.Schedule.{Answers, steps_of, with_more, after_line, schedule_of};
+ghost use Rattle.hmc_schedule.specs.Schedule.{steps_of, with_more, after_line, schedule_of};
 
 use crate::meaning::{Meaning, meaning_of};
 use crate::round::round;
 use crate::schedule::MOST_STEPS;
 use crate::{Plan, Schedule, ScheduleFault, ScheduleKind, Step};
-use hmc_text::lines::first_line;
+use hmc_text::lines::Lines;
 use std::alloc::{AllocError, Global};
 
 // Puts a round behind the others so many times.
@@ -122,15 +122,11 @@ impl Schedule {
         ensures built { IfOk result (All IsBuilt) }
     {
         let mut steps = Vec::new(alloc);
-        let mut number = 1u32;
-        let mut left = Some(text.as_bytes());
-        'lines: while let Some(text) = left {
-            let (line, behind) = first_line(text);
+        let mut left = Lines::of(text);
+        'lines: while let Some((number, line)) = left.next_line() {
             if let Err(fault) = read_line(alloc, plan, &mut steps, number, line) {
                 return Err(fault);
             }
-            number = number.saturating_add(1);
-            left = behind;
         }
         Ok(Schedule::of(steps))
     }

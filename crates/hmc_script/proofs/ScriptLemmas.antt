@@ -1,25 +1,26 @@
 -- The lines of a script in turn.
-use Rattle.std.proofs.Common.{◌≡◌, ◌∙◌, ℕ, Result, Ok, Err, List, [], ◌∷◌, sym, ap}
+use Rattle.std.proofs.Common.{◌≡◌, ◌∙◌, ℕ, Some, Result, Ok, List, [], sym, ap}
+use Rattle.std.specs.Borrow.{Bor}
 use Rattle.hmc_text.proofs.InTurnLemmas as turns
-use Rattle.hmc_text.specs.InTurn.{after_lines, at_line}
+use Rattle.hmc_text.proofs.InTurnLemmas.{after_left}
+use Rattle.hmc_text.specs.InTurn.{after_lines, at_line, Numbered, IsNextLine, TellsBy, told}
 use Rattle.hmc_text.specs.Lines.{lines_of}
 use Rattle.hmc_text.specs.Reading.{◌>>=◌}
-use Rattle.hmc_script.specs.declared.fault.ScriptFault.{ScriptFault}
+use Rattle.hmc_text.specs.declared.fault.TextFault.{TextFault}
 use Rattle.hmc_script.specs.declared.fault.ScriptKind.{ScriptKind}
-use Rattle.hmc_script.specs.Items.{ItemFields}
-use Rattle.hmc_script.specs.Script.{Progress, nothing_yet, after_line, script_of, told, Answers}
+use Rattle.hmc_script.specs.Script.{Progress, nothing_yet, after_line, script_of}
 
 -- no line is left
-pub script_of-ok : (hosts cubes number : ℕ) (text : List ℕ) (progress : Progress) → after_lines (after_line hosts cubes) number progress [] ≡ after_lines (after_line hosts cubes) 1 nothing_yet (lines_of text) → script_of hosts cubes text ≡ Ok progress.items
+pub script_of-ok : (hosts cubes : ℕ) (text : List ℕ) (left : Numbered) (progress : Progress) → left.lines ≡ [] → after_left (after_line hosts cubes) progress left ≡ after_lines (after_line hosts cubes) 1 nothing_yet (lines_of text) → script_of hosts cubes text ≡ Ok progress.items
 unfolding script_of
-script_of-ok hosts cubes number text progress is =
-    ap (λ (r : Result Progress (ℕ × ScriptKind)). r >>= (λ q. Ok q.items)) (sym is ∙ turns.after_lines-[] (after_line hosts cubes) number progress)
+script_of-ok hosts cubes text left progress none is =
+    ap (λ (r : Result Progress (ℕ × ScriptKind)). r >>= (λ q. Ok q.items)) (sym is ∙ turns.none_left (after_line hosts cubes) left progress none)
 
--- the fault of a line is that of the script, if no line before it has one
-pub first_fault : (hosts cubes number : ℕ) (text : List ℕ) (progress next : Progress) (line : List ℕ) (lines : List (List ℕ)) (fault : ScriptFault) →
-    Answers {X = Unit {0}} (λ _. next) (Err fault) (at_line number (after_line hosts cubes progress line)) →
-    after_lines (after_line hosts cubes) number progress (line ∷ lines) ≡ after_lines (after_line hosts cubes) 1 nothing_yet (lines_of text) →
-    Answers {X = List ItemFields} (λ items. items) (Err fault) (script_of hosts cubes text)
+-- the fault of the next line is that of the script, if no line before it has one
+pub first_fault : (hosts cubes : ℕ) (text : List ℕ) (left behind : Numbered) (line : ℕ × Bor (List ℕ)) (progress : Progress) (fault : TextFault ScriptKind) → IsNextLine left (Some line) behind →
+    TellsBy told fault (at_line line.0 (after_line hosts cubes progress line.1.now)) →
+    after_left (after_line hosts cubes) progress left ≡ after_lines (after_line hosts cubes) 1 nothing_yet (lines_of text) →
+    TellsBy told fault (script_of hosts cubes text)
 unfolding script_of
-first_fault hosts cubes number text progress next line lines fault read so_far =
-    turns.fault_made {X = Unit {0}} {Y = List ItemFields} told (λ _. next) (λ items. items) (λ (p : Progress). p.items) _ fault (turns.first_fault {X = Unit {0}} told (λ _. next) (after_line hosts cubes) number progress next line lines _ fault read so_far)
+first_fault hosts cubes text left behind line progress fault is read so_far =
+    turns.fault_made (λ (p : Progress). p.items) _ fault (turns.first_fault (after_line hosts cubes) left behind line progress _ fault is read so_far)

@@ -1,7 +1,5 @@
 -- The requests of a text, or its first fault.
-use Rattle.std.specs.Prelude.{ℕ, nat_lt, Bool, true, false, List, [], ◌∷◌, ◌++◌, length, replicate, slice_index_or, slice_set, Option, Some, None, Result, Ok, Err, if◌then◌else◌}
-use Rattle.hmc_script.specs.declared.fault.ScriptFault.{ScriptFault}
-use Rattle.hmc_script.specs.declared.fault.ScriptFault.TheVariants as faults
+use Rattle.std.specs.Prelude.{ℕ, nat_lt, Bool, true, false, List, [], ◌∷◌, ◌++◌, length, replicate, slice_index_or, slice_set, Result, Ok, Err, if◌then◌else◌}
 use Rattle.hmc_script.specs.declared.fault.ScriptKind.{ScriptKind}
 use Rattle.hmc_script.specs.declared.fault.ScriptKind.TheVariants.{TooMany}
 use Rattle.hmc_script.specs.declared.meaning.Meaning.{Meaning}
@@ -9,7 +7,7 @@ use Rattle.hmc_script.specs.declared.meaning.Meaning.TheVariants.{Nothing, Fence
 use Rattle.hmc_script.specs.Items.{ItemFields}
 use Rattle.hmc_text.specs.Lines.{lines_of}
 use Rattle.hmc_script.specs.Meaning.{meaning_of}
-use Rattle.hmc_text.specs.InTurn.{after_lines, AnswersBy}
+use Rattle.hmc_text.specs.InTurn.{after_lines}
 use Rattle.hmc_text.specs.Reading.{◌>>=◌}
 use Rattle.hmc_text.specs.Words.{words_of}
 
@@ -42,12 +40,3 @@ unfoldable pub script_of : ℕ → ℕ → List ℕ → Result (List ItemFields)
 script_of hosts cubes text = do
   progress ← after_lines (after_line hosts cubes) 1 nothing_yet (lines_of text)
   Ok progress.items
-
--- the fault that an error tells: none if memory ran out
-abbrev pub told : ScriptFault → Option (ℕ × ScriptKind)
-told faults.Memory = None
-told (faults.Fault line kind) = Some (line, kind)
-
--- a call answered what reading gives, unless memory ran out
-abbrev pub Answers : {X Y : Type 0} → (X → Y) → Result X ScriptFault → Result Y (ℕ × ScriptKind) → Type 0
-Answers view result read = AnswersBy told view result read

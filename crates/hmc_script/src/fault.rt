@@ -1,9 +1,8 @@
 //! What is wrong with a script.
 
-ghost use Rattle.std.specs.Prelude.{◌≡◌, Some};
-ghost use Rattle.hmc_script.specs.declared.fault.ScriptFault.TheVariants as faults;
+ghost use Rattle.std.specs.Prelude.{Some};
 
-use hmc_codes::Memory;
+use hmc_text::fault::TextFault;
 use std::fmt;
 
 /// What is wrong with a line.
@@ -44,18 +43,4 @@ impl fmt::Display for ScriptKind {
 }
 
 /// Why a text is no script.
-#[derive(Clone, Copy, Debug, PartialEq, Eq)]
-pub enum ScriptFault {
-    /// Want of memory.
-    Memory,
-    /// The first fault: its line, counted from 1, and what is wrong there.
-    Fault { line: u32, kind: ScriptKind },
-}
-
-impl From<Memory> for ScriptFault {
-    ghost from_gives = { λ _ fault. fault ≡ faults.Memory };
-
-    fn from(_: Memory) -> Self {
-        ScriptFault::Memory
-    }
-}
+pub type ScriptFault = TextFault<ScriptKind>;

@@ -4,13 +4,13 @@ ghost use Rattle.std.specs.Prelude.{◌≡◌, ◌≤◌, ◌<◌, ℕ, length, 
 ghost use Rattle.std.specs.List.{All};
 ghost use Rattle.hmc_script.specs.Items.{IsWithin};
 ghost use Rattle.hmc_script.specs.Meaning.{IsSaidWithin};
-ghost use Rattle.hmc_script.specs.Script.{Answers, Progress, after_meaning, after_line, script_of};
-ghost use Rattle.hmc_text.specs.InTurn.{at_line};
+ghost use Rattle.hmc_script.specs.Script.{Progress, after_meaning, after_line, script_of};
+ghost use Rattle.hmc_text.specs.InTurn.{at_line, Answers};
 
 use crate::meaning::{Meaning, meaning_of};
 use crate::script::MOST_ITEMS;
 use crate::{Item, Script, ScriptFault, ScriptKind};
-use hmc_text::lines::first_line;
+use hmc_text::lines::Lines;
 use std::alloc::Global;
 
 /// Hosts are numbered below 8.
@@ -91,15 +91,11 @@ impl Script {
     {
         let mut script = Script::new(alloc);
         let mut fences = [false; HOSTS];
-        let mut number = 1u32;
-        let mut left = Some(text.as_bytes());
-        'lines: while let Some(text) = left {
-            let (line, behind) = first_line(text);
+        let mut left = Lines::of(text);
+        'lines: while let Some((number, line)) = left.next_line() {
             if let Err(fault) = read_line(&mut script, &mut fences, number, line, hosts, cubes) {
                 return Err(fault);
             }
-            number = number.saturating_add(1);
-            left = behind;
         }
         Ok(script)
     }

@@ -1,5 +1,5 @@
 -- The lines of a text.
-use Rattle.std.specs.Prelude.{ℕ, ◌+◌, ◌-◌, Bool, ◌==◌, List, [], ◌∷◌, length, take, map, slice_index, Option, Some, None, if◌then◌else◌}
+use Rattle.std.specs.Prelude.{ℕ, ◌-◌, Bool, ◌==◌, List, [], ◌∷◌, length, take, map, slice_index, Option, Some, None, if◌then◌else◌}
 use Rattle.std.specs.Borrow.{Bor}
 use Rattle.std.specs.List.{slice_split}
 
@@ -24,8 +24,3 @@ lines_left (Some text) = lines_of text.now
 abbrev pub lines_behind : List ℕ → List (List ℕ)
 lines_behind [] = []
 lines_behind (feed ∷ text) = lines_of text
-
--- how many bytes are left, a line feed in front of them counted: a loop over lines ends, since each line leaves fewer
-abbrev pub bytes_left : Option (Bor (List ℕ)) → ℕ
-bytes_left None = 0
-bytes_left (Some text) = length text.now + 1

@@ -1,8 +1,11 @@
 //! The lines of a text.
 
-ghost use Rattle.std.specs.Prelude.{◌≡◌, ◌≤◌, ◌<◌, ◌∷◌, length};
+ghost use Rattle.std.specs.Prelude.{◌≡◌, ◌≤◌, ◌∷◌, length};
 ghost use Rattle.std.specs.List.{position_or_len};
-ghost use Rattle.hmc_text.specs.Lines.{is_line_feed, without_return, lines_of, lines_left, lines_behind, bytes_left};
+ghost use Rattle.hmc_text.specs.Lines.{is_line_feed, without_return, lines_of, lines_left, lines_behind};
+ghost use Rattle.hmc_text.specs.InTurn.{IsNextLine};
+
+use std::marker::Model;
 
 // How many bytes stand before the first line feed.
 fn line_len(text: &[u8]) -> usize
@@ -23,8 +26,7 @@ fn without_return(line: &[u8]) -> &[u8]
 
 // What stands behind the line feed in front, if there is one.
 fn behind(end: &[u8]) -> Option<&[u8]>
-    ensures lines { lines_left result ≡ lines_behind end.now }
-    ensures shorter { bytes_left result ≤ length end.now }
+    ensures { lines_left result ≡ lines_behind end.now }
 {
     match end {
         [_, behind @ ..] => Some(behind),
@@ -34,9 +36,47 @@ fn behind(end: &[u8]) -> Option<&[u8]>
 
 /// The first line, without its end, and what stands behind its line feed, if it has one.
 pub fn first_line(text: &[u8]) -> (&[u8], Option<&[u8]>)
-    ensures lines { lines_of text.now ≡ result.0.now ∷ lines_left result.1 }
-    ensures shorter { bytes_left result.1 ≤ length text.now }
+    ensures { lines_of text.now ≡ result.0.now ∷ lines_left result.1 }
 {
     let (line, end) = text.split_at(line_len(text));
     (without_return(line), behind(end))
+}
+
+/// The lines of a text that aren't read yet, and the number of the first of them.
+#[derive(Drop)]
+pub struct Lines<'a> {
+    left: Option<&'a [u8]>,
+    number: u32,
+}
+
+impl<'a> Model for Lines<'a> {
+    ghost use Rattle.hmc_text.specs.Lines.{lines_left};
+    ghost use Rattle.hmc_text.specs.InTurn.{Numbered};
+
+    ghost Value = { Numbered };
+
+    ghost view = { λ l. record { number = l.number; lines = lines_left l.left } };
+}
+
+impl<'a> Lines<'a> {
+    /// All lines of a text, counted from 1.
+    pub fn of(text: &'a str) -> Lines<'a>
+        ensures { result ≡ record { number = 1; lines = lines_of text.now } }
+    {
+        Lines {
+            left: Some(text.as_bytes()),
+            number: 1,
+        }
+    }
+
+    /// The next line, and its number. Lines behind the 4,294,967,295th have that number too.
+    pub fn next_line(&mut self) -> Option<(u32, &'a [u8])>
+        ensures { IsNextLine self.old result self.new }
+    {
+        let (line, behind) = first_line(self.left?);
+        let number = self.number;
+        self.left = behind;
+        self.number = number.saturating_add(1);
+        Some((number, line))
+    }
 }

@@ -1,17 +1,18 @@
 use Rattle.std.proofs.Common.{◌≡◌, ◌≤◌, [], length}
 use Rattle.std.specs.List.{All}
+use Rattle.hmc_text.proofs.InTurnLemmas.{after_left}
 use Rattle.hmc_text.specs.InTurn.{after_lines}
-use Rattle.hmc_text.specs.Lines.{lines_of, lines_left, bytes_left}
+use Rattle.hmc_text.specs.Lines.{lines_of}
 use Rattle.hmc_schedule.specs.Plan.{IsWorking}
 use Rattle.hmc_schedule.specs.Schedule.{after_line}
 use Rattle.hmc_schedule.proofs.schedule.Schedule.parse.Given as goal
 
 abbrev pub invariant-lines : goal.invariant-lines
 invariant-lines l = record {
-  rest : after_lines (after_line l.plan) l.number l.steps.items (lines_left l.left) ≡ after_lines (after_line l.plan) 1 [] (lines_of l.fn.text);
+  rest : after_left (after_line l.plan) l.steps.items l.left ≡ after_lines (after_line l.plan) 1 [] (lines_of l.fn.text);
   few : length l.steps.items ≤ 1000000;
   works : All (IsWorking l.plan) l.steps.items;
 }
 
 abbrev pub decreases-lines : goal.decreases-lines
-decreases-lines l = bytes_left l.left
+decreases-lines l = length l.left.lines
