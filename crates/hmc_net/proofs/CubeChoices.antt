@@ -25,6 +25,9 @@ use Rattle.hmc_packet.specs.Transactions.{request_in, replied}
 use Rattle.hmc_serial.specs.Cube.{CubeState}
 use Rattle.hmc_serial.specs.Machine.{answer_to, no_cube}
 use Rattle.hmc_serial.specs.Perform.{perform_on}
+use Rattle.hmc_crossbar.specs.declared.to.To.{To}
+use Rattle.hmc_crossbar.specs.declared.to.To.TheVariants as tos
+use Rattle.hmc_crossbar.specs.To.{where_to}
 use Rattle.hmc_vault.specs.Vault.{VaultFields, bank_at}
 use Rattle.hmc_vault.specs.declared.spread.Spread.{Spread}
 use Rattle.hmc_vault.specs.declared.spread.Spread.TheVariants as spreads
@@ -58,6 +61,7 @@ use Rattle.hmc_net.proofs.WireLemmas.{below_is_room}
 use Rattle.hmc_net.proofs.Fits.{own_cube, port_back}
 use Rattle.hmc_net.proofs.Rooms.{buffer_is, port_direction}
 use Rattle.hmc_net.proofs.Choices.{front_some, front_none, front_all}
+use Rattle.hmc_net.proofs.Going.{goes, nowhere}
 
 -- ---- shift
 
@@ -71,9 +75,10 @@ shift_none net port entry same none is = is ∙ sym (front_none (steps.Shift 0 p
 shift_some : (net : NetFields) (port : ℕ) (front : PacketFields) → port ≡ net.port → slice_get net.buffer 0 ≡ Some front → shifted (topology_of net) (sight_by net) 0 port front ≡ choice (topology_of net) (sight_by net) (steps.Shift 0 port)
 shift_some net port front same some = sym (front_some (steps.Shift 0 port) net.buffer front (shifted (topology_of net) (sight_by net) 0 port) some) ∙ sym (choice_shift net port same)
 
-pub shift_poisoned : (net : NetFields) (port : ℕ) (front : PacketFields) → port ≡ net.port → slice_get net.buffer 0 ≡ Some front → front.poisoned ≡ true → entries.Dropped 0 port ≡ choice (topology_of net) (sight_by net) (steps.Shift 0 port)
-shift_poisoned net port front same some poisoned =
-    ap (λ t. if t then entries.Dropped 0 port else shifted_to (topology_of net) (sight_by net) 0 port (goal_of (topology_of net) 0 front)) (sym poisoned) ∙ shift_some net port front same some
+pub shift_poisoned : (net : NetFields) (port : ℕ) (front : PacketFields) (to : To) → port ≡ net.port → slice_get net.buffer 0 ≡ Some front → to ≡ where_to net.setup.shape front → to ≡ tos.Nowhere
+    → entries.Dropped 0 port ≡ choice (topology_of net) (sight_by net) (steps.Shift 0 port)
+shift_poisoned net port front to same some is at =
+    ap (λ t. if t then entries.Dropped 0 port else shifted_to (topology_of net) (sight_by net) 0 port (goal_of (topology_of net) 0 front)) (sym (nowhere net.setup.shape front to is at)) ∙ shift_some net port front same some
 
 at_most : (size used : ℕ) → (used < size → ⊥) → nat_le size used ≡ true
 at_most size used full = grind (arith, nat_tests)
@@ -94,15 +99,19 @@ shift_by net port front test unpoisoned size fills =
     ap (λ t. if t then entries.Dropped 0 port else shifted_to (topology_of net) (sight_by net) 0 port (goal_of (topology_of net) 0 front)) unpoisoned ∙
     ap (λ t. unless_full (steps.Shift 0 port) t (entries.Shifted 0 port (goal_by net.setup.shape front))) (full_by net front (is_for_registers front.command) test refl size fills)
 
-pub shift_full : (net : NetFields) (port : ℕ) (front : PacketFields) (entry : Entry) → port ≡ net.port → slice_get net.buffer 0 ≡ Some front → front.poisoned ≡ false → net.cube.size ≡ net.setup.queue
-    → (length (entrance net.cube (to_of (goal_by net.setup.shape front))) < net.cube.size → ⊥) → entry ≡ Idle (steps.Shift 0 port) causes.Full → entry ≡ choice (topology_of net) (sight_by net) (steps.Shift 0 port)
-shift_full net port front entry same some unpoisoned size full is =
-    is ∙ sym (shift_by net port front true unpoisoned size (at_most net.cube.size _ full)) ∙ shift_some net port front same some
+pub shift_full : (net : NetFields) (port : ℕ) (front : PacketFields) (to : To) (goal : Goal) (entry : Entry) → port ≡ net.port → slice_get net.buffer 0 ≡ Some front → net.cube.size ≡ net.setup.queue
+    → to ≡ where_to net.setup.shape front → to ≡ to_of goal → (length (entrance net.cube to) < net.cube.size → ⊥) → entry ≡ Idle (steps.Shift 0 port) causes.Full → entry ≡ choice (topology_of net) (sight_by net) (steps.Shift 0 port)
+shift_full net port front to goal entry same some size is at full idle =
+    let away = goes net.setup.shape front to goal is at in
+    let place : to ≡ to_of (goal_by net.setup.shape front) = at ∙ ap to_of away.1 in
+    idle ∙ sym (shift_by net port front true away.0 size (at_most net.cube.size _ (subst (λ t. length (entrance net.cube t) < net.cube.size → ⊥) place full))) ∙ shift_some net port front same some
 
-pub shift_goes : (net : NetFields) (port : ℕ) (front : PacketFields) (goal : Goal) → port ≡ net.port → slice_get net.buffer 0 ≡ Some front → front.poisoned ≡ false → net.cube.size ≡ net.setup.queue → goal ≡ goal_by net.setup.shape front
-    → length (entrance net.cube (to_of goal)) < net.cube.size → entries.Shifted 0 port goal ≡ choice (topology_of net) (sight_by net) (steps.Shift 0 port)
-shift_goes net port front goal same some unpoisoned size is room =
-    ap (entries.Shifted 0 port) is ∙ sym (shift_by net port front false unpoisoned size (below net.cube.size _ (subst (λ g. length (entrance net.cube (to_of g)) < net.cube.size) is room))) ∙ shift_some net port front same some
+pub shift_goes : (net : NetFields) (port : ℕ) (front : PacketFields) (to : To) (goal : Goal) → port ≡ net.port → slice_get net.buffer 0 ≡ Some front → net.cube.size ≡ net.setup.queue
+    → to ≡ where_to net.setup.shape front → to ≡ to_of goal → length (entrance net.cube to) < net.cube.size → entries.Shifted 0 port goal ≡ choice (topology_of net) (sight_by net) (steps.Shift 0 port)
+shift_goes net port front to goal same some size is at room =
+    let away = goes net.setup.shape front to goal is at in
+    let place : to ≡ to_of (goal_by net.setup.shape front) = at ∙ ap to_of away.1 in
+    ap (entries.Shifted 0 port) away.1 ∙ sym (shift_by net port front false away.0 size (below net.cube.size _ (subst (λ t. length (entrance net.cube t) < net.cube.size) place room))) ∙ shift_some net port front same some
 
 -- a request to the registers reads or writes one
 registers_is : (command : Command) → is_for_registers command ≡ true → (command ≡ Mdrd) ⊎ (command ≡ Mdwr)
@@ -120,8 +129,10 @@ goes_by shape front false is asks unpoisoned = record {
   writes_no_register = λ e. let t : true ≡ false = ap is_for_registers (sym e) ∙ is in cc;
 }
 
-pub goes_for : (shape : ShapeFields) (front : PacketFields) (goal : Goal) → goal ≡ goal_by shape front → IsAsk front → front.poisoned ≡ false → IsFor (to_of goal) front
-goes_for shape front goal is asks unpoisoned = subst (λ g. IsFor (to_of g) front) (sym is) (goes_by shape front (is_for_registers front.command) refl asks unpoisoned)
+pub goes_for : (shape : ShapeFields) (front : PacketFields) (to : To) (goal : Goal) → to ≡ where_to shape front → to ≡ to_of goal → IsAsk front → IsFor to front
+goes_for shape front to goal is at asks =
+    let away = goes shape front to goal is at in
+    subst (λ t. IsFor t front) (sym (at ∙ ap to_of away.1)) (goes_by shape front (is_for_registers front.command) refl asks away.0)
 
 -- ---- spread
 

@@ -12,6 +12,7 @@ pub mod WaysOf
 pub mod Standing
 pub mod Seeing
 pub mod Choices
+pub mod Going
 pub mod CubeChoices
 pub mod Stepping
 pub mod Opening

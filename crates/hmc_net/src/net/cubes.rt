@@ -1,8 +1,8 @@
 //! The steps of cubes.
 
-ghost use Rattle.std.specs.Prelude.{◌≡◌, ◌<◌, ◌^◌};
+ghost use Rattle.std.specs.Prelude.{◌≡◌, ◌<◌, ◌^◌, MatchOption};
 ghost use Rattle.hmc_codes.specs.Commands.{is_posted};
-ghost use Rattle.hmc_journal.specs.Next.{choice, goal_by, tag_of};
+ghost use Rattle.hmc_journal.specs.Next.{choice, tag_of};
 ghost use Rattle.hmc_net.specs.Acts.{ran_by, spread_by};
 ghost use Rattle.hmc_net.specs.After.{after, to_of};
 ghost use Rattle.hmc_net.specs.Held.{topology_of, sight_by};
@@ -10,12 +10,10 @@ ghost use Rattle.hmc_net.specs.Ready.{IsReady, IsLiftFor};
 
 use crate::Net;
 use crate::net::idle;
-use hmc_case::CubeSetup;
 use hmc_codes::{Command, Lift, Unit};
 use hmc_crossbar::To;
 use hmc_cube::{Executed, Spread};
 use hmc_journal::{Cause, Entry, Goal};
-use hmc_packet::Packet;
 use hmc_schedule::Step;
 use hmc_tokens::Intake;
 
@@ -31,18 +29,19 @@ impl Net {
             return idle(Step::Shift(0, port), Cause::Empty);
         };
         let flits = front.flits();
-        if front.poisoned {
+        let setup = self.setup;
+        let to = To::of(setup.shape, &front);
+        let Some(goal) = goal_of(to) else {
             let _ = self.buffer.take_out();
             self.forth.leave(flits);
             return Entry::Dropped { cube: 0, port };
-        }
-        let goal = goal_of(&self.setup, &front);
-        if !self.cube.room(to_of(goal)) {
+        };
+        if !self.cube.room(to) {
             return idle(Step::Shift(0, port), Cause::Full);
         }
         let _ = self.buffer.take_out();
         self.forth.leave(flits);
-        self.cube.enter(to_of(goal), front);
+        self.cube.enter(to, front);
         Entry::Shifted {
             cube: 0,
             port,
@@ -111,24 +110,15 @@ impl Net {
     }
 }
 
-// Where a packet goes in such a cube.
-fn goal_of(setup: &CubeSetup, packet: &Packet) -> Goal
-    ensures { result ≡ goal_by setup.now.shape packet.now }
+// The goal that this place is, unless it is nowhere.
+fn goal_of(to: To) -> Option<Goal>
+    ensures { MatchOption result (to ≡ To.Nowhere) (λ goal. to ≡ to_of goal) }
 {
-    match packet.command {
-        Command::Mdrd | Command::Mdwr => Goal::Registers,
-        _ => Goal::Vault(setup.shape.spot(packet.address).vault),
-    }
-}
-
-// The place in the cube that a goal is.
-fn to_of(goal: Goal) -> To
-    ensures { result ≡ to_of goal }
-{
-    match goal {
-        Goal::Vault(vault) => To::Vault(vault),
-        Goal::Registers => To::Registers,
-        Goal::Port(port) => To::Port(port),
+    match to {
+        To::Vault(vault) => Some(Goal::Vault(vault)),
+        To::Registers => Some(Goal::Registers),
+        To::Port(port) => Some(Goal::Port(port)),
+        To::Nowhere => None,
     }
 }
 
