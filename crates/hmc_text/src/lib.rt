@@ -9,6 +9,4 @@
 pub mod lines;
 pub mod number;
 pub mod reading;
-#[cfg(test)]
-mod tests;
 pub mod words;
