@@ -1,50 +1,47 @@
 //! The operations of commands.
 
 use hmc_atomics::Atomic;
-use hmc_codes::Command;
+use hmc_codes::COMMANDS;
+use std::test::Fail;
 
-// Whether the operation acts on one half is told of each.
+// All atomic commands, the operation of each, and whether that acts on one half of a block.
+const OPERATIONS: &str = "\
+Bwr Bwr half
+TwoAdd8 TwoAdd8 block
+Add16 Add16 block
+Pbwr Bwr half
+PtwoAdd8 TwoAdd8 block
+Padd16 Add16 block
+Bwr8r Bwr half
+TwoAdds8r TwoAdd8 block
+Adds16r Add16 block
+Xor16 Xor16 block
+Or16 Or16 block
+Nor16 Nor16 block
+And16 And16 block
+Nand16 Nand16 block
+Inc8 Inc8 half
+Pinc8 Inc8 half
+Casgt8 CasGt8 half
+Caslt8 CasLt8 half
+Casgt16 CasGt16 block
+Caslt16 CasLt16 block
+Caseq8 CasEq8 half
+Caszero16 CasZero16 block
+Eq16 Eq16 block
+Eq8 Eq8 half
+Swap16 Swap16 block
+";
+
 #[test]
-fn operations_of_commands(rt: HostRuntime) {
-    for (command, op, by_halves) in [
-        (Command::Bwr, Atomic::Bwr, true),
-        (Command::Pbwr, Atomic::Bwr, true),
-        (Command::Bwr8r, Atomic::Bwr, true),
-        (Command::Inc8, Atomic::Inc8, true),
-        (Command::Pinc8, Atomic::Inc8, true),
-        (Command::TwoAdd8, Atomic::TwoAdd8, false),
-        (Command::PtwoAdd8, Atomic::TwoAdd8, false),
-        (Command::TwoAdds8r, Atomic::TwoAdd8, false),
-        (Command::Add16, Atomic::Add16, false),
-        (Command::Padd16, Atomic::Add16, false),
-        (Command::Adds16r, Atomic::Add16, false),
-        (Command::Xor16, Atomic::Xor16, false),
-        (Command::Or16, Atomic::Or16, false),
-        (Command::Nor16, Atomic::Nor16, false),
-        (Command::And16, Atomic::And16, false),
-        (Command::Nand16, Atomic::Nand16, false),
-        (Command::Swap16, Atomic::Swap16, false),
-        (Command::Caseq8, Atomic::CasEq8, true),
-        (Command::Casgt8, Atomic::CasGt8, true),
-        (Command::Caslt8, Atomic::CasLt8, true),
-        (Command::Casgt16, Atomic::CasGt16, false),
-        (Command::Caslt16, Atomic::CasLt16, false),
-        (Command::Caszero16, Atomic::CasZero16, false),
-        (Command::Eq8, Atomic::Eq8, true),
-        (Command::Eq16, Atomic::Eq16, false),
-    ] {
-        assert_eq!(rt; Atomic::of(command), Some(op));
-        assert_eq!(rt; op.by_halves(), by_halves, "of {op:?}");
+fn operations_of_commands(rt: HostRuntime) -> Result<(), Fail> {
+    let mut told = String::new(rt.alloc());
+    for command in COMMANDS {
+        if let Some(op) = Atomic::of(command) {
+            let part = if op.by_halves() { "half" } else { "block" };
+            writeln!(told, "{command:?} {op:?} {part}")?;
+        }
     }
-    for command in [
-        Command::Wr16,
-        Command::Rd256,
-        Command::Mdwr,
-        Command::Unit0,
-        Command::Unit7,
-        Command::RdRs,
-        Command::Null,
-    ] {
-        assert_eq!(rt; Atomic::of(command), None);
-    }
+    assert_eq!(rt; told.as_str(), OPERATIONS);
+    Ok(())
 }

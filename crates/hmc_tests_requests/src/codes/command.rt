@@ -1,7 +1,8 @@
 //! Codes, lengths and replies of commands.
 
-use hmc_codes::{Command, Family, Layout};
-use std::process::Abort;
+use hmc_codes::Command;
+use std::alloc::Global;
+use std::test::Fail;
 
 // The code of each command.
 const CODES: [u8; 71] = [
@@ -27,88 +28,69 @@ fn codes_of_commands_and_no_others(rt: HostRuntime) {
     }
 }
 
-fn assert_line(
-    rt: &impl Abort,
-    command: Command,
-    word: &str,
-    code: u8,
-    family: Family,
-    lengths: &[u8],
-) {
-    assert_eq!(rt; command.word(), word);
-    assert_eq!(rt; command.code(), code, "of {word}");
-    assert_eq!(rt; command.family(), family, "of {word}");
+// Commands of every kind: code, name, word, family and layout, the word of the answer, and how many flits packets have.
+const LINES: &str = "\
+0 Null null Flow Null - 1
+1 Pret pret Flow Pret - 1
+2 Tret tret Flow Tret - 1
+3 Irtry irtry Flow Irtry - 1
+8 Wr16 wr16 Ask Ask wr_rs 2
+15 Wr128 wr128 Ask Ask wr_rs 9
+16 Mdwr mdwr Ask Ask md_wr_rs 2
+18 TwoAdd8 2add8 Ask Ask wr_rs 2
+24 Pwr16 pwr16 Ask Ask posted 2
+31 Pwr128 pwr128 Ask Ask posted 9
+34 PtwoAdd8 p2add8 Ask Ask posted 2
+40 Mdrd mdrd Ask Ask md_rd_rs 1
+48 Rd16 rd16 Ask Ask rd_rs 1
+56 RdRs rd_rs Reply Reply - 2 3 4 5 6 7 8 9 17
+57 WrRs wr_rs Reply Reply - 1
+58 MdRdRs md_rd_rs Reply Reply - 2
+59 MdWrRs md_wr_rs Reply Reply - 1
+62 Error error Reply Reply - 1
+66 Nor16 nor16 Ask Ask rd_rs 2
+79 Wr256 wr256 Ask Ask wr_rs 17
+80 Inc8 inc8 Ask Ask wr_rs 1
+82 TwoAdds8r 2adds8r Ask Ask rd_rs 2
+84 Pinc8 pinc8 Ask Ask posted 1
+95 Pwr256 pwr256 Ask Ask posted 17
+97 Caslt8 caslt8 Ask Ask rd_rs 2
+101 Caszero16 caszero16 Ask Ask rd_rs 2
+104 Eq16 eq16 Ask Ask wr_rs 2
+106 Swap16 swap16 Ask Ask rd_rs 2
+118 Unit6 unit6 Ask Ask rd_rs 2
+119 Rd256 rd256 Ask Ask rd_rs 1
+120 Unit7 unit7 Ask Ask rd_rs 2
+";
+
+fn line_of(alloc: Global, command: Command) -> Result<String, Fail> {
+    let answer = match command.reply() {
+        Some(reply) => reply.word(),
+        None if command.posted() => "posted",
+        None => "-",
+    };
+    let code = command.code();
+    let word = command.word();
+    let family = command.family();
+    let layout = command.layout();
+    let mut line = format!(in alloc; "{code} {command:?} {word} {family:?} {layout:?} {answer}")?;
     for flits in 0..=18 {
-        assert_eq!(rt;
-            command.allows(flits),
-            lengths.contains(&flits),
-            "{word} at {flits}"
-        );
+        if command.allows(flits) {
+            write!(line, " {flits}")?;
+        }
     }
+    Ok(line)
 }
 
 #[test]
-fn flow_commands(rt: HostRuntime) {
-    for (command, word, code, layout) in [
-        (Command::Null, "null", 0, Layout::Null),
-        (Command::Pret, "pret", 1, Layout::Pret),
-        (Command::Tret, "tret", 2, Layout::Tret),
-        (Command::Irtry, "irtry", 3, Layout::Irtry),
-    ] {
-        assert_line(&rt, command, word, code, Family::Flow, &[1]);
-        assert_eq!(rt; command.layout(), layout, "of {word}");
-        assert_eq!(rt; command.reply(), None, "of {word}");
-        assert!(rt; !command.posted(), "{word}");
+fn commands_of_every_kind(rt: HostRuntime) -> Result<(), Fail> {
+    for line in LINES.lines() {
+        let (code, _) = line.split_once(' ').ok_or("no code")?;
+        let code = u8::from_str_radix(code, 10).ok().ok_or("no number")?;
+        let command = Command::from_code(code).ok_or("no command")?;
+        assert_eq!(rt; line_of(rt.alloc(), command)?.as_str(), line);
     }
-}
-
-#[test]
-fn requests(rt: HostRuntime) {
-    for (command, word, code, flits, reply) in [
-        (Command::Wr16, "wr16", 8, 2, Some(Command::WrRs)),
-        (Command::Wr128, "wr128", 15, 9, Some(Command::WrRs)),
-        (Command::Wr256, "wr256", 79, 17, Some(Command::WrRs)),
-        (Command::Pwr16, "pwr16", 24, 2, None),
-        (Command::Pwr128, "pwr128", 31, 9, None),
-        (Command::Pwr256, "pwr256", 95, 17, None),
-        (Command::Rd16, "rd16", 48, 1, Some(Command::RdRs)),
-        (Command::Rd256, "rd256", 119, 1, Some(Command::RdRs)),
-        (Command::Mdwr, "mdwr", 16, 2, Some(Command::MdWrRs)),
-        (Command::Mdrd, "mdrd", 40, 1, Some(Command::MdRdRs)),
-        (Command::TwoAdd8, "2add8", 18, 2, Some(Command::WrRs)),
-        (Command::PtwoAdd8, "p2add8", 34, 2, None),
-        (Command::TwoAdds8r, "2adds8r", 82, 2, Some(Command::RdRs)),
-        (Command::Nor16, "nor16", 66, 2, Some(Command::RdRs)),
-        (Command::Inc8, "inc8", 80, 1, Some(Command::WrRs)),
-        (Command::Pinc8, "pinc8", 84, 1, None),
-        (Command::Caslt8, "caslt8", 97, 2, Some(Command::RdRs)),
-        (Command::Caszero16, "caszero16", 101, 2, Some(Command::RdRs)),
-        (Command::Eq16, "eq16", 104, 2, Some(Command::WrRs)),
-        (Command::Swap16, "swap16", 106, 2, Some(Command::RdRs)),
-        (Command::Unit6, "unit6", 118, 2, Some(Command::RdRs)),
-        (Command::Unit7, "unit7", 120, 2, Some(Command::RdRs)),
-    ] {
-        assert_line(&rt, command, word, code, Family::Ask, &[flits]);
-        assert_eq!(rt; command.reply(), reply, "of {word}");
-        assert_eq!(rt; command.posted(), reply.is_none(), "{word}");
-    }
-}
-
-#[test]
-fn responses(rt: HostRuntime) {
-    assert_line(
-        &rt,
-        Command::RdRs,
-        "rd_rs",
-        56,
-        Family::Reply,
-        &[2, 3, 4, 5, 6, 7, 8, 9, 17],
-    );
-    assert_line(&rt, Command::WrRs, "wr_rs", 57, Family::Reply, &[1]);
-    assert_line(&rt, Command::MdRdRs, "md_rd_rs", 58, Family::Reply, &[2]);
-    assert_line(&rt, Command::MdWrRs, "md_wr_rs", 59, Family::Reply, &[1]);
-    assert_line(&rt, Command::Error, "error", 62, Family::Reply, &[1]);
-    assert!(rt; !Command::RdRs.posted());
+    Ok(())
 }
 
 // What a request carries; of a command that asks nothing, what its packets do where they have one length.
