@@ -47,6 +47,3 @@ pub fn act(op: Atomic, high: bool, block: [u8; 16], operand: [u8; 16]) -> Acted
         Atomic::Eq16 => block_becomes(block, m, m == o),
     }
 }
-
-#[cfg(test)]
-mod tests;

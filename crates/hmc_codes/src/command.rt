@@ -173,6 +173,3 @@ impl Command {
         }
     }
 }
-
-#[cfg(test)]
-mod tests;

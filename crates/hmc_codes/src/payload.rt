@@ -92,6 +92,3 @@ impl Payload {
         self.len == 0
     }
 }
-
-#[cfg(test)]
-mod tests;

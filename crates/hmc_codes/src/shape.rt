@@ -75,6 +75,3 @@ impl Shape {
         }
     }
 }
-
-#[cfg(test)]
-mod tests;

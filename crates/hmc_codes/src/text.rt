@@ -122,6 +122,3 @@ impl Answer {
         }
     }
 }
-
-#[cfg(test)]
-mod tests;

@@ -54,6 +54,3 @@ fn one_step(register: u32) -> u32
         shifted
     }
 }
-
-#[cfg(test)]
-mod tests;

@@ -250,6 +250,3 @@ fn held_in(vaults: &[Vault]) -> u32
     }
     held
 }
-
-#[cfg(test)]
-mod tests;

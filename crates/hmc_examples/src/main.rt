@@ -1,13 +1,15 @@
 //! Replays each example case, and compares its report with the one that stands beside it. Reports came from a model in another
-//! language, or were found by hand (docs/DECISIONS.md says which). Then it replays each bad case of a table, and compares the
-//! fault.
+//! language, or were found by hand (docs/DECISIONS.md says which). Then it replays each bad case of a table, and reads each
+//! script and schedule of further tables, and compares the faults.
 #![tactic(auto)]
 
 mod faults;
+mod lines;
 
 use faults::changed;
 use hmc_outside::{MemorySink, MemorySource};
 use hmc_replay::replay;
+use lines::{Texts, rows_reported, small, wide};
 use std::alloc::Global;
 use std::rt::Files;
 use std::{fs, io};
@@ -93,6 +95,32 @@ fn faults_reported<'a>(
     Ok((count, None))
 }
 
+// Tells how many rows were reported as they say, and which is the first that wasn't.
+fn print_count(
+    rt: &impl Print,
+    name: &str,
+    reported: (u32, Option<&str>),
+) -> Result<(), io::Error> {
+    let (count, differs) = reported;
+    println!(rt; "{name}: {count} as reported")?;
+    if let Some(row) = differs {
+        println!(rt; "{name}: the next, {row}, differs")?;
+    }
+    Ok(())
+}
+
+// Reads each text of a table, and tells how many faults are as it says.
+fn print_table(
+    rt: &(impl Files + AllocGlobal + Print),
+    name: &str,
+    table: &str,
+    texts: &Texts,
+) -> Result<(), io::Error> {
+    let table = file(rt, table)?;
+    let reported = rows_reported(rt.alloc(), texts, table.as_str())?;
+    print_count(rt, name, reported)
+}
+
 fn main(rt: HostRuntime) -> Result<(), io::Error> {
     for name in NAMES {
         let same = example_is_reported(&rt, name)?;
@@ -101,10 +129,16 @@ fn main(rt: HostRuntime) -> Result<(), io::Error> {
     }
     let base = file(&rt, "bad-cases-base.toml")?;
     let table = file(&rt, "bad-cases.txt")?;
-    let (count, differs) = faults_reported(rt.alloc(), base.as_str(), table.as_str())?;
-    println!(rt; "bad cases: {count} as reported")?;
-    if let Some(fault) = differs {
-        println!(rt; "bad cases: the next, {fault}, differs")?;
-    }
-    Ok(())
+    let reported = faults_reported(rt.alloc(), base.as_str(), table.as_str())?;
+    print_count(&rt, "bad cases", reported)?;
+    let wide = Texts::Schedules(wide(rt.alloc())?);
+    let small = Texts::Schedules(small(rt.alloc())?);
+    print_table(&rt, "script faults", "script-faults.txt", &Texts::Scripts)?;
+    print_table(&rt, "schedule faults", "schedule-faults.txt", &wide)?;
+    print_table(
+        &rt,
+        "schedule faults, small network",
+        "schedule-faults-small.txt",
+        &small,
+    )
 }

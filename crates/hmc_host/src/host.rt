@@ -191,6 +191,3 @@ fn append<T: Copy>(items: &mut Vec<T>, item: T) -> Result<(), Memory>
     items.push(item)?;
     Ok(())
 }
-
-#[cfg(test)]
-mod tests;

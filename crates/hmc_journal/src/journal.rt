@@ -71,6 +71,3 @@ impl Journal {
         &self.entries
     }
 }
-
-#[cfg(test)]
-mod tests;

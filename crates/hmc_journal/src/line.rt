@@ -247,6 +247,3 @@ impl Entry {
         Ok(())
     }
 }
-
-#[cfg(test)]
-mod tests;

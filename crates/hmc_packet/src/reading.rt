@@ -277,6 +277,3 @@ pub fn read(flits: &[Flit]) -> Result<Seen, Bad>
 {
     read_all(flits)
 }
-
-#[cfg(test)]
-mod tests;

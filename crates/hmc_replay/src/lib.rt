@@ -14,6 +14,3 @@ mod stepping;
 mod top;
 
 pub use top::replay;
-
-#[cfg(test)]
-mod tests;

@@ -20,6 +20,3 @@ pub use fault::{ScheduleFault, ScheduleKind};
 pub use plan::{CubePlan, Plan};
 pub use schedule::Schedule;
 pub use step::Step;
-
-#[cfg(test)]
-mod tests;

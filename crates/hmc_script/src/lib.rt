@@ -22,6 +22,3 @@ pub use fault::{ScriptFault, ScriptKind};
 pub use item::Item;
 pub use laws::printed_is_read;
 pub use script::Script;
-
-#[cfg(test)]
-mod tests;

@@ -141,6 +141,3 @@ impl Plain {
         cube.registers.read(number)
     }
 }
-
-#[cfg(test)]
-mod tests;

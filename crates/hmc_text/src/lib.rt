@@ -11,6 +11,4 @@ pub mod fault;
 pub mod lines;
 pub mod number;
 pub mod reading;
-#[cfg(test)]
-mod tests;
 pub mod words;

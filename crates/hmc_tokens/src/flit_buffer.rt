@@ -66,6 +66,3 @@ impl FlitBuffer {
         Ok(FlitBuffer { kept })
     }
 }
-
-#[cfg(test)]
-mod tests;

@@ -40,6 +40,3 @@ pub fn move_one<F: Intake, T: Intake>(from: &mut F, to: &mut T) -> Moved
     to.take_in(front);
     Moved::Done(front)
 }
-
-#[cfg(test)]
-mod tests;

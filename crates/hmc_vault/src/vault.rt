@@ -174,6 +174,3 @@ fn held_in(queues: &[Queue]) -> u32
     }
     held
 }
-
-#[cfg(test)]
-mod tests;

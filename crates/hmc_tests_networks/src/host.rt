@@ -1,0 +1,145 @@
+ghost use Rattle.std.specs.Prelude.{◌≡◌, ◌<◌, ◌^◌, false};
+ghost use Rattle.hmc_codes.specs.Commands.{family_of};
+ghost use Rattle.hmc_codes.specs.declared.family.Family.TheVariants as families;
+ghost use Rattle.hmc_host.specs.Tags.{IsOut};
+ghost use Rattle.hmc_host.specs.Give.{taken_tag};
+
+use hmc_codes::{Answer, Command, Payload, Request};
+use hmc_host::{Given, Host, HostBuffer, Settled};
+use hmc_packet::{Packet, ask, reply};
+use hmc_script::Script;
+use hmc_tokens::Intake;
+use std::process::Abort;
+use std::test::Fail;
+
+// A read of the first 16 bytes of cube 0.
+#[tactic(auto, unfolding(hmc_codes::specs::Table::line_of))]
+fn read() -> Request {
+    Request {
+        command: Command::Rd16,
+        cube: 0,
+        address: 0,
+        payload: Payload::empty(),
+    }
+}
+
+// The reply that something was done.
+#[tactic(auto, unfolding(hmc_codes::specs::Table::line_of, hmc_packet::specs::Transactions::replied))]
+fn done(tag: u16) -> Packet
+    requires { tag < 2 ^ 11 }
+    ensures replies { family_of result.command ≡ families.Reply }
+    ensures tag { result.tag ≡ tag }
+{
+    reply(&Answer::Done { flag: false }, tag, 1, 0)
+}
+
+// The tag that was taken, if one was.
+fn tag_of(given: &Given) -> Option<u16>
+    ensures { result ≡ taken_tag given.now }
+{
+    match given {
+        Given::Gave { tag, .. } => *tag,
+        _ => None,
+    }
+}
+
+// Whether a packet of host 1 with this tag and address was given.
+fn carries(given: &Given, tag: u16, address: u64) -> bool {
+    matches!(
+        given,
+        Given::Gave { packet, .. } if packet.tag == tag && packet.address == address && packet.slid == 1
+    )
+}
+
+fn give_under(rt: &impl Abort, host: &mut Host, tag: u16, address: u64)
+    ensures { IsOut host.new.tags tag }
+{
+    let given = host.give(true);
+    let Some(taken) = tag_of(&given) else {
+        panic!(rt; "no tag {tag}")
+    };
+    assert!(rt; taken == tag, "tag {tag}");
+    assert!(rt; carries(&given, tag, address), "packet {tag}");
+}
+
+fn settle(rt: &impl Abort, host: &mut Host, tag: u16)
+    requires small { tag < 2 ^ 11 }
+    requires out { IsOut host.old.tags tag }
+{
+    let settled = host.settle(&done(tag));
+    assert!(rt;
+        matches!(&settled, Settled::Took { tag: of, answer: Answer::Done { flag: false } } if *of == tag),
+        "settled {tag}"
+    );
+}
+
+// A host has 2,048 tags. One more request waits until an answer comes, and goes out under that answer's tag.
+#[test]
+fn all_tags(rt: HostRuntime) -> Result<(), Fail> {
+    let mut script = Script::new(rt.alloc());
+    for at in 0..2049 {
+        assert!(rt; script.len() < 65536, "request {at}");
+        script.add(1, false, read())?;
+    }
+    let mut host = Host::new(rt.alloc(), 1, &script)?;
+    for tag in 0..2048 {
+        give_under(&rt, &mut host, tag, 0);
+    }
+    let given = host.give(true);
+    assert!(rt; matches!(&given, Given::Tags), "all are out");
+    settle(&rt, &mut host, 700);
+    give_under(&rt, &mut host, 700, 0);
+    let given = host.give(true);
+    assert!(rt; matches!(&given, Given::Ended), "all are given");
+    Ok(())
+}
+
+const TEXT: &str = "1 pwr16 0 0x10 000102030405060708090a0b0c0d0e0f
+1 rd16 0 0x20
+0 rd16 0 0x30
+1 fence
+1 poison rd16 0 0x40
+1 rd16 0 0x50
+";
+
+// Posted and poisoned requests take no tag. Those behind a fence wait for the answer, and its tag is the lowest again.
+#[test]
+fn fence(rt: HostRuntime) -> Result<(), Fail> {
+    let script = Script::parse(rt.alloc(), TEXT, 2, 1)?;
+    let mut host = Host::new(rt.alloc(), 1, &script)?;
+    let given = host.give(false);
+    assert!(rt; matches!(&given, Given::Full), "no room");
+    let given = host.give(true);
+    assert!(rt;
+        carries(&given, 0, 0x10) && tag_of(&given).is_none(),
+        "posted"
+    );
+    give_under(&rt, &mut host, 0, 0x20);
+    let given = host.give(false);
+    assert!(rt; matches!(&given, Given::Fence), "fence");
+    settle(&rt, &mut host, 0);
+    let given = host.give(true);
+    assert!(rt;
+        carries(&given, 0, 0x40) && tag_of(&given).is_none(),
+        "poisoned"
+    );
+    give_under(&rt, &mut host, 0, 0x50);
+    let given = host.give(false);
+    assert!(rt; matches!(&given, Given::Ended), "ended");
+    Ok(())
+}
+
+// A poisoned packet is taken out of a host's buffer and discarded.
+#[test]
+fn poisoned(rt: HostRuntime) -> Result<(), Fail> {
+    let script = Script::new(rt.alloc());
+    let mut host = Host::new(rt.alloc(), 0, &script)?;
+    let mut buffer = HostBuffer::new(rt.alloc(), 17)?;
+    assert!(rt; buffer.used() < buffer.size(), "room");
+    buffer.take_in(ask(&read(), 0, 0, true));
+    let packet = buffer.take_out().ok_or("nothing came")?;
+    assert!(rt; packet.poisoned, "poisoned");
+    let settled = host.settle(&packet);
+    assert!(rt; matches!(&settled, Settled::Discarded), "discarded");
+    Ok(())
+}

@@ -1,0 +1,4 @@
+//! Entries and their lines.
+
+mod entries;
+mod line;

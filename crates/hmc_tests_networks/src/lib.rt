@@ -1,0 +1,25 @@
+//! Tests of what the crates below promise from the texts of a case to its report: scripts, schedules, packets, the parts of a
+//! network, and the top call. All are tests of public calls. They stand here since a crate with tests is proved twice: with
+//! them, and without.
+#![tactic(auto)]
+
+#[cfg(test)]
+mod cube;
+#[cfg(test)]
+mod host;
+#[cfg(test)]
+mod journal;
+#[cfg(test)]
+mod packet;
+#[cfg(test)]
+mod replay;
+#[cfg(test)]
+mod schedule;
+#[cfg(test)]
+mod script;
+#[cfg(test)]
+mod text;
+#[cfg(test)]
+mod tokens;
+#[cfg(test)]
+mod vault;

@@ -1,0 +1,4 @@
+//! Queues and buffers of packets.
+
+mod flit_buffer;
+mod moving;

@@ -1,0 +1,4 @@
+//! Atomic commands.
+
+mod atomic;
+mod effect;

@@ -1,0 +1,49 @@
+//! Addresses and where they lie.
+
+use hmc_codes::{Shape, Spot};
+
+#[test]
+fn capacities(rt: HostRuntime) {
+    for (vault_bits, bank_bits, rows, capacity) in [
+        (0, 0, 1, 256),
+        (1, 1, 16, 16_384),
+        (2, 1, 3, 6_144),
+        (5, 4, 1_024, 134_217_728),
+    ] {
+        let shape = Shape {
+            vault_bits,
+            bank_bits,
+            rows,
+        };
+        assert_eq!(rt; shape.capacity(), capacity);
+    }
+}
+
+#[test]
+fn spots_of_four_vaults_of_two_banks_of_three_rows(rt: HostRuntime) {
+    let shape = Shape {
+        vault_bits: 2,
+        bank_bits: 1,
+        rows: 3,
+    };
+    for (address, offset, vault, bank, row) in [
+        (0, 0, 0, 0, 0),
+        (0xff, 255, 0, 0, 0),
+        (0x100, 0, 1, 0, 0),
+        (0x3ff, 255, 3, 0, 0),
+        (0x400, 0, 0, 1, 0),
+        (0x6ab, 0xab, 2, 1, 0),
+        (0x800, 0, 0, 0, 1),
+        (0x17ff, 255, 3, 1, 2),
+        (0x1800, 0, 0, 0, 3),
+        (0x3_ffff_ffff, 255, 3, 1, 0x7f_ffff),
+    ] {
+        let spot = Spot {
+            offset,
+            vault,
+            bank,
+            row,
+        };
+        assert_eq!(rt; shape.spot(address), spot, "at {address:x}");
+    }
+}

@@ -1,0 +1,18 @@
+//! Tests of what the crates below promise for one request: commands and texts, checks, memory, registers, and what a request
+//! does. All are tests of public calls. They stand here since a crate with tests is proved twice: with them, and without.
+#![tactic(auto)]
+
+#[cfg(test)]
+mod atomics;
+#[cfg(test)]
+mod codes;
+#[cfg(test)]
+mod crc;
+#[cfg(test)]
+mod memory;
+#[cfg(test)]
+mod outside;
+#[cfg(test)]
+mod registers;
+#[cfg(test)]
+mod serial;

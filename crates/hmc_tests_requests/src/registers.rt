@@ -1,0 +1,36 @@
+//! The registers of one cube.
+
+use hmc_codes::Shape;
+use hmc_registers::{RegisterFault, Registers};
+
+// A cube of number 5 with 8 vaults of 4 banks of 300 rows.
+#[test]
+fn numbers_and_shape(rt: HostRuntime) {
+    let shape = Shape {
+        vault_bits: 3,
+        bank_bits: 2,
+        rows: 300,
+    };
+    let mut registers = Registers::new(5, shape);
+    let written = [
+        (15, 0xffff_ffff, Ok(())),
+        (4, 7, Ok(())),
+        (3, 1, Err(RegisterFault::ReadOnly)),
+        (16, 1, Err(RegisterFault::NoRegister)),
+    ];
+    for (number, value, want) in written {
+        assert!(rt; registers.write(number, value) == want, "written {number}");
+    }
+    for (number, want) in [
+        (0, Some(5)),
+        (1, Some(3)),
+        (2, Some(2)),
+        (3, Some(300)),
+        (4, Some(7)),
+        (5, Some(0)),
+        (15, Some(0xffff_ffff)),
+        (16, None),
+    ] {
+        assert!(rt; registers.read(number) == want, "read {number}");
+    }
+}
