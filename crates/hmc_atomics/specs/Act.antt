@@ -26,6 +26,7 @@ acted_half high block effect =
 abbrev pub acted_block : List ℕ → Effect → Acted
 acted_block block effect = record { block = to_le_bytes w128 effect.value; answer = block; flag = effect.flag }
 
+-- an 8-byte operation acts on a half, and each other one on the block
 unfoldable pub acted_of : Atomic → (high : Bool) → (block operand : List ℕ) → Acted
 acted_of op high block operand =
     (if by_halves op then acted_half high block (effect_on op high block operand) else

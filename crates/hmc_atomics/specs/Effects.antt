@@ -28,6 +28,7 @@ pub record Effect : Type 0 where
   pub value : ℕ
   pub flag : Bool
 
+-- the number becomes this value, with this flag
 abbrev pub becomes : ℕ → Bool → Effect
 becomes value flag = record { value = value; flag = flag }
 
@@ -43,13 +44,15 @@ is_out width z = int_lt z (neg_ℤ (pos (2 ^ (8 * byte_len width - 1)))) || int_
 abbrev pub overflows : Width → ℕ → ℕ → Bool
 overflows width a b = is_out width (cast_signed width a +ℤ cast_signed width b)
 
--- the halves of a number of 128 bits, and the number of two halves
+-- the low half of a number of 128 bits
 abbrev pub low : ℕ → ℕ
 low m = m % 2 ^ 64
 
+-- the high half
 abbrev pub high : ℕ → ℕ
 high m = m / 2 ^ 64
 
+-- the number of two halves
 abbrev pub joined : ℕ → ℕ → ℕ
 joined low high = low + high * 2 ^ 64
 

@@ -19,9 +19,10 @@ cube_of value = do
   queue ← number_at (codes "queue") 1 64 table
   Ok (record { shape = record { vault_bits = vault_bits; bank_bits = bank_bits; rows = rows }; queue = queue })
 
--- the cubes, numbered from 0
+-- the next cube; they are numbered from 0
 abbrev pub next_cube : List CubeFields → Data → Result CubeFields Fault
 next_cube cubes value = in_section Cube (length cubes) (cube_of value)
 
+-- all cubes, each whole before the next
 abbrev pub cubes_of : Items → Result (List CubeFields) Fault
 cubes_of values = in_turn next_cube [] values

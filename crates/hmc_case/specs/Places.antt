@@ -25,6 +25,7 @@ place_of (letter ∷ host ∷ []) = if letter == 104 then option_map Host (digit
 place_of (letter ∷ cube ∷ dot ∷ port ∷ []) = if letter == 99 && dot == 46 then port_at (digit_of 8 cube) (digit_of 4 port) else None
 place_of _ = None
 
+-- the place is a host
 abbrev pub is_host : Place → Bool
 is_host (Host host) = true
 is_host (Port cube port) = false

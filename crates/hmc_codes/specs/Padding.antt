@@ -4,6 +4,7 @@ use Rattle.std.proofs.lemmas.List.{length-replicate, length-take, length-take-le
 use Rattle.std.specs.Prelude.{replicate}
 use Rattle.hmc_codes.specs.Bytes.{padded}
 
+-- a padded list has the size that it is padded to
 pub length-padded : (size : ℕ) (bytes : List ℕ) → length bytes ≤ size → length (padded size bytes) ≡ size
 unfolding padded
 length-padded size bytes fits =

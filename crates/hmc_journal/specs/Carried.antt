@@ -55,10 +55,11 @@ takings_in packets = flat_map (λ packet. taking_in packet (answer_in packet)) p
 abbrev pub takings_gone : Topology → Room → List Entry → List Taking
 takings_gone topology room journal = takings_in (take (left journal room) (entered topology journal room))
 
--- the direction from a host, and the one to it
+-- the direction from a host
 abbrev pub away_from : Topology → ℕ → ℕ
 away_from topology host = direction_from topology (places.Host host)
 
+-- the direction to a host
 abbrev pub towards : Topology → ℕ → ℕ
 towards topology host = other (away_from topology host)
 

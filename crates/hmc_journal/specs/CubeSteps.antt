@@ -26,14 +26,16 @@ use Rattle.hmc_journal.specs.Waiting.{is_full, with_front, unless_full}
 abbrev pub goal_by : ShapeFields → PacketFields → Goal
 goal_by shape packet = if is_for_registers packet.command then goals.Registers else goals.Vault (vault_of shape packet.address)
 
+-- the same in a cube of this number
 abbrev pub goal_of : Topology → (cube : ℕ) → PacketFields → Goal
 goal_of topology cube packet = goal_by (shape_of topology cube) packet
 
--- shift: a poisoned packet is dropped, and each other one goes where it is for, if there is room
+-- shift: a packet goes where it is for, if there is room
 abbrev pub shifted_to : Topology → Sight → (cube port : ℕ) → Goal → Entry
 shifted_to topology sight cube port goal =
     unless_full (steps.Shift cube port) (is_full topology sight (goal_room topology cube goal)) (Shifted cube port goal)
 
+-- a poisoned packet is dropped, and each other one goes where it is for
 abbrev pub shifted : Topology → Sight → (cube port : ℕ) → PacketFields → Entry
 shifted topology sight cube port front =
     if front.poisoned then Dropped cube port else shifted_to topology sight cube port (goal_of topology cube front)
@@ -49,12 +51,14 @@ abbrev pub tag_of : Bool → ℕ → Option ℕ
 tag_of true tag = None
 tag_of false tag = Some tag
 
+-- a request is executed, unless it must wait
 abbrev pub executed_by : RequestUnit → Step → PacketFields → Bool → State → Option RequestFields → Entry
 executed_by unit step front full state None = Idle step causes.Empty
 executed_by unit step front full state (Some request) =
     unless_full step (not (is_posted request.command) && full)
     (Executed unit front.slid (tag_of (is_posted request.command) front.tag) request (answer_to state request))
 
+-- the front of the queue of a unit is executed, if there is one
 abbrev pub executed : Topology → Sight → RequestUnit → Step → Entry
 executed topology sight unit step = with_front step (sight.inside (queue_of unit))
     (λ front. executed_by unit step front (is_full topology sight (answers_of unit)) sight.state (request_in front))

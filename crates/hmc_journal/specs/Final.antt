@@ -45,17 +45,19 @@ register_lines cube registers (suc n) = register_lines cube registers n ++ regis
 abbrev pub scratch_registers : ℕ
 scratch_registers = 12
 
--- the lines of a cube's memory, and those of its registers
+-- the lines of a cube's memory
 abbrev pub memory_text : (cube : ℕ) → CubeState → List ℕ
 memory_text cube state = memory_lines cube state.memory (length state.memory / 16)
 
+-- the lines of a cube's registers
 abbrev pub registers_text : (cube : ℕ) → CubeState → List ℕ
 registers_text cube state = register_lines cube state.registers scratch_registers
 
--- what a host counts, and what a cube does
+-- what a host counts
 unfoldable pub host_line : (host : ℕ) → HostCounts → List ℕ
 host_line host counts = line (codes "host" ∷ decimal host ∷ decimal counts.given ∷ decimal counts.taken ∷ decimal counts.out ∷ [])
 
+-- what a cube counts
 unfoldable pub cube_line : (cube : ℕ) → CubeCounts → List ℕ
 cube_line cube counts = line (codes "cube" ∷ decimal cube ∷ decimal counts.executed ∷ decimal counts.dropped ∷ [])
 
@@ -63,14 +65,16 @@ cube_line cube counts = line (codes "cube" ∷ decimal cube ∷ decimal counts.e
 abbrev pub state_word : Bool → List ℕ
 state_word drained = if drained then codes "drained" else codes "busy"
 
+-- the last line
 abbrev pub state_line : Bool → List ℕ
 state_line drained = line (codes "state" ∷ state_word drained ∷ [])
 
--- how many ends of links are hosts, and so how many hosts there are
+-- whether an end of a link is a host, as a number
 abbrev pub one_host : Place → ℕ
 one_host (places.Host host) = 1
 one_host (places.Port cube port) = 0
 
+-- how many hosts there are
 unfoldable pub host_count : List LinkRow → ℕ
 host_count [] = 0
 host_count (link ∷ links) = one_host link.join.a + (one_host link.join.b + host_count links)

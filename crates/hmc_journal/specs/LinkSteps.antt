@@ -33,6 +33,7 @@ gave host (givens.Gave packet request tag poisoned) = Gave host tag poisoned req
 abbrev pub flit_of : PacketFields → (returned at : ℕ) → List ℕ
 flit_of packet returned at = slice_index_or (spelling packet returned) at []
 
+-- the first flit of the front that there are tokens for, else a NULL
 abbrev pub begun_with : (direction tokens : ℕ) → Way → List PacketFields → Entry
 begun_with direction tokens way [] = Sent direction Null null_flit
 begun_with direction tokens way (front ∷ rest) =
@@ -40,11 +41,13 @@ begun_with direction tokens way (front ∷ rest) =
     then Sent direction New (flit_of (numbered way.frp way.seq front) way.returned 0)
     else Sent direction Null null_flit
 
+-- the next flit of a packet that was begun, else the first of the next one
 abbrev pub sent_flit : (direction tokens : ℕ) → Way → List PacketFields → Option Sending → Entry
 sent_flit direction tokens way queue None = begun_with direction tokens way queue
 sent_flit direction tokens way queue (Some sending) =
     Sent direction New (flit_of sending.packet way.returned (flits_of sending.packet - sending.left))
 
+-- a flit is sent, unless the line is full
 abbrev pub sent : LinkFields → (direction : ℕ) → Way → List PacketFields → Entry
 sent sizes direction way queue =
     unless_full (steps.Send direction) (nat_le sizes.line (length way.line)) (sent_flit direction sizes.tokens way queue way.sending)
@@ -55,13 +58,16 @@ abbrev pub judged : Result Seen Bad → Outcome
 judged (Ok seen) = if seen.packet.poisoned then outcomes.Poisoned else outcomes.Accepted
 judged (Err bad) = outcomes.Quiet
 
+-- the flits are gathered until there are as many as the first one names
 abbrev pub outcome_with : List (List ℕ) → (lng : ℕ) → Outcome
 outcome_with flits lng = if nat_lt (length flits) lng && nat_le lng 17 then outcomes.Gathered else judged (read_of flits)
 
+-- the outcome of a flit behind those that wait
 abbrev pub outcome_of : (pending : List (List ℕ)) → List ℕ → Outcome
 outcome_of [] flit = (if is_null flit then outcomes.Quiet else outcome_with (flit ∷ []) (lng_of flit))
 outcome_of (first ∷ rest) flit = outcome_with (first ∷ rest ++ flit ∷ []) (lng_of first)
 
+-- the front of the line lands, if there is one
 abbrev pub landed : (direction : ℕ) → List ℕ → (line pending : List (List ℕ)) → Entry
 landed direction mask [] pending = Idle (steps.Land direction mask) causes.Empty
 landed direction mask (flit ∷ rest) pending = Landed direction flit (outcome_of pending flit)

@@ -61,11 +61,12 @@ arrival topology direction = buffer_at (end_of topology direction)
 abbrev pub output_from : Topology → Place → Room
 output_from topology place = Output (direction_from topology place)
 
--- the queue of a unit, and where its answers go
+-- the queue of a unit
 abbrev pub queue_of : RequestUnit → Room
 queue_of (units.Bank cube vault bank) = Bank cube vault bank
 queue_of (units.Registers cube) = Registers cube
 
+-- the room that its answers enter
 abbrev pub answers_of : RequestUnit → Room
 answers_of (units.Bank cube vault bank) = Answers cube (lifts.Vault vault)
 answers_of (units.Registers cube) = Answers cube lifts.Registers

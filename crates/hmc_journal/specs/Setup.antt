@@ -33,23 +33,26 @@ setup_of case = record {
   schedule = case.schedule;
 }
 
--- what stands for a cube, and for a link, that isn't there
+-- what stands for a cube that isn't there
 abbrev pub no_cube : CubeFields
 no_cube = record { shape = record { vault_bits = 0; bank_bits = 0; rows = 0 }; queue = 0 }
 
+-- what stands for a link that isn't there
 abbrev pub no_link : LinkRow
 no_link = record {
   join = record { a = places.Host 0; b = places.Host 0 };
   setup = record { line = 0; tokens = 0; retry = 0; output = 0 };
 }
 
--- the cube with a number, its shape, and the shapes of all
+-- the cube with a number
 abbrev pub cube_at : Topology → ℕ → CubeFields
 cube_at topology cube = slice_index_or topology.cubes cube no_cube
 
+-- the shape of a cube
 abbrev pub shape_of : Topology → ℕ → ShapeFields
 shape_of topology cube = (cube_at topology cube).shape
 
+-- the shapes of all cubes
 abbrev pub shapes_of : Topology → List ShapeFields
 shapes_of topology = map (λ cube. cube.shape) topology.cubes
 
@@ -61,10 +64,11 @@ other direction = if direction % 2 == 0 then direction + 1 else direction - 1
 abbrev pub link_of : Topology → ℕ → LinkRow
 link_of topology direction = slice_index_or topology.links (direction / 2) no_link
 
--- where a direction starts and ends: that with the even number goes from a to b
+-- where a direction starts: that with the even number goes from a to b
 abbrev pub start_of : Topology → ℕ → Place
 start_of topology direction = if direction % 2 == 0 then (link_of topology direction).join.a else (link_of topology direction).join.b
 
+-- where a direction ends
 abbrev pub end_of : Topology → ℕ → Place
 end_of topology direction = start_of topology (other direction)
 
@@ -105,5 +109,6 @@ abbrev pub unit_by : Bool → ShapeFields → RequestFields → RequestUnit
 unit_by true shape request = units.Registers request.cube
 unit_by false shape request = units.Bank request.cube (vault_of shape request.address) (bank_of shape request.address)
 
+-- the unit that executes a request
 unfoldable pub unit_of : Topology → RequestFields → RequestUnit
 unit_of topology request = unit_by (is_for_registers request.command) (shape_of topology request.cube) request

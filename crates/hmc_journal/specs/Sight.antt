@@ -48,11 +48,12 @@ numbered frp seq packet = record packet { rtc = 0; frp = (frp + flits_of packet)
 unfoldable pub behind : List PacketFields → PacketFields → PacketFields
 behind before packet = numbered (flits_in before) (length before) packet
 
--- packets as a direction numbers them
+-- packets as a direction numbers them behind these
 unfoldable pub numbering_from : List PacketFields → List PacketFields → List PacketFields
 numbering_from before [] = []
 numbering_from before (packet ∷ packets) = behind before packet ∷ numbering_from (before ++ packet ∷ []) packets
 
+-- packets as a direction numbers them from its first on
 abbrev pub numbering : List PacketFields → List PacketFields
 numbering packets = numbering_from [] packets
 

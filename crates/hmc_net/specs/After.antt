@@ -37,10 +37,11 @@ after_landed zero flit outcome entry net =
 after_landed (suc direction) flit outcome entry net =
     record net { back = after_land entry net.back; host_buffer = net.host_buffer ++ packets_by outcome (read_with flit net.back) }
 
--- the front left the port's buffer, or the host's
+-- the front left the port's buffer
 abbrev pub without_front : NetFields → NetFields
 without_front net = record net { buffer = drop 1 net.buffer; forth = released (flits_of (front_of net.buffer)) net.forth }
 
+-- the front left the host's buffer
 abbrev pub without_host_front : NetFields → NetFields
 without_host_front net = record net { host_buffer = drop 1 net.host_buffer; back = released (flits_of (front_of net.host_buffer)) net.back }
 
@@ -55,6 +56,7 @@ abbrev pub after_unit : RequestUnit → Execution → CubeFields → CubeFields
 after_unit (units.Bank cube vault bank) execution fields = after_execute vault bank execution fields
 after_unit (units.Registers cube) execution fields = after_registers execution fields
 
+-- what an entry leaves of the network
 abbrev pub after : Entry → NetFields → NetFields
 after (Gave host tag poisoned request) net = record net {
   host = record net.host { given = net.host.given + 1; tags = with_out tag net.host.tags };

@@ -49,6 +49,7 @@ pub record Holding : Type 0 where
   pub waiting : List PacketFields
   pub answers : List PacketFields
 
+-- what a network holds
 abbrev pub holding_of : NetFields → Holding
 holding_of net = record {
   forth = net.forth.output;
@@ -61,9 +62,11 @@ holding_of net = record {
   answers = net.cube.answers;
 }
 
+-- the vault with a number
 abbrev pub vault_in : List VaultFields → ℕ → VaultFields
 vault_in vaults vault = slice_index_or vaults vault no_vault
 
+-- packets of a place that is there
 abbrev pub packets_if : Bool → List PacketFields → List PacketFields
 packets_if true packets = packets
 packets_if false packets = []
@@ -79,6 +82,7 @@ abbrev pub only : ℕ → List PacketFields → List PacketFields
 only zero packets = packets
 only (suc number) packets = []
 
+-- the answers of a vault, or of the registers
 abbrev pub answers_in : List VaultFields → (registers : List PacketFields) → Lift → List PacketFields
 answers_in vaults registers (lifts.Vault vault) = (vault_in vaults vault).answers
 answers_in vaults registers lifts.Registers = registers
@@ -93,6 +97,7 @@ held holding (Bank cube vault bank) = only cube (bank_at (vault_in holding.vault
 held holding (Registers cube) = only cube holding.waiting
 held holding (Answers cube from) = only cube (answers_in holding.vaults holding.answers from)
 
+-- the packets that a network has in a room
 abbrev pub inside : NetFields → Room → List PacketFields
 inside net room = held (holding_of net) room
 

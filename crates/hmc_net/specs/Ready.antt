@@ -44,13 +44,15 @@ pub record IsReady (net : NetFields) : Type 0 where
   pub forth_away : flits_in net.buffer ≤ net.forth.away
   pub back_away : flits_in net.host_buffer ≤ net.back.away
 
--- a vault, a bank and a queue of answers of cube 0
+-- a vault of cube 0
 abbrev pub IsVaultFor : Topology → (cube vault : ℕ) → Type 0
 IsVaultFor topology cube vault = (cube ≡ 0) × (vault < 2 ^ (shape_of topology 0).vault_bits)
 
+-- a bank of cube 0
 abbrev pub IsBankFor : Topology → (cube vault bank : ℕ) → Type 0
 IsBankFor topology cube vault bank = (cube ≡ 0) × (vault < 2 ^ (shape_of topology 0).vault_bits) × (bank < 2 ^ (shape_of topology 0).bank_bits)
 
+-- a queue of answers of cube 0
 abbrev pub IsLiftFor : Topology → (cube : ℕ) → Lift → Type 0
 IsLiftFor topology cube (lifts.Vault vault) = IsVaultFor topology cube vault
 IsLiftFor topology cube lifts.Registers = cube ≡ 0

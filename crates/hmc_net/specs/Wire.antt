@@ -77,10 +77,12 @@ abbrev pub first_by : What → List ℕ → WireFields → WireFields
 first_by New flit wire = begun_by flit wire
 first_by _ flit wire = wire
 
+-- the next flit of a packet was sent, or the first of the front
 abbrev pub continued_by : List ℕ → Option Sending → WireFields → WireFields
 continued_by flit None wire = begun_by flit wire
 continued_by flit (Some sending) wire = record wire { sending = sending_with (sending.left - 1) sending.packet }
 
+-- a flit of a packet was sent, or a NULL, which leaves all as it was
 abbrev pub advanced_by : What → List ℕ → WireFields → WireFields
 advanced_by New flit wire = continued_by flit wire.sending wire
 advanced_by _ flit wire = wire
@@ -101,6 +103,7 @@ gathered flit outcome wire = record wire {
   accepted = (wire.accepted + flits_in (packets_by outcome (read_with flit wire))) % pointers;
 }
 
+-- what a landing leaves
 abbrev pub after_land : Entry → WireFields → WireFields
 after_land (Landed direction flit outcome) wire = record (gathered flit outcome wire) { line = drop 1 wire.line }
 after_land _ wire = wire
@@ -111,6 +114,7 @@ whole_by Accepted packet = Some packet
 whole_by Poisoned packet = Some packet
 whole_by _ packet = None
 
+-- the packet that a landing made whole, if it did
 abbrev pub whole_in : Entry → WireFields → Option PacketFields
 whole_in (Landed direction flit outcome) wire = whole_by outcome (read_with flit wire)
 whole_in _ wire = None

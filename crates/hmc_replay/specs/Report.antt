@@ -5,10 +5,11 @@ use Rattle.hmc_journal.specs.Counts.{HostCounts, CubeCounts}
 use Rattle.hmc_journal.specs.Final.{memory_text, registers_text, host_line, cube_line, state_line}
 use Rattle.hmc_replay.specs.declared.counts.Counts.{Counts}
 
--- what was counted for the host, of whose tags so many are out, and for the cube
+-- what was counted for the host, of whose tags so many are out
 abbrev pub host_counted : Counts → (out : ℕ) → HostCounts
 host_counted counts out = record { given = counts.given; taken = counts.taken; out = out }
 
+-- what was counted for the cube
 abbrev pub cube_counted : Counts → CubeCounts
 cube_counted counts = record { executed = counts.executed; dropped = counts.dropped }
 

@@ -42,6 +42,7 @@ abbrev pub output_for : Result CaseFields Fault → List ℕ
 output_for (Ok case) = report_of case
 output_for (Err fault) = bad_line fault
 
+-- what is to be written for these bytes
 abbrev pub output_of : List ℕ → List ℕ
 output_of input = if nat_le (length input) most_bytes then output_for (case_of input) else []
 
@@ -72,11 +73,12 @@ pub record Came (most : ℕ) (left left' : Option (List ℕ)) : Type 0 where
   pub few : length input ≤ most
   pub consumed : Consumes left left' input
 
--- what came is an input that was reported, or refused
+-- what came is a case, and was reported
 pub record IsReported (left left' held held' : Option (List ℕ)) : Type 0 where
   pub came : Came most_bytes left left'
   pub report : IsReportOf came.input held held'
 
+-- what came is no case, and was refused
 pub record IsRefused (left left' held held' : Option (List ℕ)) : Type 0 where
   pub came : Came most_bytes left left'
   pub refusal : IsRefusalOf came.input held held'

@@ -33,5 +33,6 @@ pub record IsCube (cube : CubeState) : Type 0 where
 abbrev pub cube_of : BanksFields → List ℕ → CubeState
 cube_of banks registers = record { shape = banks.shape; memory = banks.bytes; registers = registers }
 
+-- this memory and these registers are left, and this is answered
 abbrev pub outcome_of : BanksFields → List ℕ → Answer → Outcome
 outcome_of banks registers answer = record { cube = cube_of banks registers; answer = answer }

@@ -7,6 +7,7 @@ use Rattle.hmc_codes.specs.declared.answer.Answer.{Answer}
 use Rattle.hmc_serial.specs.Cube.{CubeState, IsCube, opening}
 use Rattle.hmc_serial.specs.Perform.{perform_on}
 
+-- the cubes of a machine, by their numbers
 abbrev pub State : Type 0
 State = List CubeState
 

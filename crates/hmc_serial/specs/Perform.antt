@@ -22,9 +22,11 @@ use Rattle.hmc_serial.specs.Errors.{error_of}
 abbrev pub keeps : CubeState → Answer → Outcome
 keeps cube answer = record { cube = cube; answer = answer }
 
+-- only the memory changes
 abbrev pub leaves_memory : CubeState → List ℕ → Answer → Outcome
 leaves_memory cube memory answer = record { cube = record cube { memory = memory }; answer = answer }
 
+-- only the registers change
 abbrev pub leaves_registers : CubeState → List ℕ → Answer → Outcome
 leaves_registers cube registers answer = record { cube = record cube { registers = registers }; answer = answer }
 
@@ -43,10 +45,11 @@ acted_answer (Some commands.RdRs) acted = answers.Read acted.flag acted.answer
 acted_answer (Some commands.WrRs) acted = answers.Done acted.flag
 acted_answer _ acted = answers.Silent
 
--- the address of the 16-byte block that holds an address, and whether the address is in its high half
+-- the address of the 16-byte block that holds an address
 abbrev pub block_start : ℕ → ℕ
 block_start address = address - address % 16
 
+-- the address is in the high half of its block
 abbrev pub is_high : ℕ → Bool
 is_high address = not (address / 8 % 2 == 0)
 
@@ -55,6 +58,7 @@ abbrev pub acted_at : Atomic → List ℕ → (address : ℕ) → (payload : Lis
 acted_at op memory address payload =
     acted_of op (is_high address) (slice_range memory (block_start address) (block_start address + 16)) (padded 16 payload)
 
+-- the block has its new bytes
 abbrev pub leaves_acted : CubeState → RequestFields → Acted → Outcome
 leaves_acted cube request acted =
     leaves_memory cube (written cube.memory (block_start request.address) acted.block)

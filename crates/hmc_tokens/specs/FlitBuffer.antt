@@ -11,5 +11,6 @@ packets_of buffer = buffer.kept.packets
 abbrev pub size_of : FlitBuffer → ℕ
 size_of buffer = buffer.kept.most
 
+-- the flits of its packets are at most its size
 pub within_size : (buffer : FlitBuffer) → sum_by flits_of (packets_of buffer) ≤ size_of buffer
 within_size buffer = buffer.within

@@ -17,9 +17,11 @@ size_of queue = queue.kept.most
 abbrev pub one : PacketFields → ℕ
 one _ = 1
 
+-- so packets cost as much as there are packets
 pub all_cost_one : (packets : List PacketFields) → sum_by one packets ≡ length packets
 all_cost_one [] = omega arith
 all_cost_one (packet ∷ rest) = omega (arith, sum_by-cons one packet rest, all_cost_one rest)
 
+-- a queue has at most as many packets as its size
 pub within_size : (queue : Queue) → sum_by one (packets_of queue) ≤ size_of queue
 within_size queue = omega (arith, all_cost_one (packets_of queue), queue.within)
