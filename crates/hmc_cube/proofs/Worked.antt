@@ -1,6 +1,6 @@
 -- Definitions computed at a cube of two vaults of two banks of one row, whose number is 6.
-use Rattle.std.proofs.Common.{◌≡◌, ℕ, Bool, List, [], ◌∷◌, Some, None, true, false, refl}
-use Rattle.std.specs.Prelude.{map, replicate, length, slice_get}
+use Rattle.std.proofs.Common.{◌≡◌, ℕ, List, [], ◌∷◌, Some, None, false, refl}
+use Rattle.std.specs.Prelude.{map, replicate, slice_get}
 use Rattle.hmc_codes.specs.Shape.{ShapeFields}
 use Rattle.hmc_codes.specs.Request.{RequestFields}
 use Rattle.hmc_codes.specs.Table.{line_of}
@@ -9,7 +9,7 @@ use Rattle.hmc_codes.specs.declared.command.Command.{Command}
 use Rattle.hmc_codes.specs.declared.command.Command.TheVariants.{Rd16, Mdrd, Mdwr, WrRs}
 use Rattle.hmc_codes.specs.declared.lift.Lift.TheVariants as lifts
 use Rattle.hmc_packet.specs.Packet.{PacketFields, null_packet}
-use Rattle.hmc_packet.specs.Transactions.{with_zeros, replied, payload_of, request_in}
+use Rattle.hmc_packet.specs.Transactions.{replied, payload_of, request_in}
 use Rattle.hmc_registers.specs.Registers.{opening_registers}
 use Rattle.hmc_serial.specs.Actions.{action_of}
 use Rattle.hmc_serial.specs.Cube.{CubeState, opening}

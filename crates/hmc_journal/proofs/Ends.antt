@@ -21,7 +21,7 @@ use Rattle.hmc_journal.specs.Setup.{Setup, Topology, unit_of, is_for_registers, 
 use Rattle.hmc_journal.specs.Wires.{with_more}
 use Rattle.hmc_journal.specs.Rooms.{unless_posted, Room, same_room, is_at, buffer_at, leaves, enters, moved, answers_of, packet_if, entered, queue_of, goal_room, output_from, tag_number}
 use Rattle.hmc_journal.specs.Rooms.Room.{Output, Host, Answers}
-use Rattle.hmc_journal.specs.Hosts.{host_of}
+use Rattle.hmc_journal.specs.Hosts.{host_of, tags_out}
 use Rattle.hmc_journal.specs.Filters.{answered_into, Asking, Taking, same_unit, given_to, taken_by}
 use Rattle.hmc_journal.specs.Lawful.{Lawful}
 use Rattle.hmc_journal.specs.Housed.{IsOneCube}
@@ -35,7 +35,6 @@ use Rattle.hmc_journal.proofs.Entering.{sends, replying, Kept, front_stands, own
 use Rattle.hmc_journal.proofs.Sound.{kept}
 use Rattle.hmc_journal.proofs.TagStep.{discarded_step}
 use Rattle.hmc_journal.proofs.RoomToRoom.{asks_gathered, takings_gathered, gathered_of_gone, none_leaves, none_enters, leaving_front, entering_if, sent_leaves, unless_enters, asks_of}
-use Rattle.hmc_journal.specs.Hosts.{tags_out}
 
 -- the tag of a request that isn't poisoned is told by its packet
 tag_told : (poisoned posted : Bool) (free tag : Option ℕ) → poisoned ≡ false → IsTagged (not poisoned && not posted) free tag → tag ≡ tag_of posted (tag_number tag)

@@ -3,7 +3,7 @@ use Rattle.std.proofs.Common.{◌≡◌, ◌<◌, ◌^◌, ◌∙◌, ℕ, zero,
 use Rattle.std.proofs.lemmas.List.{take_at, drop_at}
 use Rattle.std.proofs.lemmas.List.Elements.{All-take, All-drop, All-head, All-cons, All-nil, All-same}
 use Rattle.std.proofs.lemmas.Option.{slice_get_within, get_or_from_slice_get}
-use Rattle.hmc_codes.specs.Commands.{layout_of, family_of, family_of_layout, is_ask}
+use Rattle.hmc_codes.specs.Commands.{layout_of, family_of, family_of_layout, is_ask, is_flow}
 use Rattle.hmc_codes.specs.Request.{RequestFields, IsRequest}
 use Rattle.hmc_codes.specs.Shape.{bank_of}
 use Rattle.hmc_codes.specs.declared.answer.Answer.{Answer}
@@ -13,7 +13,6 @@ use Rattle.hmc_codes.specs.declared.command.Command.TheVariants.{WrRs, RdRs, MdR
 use Rattle.hmc_codes.specs.declared.family.Family.TheVariants as families
 use Rattle.hmc_codes.specs.declared.layout.Layout.{Layout}
 use Rattle.hmc_codes.specs.declared.layout.Layout.TheVariants as layouts
-use Rattle.hmc_codes.specs.Commands.{is_flow}
 use Rattle.hmc_packet.specs.Packet.{PacketFields}
 use Rattle.hmc_packet.specs.Transactions.{asked, replied, request_in, answer_by, answer_in, CanReply, IsAnswer, payload_of}
 use Rattle.hmc_packet.proofs.TransactionLemmas.{asks-layout, IsPacket-asked, request_in-asked, IsPacket-replied, answer_in-replied, answer_in-replies}

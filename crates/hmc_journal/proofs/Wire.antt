@@ -2,9 +2,8 @@
 use Rattle.std.proofs.Common.{◌≡◌, ◌≢◌, ◌≤◌, ◌<◌, ◌+◌, ◌-◌, ◌%◌, ◌∙◌, ℕ, zero, suc, Bool, true, false, if◌then◌else◌, List, [], ◌∷◌, ◌++◌, length, take, slice_index_or, Ok, refl, sym, ap, ap₂, subst, arith, append_assoc, append-nil, lt-ltb, le-ltb, le-leb, length-append}
 use Rattle.std.proofs.lemmas.List.{take_more, take_all, take-take, length-take-le, take_at, get_or_push}
 use Rattle.hmc_codes.specs.Table.{line_of}
-use Rattle.hmc_codes.specs.Commands.{layout_of}
+use Rattle.hmc_codes.specs.Commands.{layout_of, is_flow}
 use Rattle.hmc_codes.specs.declared.command.Command.TheVariants.{Null}
-use Rattle.hmc_codes.specs.Commands.{is_flow}
 use Rattle.hmc_packet.specs.Laws.{IsSentAs}
 use Rattle.hmc_packet.specs.Packet.{PacketFields, flits_of, IsPacket, null_packet}
 use Rattle.hmc_packet.specs.Parts.{lng_of}

@@ -8,8 +8,7 @@ use Rattle.hmc_codes.specs.Link.{LinkFields}
 use Rattle.hmc_codes.specs.Table.{line_of}
 use Rattle.hmc_codes.specs.declared.layout.Layout.{Layout}
 use Rattle.hmc_codes.specs.declared.layout.Layout.TheVariants as layouts
-use Rattle.hmc_codes.specs.Commands.{is_flow}
-use Rattle.hmc_codes.specs.Commands.{is_posted, layout_of, family_of_layout}
+use Rattle.hmc_codes.specs.Commands.{is_flow, is_posted, layout_of, family_of_layout}
 use Rattle.hmc_codes.specs.Request.{RequestFields}
 use Rattle.hmc_codes.specs.Shape.{ShapeFields, vault_of, bank_of}
 use Rattle.hmc_codes.specs.declared.answer.Answer.{Answer}

@@ -2,9 +2,8 @@
 use Rattle.std.proofs.Common.{◌≡◌, ◌≢◌, ◌≤◌, ◌<◌, ◌-◌, ◌∙◌, ℕ, true, List, [], ◌∷◌, length, slice_index_or, refl, sym, ap, arith}
 use Rattle.std.proofs.lemmas.List.{get_or-take}
 use Rattle.hmc_codes.specs.Table.{line_of}
-use Rattle.hmc_codes.specs.Commands.{layout_of}
+use Rattle.hmc_codes.specs.Commands.{layout_of, is_flow}
 use Rattle.hmc_codes.specs.declared.command.Command.TheVariants.{Null}
-use Rattle.hmc_codes.specs.Commands.{is_flow}
 use Rattle.hmc_packet.specs.Packet.{PacketFields, IsPacket, flits_of}
 use Rattle.hmc_packet.specs.Parts.{lng_of}
 use Rattle.hmc_packet.specs.Spelling.{HasPointer, spelling}

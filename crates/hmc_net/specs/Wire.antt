@@ -1,10 +1,9 @@
 -- One direction of a link, as the contracts see it, and what sends and landings make of it.
 use Rattle.std.specs.Prelude.{◌≡◌, ℕ, ◌+◌, ◌-◌, ◌%◌, Bool, false, not, nat_le, List, [], ◌∷◌, ◌++◌, length, drop, Option, Some, None}
-use Rattle.hmc_codes.specs.Commands.{layout_of}
+use Rattle.hmc_codes.specs.Commands.{layout_of, is_flow}
 use Rattle.hmc_codes.specs.Link.{LinkFields}
 use Rattle.hmc_packet.specs.declared.what.What.{What}
 use Rattle.hmc_packet.specs.declared.what.What.TheVariants.{New}
-use Rattle.hmc_codes.specs.Commands.{is_flow}
 use Rattle.hmc_packet.specs.Packet.{PacketFields, flits_of}
 use Rattle.hmc_packet.specs.Parts.{lng_of}
 use Rattle.hmc_packet.specs.Reading.{read_of}

@@ -1,16 +1,15 @@
 -- What holds of each command, since each line of the table passes a test.
-use Rattle.std.proofs.Common.{◌≡◌, ◌∙◌, ◌≤◌, ◌<◌, ◌+◌, ◌/◌, ◌%◌, ◌^◌, ℕ, Bool, true, false, eqb, Option, Some, None, List, [], ◌∷◌, find, refl, sym, ap, subst, cond, arith, inl, inr}
-use Rattle.std.specs.Prelude.{IfSome, nat_le, nat_lt, ◌&&◌, ◌||◌, ◌==◌, not}
+use Rattle.std.proofs.Common.{◌≡◌, ◌∙◌, ◌≤◌, ◌<◌, ◌+◌, ◌/◌, ◌%◌, ◌^◌, ℕ, Bool, true, false, eqb, Option, Some, List, [], ◌∷◌, find, refl, sym, ap, subst, cond, arith, inl, inr}
+use Rattle.std.specs.Prelude.{nat_le, nat_lt, ◌&&◌, ◌||◌, ◌==◌, not}
 use Rattle.std.proofs.lemmas.Bool.{eqb-true, eq-eqb, leb-true, ltb-true, and_parts, or_cases}
 use Rattle.hmc_codes.specs.Table.{Line, line_of}
-use Rattle.hmc_codes.specs.Commands.{code_of, layout_of, allows_of, permits, payload_of_length, payload_len_of, is_ask}
+use Rattle.hmc_codes.specs.Commands.{code_of, layout_of, allows_of, permits, payload_of_length, payload_len_of, is_ask, is_flow}
 use Rattle.hmc_codes.specs.declared.layout.Layout.{Layout}
 use Rattle.hmc_codes.specs.declared.layout.Layout.TheVariants as layouts
 use Rattle.hmc_codes.specs.declared.length.Length.{Length}
 use Rattle.hmc_codes.specs.declared.length.Length.TheVariants.{Fixed, Data}
 use Rattle.hmc_codes.specs.declared.command.Command.{Command}
 use Rattle.hmc_codes.specs.declared.command.Command.TheVariants.{Null}
-use Rattle.hmc_codes.specs.Commands.{is_flow}
 use Rattle.hmc_codes.specs.Codes.{commands, command_of}
 use Rattle.hmc_codes.proofs.Codes.{command_of-code_of}
 

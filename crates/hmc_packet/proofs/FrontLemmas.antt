@@ -3,14 +3,13 @@ use Rattle.std.proofs.Common.{◌≡◌, ◌≢◌, ◌∙◌, ◌≤◌, ◌+�
 use Rattle.std.specs.Prelude.{◌&&◌, not, option_and_then}
 use Rattle.std.proofs.lemmas.Bool.{and_from}
 use Rattle.std.proofs.lemmas.List.{take-take, take-append-le, drop-take}
-use Rattle.hmc_codes.specs.Commands.{code_of, layout_of}
+use Rattle.hmc_codes.specs.Commands.{code_of, layout_of, is_flow}
 use Rattle.hmc_codes.specs.declared.layout.Layout.{Layout}
 use Rattle.hmc_codes.specs.declared.layout.Layout.TheVariants as layouts
 use Rattle.hmc_codes.specs.declared.command.Command.{Command}
 use Rattle.hmc_packet.specs.declared.header.Header.{Header}
 use Rattle.hmc_packet.specs.declared.head.Head.{Head}
 use Rattle.hmc_packet.specs.Bits.{bits_from, bit}
-use Rattle.hmc_codes.specs.Commands.{is_flow}
 use Rattle.hmc_packet.specs.Header.{header_word, header_of, header_is_clean}
 use Rattle.hmc_packet.specs.Packet.{PacketFields, IsPacket, flits_of, null_packet}
 use Rattle.hmc_packet.specs.Spelling.{HasPointer, header_fields, word_bytes, covered, bytes_of, cut, spelling}

@@ -1,12 +1,11 @@
 -- The laws of packets that were sent.
 use Rattle.std.proofs.Common.{◌≡◌, ◌≢◌, ◌∙◌, ◌<◌, ℕ, Some, Ok, Err, List, [], ◌∷◌, false, sym}
-use Rattle.hmc_codes.specs.Commands.{layout_of}
+use Rattle.hmc_codes.specs.Commands.{layout_of, is_flow}
 use Rattle.hmc_codes.specs.declared.layout.Layout.TheVariants as layouts
 use Rattle.hmc_codes.specs.declared.command.Command.{Command}
 use Rattle.hmc_codes.specs.declared.command.Command.TheVariants.{Null, Irtry}
 use Rattle.hmc_packet.specs.declared.bad.Bad.TheVariants as bads
 use Rattle.hmc_packet.specs.declared.seen.Seen.{Seen}
-use Rattle.hmc_codes.specs.Commands.{is_flow}
 use Rattle.hmc_packet.specs.Packet.{PacketFields, flits_of}
 use Rattle.hmc_packet.specs.Spelling.{null_flit}
 use Rattle.hmc_packet.specs.Parts.{lng_of}

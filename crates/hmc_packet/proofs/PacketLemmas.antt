@@ -1,11 +1,10 @@
 -- What each packet keeps, and its header and tail.
 use Rattle.std.proofs.Common.{◌≡◌, ◌<◌, ◌≤◌, arith, ℕ, Bool, false, refl, lit<}
 use Rattle.hmc_codes.specs.Table.{line_of}
-use Rattle.hmc_codes.specs.Commands.{layout_of}
+use Rattle.hmc_codes.specs.Commands.{layout_of, is_flow}
 use Rattle.hmc_codes.specs.declared.command.Command.TheVariants.{Pret, Tret, Irtry}
 use Rattle.hmc_codes.specs.declared.layout.Layout.{Layout}
 use Rattle.hmc_codes.specs.declared.layout.Layout.TheVariants as layouts
-use Rattle.hmc_codes.specs.Commands.{is_flow}
 use Rattle.hmc_packet.specs.Packet.{PacketFields, IsPacket, IsLaidOut, null_packet, flits_of}
 use Rattle.hmc_packet.specs.Header.{IsHeader}
 use Rattle.hmc_packet.specs.Tail.{pointers, IsTail}

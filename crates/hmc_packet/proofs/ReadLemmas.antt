@@ -2,7 +2,7 @@
 use Rattle.std.proofs.Common.{◌≡◌, ◌≢◌, ◌∙◌, ◌<◌, ◌≤◌, ◌+◌, ◌-◌, ◌*◌, ◌/◌, ◌%◌, ◌^◌, ℕ, Bool, true, false, Ok, List, ◌++◌, length, take, drop, refl, sym, ap, subst, arith}
 use Rattle.std.proofs.lemmas.List.{length-take, length-drop, take-append-drop}
 use Rattle.hmc_codes.specs.Bytes.{IsBytes}
-use Rattle.hmc_codes.specs.Commands.{code_of, layout_of, allows_of}
+use Rattle.hmc_codes.specs.Commands.{code_of, layout_of, allows_of, is_flow}
 use Rattle.hmc_codes.specs.declared.command.Command.{Command}
 use Rattle.hmc_codes.specs.declared.layout.Layout.{Layout}
 use Rattle.hmc_codes.specs.declared.layout.Layout.TheVariants as layouts
@@ -12,7 +12,6 @@ use Rattle.hmc_packet.specs.declared.header.Header.{Header}
 use Rattle.hmc_packet.specs.declared.tail.Tail.{Tail}
 use Rattle.hmc_packet.specs.declared.seen.Seen.{Seen}
 use Rattle.hmc_packet.specs.Bits.{bits_from}
-use Rattle.hmc_codes.specs.Commands.{is_flow}
 use Rattle.hmc_packet.specs.Header.{IsHeader, header_word, header_of, header_is_clean}
 use Rattle.hmc_packet.specs.Tail.{IsTail, tail_word, tail_of, tail_is_clean}
 use Rattle.hmc_packet.specs.Packet.{PacketFields, IsInRange, IsLaidOut, IsFlow, flits_of}
@@ -22,7 +21,6 @@ use Rattle.hmc_packet.specs.Reading.{slid_in, packet_from, seen_in, judged, byte
 use Rattle.hmc_packet.proofs.CommandLemmas.{null_layout-null, code_of-null}
 use Rattle.hmc_packet.proofs.HeaderLemmas as headers
 use Rattle.hmc_packet.proofs.TailLemmas as tails
-use Rattle.hmc_packet.proofs.TailLemmas.{TailFits}
 use Rattle.hmc_packet.proofs.PartLemmas.{word_bytes-word_of, half_bytes-half_of, word_of-lt, half_of-lt, covered-join}
 use Rattle.hmc_packet.proofs.PoisonLemmas.{check_from, poison_in-is}
 use Rattle.hmc_packet.proofs.JudgedLemmas.{Names, command_in-Names, Passes, judged-Passes, bytes_read-Passes}

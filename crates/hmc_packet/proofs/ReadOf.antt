@@ -6,7 +6,7 @@ use Rattle.std.proofs.lemmas.Bool.{eqb-true, eq-eqb, and_parts, and_from, leb-tr
 use Rattle.std.proofs.lemmas.List.{nil_from_length, take-take, take-append-le}
 use Rattle.std.proofs.lemmas.Slice.Eq.{bytes_eq-Decides}
 use Rattle.hmc_codes.specs.Bytes.{IsBytes}
-use Rattle.hmc_codes.specs.Commands.{layout_of}
+use Rattle.hmc_codes.specs.Commands.{layout_of, is_flow}
 use Rattle.hmc_codes.specs.declared.layout.Layout.{Layout}
 use Rattle.hmc_codes.specs.declared.layout.Layout.TheVariants as layouts
 use Rattle.hmc_codes.specs.declared.command.Command.TheVariants.{Null}
@@ -14,7 +14,6 @@ use Rattle.hmc_packet.specs.declared.bad.Bad.{Bad}
 use Rattle.hmc_packet.specs.declared.bad.Bad.TheVariants as bads
 use Rattle.hmc_packet.specs.declared.seen.Seen.{Seen}
 use Rattle.hmc_packet.specs.Bits.{bits_from}
-use Rattle.hmc_codes.specs.Commands.{is_flow}
 use Rattle.hmc_packet.specs.Packet.{PacketFields, IsPacket, IsLaidOut, flits_of, null_packet}
 use Rattle.hmc_packet.specs.Tail.{pointers}
 use Rattle.hmc_packet.specs.Spelling.{HasPointer, bytes_of, cut, null_flit, flits_with, spelling}

@@ -1,13 +1,12 @@
 -- The bytes of a packet read as that packet.
 use Rattle.std.proofs.Common.{◌≡◌, ◌≢◌, ◌∙◌, ◌<◌, ◌*◌, ◌^◌, ℕ, Bool, true, false, Ok, List, length, refl, sym, ap, subst, arith}
-use Rattle.hmc_codes.specs.Commands.{layout_of, allows_of}
+use Rattle.hmc_codes.specs.Commands.{layout_of, allows_of, is_flow}
 use Rattle.hmc_codes.specs.declared.layout.Layout.{Layout}
 use Rattle.hmc_codes.specs.declared.layout.Layout.TheVariants as layouts
 use Rattle.hmc_crc.specs.Remainder.{crc_of}
 use Rattle.hmc_crc.proofs.Check.{crc_of-lt}
 use Rattle.hmc_packet.specs.declared.tail.Tail.{Tail}
 use Rattle.hmc_packet.specs.Bits.{bits_from}
-use Rattle.hmc_codes.specs.Commands.{is_flow}
 use Rattle.hmc_packet.specs.Header.{header_word, header_of, header_is_clean}
 use Rattle.hmc_packet.specs.Tail.{pointers, tail_word, tail_of, tail_is_clean}
 use Rattle.hmc_packet.specs.Packet.{PacketFields, IsPacket, IsLaidOut, flits_of}

@@ -3,7 +3,7 @@ use Rattle.std.specs.Prelude.{◌≡◌, ◌≢◌, ◌<◌, ℕ, Bool, true, fa
 use Rattle.std.specs.List.{concat}
 use Rattle.std.specs.Option.{ok_or}
 use Rattle.std.specs.Str.{bytes_eq}
-use Rattle.hmc_codes.specs.Commands.{layout_of, allows_of}
+use Rattle.hmc_codes.specs.Commands.{layout_of, allows_of, is_flow}
 use Rattle.hmc_codes.specs.declared.command.Command.{Command}
 use Rattle.hmc_codes.specs.declared.layout.Layout.{Layout}
 use Rattle.hmc_codes.specs.declared.layout.Layout.TheVariants as layouts
@@ -15,7 +15,6 @@ use Rattle.hmc_packet.specs.declared.tail.Tail.{Tail}
 use Rattle.hmc_packet.specs.declared.seen.Seen.{Seen}
 use Rattle.hmc_packet.specs.Bits.{bits_from}
 use Rattle.hmc_packet.specs.Parts.{header_in, payload_in, tail_in, check_in, covered_in, lng_of}
-use Rattle.hmc_codes.specs.Commands.{is_flow}
 use Rattle.hmc_codes.specs.Codes.{command_of}
 use Rattle.hmc_packet.specs.Header.{header_of, header_is_clean}
 use Rattle.hmc_packet.specs.Tail.{pointers, tail_of, tail_is_clean}

@@ -1,13 +1,12 @@
 //! Laws of the packet grammar that the layers above use. Each is the contract of a function that does nothing.
 
 ghost use Rattle.std.specs.Prelude.{◌≡◌, ◌≢◌, ◌≤◌, ◌<◌, ◌-◌, ◌^◌, ℕ, Bool, true, false, List, [], ◌∷◌, length, take, slice_index_or, Some, Ok, Err};
-ghost use Rattle.hmc_codes.specs.Commands.{layout_of};
+ghost use Rattle.hmc_codes.specs.Commands.{layout_of, is_flow};
 ghost use Rattle.hmc_codes.specs.Request.{RequestFields, IsRequest};
 ghost use Rattle.hmc_codes.specs.declared.answer.Answer.{Answer};
 ghost use Rattle.hmc_codes.specs.declared.command.Command.TheVariants.{Null, Irtry};
 ghost use Rattle.hmc_packet.specs.declared.bad.Bad.TheVariants as bads;
 ghost use Rattle.hmc_packet.specs.declared.seen.Seen.{Seen};
-ghost use Rattle.hmc_codes.specs.Commands.{is_flow};
 ghost use Rattle.hmc_packet.specs.Packet.{PacketFields, IsPacket, flits_of};
 ghost use Rattle.hmc_packet.specs.Spelling.{HasPointer, spelling, null_flit, training_flit};
 ghost use Rattle.hmc_packet.specs.Parts.{lng_of};

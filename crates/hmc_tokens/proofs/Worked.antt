@@ -1,5 +1,5 @@
 -- Definitions computed at a read of one flit and a write of two.
-use Rattle.std.proofs.Common.{◌≡◌, ℕ, List, [], ◌∷◌, true, false, refl}
+use Rattle.std.proofs.Common.{◌≡◌, [], ◌∷◌, true, false, refl}
 use Rattle.std.specs.Prelude.{map, replicate}
 use Rattle.hmc_codes.specs.declared.command.Command.TheVariants.{Rd16, Wr16}
 use Rattle.hmc_packet.specs.Packet.{PacketFields, flits_of, null_packet}

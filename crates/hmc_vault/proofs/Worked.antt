@@ -1,12 +1,12 @@
 -- Definitions computed at a cube of two vaults of two banks of one row, whose number is 6.
-use Rattle.std.proofs.Common.{◌≡◌, ℕ, Bool, List, [], ◌∷◌, Some, None, true, false, refl}
+use Rattle.std.proofs.Common.{◌≡◌, ℕ, List, [], ◌∷◌, true, false, refl}
 use Rattle.std.specs.Prelude.{map, replicate}
 use Rattle.hmc_codes.specs.Shape.{ShapeFields}
 use Rattle.hmc_codes.specs.Request.{RequestFields}
 use Rattle.hmc_codes.specs.Table.{line_of}
 use Rattle.hmc_codes.specs.declared.answer.Answer.TheVariants as answers
 use Rattle.hmc_codes.specs.declared.command.Command.{Command}
-use Rattle.hmc_codes.specs.declared.command.Command.TheVariants.{Rd16, Pinc8, Mdrd, WrRs, MdRdRs}
+use Rattle.hmc_codes.specs.declared.command.Command.TheVariants.{Rd16, Pinc8, Mdrd, WrRs}
 use Rattle.hmc_packet.specs.Packet.{PacketFields, null_packet}
 use Rattle.hmc_packet.specs.Transactions.{replied, payload_of, request_in}
 use Rattle.hmc_atomics.specs.Operations.{atomic_of}
