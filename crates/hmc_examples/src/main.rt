@@ -15,7 +15,7 @@ use std::rt::Files;
 use std::{fs, io};
 
 /// The cases of this folder, `NAME.toml` each, with their reports, `NAME.report`.
-const NAMES: [&str; 9] = [
+const NAMES: [&str; 10] = [
     "write-then-read",
     "six-errors",
     "posted-increments",
@@ -24,6 +24,7 @@ const NAMES: [&str; 9] = [
     "full-queue",
     "registers-and-banks",
     "each-kind-of-step",
+    "each-command",
     "largest-sizes",
 ];
 
