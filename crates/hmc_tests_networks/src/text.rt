@@ -1,33 +1,45 @@
-//! First lines, first words, and numbers.
+//! Lines, first words, and numbers.
 
-use hmc_text::lines::first_line;
+use hmc_text::lines::Lines;
 use hmc_text::number::{below, number};
 use hmc_text::reading::{next_word, no_word, number_word};
 use hmc_text::words::{first_word, is_passed_over};
+use std::alloc::{AllocError, Global};
+use std::process::Abort;
 use std::test::Fail;
+
+// The lines of a text, of which there are at most four, each with a bar behind it.
+fn barred(rt: &impl Abort, alloc: Global, text: &str) -> Result<Vec<u8>, AllocError> {
+    let mut lines = Lines::of(text);
+    let mut barred = Vec::new(alloc);
+    for at in 1..=4 {
+        let Some((number, line)) = lines.next_line() else {
+            break;
+        };
+        assert_eq!(rt; number, at, "in {text:?}");
+        barred.extend_from_slice(line)?;
+        barred.extend_from_slice(b"|")?;
+    }
+    assert!(rt; lines.next_line().is_none(), "more lines in {text:?}");
+    Ok(barred)
+}
 
 #[test]
 fn a_line_feed_ends_a_line(rt: HostRuntime) -> Result<(), Fail> {
     let table = [
-        ("", "", None),
-        ("one", "one", None),
-        ("\n", "", Some("")),
-        ("one\ntwo\n", "one", Some("two\n")),
-        ("one\r\ntwo", "one", Some("two")),
-        ("one\r", "one", None),
-        ("one\r\r\n", "one\r", Some("")),
-        ("one\rtwo\n", "one\rtwo", Some("")),
-        ("\r\n\r\n", "", Some("\r\n")),
+        ("", "|"),
+        ("one", "one|"),
+        ("\n", "||"),
+        ("one\ntwo\n", "one|two||"),
+        ("one\r\ntwo", "one|two|"),
+        ("one\r", "one|"),
+        ("one\r\r\n", "one\r||"),
+        ("one\rtwo\n", "one\rtwo||"),
+        ("\r\n\r\n", "|||"),
     ];
-    for (text, line, behind) in table {
-        let (first, rest) = first_line(text.as_bytes());
-        assert!(rt; first == line.as_bytes(), "at {text:?}");
-        let same = match (rest, behind) {
-            (Some(rest), Some(behind)) => rest == behind.as_bytes(),
-            (None, None) => true,
-            _ => false,
-        };
-        assert!(rt; same, "behind the line, at {text:?}");
+    for (text, lines) in table {
+        let barred = barred(&rt, rt.alloc(), text)?;
+        assert!(rt; barred.as_slice() == lines.as_bytes(), "at {text:?}");
     }
     Ok(())
 }

@@ -34,8 +34,8 @@ fn behind(end: &[u8]) -> Option<&[u8]>
     }
 }
 
-/// The first line, without its end, and what stands behind its line feed, if it has one.
-pub fn first_line(text: &[u8]) -> (&[u8], Option<&[u8]>)
+// The first line, without its end, and what stands behind its line feed, if it has one.
+fn first_line(text: &[u8]) -> (&[u8], Option<&[u8]>)
     ensures { lines_of text.now ≡ result.0.now ∷ lines_left result.1 }
 {
     let (line, end) = text.split_at(line_len(text));
