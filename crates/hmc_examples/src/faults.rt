@@ -3,8 +3,6 @@
 //! The table is a text. A line `- LINE` takes the place of that line of the base case, with the lines `+ LINE` that follow it;
 //! `= REPORT` ends a change. Lines that begin otherwise are passed over.
 
-ghost use Rattle.std.specs.Prelude.{◌<◌, length, IfSome};
-
 use std::alloc::{AllocError, Global};
 
 fn push_line(text: &mut String, line: &str) -> Result<(), AllocError> {
@@ -24,9 +22,7 @@ fn push_new(text: &mut String, change: &[&str]) -> Result<(), AllocError> {
 }
 
 // What stands behind the place where the change takes this line away.
-fn behind<'c, 't>(line: &str, change: &'c [&'t str]) -> Option<&'c [&'t str]>
-    ensures { IfSome result (λ lines. length lines.now < length change.now) }
-{
+fn behind<'c, 't>(line: &str, change: &'c [&'t str]) -> Option<&'c [&'t str]> {
     for at in 0..change.len() {
         if change[at].strip_prefix("- ") == Some(line) {
             return Some(&change[at + 1..]);
