@@ -3,7 +3,7 @@
 //! are worked by hand.
 
 use hmc_crc::crc;
-use std::alloc::{AllocError, Global};
+use std::alloc::Global;
 use std::test::Fail;
 
 // Bytes and their check.
@@ -54,32 +54,32 @@ b60e0e8ff18463b0e4b2ba29703474f064ac68f700f5b02b3dc666f45bdeaa2ccaedcd2b5157410e
 000000000000000000000000:00000000
 ";
 
-fn digit(code: u8) -> u8 {
-    match code {
-        b'0'..=b'9' => code - b'0',
-        b'a'..=b'f' => code - b'a' + 10,
-        _ => 0xff,
-    }
+// The byte of two digits.
+fn byte_of(digits: &[u8]) -> Option<u8> {
+    let digits = str::from_utf8(digits).ok()?;
+    u8::from_str_radix(digits, 16).ok()
 }
 
-fn decoded(alloc: Global, text: &str) -> Result<Vec<u8>, AllocError> {
+fn decoded(alloc: Global, text: &str) -> Result<Vec<u8>, Fail> {
     let mut bytes = Vec::new(alloc);
-    for pair in text.as_bytes().chunks_exact(2) {
-        if let [high, low] = pair {
-            bytes.push((digit(*high) << 4) | digit(*low))?;
-        }
+    for digits in text.as_bytes().chunks_exact(2) {
+        bytes.push(byte_of(digits).ok_or("no byte")?)?;
     }
     Ok(bytes)
+}
+
+// Whether the bytes of a text, which is not cut short, have this check.
+fn is_checked(alloc: Global, text: &str, check: &str) -> Result<bool, Fail> {
+    let bytes = decoded(alloc, text)?;
+    let check = u32::from_str_radix(check, 16).ok().ok_or("no number")?;
+    Ok(bytes.len() * 2 == text.len() && crc(&bytes) == check)
 }
 
 #[test]
 fn checks_of_a_stock_library(rt: HostRuntime) -> Result<(), Fail> {
     for row in CHECKS.lines() {
         let (text, check) = row.split_once(':').ok_or("no check")?;
-        let bytes = decoded(rt.alloc(), text)?;
-        assert_eq!(rt; bytes.len() * 2, text.len(), "cut short: {text}");
-        let want = u32::from_str_radix(check, 16).ok().ok_or("no number")?;
-        assert_eq!(rt; crc(&bytes), want, "at {text}");
+        assert!(rt; is_checked(rt.alloc(), text, check)?, "at {text}");
     }
     Ok(())
 }

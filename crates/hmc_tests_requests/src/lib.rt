@@ -15,4 +15,6 @@ mod outside;
 #[cfg(test)]
 mod registers;
 #[cfg(test)]
+mod request;
+#[cfg(test)]
 mod serial;

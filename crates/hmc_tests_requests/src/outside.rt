@@ -2,6 +2,7 @@
 
 use hmc_outside::{Failed, MemorySink, MemorySource, Sink, Source, StdSink, StdSource};
 use std::io::{self, ErrorKind, Read, Write};
+use std::process::Abort;
 use std::test::Fail;
 
 // Gives or takes at most three bytes a call. The calls whose turn is listed meet the error instead.
@@ -59,123 +60,179 @@ fn copy<S: Source, O: Sink>(source: &mut S, sink: &mut O) -> Result<(), Failed> 
     Ok(())
 }
 
+// Whether a read has this outcome and leaves this in its piece.
+fn is_read<S: Source>(
+    source: &mut S,
+    piece: &mut [u8],
+    outcome: Result<usize, Failed>,
+    held: &str,
+) -> bool {
+    source.read(piece) == outcome && &*piece == held.as_bytes()
+}
+
+// Reads into one piece, once for each row.
+fn assert_reads<S: Source>(
+    rt: &impl Abort,
+    source: &mut S,
+    piece: &mut [u8],
+    rows: &[(Result<usize, Failed>, &str)],
+) {
+    for (outcome, held) in rows {
+        assert!(rt;
+            is_read(source, piece, *outcome, held),
+            "the read that leaves {held}"
+        );
+    }
+}
+
+fn is_written<O: Sink>(sink: &mut O, bytes: &str, outcome: Result<(), Failed>) -> bool {
+    sink.write(bytes.as_bytes()) == outcome
+}
+
+// Writes the bytes of each row, once for each row.
+fn assert_writes<O: Sink>(rt: &impl Abort, sink: &mut O, rows: &[(&str, Result<(), Failed>)]) {
+    for (bytes, outcome) in rows {
+        assert!(rt; is_written(sink, bytes, *outcome), "the write of {bytes}");
+    }
+}
+
+// Copies what is left of two sources.
+fn copy_both<S: Source, T: Source, O: Sink>(
+    first: &mut S,
+    last: &mut T,
+    sink: &mut O,
+) -> Result<(), Failed> {
+    copy(first, sink)?;
+    copy(last, sink)
+}
+
 #[test]
 fn pieces_go_from_any_source_to_any_sink(rt: HostRuntime) -> Result<(), Fail> {
+    let mut quick = StdSource::new(b"quick".as_slice());
+    let mut fox = MemorySource::new(rt.alloc(), b" fox", &[])?;
     let mut sink = MemorySink::new(rt.alloc(), 9, &[])?;
-    copy(&mut StdSource::new(b"quick".as_slice()), &mut sink)?;
-    copy(&mut MemorySource::new(rt.alloc(), b" fox", &[])?, &mut sink)?;
-    assert_eq!(rt; sink.as_slice(), b"quick fox".as_slice());
-    copy(
+    copy_both(&mut quick, &mut fox, &mut sink)?;
+    assert!(rt;
+        sink.as_slice() == b"quick fox".as_slice(),
+        "what was copied"
+    );
+    Ok(())
+}
+
+#[test]
+fn standard_input_and_output_can_be_had(rt: HostRuntime) {
+    let none = copy(
         &mut StdSource::new(io::empty()),
         &mut StdSink::new(io::writer(&rt)),
-    )?;
-    assert_eq!(rt; StdSource::new(rt.reader()).read(&mut []), Ok(0));
-    Ok(())
+    );
+    assert!(rt; none.is_ok(), "nothing is written");
+    let read = StdSource::new(rt.reader()).read(&mut []);
+    assert!(rt; read == Ok(0), "nothing is asked for");
 }
 
 #[test]
-fn a_reader_gives_its_bytes(rt: HostRuntime) -> Result<(), Fail> {
+fn a_reader_gives_its_bytes(rt: HostRuntime) {
     let mut source = StdSource::new(b"quick fox".as_slice());
-    let mut into = [b'.'; 6];
-    assert_eq!(rt; source.read(&mut into)?, 6);
-    assert_eq!(rt; into, *b"quick ");
-    assert_eq!(rt; source.read(&mut into)?, 3);
-    assert_eq!(rt; into, *b"foxck ");
-    assert_eq!(rt; source.read(&mut into)?, 0);
-    assert_eq!(rt; source.faults(), 0);
-    Ok(())
+    let rows = [(Ok(6), "quick "), (Ok(3), "foxck "), (Ok(0), "foxck ")];
+    assert_reads(&rt, &mut source, &mut [b'.'; 6], &rows);
+    assert!(rt; source.faults() == 0, "faults");
 }
 
 #[test]
-fn a_reader_is_asked_again_after_a_signal_and_may_fail(rt: HostRuntime) -> Result<(), Fail> {
+fn a_reader_is_asked_again_after_a_signal_and_may_fail(rt: HostRuntime) {
     let mut source = StdSource::new(Stuttering {
         input: b"quick",
         output: Vec::new(rt.alloc()),
         turn: 0,
         errors: &[(1, ErrorKind::Interrupted), (3, ErrorKind::BrokenPipe)],
     });
-    let mut into = [b'.'; 8];
-    assert_eq!(rt; source.read(&mut into)?, 3);
-    assert_eq!(rt; source.read(&mut into), Err(Failed));
-    assert_eq!(rt; source.faults(), 1);
-    assert_eq!(rt; source.read(&mut into)?, 2);
-    assert_eq!(rt; into, *b"cki.....");
-    Ok(())
+    let mut piece = [b'.'; 8];
+    let rows = [(Ok(3), "qui....."), (Err(Failed), "qui.....")];
+    assert_reads(&rt, &mut source, &mut piece, &rows);
+    assert!(rt; source.faults() == 1, "one fault");
+    assert_reads(&rt, &mut source, &mut piece, &[(Ok(2), "cki.....")]);
 }
 
 #[test]
-fn a_writer_takes_the_bytes(rt: HostRuntime) -> Result<(), Fail> {
+fn a_writer_takes_the_bytes(rt: HostRuntime) {
     let mut text = Vec::new(rt.alloc());
     let mut sink = StdSink::new(&mut text);
-    sink.write(b"quick ")?;
-    sink.write(b"")?;
-    sink.write(b"fox")?;
-    assert_eq!(rt; sink.faults(), 0);
-    assert_eq!(rt; text.as_slice(), b"quick fox".as_slice());
-    Ok(())
+    let rows = [("quick ", Ok(())), ("", Ok(())), ("fox", Ok(()))];
+    assert_writes(&rt, &mut sink, &rows);
+    assert!(rt; sink.faults() == 0, "faults");
+    assert!(rt;
+        text.as_slice() == b"quick fox".as_slice(),
+        "what was written"
+    );
+}
+
+// Writes five bytes, five that fail behind the third, and three.
+fn assert_writes_and_a_fault<O: Write + Drop>(rt: &impl Abort, writer: O) {
+    let mut sink = StdSink::new(writer);
+    assert_writes(rt, &mut sink, &[("quick", Ok(())), ("brown", Err(Failed))]);
+    assert!(rt; sink.faults() == 1, "one fault");
+    assert_writes(rt, &mut sink, &[("fox", Ok(()))]);
+    assert!(rt; sink.faults() == 1, "no other fault");
 }
 
 #[test]
-fn a_writer_is_asked_again_after_a_signal_and_may_fail(rt: HostRuntime) -> Result<(), Fail> {
+fn a_writer_is_asked_again_after_a_signal_and_may_fail(rt: HostRuntime) {
     let mut writer = Stuttering {
         input: b"",
         output: Vec::new(rt.alloc()),
         turn: 0,
         errors: &[(2, ErrorKind::Interrupted), (5, ErrorKind::BrokenPipe)],
     };
-    let mut sink = StdSink::new(&mut writer);
-    sink.write(b"quick")?;
-    assert_eq!(rt; sink.write(b"brown"), Err(Failed));
-    assert_eq!(rt; sink.faults(), 1);
-    sink.write(b"fox")?;
-    assert_eq!(rt; sink.faults(), 1);
-    assert_eq!(rt; writer.output.as_slice(), b"quickbrofox".as_slice());
-    Ok(())
+    assert_writes_and_a_fault(&rt, &mut writer);
+    let output = writer.output.as_slice();
+    assert!(rt; output == b"quickbrofox".as_slice(), "what was written");
 }
 
 #[test]
 fn a_writer_that_takes_nothing_fails(rt: HostRuntime) {
     let mut room = [b'.'; 4];
     let mut sink = StdSink::new(room.as_mut_slice());
-    assert_eq!(rt; sink.write(b"quick"), Err(Failed));
-    assert_eq!(rt; sink.write(b""), Ok(()));
-    assert_eq!(rt; sink.faults(), 1);
-    assert_eq!(rt; room, *b"quic");
+    assert_writes(&rt, &mut sink, &[("quick", Err(Failed)), ("", Ok(()))]);
+    assert!(rt; sink.faults() == 1, "faults");
+    assert!(rt; room == *b"quic", "what was written");
 }
+
+const READS: [(Result<usize, Failed>, &str); 5] = [
+    (Ok(4), "quic"),
+    (Err(Failed), "quic"),
+    (Ok(4), "k fo"),
+    (Ok(1), "x fo"),
+    (Ok(0), "x fo"),
+];
 
 #[test]
 fn a_source_in_memory_fails_at_its_second_call(rt: HostRuntime) -> Result<(), Fail> {
     let mut source = MemorySource::new(rt.alloc(), b"quick fox", &[2])?;
-    let mut into = [b'.'; 4];
-    for (outcome, bytes) in [
-        (Ok(4), b"quic"),
-        (Err(Failed), b"quic"),
-        (Ok(4), b"k fo"),
-        (Ok(1), b"x fo"),
-        (Ok(0), b"x fo"),
-    ] {
-        assert_eq!(rt; source.read(&mut into), outcome);
-        assert_eq!(rt; into, *bytes);
-    }
-    assert_eq!(rt; source.faults(), 1);
+    assert_reads(&rt, &mut source, &mut [b'.'; 4], &READS);
+    assert!(rt; source.faults() == 1, "faults");
     Ok(())
 }
 
+// Bytes, the outcome of their write, and what is held then.
+const WRITES: [(&str, Result<(), Failed>, &str); 6] = [
+    ("abc", Ok(()), "abc"),
+    ("defg", Err(Failed), "abcde"),
+    ("xyz", Err(Failed), "abcde"),
+    ("fgh", Err(Failed), "abcdef"),
+    ("", Ok(()), "abcdef"),
+    ("x", Err(Failed), "abcdef"),
+];
+
 #[test]
 fn a_sink_in_memory_fails_at_listed_calls_and_without_room(rt: HostRuntime) -> Result<(), Fail> {
-    let failing = [(2, 2), (2, 5), (4, 9)];
-    let mut sink = MemorySink::new(rt.alloc(), 6, &failing)?;
-    for (bytes, outcome, held) in [
-        (b"abc".as_slice(), Ok(()), "abc"),
-        (b"defg".as_slice(), Err(Failed), "abcde"),
-        (b"xyz".as_slice(), Err(Failed), "abcde"),
-        (b"fgh".as_slice(), Err(Failed), "abcdef"),
-        (b"".as_slice(), Ok(()), "abcdef"),
-        (b"x".as_slice(), Err(Failed), "abcdef"),
-    ] {
-        assert_eq!(rt; sink.write(bytes), outcome);
-        assert_eq!(rt; sink.as_slice(), held.as_bytes());
+    let mut sink = MemorySink::new(rt.alloc(), 6, &[(2, 2), (2, 5), (4, 9)])?;
+    for (bytes, outcome, held) in &WRITES {
+        assert!(rt;
+            is_written(&mut sink, bytes, *outcome),
+            "the write of {bytes}"
+        );
+        assert!(rt; sink.as_slice() == held.as_bytes(), "held behind {bytes}");
     }
-    assert_eq!(rt; sink.faults(), 4);
+    assert!(rt; sink.faults() == 4, "faults");
     Ok(())
 }

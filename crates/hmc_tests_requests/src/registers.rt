@@ -3,6 +3,26 @@
 use hmc_codes::Shape;
 use hmc_registers::{RegisterFault, Registers};
 
+// Writes to registers, and what they answer.
+const WRITTEN: [(u64, u32, Result<(), RegisterFault>); 4] = [
+    (15, 0xffff_ffff, Ok(())),
+    (4, 7, Ok(())),
+    (3, 1, Err(RegisterFault::ReadOnly)),
+    (16, 1, Err(RegisterFault::NoRegister)),
+];
+
+// What registers hold then.
+const HELD: [(u64, Option<u32>); 8] = [
+    (0, Some(5)),
+    (1, Some(3)),
+    (2, Some(2)),
+    (3, Some(300)),
+    (4, Some(7)),
+    (5, Some(0)),
+    (15, Some(0xffff_ffff)),
+    (16, None),
+];
+
 // A cube of number 5 with 8 vaults of 4 banks of 300 rows.
 #[test]
 fn numbers_and_shape(rt: HostRuntime) {
@@ -12,25 +32,13 @@ fn numbers_and_shape(rt: HostRuntime) {
         rows: 300,
     };
     let mut registers = Registers::new(5, shape);
-    let written = [
-        (15, 0xffff_ffff, Ok(())),
-        (4, 7, Ok(())),
-        (3, 1, Err(RegisterFault::ReadOnly)),
-        (16, 1, Err(RegisterFault::NoRegister)),
-    ];
-    for (number, value, want) in written {
-        assert!(rt; registers.write(number, value) == want, "written {number}");
+    for (number, value, want) in &WRITTEN {
+        assert!(rt;
+            registers.write(*number, *value) == *want,
+            "written {number}"
+        );
     }
-    for (number, want) in [
-        (0, Some(5)),
-        (1, Some(3)),
-        (2, Some(2)),
-        (3, Some(300)),
-        (4, Some(7)),
-        (5, Some(0)),
-        (15, Some(0xffff_ffff)),
-        (16, None),
-    ] {
-        assert!(rt; registers.read(number) == want, "read {number}");
+    for (number, want) in &HELD {
+        assert!(rt; registers.read(*number) == *want, "read {number}");
     }
 }

@@ -1,7 +1,8 @@
 //! The operations of commands.
 
 use hmc_atomics::Atomic;
-use hmc_codes::COMMANDS;
+use hmc_codes::{COMMANDS, Command};
+use std::alloc::{AllocError, Global};
 use std::test::Fail;
 
 // All atomic commands, the operation of each, and whether that acts on one half of a block.
@@ -33,15 +34,24 @@ Eq8 Eq8 half
 Swap16 Swap16 block
 ";
 
-#[test]
-fn operations_of_commands(rt: HostRuntime) -> Result<(), Fail> {
-    let mut told = String::new(rt.alloc());
+fn add_line(told: &mut String, command: Command, op: Atomic) -> Result<(), AllocError> {
+    let part = if op.by_halves() { "half" } else { "block" };
+    writeln!(told, "{command:?} {op:?} {part}")
+}
+
+fn operations(alloc: Global) -> Result<String, AllocError> {
+    let mut told = String::new(alloc);
     for command in COMMANDS {
         if let Some(op) = Atomic::of(command) {
-            let part = if op.by_halves() { "half" } else { "block" };
-            writeln!(told, "{command:?} {op:?} {part}")?;
+            add_line(&mut told, command, op)?;
         }
     }
-    assert_eq!(rt; told.as_str(), OPERATIONS);
+    Ok(told)
+}
+
+#[test]
+fn operations_of_commands(rt: HostRuntime) -> Result<(), Fail> {
+    let told = operations(rt.alloc())?;
+    assert!(rt; told.as_str() == OPERATIONS, "{told}");
     Ok(())
 }

@@ -11,18 +11,19 @@ use std::process::Abort;
 // follows the table of operations.
 type Row = (Atomic, bool, u128, u128, u128, u128, bool);
 
+fn is_acted(op: Atomic, high: bool, numbers: [u128; 4], flag: bool) -> bool {
+    let [block, operand, new, answer] = numbers;
+    let acted = act(op, high, block.to_le_bytes(), operand.to_le_bytes());
+    acted.block == new.to_le_bytes() && acted.answer == answer.to_le_bytes() && acted.flag == flag
+}
+
 fn assert_rows(rt: &impl Abort, rows: &[Row]) {
-    for (op, high, block, operand, new, answer, flag) in rows.iter().copied() {
-        let acted = act(op, high, block.to_le_bytes(), operand.to_le_bytes());
+    for (op, high, block, operand, new, answer, flag) in rows {
+        let numbers = [*block, *operand, *new, *answer];
         assert!(rt;
-            acted.block == new.to_le_bytes(),
-            "the block of {op:?} {high}"
+            is_acted(*op, *high, numbers, *flag),
+            "{op:?} {high} of {block:#x}"
         );
-        assert!(rt;
-            acted.answer == answer.to_le_bytes(),
-            "the answer of {op:?} {high}"
-        );
-        assert!(rt; acted.flag == flag, "the flag of {op:?} {high}");
     }
 }
 

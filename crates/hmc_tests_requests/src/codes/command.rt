@@ -1,7 +1,7 @@
 //! Codes, lengths and replies of commands.
 
 use hmc_codes::Command;
-use std::alloc::Global;
+use std::alloc::{AllocError, Global};
 use std::test::Fail;
 
 // The code of each command.
@@ -12,19 +12,18 @@ const CODES: [u8; 71] = [
     119, 120,
 ];
 
+// Whether the code is that of a command, if it is in the list, and of none if not.
+fn is_listed(code: u8) -> bool {
+    match Command::from_code(code) {
+        Some(command) => CODES.contains(&code) && command.code() == code,
+        None => !CODES.contains(&code),
+    }
+}
+
 #[test]
 fn codes_of_commands_and_no_others(rt: HostRuntime) {
     for code in 0..=255 {
-        let expected = if CODES.contains(&code) {
-            Some(code)
-        } else {
-            None
-        };
-        assert_eq!(rt;
-            Command::from_code(code).map(Command::code),
-            expected,
-            "at {code}"
-        );
+        assert!(rt; is_listed(code), "at {code}");
     }
 }
 
@@ -63,55 +62,76 @@ const LINES: &str = "\
 120 Unit7 unit7 Ask Ask rd_rs 2
 ";
 
-fn line_of(alloc: Global, command: Command) -> Result<String, Fail> {
-    let answer = match command.reply() {
+fn answer_of(command: Command) -> &'static str {
+    match command.reply() {
         Some(reply) => reply.word(),
         None if command.posted() => "posted",
         None => "-",
-    };
+    }
+}
+
+fn add_length(line: &mut String, command: Command, flits: u8) -> Result<(), AllocError> {
+    if command.allows(flits) {
+        write!(line, " {flits}")?;
+    }
+    Ok(())
+}
+
+fn line_of(alloc: Global, command: Command) -> Result<String, AllocError> {
     let code = command.code();
     let word = command.word();
+    let mut line = format!(in alloc; "{code} {command:?} {word}")?;
     let family = command.family();
     let layout = command.layout();
-    let mut line = format!(in alloc; "{code} {command:?} {word} {family:?} {layout:?} {answer}")?;
+    write!(line, " {family:?} {layout:?} {}", answer_of(command))?;
     for flits in 0..=18 {
-        if command.allows(flits) {
-            write!(line, " {flits}")?;
-        }
+        add_length(&mut line, command, flits)?;
     }
     Ok(line)
+}
+
+fn command_of(line: &str) -> Option<Command> {
+    let (code, _) = line.split_once(' ')?;
+    let code = u8::from_str_radix(code, 10).ok()?;
+    Command::from_code(code)
+}
+
+fn is_told(alloc: Global, line: &str) -> Result<bool, AllocError> {
+    match command_of(line) {
+        Some(command) => Ok(line_of(alloc, command)?.as_str() == line),
+        None => Ok(false),
+    }
 }
 
 #[test]
 fn commands_of_every_kind(rt: HostRuntime) -> Result<(), Fail> {
     for line in LINES.lines() {
-        let (code, _) = line.split_once(' ').ok_or("no code")?;
-        let code = u8::from_str_radix(code, 10).ok().ok_or("no number")?;
-        let command = Command::from_code(code).ok_or("no command")?;
-        assert_eq!(rt; line_of(rt.alloc(), command)?.as_str(), line);
+        assert!(rt; is_told(rt.alloc(), line)?, "{line}");
     }
     Ok(())
 }
 
+const PAYLOADS: [(Command, usize); 14] = [
+    (Command::Wr16, 16),
+    (Command::Wr48, 48),
+    (Command::Pwr128, 128),
+    (Command::Wr256, 256),
+    (Command::Rd256, 0),
+    (Command::Mdwr, 16),
+    (Command::Mdrd, 0),
+    (Command::Bwr, 16),
+    (Command::Inc8, 0),
+    (Command::Swap16, 16),
+    (Command::Unit3, 16),
+    (Command::Null, 0),
+    (Command::RdRs, 0),
+    (Command::MdRdRs, 16),
+];
+
 // What a request carries; of a command that asks nothing, what its packets do where they have one length.
 #[test]
 fn payloads(rt: HostRuntime) {
-    for (command, len) in [
-        (Command::Wr16, 16),
-        (Command::Wr48, 48),
-        (Command::Pwr128, 128),
-        (Command::Wr256, 256),
-        (Command::Rd256, 0),
-        (Command::Mdwr, 16),
-        (Command::Mdrd, 0),
-        (Command::Bwr, 16),
-        (Command::Inc8, 0),
-        (Command::Swap16, 16),
-        (Command::Unit3, 16),
-        (Command::Null, 0),
-        (Command::RdRs, 0),
-        (Command::MdRdRs, 16),
-    ] {
-        assert_eq!(rt; command.payload_len(), len, "of {command:?}");
+    for (command, len) in &PAYLOADS {
+        assert!(rt; command.payload_len() == *len, "of {command:?}");
     }
 }

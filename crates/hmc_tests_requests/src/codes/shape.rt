@@ -15,9 +15,23 @@ fn capacities(rt: HostRuntime) {
             bank_bits,
             rows,
         };
-        assert_eq!(rt; shape.capacity(), capacity);
+        assert!(rt; shape.capacity() == capacity, "{capacity} bytes");
     }
 }
+
+// An address, and its offset, vault, bank and row.
+const SPOTS: [(u64, u16, u8, u8, u64); 10] = [
+    (0, 0, 0, 0, 0),
+    (0xff, 255, 0, 0, 0),
+    (0x100, 0, 1, 0, 0),
+    (0x3ff, 255, 3, 0, 0),
+    (0x400, 0, 0, 1, 0),
+    (0x6ab, 0xab, 2, 1, 0),
+    (0x800, 0, 0, 0, 1),
+    (0x17ff, 255, 3, 1, 2),
+    (0x1800, 0, 0, 0, 3),
+    (0x3_ffff_ffff, 255, 3, 1, 0x7f_ffff),
+];
 
 #[test]
 fn spots_of_four_vaults_of_two_banks_of_three_rows(rt: HostRuntime) {
@@ -26,24 +40,13 @@ fn spots_of_four_vaults_of_two_banks_of_three_rows(rt: HostRuntime) {
         bank_bits: 1,
         rows: 3,
     };
-    for (address, offset, vault, bank, row) in [
-        (0, 0, 0, 0, 0),
-        (0xff, 255, 0, 0, 0),
-        (0x100, 0, 1, 0, 0),
-        (0x3ff, 255, 3, 0, 0),
-        (0x400, 0, 0, 1, 0),
-        (0x6ab, 0xab, 2, 1, 0),
-        (0x800, 0, 0, 0, 1),
-        (0x17ff, 255, 3, 1, 2),
-        (0x1800, 0, 0, 0, 3),
-        (0x3_ffff_ffff, 255, 3, 1, 0x7f_ffff),
-    ] {
+    for (address, offset, vault, bank, row) in SPOTS {
         let spot = Spot {
             offset,
             vault,
             bank,
             row,
         };
-        assert_eq!(rt; shape.spot(address), spot, "at {address:x}");
+        assert!(rt; shape.spot(address) == spot, "at {address:x}");
     }
 }
