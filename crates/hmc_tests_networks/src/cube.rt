@@ -1,12 +1,12 @@
-ghost use Rattle.std.specs.Prelude.{◌≡◌, ◌<◌, ◌^◌, length};
+ghost use Rattle.std.specs.Prelude.{◌≡◌, ◌<◌, ◌^◌, IfOk, length};
 ghost use Rattle.hmc_vault.specs.Packets.{IsForBanks};
-ghost use Rattle.hmc_cube.specs.Places.{IsForRegisters, IsHere, IsFor};
+ghost use Rattle.hmc_cube.specs.Places.{IsForRegisters};
 
-use hmc_codes::{Answer, Command, Lift, Payload, Request, Shape};
+use hmc_codes::{Answer, Command, Lift, Memory, Payload, Request, Shape};
 use hmc_crossbar::To;
 use hmc_cube::{Cube, Executed, Spread};
 use hmc_packet::{Packet, answer_of, ask};
-use std::process::Abort;
+use std::alloc::Global;
 use std::test::Fail;
 
 const BYTES: [u8; 16] = [1, 2, 3, 4, 5, 6, 7, 8, 9, 10, 11, 12, 13, 14, 15, 16];
@@ -54,42 +54,28 @@ fn read_number() -> Packet
     ask(&request, 2047, 2, false)
 }
 
-fn register_in(packet: &Packet) -> Option<u32> {
-    match &answer_of(packet) {
-        Some(Answer::Register { value }) => Some(*value),
-        _ => None,
-    }
-}
-
-fn reads(packet: &Packet, bytes: &[u8]) -> bool {
-    match &answer_of(packet) {
-        Some(Answer::Read { payload, .. }) => payload.as_slice() == bytes,
+// Whether a packet is a reply to host 2 with the cube's number.
+fn has_number(packet: Option<Packet>) -> bool {
+    let Some(packet) = packet else {
+        return false;
+    };
+    let same = match &answer_of(&packet) {
+        Some(Answer::Register { value }) => *value == 6,
         _ => false,
-    }
+    };
+    same && packet.slid == 2
 }
 
-fn enter(rt: &impl Abort, cube: &mut Cube, to: To, packet: Packet)
-    requires here { IsHere cube.old to }
-    requires request { IsFor to packet }
-    ensures { cube.new.state.shape ≡ cube.old.state.shape }
-{
-    assert!(rt; cube.room(to), "no room");
-    cube.enter(to, packet);
-}
-
-// Of the second vault's one bank, of which only the shape is to be known.
-fn spread(cube: &mut Cube) -> Spread
-    requires { 1 < 2 ^ cube.old.state.shape.vault_bits }
-    ensures { cube.new.state.shape ≡ cube.old.state.shape }
-{
-    cube.spread(1)
-}
-
-fn execute(cube: &mut Cube) -> Executed
-    requires { 1 < 2 ^ cube.old.state.shape.vault_bits }
-    ensures { cube.new.state.shape ≡ cube.old.state.shape }
-{
-    cube.execute(1, 0)
+// Whether a packet is a reply to the read, with the bytes written.
+fn has_bytes(packet: Option<Packet>) -> bool {
+    let Some(packet) = packet else {
+        return false;
+    };
+    let same = match &answer_of(&packet) {
+        Some(Answer::Read { payload, .. }) => payload.as_slice() == BYTES.as_slice(),
+        _ => false,
+    };
+    same && packet.slid == 1 && packet.tag == 9
 }
 
 // Whether a request of this host under this tag ran.
@@ -100,67 +86,129 @@ fn is_run(executed: &Executed, from: u8, under: u16) -> bool {
     }
 }
 
-// A posted write and a read of its bytes pass through a cube of two vaults of one bank.
-#[test]
-fn memory(rt: HostRuntime) -> Result<(), Fail> {
+// Whether a request of host 1 ran that has no answer.
+fn is_silent(executed: &Executed) -> bool {
+    matches!(
+        executed,
+        Executed::Ran {
+            host: 1,
+            answer: Answer::Silent,
+            ..
+        }
+    )
+}
+
+// A cube of two vaults of one bank.
+fn two_vaults(alloc: Global) -> Result<Cube, Memory>
+    ensures { IfOk result (λ cube. 1 < 2 ^ cube.state.shape.vault_bits) }
+{
     let shape = Shape {
         vault_bits: 1,
         bank_bits: 0,
         rows: 1,
     };
-    let mut cube = Cube::new(rt.alloc(), 6, shape, 2)?;
+    Cube::new(alloc, 6, shape, 2)
+}
+
+// Of a cube with a second vault only the number of vaults is to be known, in each step.
+fn enter(cube: &mut Cube, packet: Packet) -> bool
+    requires vaults { 1 < 2 ^ cube.old.state.shape.vault_bits }
+    requires request { IsForBanks packet }
+    ensures { 1 < 2 ^ cube.new.state.shape.vault_bits }
+{
+    if !cube.room(To::Vault(1)) {
+        return false;
+    }
+    cube.enter(To::Vault(1), packet);
+    true
+}
+
+fn is_second_full(cube: &Cube) -> bool
+    requires { 1 < 2 ^ cube.now.state.shape.vault_bits }
+{
+    !cube.room(To::Vault(1)) && cube.room(To::Vault(0))
+}
+
+fn spread(cube: &mut Cube) -> Spread
+    requires { 1 < 2 ^ cube.old.state.shape.vault_bits }
+    ensures { 1 < 2 ^ cube.new.state.shape.vault_bits }
+{
+    cube.spread(1)
+}
+
+fn execute(cube: &mut Cube) -> Executed
+    requires { 1 < 2 ^ cube.old.state.shape.vault_bits }
+    ensures { 1 < 2 ^ cube.new.state.shape.vault_bits }
+{
+    cube.execute(1, 0)
+}
+
+fn lift(cube: &mut Cube) -> Option<Packet>
+    requires { 1 < 2 ^ cube.old.state.shape.vault_bits }
+{
+    cube.lift(Lift::Vault(1))
+}
+
+// The block at an address, if it is there.
+fn block(cube: &Cube, place: u64) -> Option<[u8; 16]> {
+    if place % 16 == 0 && place < cube.capacity() {
+        Some(cube.get16(place))
+    } else {
+        None
+    }
+}
+
+// A posted write and a read of its bytes pass through a cube of two vaults of one bank.
+#[test]
+fn memory(rt: HostRuntime) -> Result<(), Fail> {
+    let mut cube = two_vaults(rt.alloc())?;
     let payload = Payload::from_slice(&BYTES).ok_or("refused")?;
-    enter(&rt, &mut cube, To::Vault(1), posted_write(payload));
-    enter(&rt, &mut cube, To::Vault(1), read());
-    assert!(rt; !cube.room(To::Vault(1)) && cube.room(To::Vault(0)), "full");
-    assert!(rt;
-        spread(&mut cube) == Spread::Moved { bank: 0 },
-        "spread of the write"
-    );
-    assert!(rt;
-        spread(&mut cube) == Spread::Moved { bank: 0 },
-        "spread of the read"
-    );
-    let ran = execute(&mut cube);
-    assert!(rt;
-        matches!(
-            &ran,
-            Executed::Ran {
-                host: 1,
-                answer: Answer::Silent,
-                ..
-            }
-        ),
-        "write"
-    );
-    assert!(rt; cube.get16(0x100) == BYTES, "written");
-    let ran = execute(&mut cube);
-    assert!(rt; is_run(&ran, 1, 9), "read");
-    let reply = cube.lift(Lift::Vault(1)).ok_or("no reply")?;
-    assert!(rt;
-        reads(&reply, &BYTES) && reply.slid == 1 && reply.tag == 9,
-        "reply"
-    );
+    assert!(rt; enter(&mut cube, posted_write(payload)), "the write enters");
+    assert!(rt; enter(&mut cube, read()), "the read enters");
+    assert!(rt; is_second_full(&cube), "full");
+    let moved = Spread::Moved { bank: 0 };
+    assert!(rt; spread(&mut cube) == moved, "spread of the write");
+    assert!(rt; spread(&mut cube) == moved, "spread of the read");
+    assert!(rt; is_silent(&execute(&mut cube)), "write");
+    assert!(rt; block(&cube, 0x100) == Some(BYTES), "written");
+    assert!(rt; is_run(&execute(&mut cube), 1, 9), "read");
+    assert!(rt; has_bytes(lift(&mut cube)), "reply");
     assert!(rt; cube.held() == 0, "held");
     Ok(())
 }
 
-// A read of register 0 passes through the queues of the registers of a cube of number 6.
-#[test]
-fn registers(rt: HostRuntime) -> Result<(), Fail> {
+// A cube of one bank.
+fn one_bank(alloc: Global) -> Result<Cube, Memory> {
     let shape = Shape {
         vault_bits: 0,
         bank_bits: 0,
         rows: 1,
     };
-    let mut cube = Cube::new(rt.alloc(), 6, shape, 1)?;
-    enter(&rt, &mut cube, To::Registers, read_number());
-    assert!(rt; !cube.room(To::Registers) && cube.held() == 1, "full");
-    let ran = cube.registers();
-    assert!(rt; is_run(&ran, 2, 2047), "read");
+    Cube::new(alloc, 6, shape, 1)
+}
+
+// Whether a read of the cube's number enters and fills the queue of the registers.
+fn fills_registers(cube: &mut Cube) -> bool {
+    if !cube.room(To::Registers) {
+        return false;
+    }
+    cube.enter(To::Registers, read_number());
+    !cube.room(To::Registers)
+}
+
+fn lift_register(cube: &mut Cube) -> Option<Packet> {
+    cube.lift(Lift::Registers)
+}
+
+// A read of register 0 passes through the queues of the registers of a cube of number 6.
+#[test]
+fn registers(rt: HostRuntime) -> Result<(), Fail> {
+    let mut cube = one_bank(rt.alloc())?;
+    assert!(rt; fills_registers(&mut cube), "full");
+    assert!(rt; cube.held() == 1, "held");
+    assert!(rt; is_run(&cube.registers(), 2, 2047), "read");
     assert!(rt; cube.register(0) == Some(6), "number");
-    let reply = cube.lift(Lift::Registers).ok_or("no reply")?;
-    assert!(rt; register_in(&reply) == Some(6) && reply.slid == 2, "reply");
+    assert!(rt; has_number(lift_register(&mut cube)), "reply");
     assert!(rt; cube.lift_front(Lift::Registers).is_none(), "lifted");
     Ok(())
 }

@@ -4,11 +4,12 @@ ghost use Rattle.hmc_codes.specs.declared.family.Family.TheVariants as families;
 ghost use Rattle.hmc_host.specs.Tags.{IsOut};
 ghost use Rattle.hmc_host.specs.Give.{taken_tag};
 
-use hmc_codes::{Answer, Command, Payload, Request};
+use hmc_codes::{Answer, Command, Memory, Payload, Request};
 use hmc_host::{Given, Host, HostBuffer, Settled};
 use hmc_packet::{Packet, ask, reply};
 use hmc_script::Script;
 use hmc_tokens::Intake;
+use std::alloc::Global;
 use std::process::Abort;
 use std::test::Fail;
 
@@ -73,24 +74,29 @@ fn settle(rt: &impl Abort, host: &mut Host, tag: u16)
     );
 }
 
+// As many reads of host 1.
+fn reads(alloc: Global, count: u32) -> Result<Script, Memory> {
+    let mut script = Script::new(alloc);
+    for _ in 0..count {
+        if script.len() < 65536 {
+            script.add(1, false, read())?;
+        }
+    }
+    Ok(script)
+}
+
 // A host has 2,048 tags. One more request waits until an answer comes, and goes out under that answer's tag.
 #[test]
 fn all_tags(rt: HostRuntime) -> Result<(), Fail> {
-    let mut script = Script::new(rt.alloc());
-    for at in 0..2049 {
-        assert!(rt; script.len() < 65536, "request {at}");
-        script.add(1, false, read())?;
-    }
+    let script = reads(rt.alloc(), 2049)?;
     let mut host = Host::new(rt.alloc(), 1, &script)?;
     for tag in 0..2048 {
         give_under(&rt, &mut host, tag, 0);
     }
-    let given = host.give(true);
-    assert!(rt; matches!(&given, Given::Tags), "all are out");
+    assert!(rt; matches!(&host.give(true), Given::Tags), "all are out");
     settle(&rt, &mut host, 700);
     give_under(&rt, &mut host, 700, 0);
-    let given = host.give(true);
-    assert!(rt; matches!(&given, Given::Ended), "all are given");
+    assert!(rt; matches!(&host.give(true), Given::Ended), "all are given");
     Ok(())
 }
 
@@ -102,44 +108,48 @@ const TEXT: &str = "1 pwr16 0 0x10 000102030405060708090a0b0c0d0e0f
 1 rd16 0 0x50
 ";
 
+// Whether the next request goes to this address under no tag.
+fn gives_untagged(host: &mut Host, address: u64) -> bool {
+    let given = host.give(true);
+    carries(&given, 0, address) && tag_of(&given).is_none()
+}
+
 // Posted and poisoned requests take no tag. Those behind a fence wait for the answer, and its tag is the lowest again.
 #[test]
 fn fence(rt: HostRuntime) -> Result<(), Fail> {
     let script = Script::parse(rt.alloc(), TEXT, 2, 1)?;
     let mut host = Host::new(rt.alloc(), 1, &script)?;
-    let given = host.give(false);
-    assert!(rt; matches!(&given, Given::Full), "no room");
-    let given = host.give(true);
-    assert!(rt;
-        carries(&given, 0, 0x10) && tag_of(&given).is_none(),
-        "posted"
-    );
+    assert!(rt; matches!(&host.give(false), Given::Full), "no room");
+    assert!(rt; gives_untagged(&mut host, 0x10), "posted");
     give_under(&rt, &mut host, 0, 0x20);
-    let given = host.give(false);
-    assert!(rt; matches!(&given, Given::Fence), "fence");
+    assert!(rt; matches!(&host.give(false), Given::Fence), "fence");
     settle(&rt, &mut host, 0);
-    let given = host.give(true);
-    assert!(rt;
-        carries(&given, 0, 0x40) && tag_of(&given).is_none(),
-        "poisoned"
-    );
+    assert!(rt; gives_untagged(&mut host, 0x40), "poisoned");
     give_under(&rt, &mut host, 0, 0x50);
-    let given = host.give(false);
-    assert!(rt; matches!(&given, Given::Ended), "ended");
+    assert!(rt; matches!(&host.give(false), Given::Ended), "ended");
     Ok(())
+}
+
+// A poisoned packet as it comes out of a host's buffer.
+fn through(buffer: &mut HostBuffer) -> Option<Packet> {
+    let packet = ask(&read(), 0, 0, true);
+    if buffer.cost(&packet) != 1 || buffer.used() >= buffer.size() {
+        return None;
+    }
+    buffer.take_in(packet);
+    buffer.take_out()
+}
+
+fn is_discarded(host: &mut Host, packet: &Packet) -> bool {
+    packet.poisoned && matches!(&host.settle(packet), Settled::Discarded)
 }
 
 // A poisoned packet is taken out of a host's buffer and discarded.
 #[test]
 fn poisoned(rt: HostRuntime) -> Result<(), Fail> {
-    let script = Script::new(rt.alloc());
-    let mut host = Host::new(rt.alloc(), 0, &script)?;
     let mut buffer = HostBuffer::new(rt.alloc(), 17)?;
-    assert!(rt; buffer.used() < buffer.size(), "room");
-    buffer.take_in(ask(&read(), 0, 0, true));
-    let packet = buffer.take_out().ok_or("nothing came")?;
-    assert!(rt; packet.poisoned, "poisoned");
-    let settled = host.settle(&packet);
-    assert!(rt; matches!(&settled, Settled::Discarded), "discarded");
+    let packet = through(&mut buffer).ok_or("nothing came")?;
+    let mut host = Host::new(rt.alloc(), 0, &Script::new(rt.alloc()))?;
+    assert!(rt; is_discarded(&mut host, &packet), "discarded");
     Ok(())
 }

@@ -39,82 +39,104 @@ fn words_of(alloc: Global, words: &[&str]) -> Result<Vec<String>, Fail> {
     Ok(all)
 }
 
-fn replayed(
-    alloc: Global,
-    words: &[&str],
-    source: &mut MemorySource,
-    sink: &mut MemorySink,
-) -> Result<u8, Fail> {
-    let words = words_of(alloc, words)?;
-    Ok(replay(alloc, &words, source, sink))
+// What is asked for, and the calls at which the outside fails.
+#[derive(Clone, Copy)]
+struct Run<'a> {
+    words: &'a [&'a str],
+    input: &'a [u8],
+    reads: &'a [u32],
+    writes: &'a [(u32, usize)],
 }
 
-// The status and what was written.
-fn answer(alloc: Global, words: &[&str], input: &[u8]) -> Result<(u8, Vec<u8>), Fail> {
-    let mut source = MemorySource::new(alloc, input, &[])?;
-    let mut sink = MemorySink::new(alloc, ROOM, &[])?;
-    let status = replayed(alloc, words, &mut source, &mut sink)?;
-    Ok((status, Vec::from_slice(alloc, sink.as_slice())?))
+impl<'a> Run<'a> {
+    // Nothing fails.
+    fn of(words: &'a [&'a str], input: &'a [u8]) -> Run<'a> {
+        Run {
+            words,
+            input,
+            reads: &[],
+            writes: &[],
+        }
+    }
+
+    // Whether the status is this, and what was written.
+    fn answers(&self, alloc: Global, status: u8, output: &str) -> Result<bool, Fail> {
+        let words = words_of(alloc, self.words)?;
+        let mut source = MemorySource::new(alloc, self.input, self.reads)?;
+        let mut sink = MemorySink::new(alloc, ROOM, self.writes)?;
+        let found = replay(alloc, &words, &mut source, &mut sink);
+        Ok(found == status && sink.as_slice() == output.as_bytes())
+    }
 }
 
 #[test]
 fn other_words_are_no_form(rt: HostRuntime) -> Result<(), Fail> {
-    let alloc = rt.alloc();
-    let case = case_on(alloc, "", "")?;
-    for words in [&[] as &[&str], &["run", "run"], &["Run"]] {
-        let (status, written) = answer(alloc, words, case.as_bytes())?;
-        assert_eq!(rt; status, 2);
-        assert!(rt; written.is_empty());
+    let case = case_on(rt.alloc(), "", "")?;
+    for words in &[&[] as &[&str], &["run", "run"], &["Run"]] {
+        let run = Run::of(words, case.as_bytes());
+        assert!(rt; run.answers(rt.alloc(), 2, "")?, "{} words", words.len());
     }
     Ok(())
 }
 
 #[test]
 fn a_failing_sink_has_the_lines_before(rt: HostRuntime) -> Result<(), Fail> {
-    let alloc = rt.alloc();
-    let case = case_on(alloc, "", "")?;
-    let mut source = MemorySource::new(alloc, case.as_bytes(), &[])?;
-    let mut sink = MemorySink::new(alloc, ROOM, &[(3, 0)])?;
-    assert_eq!(rt; replayed(alloc, &["run"], &mut source, &mut sink)?, 4);
-    assert_eq!(rt; sink.as_slice(), "host 0 0 0 0\ncube 0 0 0\n".as_bytes());
+    let case = case_on(rt.alloc(), "", "")?;
+    let run = Run {
+        writes: &[(3, 0)],
+        ..Run::of(&["run"], case.as_bytes())
+    };
+    let lines = "host 0 0 0 0\ncube 0 0 0\n";
+    assert!(rt; run.answers(rt.alloc(), 4, lines)?, "two lines");
     Ok(())
 }
 
 #[test]
 fn a_failing_source_writes_nothing(rt: HostRuntime) -> Result<(), Fail> {
-    let alloc = rt.alloc();
-    let case = case_on(alloc, "", "")?;
-    let mut source = MemorySource::new(alloc, case.as_bytes(), &[2])?;
-    let mut sink = MemorySink::new(alloc, ROOM, &[])?;
-    assert_eq!(rt; replayed(alloc, &["run"], &mut source, &mut sink)?, 3);
-    assert!(rt; sink.as_slice().is_empty());
+    let case = case_on(rt.alloc(), "", "")?;
+    let run = Run {
+        reads: &[2],
+        ..Run::of(&["run"], case.as_bytes())
+    };
+    assert!(rt; run.answers(rt.alloc(), 3, "")?, "nothing");
     Ok(())
 }
 
 // A comment behind the empty case fills it up.
+fn filled(alloc: Global, len: usize) -> Result<Vec<u8>, Fail> {
+    let case = case_on(alloc, "", "")?;
+    let mut input = Vec::from_slice(alloc, case.as_bytes())?;
+    input.resize(len, b'#')?;
+    Ok(input)
+}
+
 #[test]
 fn the_longest_input_is_judged_and_one_byte_more_is_not(rt: HostRuntime) -> Result<(), Fail> {
-    let alloc = rt.alloc();
-    let case = case_on(alloc, "", "")?;
-    for (len, status, output) in [(4_194_304, 0, NOTHING), (4_194_305, 5, "")] {
-        let mut input = Vec::from_slice(alloc, case.as_bytes())?;
-        input.resize(len, b'#')?;
-        let (found, written) = answer(alloc, &["run"], &input)?;
-        assert_eq!(rt; found, status);
-        assert_eq!(rt; written.as_slice(), output.as_bytes());
+    for (len, status, output) in &[(4_194_304, 0, NOTHING), (4_194_305, 5, "")] {
+        let input = filled(rt.alloc(), *len)?;
+        let run = Run::of(&["run"], &input);
+        assert!(rt; run.answers(rt.alloc(), *status, output)?, "{len} bytes");
     }
     Ok(())
 }
 
+// A case that is cut off in its script.
+fn cut(alloc: Global) -> Result<String, Fail> {
+    let case = case_on(alloc, "0 rd16 0 0x40\n", "")?;
+    let (before, _) = case.split_once(" 0 0x40").ok_or("the script has a read")?;
+    Ok(String::from_str(alloc, before)?)
+}
+
 #[test]
 fn bytes_that_are_no_document_are_told(rt: HostRuntime) -> Result<(), Fail> {
-    let alloc = rt.alloc();
-    let case = case_on(alloc, "0 rd16 0 0x40\n", "")?;
-    let cut = case.find("rd16").ok_or("the script has a read")? + 4;
-    for input in [b"\xff".as_slice(), &case.as_bytes()[..cut]] {
-        let (status, written) = answer(alloc, &["run"], input)?;
-        assert_eq!(rt; status, 6);
-        assert_eq!(rt; written.as_slice(), "bad toml 0 syntax\n".as_bytes());
+    let cut = cut(rt.alloc())?;
+    for input in &[b"\xff".as_slice(), cut.as_bytes()] {
+        let run = Run::of(&["run"], input);
+        assert!(rt;
+            run.answers(rt.alloc(), 6, "bad toml 0 syntax\n")?,
+            "{} bytes",
+            input.len()
+        );
     }
     Ok(())
 }

@@ -1,8 +1,9 @@
 //! Lines of schedules: which steps good ones are.
 
 use hmc_codes::{Lift, Shape};
-use hmc_schedule::{CubePlan, Plan, Schedule, ScheduleKind, Step};
+use hmc_schedule::{CubePlan, Plan, Schedule, ScheduleFault, ScheduleKind, Step};
 use std::alloc::{AllocError, Global};
+use std::process::Abort;
 use std::test::Fail;
 
 // One host, one link, and one cube with one vault of one bank: twelve steps a round.
@@ -50,34 +51,54 @@ fn wide(alloc: Global) -> Result<Plan, AllocError> {
     })
 }
 
+const STEPS: [(&str, Step); 16] = [
+    ("give 1", Step::Give(1)),
+    ("send 5", Step::Send(5)),
+    ("land 5", Step::Land(5, [0; 16])),
+    (
+        "land 0 00000000000000000000000000000000",
+        Step::Land(0, [0; 16]),
+    ),
+    ("shift 0 2", Step::Shift(0, 2)),
+    ("spread 0 1", Step::Spread(0, 1)),
+    ("bank 0 1 1", Step::Bank(0, 1, 1)),
+    ("bank 1 0 3", Step::Bank(1, 0, 3)),
+    ("registers 1", Step::Registers(1)),
+    ("lift 0 1", Step::Lift(0, Lift::Vault(1))),
+    ("lift 1 r", Step::Lift(1, Lift::Registers)),
+    ("take 0", Step::Take(0)),
+    ("\t send \t 3 \r", Step::Send(3)),
+    ("send 0x5", Step::Send(5)),
+    ("send 00000000000000000003", Step::Send(3)),
+    ("send 0x00000000000000000003", Step::Send(3)),
+];
+
+// The last step.
+fn last_of(schedule: &Schedule) -> Option<Step> {
+    let last = schedule.len().checked_sub(1)?;
+    Some(schedule.step(last))
+}
+
+// Whether a text has so many steps, of which this is the last.
+fn ends_with(
+    alloc: Global,
+    plan: &Plan,
+    text: &str,
+    len: u32,
+    last: Step,
+) -> Result<bool, ScheduleFault> {
+    let schedule = Schedule::parse(alloc, text, plan)?;
+    Ok(schedule.len() == len && last_of(&schedule) == Some(last))
+}
+
 #[test]
 fn a_line_is_a_step(rt: HostRuntime) -> Result<(), Fail> {
-    let table = [
-        ("give 1", Step::Give(1)),
-        ("send 5", Step::Send(5)),
-        ("land 5", Step::Land(5, [0; 16])),
-        (
-            "land 0 00000000000000000000000000000000",
-            Step::Land(0, [0; 16]),
-        ),
-        ("shift 0 2", Step::Shift(0, 2)),
-        ("spread 0 1", Step::Spread(0, 1)),
-        ("bank 0 1 1", Step::Bank(0, 1, 1)),
-        ("bank 1 0 3", Step::Bank(1, 0, 3)),
-        ("registers 1", Step::Registers(1)),
-        ("lift 0 1", Step::Lift(0, Lift::Vault(1))),
-        ("lift 1 r", Step::Lift(1, Lift::Registers)),
-        ("take 0", Step::Take(0)),
-        ("\t send \t 3 \r", Step::Send(3)),
-        ("send 0x5", Step::Send(5)),
-        ("send 00000000000000000003", Step::Send(3)),
-        ("send 0x00000000000000000003", Step::Send(3)),
-    ];
     let plan = wide(rt.alloc())?;
-    for (text, step) in table {
-        let schedule = Schedule::parse(rt.alloc(), text, &plan)?;
-        assert_eq!(rt; schedule.len(), 1, "at {text:?}");
-        assert_eq!(rt; schedule.step(0), step, "at {text:?}");
+    for (text, step) in &STEPS {
+        assert!(rt;
+            ends_with(rt.alloc(), &plan, text, 1, *step)?,
+            "at {text:?}"
+        );
     }
     Ok(())
 }
@@ -94,67 +115,111 @@ fn is_same(one: &Schedule, other: &Schedule) -> bool {
     true
 }
 
+fn has_len(alloc: Global, plan: &Plan, text: &str, len: u32) -> Result<bool, ScheduleFault> {
+    Ok(Schedule::parse(alloc, text, plan)?.len() == len)
+}
+
+fn is_same_text(
+    alloc: Global,
+    plan: &Plan,
+    text: &str,
+    other: &str,
+) -> Result<bool, ScheduleFault> {
+    let one = Schedule::parse(alloc, text, plan)?;
+    let other = Schedule::parse(alloc, other, plan)?;
+    Ok(is_same(&one, &other))
+}
+
+// Whether a text has the steps of another behind two rounds, too.
+fn is_same_behind_rounds(
+    alloc: Global,
+    plan: &Plan,
+    text: &str,
+    other: &str,
+) -> Result<bool, Fail> {
+    let text = format!(in alloc; "give 0\nround 2\ntake 0\n{text}")?;
+    let other = format!(in alloc; "give 0\nround 1\nround 1\ntake 0\n{other}")?;
+    Ok(is_same_text(alloc, plan, text.as_str(), other.as_str())?)
+}
+
+const SMALL_ROUND: &str =
+    "give 0\nsend 0\nsend 1\nland 0\nland 1\nshift 0 0\nspread 0 0\nbank 0 0 0\nregisters 0\n\
+    lift 0 0\nlift 0 r\ntake 0\n";
+
+const WIDE_ROUND: &str = "give 0\ngive 1\nsend 0\nsend 1\nsend 2\nsend 3\nsend 4\nsend 5\n\
+    land 0\nland 1\nland 2\nland 3\nland 4\nland 5\nshift 0 0\nshift 0 2\nshift 1 1\n\
+    spread 0 0\nspread 0 1\nspread 1 0\nbank 0 0 0\nbank 0 0 1\nbank 0 1 0\nbank 0 1 1\n\
+    bank 1 0 0\nbank 1 0 1\nbank 1 0 2\nbank 1 0 3\nregisters 0\nregisters 1\n\
+    lift 0 0\nlift 0 1\nlift 0 r\nlift 1 0\nlift 1 r\ntake 0\ntake 1\n";
+
+fn assert_longhand(
+    rt: &impl Abort,
+    alloc: Global,
+    plan: &Plan,
+    row: (&str, u32, &str),
+) -> Result<(), Fail> {
+    let (text, len, longhand) = row;
+    assert!(rt; has_len(alloc, plan, text, len)?, "at {text:?}");
+    assert!(rt; is_same_text(alloc, plan, text, longhand)?, "at {text:?}");
+    assert!(rt;
+        is_same_behind_rounds(alloc, plan, text, longhand)?,
+        "twice, at {text:?}"
+    );
+    Ok(())
+}
+
 #[test]
 fn a_round_is_written_out(rt: HostRuntime) -> Result<(), Fail> {
-    let small = small(rt.alloc())?;
-    let wide = wide(rt.alloc())?;
-    let small_round =
-        "give 0\nsend 0\nsend 1\nland 0\nland 1\nshift 0 0\nspread 0 0\nbank 0 0 0\nregisters 0\n\
-        lift 0 0\nlift 0 r\ntake 0\n";
-    let wide_round = "give 0\ngive 1\nsend 0\nsend 1\nsend 2\nsend 3\nsend 4\nsend 5\n\
-        land 0\nland 1\nland 2\nland 3\nland 4\nland 5\nshift 0 0\nshift 0 2\nshift 1 1\n\
-        spread 0 0\nspread 0 1\nspread 1 0\nbank 0 0 0\nbank 0 0 1\nbank 0 1 0\nbank 0 1 1\n\
-        bank 1 0 0\nbank 1 0 1\nbank 1 0 2\nbank 1 0 3\nregisters 0\nregisters 1\n\
-        lift 0 0\nlift 0 1\nlift 0 r\nlift 1 0\nlift 1 r\ntake 0\ntake 1\n";
-    let table = [
-        (&small, "", 0, "\n# nothing\n \t"),
-        (&small, "round 1", 12, small_round),
-        (&wide, "round 1", 37, wide_round),
-    ];
-    for (plan, text, len, longhand) in table {
-        let schedule = Schedule::parse(rt.alloc(), text, plan)?;
-        let expected = Schedule::parse(rt.alloc(), longhand, plan)?;
-        assert_eq!(rt; schedule.len(), len, "at {text:?}");
-        assert!(rt; is_same(&schedule, &expected), "at {text:?}");
-        let twice = format!(in rt.alloc(); "give 0\nround 2\ntake 0\n{text}")?;
-        let written = format!(in rt.alloc(); "give 0\nround 1\nround 1\ntake 0\n{longhand}")?;
-        let schedule = Schedule::parse(rt.alloc(), twice.as_str(), plan)?;
-        let expected = Schedule::parse(rt.alloc(), written.as_str(), plan)?;
-        assert!(rt; is_same(&schedule, &expected), "twice, at {text:?}");
-    }
-    Ok(())
+    let alloc = rt.alloc();
+    let small = small(alloc)?;
+    let wide = wide(alloc)?;
+    assert_longhand(&rt, alloc, &small, ("", 0, "\n# nothing\n \t"))?;
+    assert_longhand(&rt, alloc, &small, ("round 1", 12, SMALL_ROUND))?;
+    assert_longhand(&rt, alloc, &wide, ("round 1", 37, WIDE_ROUND))
 }
 
 #[test]
 fn a_schedule_has_a_million_steps(rt: HostRuntime) -> Result<(), Fail> {
     let plan = small(rt.alloc())?;
-    let rounds = Schedule::parse(rt.alloc(), "round 83333", &plan)?;
-    assert_eq!(rt; rounds.len(), 999_996);
-    assert_eq!(rt; rounds.step(999_995), Step::Take(0));
-    let full = Schedule::parse(
-        rt.alloc(),
-        "round 83333\ngive 0\nsend 0\nsend 1\nland 1",
-        &plan,
-    )?;
-    assert_eq!(rt; full.len(), 1_000_000);
-    assert_eq!(rt; full.step(999_999), Step::Land(1, [0; 16]));
+    for (text, len, last) in [
+        ("round 83333", 999_996, Step::Take(0)),
+        (
+            "round 83333\ngive 0\nsend 0\nsend 1\nland 1",
+            1_000_000,
+            Step::Land(1, [0; 16]),
+        ),
+    ] {
+        assert!(rt;
+            ends_with(rt.alloc(), &plan, text, len, last)?,
+            "{len} steps"
+        );
+    }
     Ok(())
+}
+
+const KINDS: [ScheduleKind; 6] = [
+    ScheduleKind::Step,
+    ScheduleKind::Words,
+    ScheduleKind::Number,
+    ScheduleKind::Range,
+    ScheduleKind::Mask,
+    ScheduleKind::Steps,
+];
+
+fn words_of(alloc: Global, kinds: &[ScheduleKind]) -> Result<String, AllocError> {
+    let mut words = String::new(alloc);
+    for kind in kinds {
+        write!(words, "{kind} ")?;
+    }
+    Ok(words)
 }
 
 #[test]
 fn kinds_have_words(rt: HostRuntime) -> Result<(), Fail> {
-    let kinds = [
-        ScheduleKind::Step,
-        ScheduleKind::Words,
-        ScheduleKind::Number,
-        ScheduleKind::Range,
-        ScheduleKind::Mask,
-        ScheduleKind::Steps,
-    ];
-    let mut words = String::new(rt.alloc());
-    for kind in kinds {
-        write!(words, "{kind} ")?;
-    }
-    assert_eq!(rt; words.as_str(), "step words number range mask steps ");
+    let words = words_of(rt.alloc(), &KINDS)?;
+    assert!(rt;
+        words.as_str() == "step words number range mask steps ",
+        "{words}"
+    );
     Ok(())
 }

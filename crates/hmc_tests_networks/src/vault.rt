@@ -1,11 +1,12 @@
-ghost use Rattle.std.specs.Prelude.{◌≡◌, length};
+ghost use Rattle.std.specs.Prelude.{◌≡◌, IfOk, length};
 ghost use Rattle.hmc_vault.specs.Packets.{IsForBanks};
 
-use hmc_codes::{Answer, Command, Payload, Request, Shape};
+use hmc_codes::{Answer, Command, Memory, Payload, Request, Shape};
 use hmc_memory::Banks;
 use hmc_packet::{Packet, answer_of, ask};
 use hmc_registers::Registers;
 use hmc_vault::{Executed, Spread, Vault};
+use std::alloc::Global;
 use std::process::Abort;
 use std::test::Fail;
 
@@ -42,14 +43,6 @@ fn read() -> Packet
     ask(&request, 4, 5, false)
 }
 
-fn enter(rt: &impl Abort, vault: &mut Vault, packet: Packet)
-    requires { IsForBanks packet }
-    ensures { length vault.new.banks ≡ length vault.old.banks }
-{
-    assert!(rt; vault.enter_room(), "no room");
-    vault.enter(packet);
-}
-
 // Whether a packet is a reply to host 5 under a tag that gives back these bytes.
 fn gives_back(packet: Option<Packet>, tag: u16, bytes: &[u8]) -> bool {
     let Some(packet) = packet else {
@@ -71,36 +64,108 @@ fn is_run(executed: &Executed, wanted: u16) -> bool {
     }
 }
 
-// A write and a read of one block pass through a vault whose queues hold one packet each.
-#[test]
-fn write_and_read(rt: HostRuntime) -> Result<(), Fail> {
-    let shape = Shape {
+// The shape of a cube of one vault of two banks.
+fn two_banks() -> Shape
+    ensures { result.bank_bits ≡ 1 }
+{
+    Shape {
         vault_bits: 0,
         bank_bits: 1,
         rows: 1,
-    };
-    let mut banks = Banks::new(rt.alloc(), shape)?;
-    let mut registers = Registers::new(0, shape);
-    let mut vault = Vault::new(rt.alloc(), 1, 1)?;
-    assert!(rt; vault.spread(shape) == Spread::Empty, "nothing entered");
-    let payload = Payload::from_slice(&BYTES).ok_or("refused")?;
-    enter(&rt, &mut vault, write(payload));
-    assert!(rt; vault.spread(shape) == Spread::Moved { bank: 1 }, "write");
-    enter(&rt, &mut vault, read());
-    assert!(rt; vault.spread(shape) == Spread::Full, "bank queue");
-    let ran = vault.execute(1, &mut banks, &mut registers);
-    assert!(rt; is_run(&ran, 3), "write runs");
-    assert!(rt; banks.get16(ADDRESS) == BYTES, "written");
-    assert!(rt; vault.spread(shape) == Spread::Moved { bank: 1 }, "read");
-    let full = vault.execute(1, &mut banks, &mut registers);
+    }
+}
+
+fn new_vault(alloc: Global) -> Result<Vault, Memory>
+    ensures { IfOk result (λ vault. length vault.banks ≡ 2) }
+{
+    Vault::new(alloc, 1, 1)
+}
+
+// Of the vault only the number of its banks is to be known, in each step.
+fn enter(vault: &mut Vault, packet: Packet) -> bool
+    requires banks { length vault.old.banks ≡ 2 }
+    requires request { IsForBanks packet }
+    ensures { length vault.new.banks ≡ 2 }
+{
+    if !vault.enter_room() {
+        return false;
+    }
+    vault.enter(packet);
+    true
+}
+
+fn spread(vault: &mut Vault) -> Spread
+    requires { length vault.old.banks ≡ 2 }
+    ensures { length vault.new.banks ≡ 2 }
+{
+    vault.spread(two_banks())
+}
+
+fn execute(vault: &mut Vault, banks: &mut Banks, registers: &mut Registers) -> Executed
+    requires { length vault.old.banks ≡ 2 }
+    ensures { length vault.new.banks ≡ 2 }
+{
+    vault.execute(1, banks, registers)
+}
+
+fn lift(vault: &mut Vault) -> Option<Packet>
+    requires { length vault.old.banks ≡ 2 }
+    ensures { length vault.new.banks ≡ 2 }
+{
+    vault.lift()
+}
+
+fn is_written(banks: &Banks) -> bool {
+    ADDRESS < banks.shape().capacity() && banks.get16(ADDRESS) == BYTES
+}
+
+// A write enters, and a read behind it waits for room in the queue of the bank.
+fn assert_spread(rt: &impl Abort, vault: &mut Vault, payload: Payload)
+    requires banks { length vault.old.banks ≡ 2 }
+    requires bytes { length payload ≡ 16 }
+    ensures { length vault.new.banks ≡ 2 }
+{
+    assert!(rt; spread(vault) == Spread::Empty, "nothing entered");
+    assert!(rt; enter(vault, write(payload)), "the write enters");
+    assert!(rt; spread(vault) == Spread::Moved { bank: 1 }, "write");
+    assert!(rt; enter(vault, read()), "the read enters");
+    assert!(rt; spread(vault) == Spread::Full, "bank queue");
+}
+
+// The write runs, and the read waits for room for its answer.
+fn assert_write(rt: &impl Abort, vault: &mut Vault, banks: &mut Banks, registers: &mut Registers)
+    requires { length vault.old.banks ≡ 2 }
+    ensures { length vault.new.banks ≡ 2 }
+{
+    assert!(rt; is_run(&execute(vault, banks, registers), 3), "write runs");
+    assert!(rt; is_written(banks), "written");
+    assert!(rt; spread(vault) == Spread::Moved { bank: 1 }, "read");
+    let full = execute(vault, banks, registers);
     assert!(rt; matches!(&full, Executed::Full), "answers queue");
-    assert_eq!(rt; vault.held(), 2, "held");
-    assert!(rt; gives_back(vault.lift(), 3, &[]), "write's answer");
-    let ran = vault.execute(1, &mut banks, &mut registers);
-    assert!(rt; is_run(&ran, 4), "read runs");
+    assert!(rt; vault.held() == 2, "held");
+}
+
+// The write's answer makes room for that of the read.
+fn assert_answers(rt: &impl Abort, vault: &mut Vault, banks: &mut Banks, registers: &mut Registers)
+    requires { length vault.old.banks ≡ 2 }
+{
+    assert!(rt; gives_back(lift(vault), 3, &[]), "write's answer");
+    assert!(rt; is_run(&execute(vault, banks, registers), 4), "read runs");
     assert!(rt; gives_back(vault.lift_front(), 4, &BYTES), "read's answer");
-    let empty = vault.execute(1, &mut banks, &mut registers);
+    let empty = execute(vault, banks, registers);
     assert!(rt; matches!(&empty, Executed::Empty), "nothing waits");
-    assert_eq!(rt; vault.held(), 1, "held at last");
+    assert!(rt; vault.held() == 1, "held at last");
+}
+
+// A write and a read of one block pass through a vault whose queues hold one packet each.
+#[test]
+fn write_and_read(rt: HostRuntime) -> Result<(), Fail> {
+    let mut banks = Banks::new(rt.alloc(), two_banks())?;
+    let mut registers = Registers::new(0, two_banks());
+    let mut vault = new_vault(rt.alloc())?;
+    let payload = Payload::from_slice(&BYTES).ok_or("refused")?;
+    assert_spread(&rt, &mut vault, payload);
+    assert_write(&rt, &mut vault, &mut banks, &mut registers);
+    assert_answers(&rt, &mut vault, &mut banks, &mut registers);
     Ok(())
 }

@@ -1,22 +1,29 @@
 //! What was noted, in its order.
 
+use hmc_codes::Memory;
 use hmc_journal::{Entry, Journal};
+use std::alloc::Global;
 use std::test::Fail;
+
+fn are_printed(alloc: Global, journal: &Journal, lines: &str) -> Result<bool, Memory> {
+    let mut text = String::new(alloc);
+    for entry in journal.entries() {
+        entry.print(alloc, &mut text)?;
+    }
+    Ok(text.as_str() == lines)
+}
 
 #[test]
 fn entries_come_in_order(rt: HostRuntime) -> Result<(), Fail> {
     let mut journal = Journal::new(rt.alloc(), 3)?;
-    assert_eq!(rt; journal.len(), 0);
+    assert!(rt; journal.len() == 0, "none");
     assert!(rt; journal.entries().is_empty(), "nothing is noted yet");
     journal.note(Entry::Discarded { host: 2 });
     journal.note(Entry::Dropped { cube: 1, port: 3 });
-    assert_eq!(rt; journal.len(), 2);
+    assert!(rt; journal.len() == 2, "two");
     journal.note(Entry::Discarded { host: 0 });
-    assert_eq!(rt; journal.len(), 3);
-    let mut text = String::new(rt.alloc());
-    for entry in journal.entries() {
-        entry.print(rt.alloc(), &mut text)?;
-    }
-    assert_eq!(rt; text.as_str(), "discarded 2\ndropped 1 3\ndiscarded 0\n");
+    assert!(rt; journal.len() == 3, "three");
+    let lines = "discarded 2\ndropped 1 3\ndiscarded 0\n";
+    assert!(rt; are_printed(rt.alloc(), &journal, lines)?, "lines");
     Ok(())
 }

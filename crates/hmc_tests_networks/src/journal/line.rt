@@ -11,13 +11,13 @@ const FLIT: Flit = [
     0xb0, 0, 0, 0x40, 0, 0, 0, 0, 0, 0x02, 0x04, 0, 0x0d, 0x2e, 0xe0, 0x99,
 ];
 
-// The lines of entries, one behind another.
-fn lines_of(alloc: Global, entries: &[Entry]) -> Result<String, Memory> {
+// Whether entries have these lines, one behind another.
+fn are_lines(alloc: Global, entries: &[Entry], wanted: &str) -> Result<bool, Memory> {
     let mut lines = String::new(alloc);
     for entry in entries {
         lines.push_str(entry.line(alloc)?.as_str())?;
     }
-    Ok(lines)
+    Ok(lines.as_str() == wanted)
 }
 
 #[tactic(auto, unfolding(hmc_codes::specs::Table::line_of))]
@@ -69,7 +69,7 @@ fn requests_that_were_given(rt: HostRuntime) -> Result<(), Fail> {
     let lines = "gave 1 2047 rd16 3 0x40\n\
         gave 0 - pinc8 0 0x3f8\n\
         gave 7 - poison rd16 3 0x40\n";
-    assert_eq!(rt; lines_of(rt.alloc(), &entries)?.as_str(), lines);
+    assert!(rt; are_lines(rt.alloc(), &entries, lines)?, "lines");
     Ok(())
 }
 
@@ -112,7 +112,7 @@ fn answers(rt: HostRuntime) -> Result<(), Fail> {
         executed 0 3 0 1 - pinc8 0 0x3f8 silent\n\
         executed 6 r 1 0 mdrd 6 0xf register 0000001f\n\
         took 2 9 done 1\n";
-    assert_eq!(rt; lines_of(rt.alloc(), &entries)?.as_str(), lines);
+    assert!(rt; are_lines(rt.alloc(), &entries, lines)?, "lines");
     Ok(())
 }
 
@@ -158,7 +158,7 @@ fn moves_in_a_cube(rt: HostRuntime) -> Result<(), Fail> {
         lifted 5 17 p1\n\
         lifted 5 r p1\n\
         discarded 6\n";
-    assert_eq!(rt; lines_of(rt.alloc(), &entries)?.as_str(), lines);
+    assert!(rt; are_lines(rt.alloc(), &entries, lines)?, "lines");
     Ok(())
 }
 
@@ -198,7 +198,7 @@ fn flits_sent(rt: HostRuntime) -> Result<(), Fail> {
         sent 15 tret b000004000000000000204000d2ee099\n\
         sent 15 new b000004000000000000204000d2ee099\n\
         sent 15 again b000004000000000000204000d2ee099\n";
-    assert_eq!(rt; lines_of(rt.alloc(), &entries)?.as_str(), lines);
+    assert!(rt; are_lines(rt.alloc(), &entries, lines)?, "lines");
     Ok(())
 }
 
@@ -214,7 +214,7 @@ fn flits_landed(rt: HostRuntime) -> Result<(), Fail> {
         landed 4 b000004000000000000204000d2ee099 gathered\n\
         landed 4 b000004000000000000204000d2ee099 accepted\n\
         landed 4 b000004000000000000204000d2ee099 poisoned\n";
-    assert_eq!(rt; lines_of(rt.alloc(), &entries)?.as_str(), lines);
+    assert!(rt; are_lines(rt.alloc(), &entries, lines)?, "lines");
     Ok(())
 }
 
@@ -256,19 +256,25 @@ fn idle_steps(rt: HostRuntime) -> Result<(), Fail> {
         idle through 7 2 empty\n\
         idle unlock 11 empty\n\
         idle retire 6 empty\n";
-    assert_eq!(rt; lines_of(rt.alloc(), &entries)?.as_str(), lines);
+    assert!(rt; are_lines(rt.alloc(), &entries, lines)?, "lines");
     Ok(())
+}
+
+// The text with the entry's line behind it.
+fn printed_behind(alloc: Global, text: &str, entry: &Entry) -> Result<String, Memory> {
+    let mut text = String::from_str(alloc, text)?;
+    entry.print(alloc, &mut text)?;
+    Ok(text)
 }
 
 #[test]
 fn a_line_is_printed_behind_what_was_there(rt: HostRuntime) -> Result<(), Fail> {
-    let mut text = String::from_str(rt.alloc(), "before\n")?;
     let entry = Entry::Took {
         host: 0,
         tag: 0,
         answer: Answer::Stored,
     };
-    entry.print(rt.alloc(), &mut text)?;
-    assert_eq!(rt; text.as_str(), "before\ntook 0 0 stored\n");
+    let text = printed_behind(rt.alloc(), "before\n", &entry)?;
+    assert!(rt; text.as_str() == "before\ntook 0 0 stored\n", "{text}");
     Ok(())
 }

@@ -3,7 +3,6 @@ ghost use Rattle.std.specs.Prelude.{◌^◌, ◌<◌};
 use hmc_codes::{Command, Payload, Request};
 use hmc_packet::{Packet, ask};
 use hmc_tokens::{Intake, Moved, Queue, move_one};
-use std::process::Abort;
 use std::test::Fail;
 
 // A read that its tag tells from others.
@@ -20,13 +19,31 @@ fn read_with(tag: u16) -> Packet
     ask(&request, tag, 0, false)
 }
 
-fn put(rt: &impl Abort, queue: &mut Queue, packet: Packet) {
-    assert!(rt; queue.used() < queue.size(), "no room");
+// Whether there is room, where the packet goes then.
+fn put(queue: &mut Queue, packet: Packet) -> bool {
+    if queue.used() >= queue.size() {
+        return false;
+    }
     queue.take_in(packet);
+    true
 }
 
 fn tag_of(packet: Option<Packet>) -> Option<u16> {
     packet.map(|packet| packet.tag)
+}
+
+// The tag of the packet that is moved, or why none is.
+fn moved(from: &mut Queue, to: &mut Queue) -> Result<u16, &'static str> {
+    match &move_one(from, to) {
+        Moved::Done(packet) => Ok(packet.tag),
+        Moved::Empty => Err("empty"),
+        Moved::Full => Err("full"),
+    }
+}
+
+// Whether the front has this tag, and is taken out.
+fn leaves(queue: &mut Queue, tag: Option<u16>) -> bool {
+    tag_of(queue.front()) == tag && tag_of(queue.take_out()) == tag
 }
 
 // Three packets leave a queue in their order for one that has room for two.
@@ -34,28 +51,17 @@ fn tag_of(packet: Option<Packet>) -> Option<u16> {
 fn moves(rt: HostRuntime) -> Result<(), Fail> {
     let mut from = Queue::new(rt.alloc(), 3)?;
     let mut to = Queue::new(rt.alloc(), 2)?;
-    assert!(rt;
-        matches!(&move_one(&mut from, &mut to), Moved::Empty),
-        "empty"
-    );
+    assert!(rt; moved(&mut from, &mut to) == Err("empty"), "empty");
     for tag in 7..10 {
-        put(&rt, &mut from, read_with(tag));
+        assert!(rt; put(&mut from, read_with(tag)), "put {tag}");
     }
-    for tag in [7, 8] {
-        let moved = move_one(&mut from, &mut to);
-        assert!(rt;
-            matches!(&moved, Moved::Done(packet) if packet.tag == tag),
-            "moved {tag}"
-        );
+    for tag in 7..9 {
+        assert!(rt; moved(&mut from, &mut to) == Ok(tag), "moved {tag}");
     }
-    assert!(rt;
-        matches!(&move_one(&mut from, &mut to), Moved::Full),
-        "full"
-    );
-    assert_eq!(rt; from.used(), 1, "left");
-    for want in [Some(7), Some(8), None] {
-        assert_eq!(rt; tag_of(to.front()), want, "front");
-        assert_eq!(rt; tag_of(to.take_out()), want, "taken out");
+    assert!(rt; moved(&mut from, &mut to) == Err("full"), "full");
+    assert!(rt; from.used() == 1, "left");
+    for tag in &[Some(7), Some(8), None] {
+        assert!(rt; leaves(&mut to, *tag), "{tag:?} leaves");
     }
     Ok(())
 }
