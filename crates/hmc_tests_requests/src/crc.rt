@@ -68,18 +68,18 @@ fn decoded(alloc: Global, text: &str) -> Result<Vec<u8>, Fail> {
     Ok(bytes)
 }
 
-// Whether the bytes of a text, which is not cut short, have this check.
-fn is_checked(alloc: Global, text: &str, check: &str) -> Result<bool, Fail> {
-    let bytes = decoded(alloc, text)?;
+// Whether a row's bytes, which are not cut short, have its check.
+fn is_checked(alloc: Global, row: &str) -> Result<bool, Fail> {
+    let (text, check) = row.split_once(':').ok_or("no check")?;
     let check = u32::from_str_radix(check, 16).ok().ok_or("no number")?;
+    let bytes = decoded(alloc, text)?;
     Ok(bytes.len() * 2 == text.len() && crc(&bytes) == check)
 }
 
 #[test]
 fn checks_of_a_stock_library(rt: HostRuntime) -> Result<(), Fail> {
     for row in CHECKS.lines() {
-        let (text, check) = row.split_once(':').ok_or("no check")?;
-        assert!(rt; is_checked(rt.alloc(), text, check)?, "at {text}");
+        assert!(rt; is_checked(rt.alloc(), row)?, "{row}");
     }
     Ok(())
 }

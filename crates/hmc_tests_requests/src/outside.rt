@@ -108,10 +108,11 @@ fn copy_both<S: Source, T: Source, O: Sink>(
 
 #[test]
 fn pieces_go_from_any_source_to_any_sink(rt: HostRuntime) -> Result<(), Fail> {
-    let mut quick = StdSource::new(b"quick".as_slice());
-    let mut fox = MemorySource::new(rt.alloc(), b" fox", &[])?;
     let mut sink = MemorySink::new(rt.alloc(), 9, &[])?;
-    copy_both(&mut quick, &mut fox, &mut sink)?;
+    let mut fox = MemorySource::new(rt.alloc(), b" fox", &[])?;
+    let mut quick = StdSource::new(b"quick".as_slice());
+    let copied = copy_both(&mut quick, &mut fox, &mut sink);
+    assert!(rt; copied.is_ok(), "both are copied");
     assert!(rt;
         sink.as_slice() == b"quick fox".as_slice(),
         "what was copied"
@@ -223,15 +224,16 @@ const WRITES: [(&str, Result<(), Failed>, &str); 6] = [
     ("x", Err(Failed), "abcdef"),
 ];
 
+fn is_held(sink: &mut MemorySink, row: &(&str, Result<(), Failed>, &str)) -> bool {
+    let (bytes, outcome, held) = row;
+    is_written(sink, bytes, *outcome) && sink.as_slice() == held.as_bytes()
+}
+
 #[test]
 fn a_sink_in_memory_fails_at_listed_calls_and_without_room(rt: HostRuntime) -> Result<(), Fail> {
     let mut sink = MemorySink::new(rt.alloc(), 6, &[(2, 2), (2, 5), (4, 9)])?;
-    for (bytes, outcome, held) in &WRITES {
-        assert!(rt;
-            is_written(&mut sink, bytes, *outcome),
-            "the write of {bytes}"
-        );
-        assert!(rt; sink.as_slice() == held.as_bytes(), "held behind {bytes}");
+    for row in &WRITES {
+        assert!(rt; is_held(&mut sink, row), "the write of {}", row.0);
     }
     assert!(rt; sink.faults() == 4, "faults");
     Ok(())

@@ -73,7 +73,7 @@ fn answers(rt: HostRuntime) -> Result<(), Fail> {
 
 #[test]
 fn answers_with_bytes(rt: HostRuntime) -> Result<(), Fail> {
-    let payload = Payload::from_slice(&BYTES).ok_or("refused")?;
+    let payload = Payload::from_slice(&BYTES).expect(&rt, "refused");
     for (flag, text) in [
         (false, "read 0 78563412000ff0ffabcdef010990a00a"),
         (true, "read 1 78563412000ff0ffabcdef010990a00a"),
