@@ -7,6 +7,7 @@ use hmc_crossbar::To;
 use hmc_cube::{Cube, Executed, Spread};
 use hmc_packet::{Packet, answer_of, ask};
 use std::alloc::Global;
+use std::process::Abort;
 use std::test::Fail;
 
 const BYTES: [u8; 16] = [1, 2, 3, 4, 5, 6, 7, 8, 9, 10, 11, 12, 13, 14, 15, 16];
@@ -158,22 +159,43 @@ fn block(cube: &Cube, place: u64) -> Option<[u8; 16]> {
     }
 }
 
+// A posted write and a read fill the second vault, and go to its bank.
+fn assert_spread(rt: &impl Abort, cube: &mut Cube, payload: Payload)
+    requires vaults { 1 < 2 ^ cube.old.state.shape.vault_bits }
+    requires bytes { length payload ≡ 16 }
+    ensures { 1 < 2 ^ cube.new.state.shape.vault_bits }
+{
+    assert!(rt; enter(cube, posted_write(payload)), "the write enters");
+    assert!(rt; enter(cube, read()), "the read enters");
+    assert!(rt; is_second_full(cube), "full");
+    assert!(rt;
+        spread(cube) == Spread::Moved { bank: 0 },
+        "spread of the write"
+    );
+    assert!(rt;
+        spread(cube) == Spread::Moved { bank: 0 },
+        "spread of the read"
+    );
+}
+
+// Both run, and the read has the bytes that were written.
+fn assert_executed(rt: &impl Abort, cube: &mut Cube)
+    requires { 1 < 2 ^ cube.old.state.shape.vault_bits }
+{
+    assert!(rt; is_silent(&execute(cube)), "write");
+    assert!(rt; block(cube, 0x100) == Some(BYTES), "written");
+    assert!(rt; is_run(&execute(cube), 1, 9), "read");
+    assert!(rt; has_bytes(lift(cube)), "reply");
+    assert!(rt; cube.held() == 0, "held");
+}
+
 // A posted write and a read of its bytes pass through a cube of two vaults of one bank.
 #[test]
 fn memory(rt: HostRuntime) -> Result<(), Fail> {
+    let payload = Payload::from_slice(&BYTES).expect(&rt, "refused");
     let mut cube = two_vaults(rt.alloc())?;
-    let payload = Payload::from_slice(&BYTES).ok_or("refused")?;
-    assert!(rt; enter(&mut cube, posted_write(payload)), "the write enters");
-    assert!(rt; enter(&mut cube, read()), "the read enters");
-    assert!(rt; is_second_full(&cube), "full");
-    let moved = Spread::Moved { bank: 0 };
-    assert!(rt; spread(&mut cube) == moved, "spread of the write");
-    assert!(rt; spread(&mut cube) == moved, "spread of the read");
-    assert!(rt; is_silent(&execute(&mut cube)), "write");
-    assert!(rt; block(&cube, 0x100) == Some(BYTES), "written");
-    assert!(rt; is_run(&execute(&mut cube), 1, 9), "read");
-    assert!(rt; has_bytes(lift(&mut cube)), "reply");
-    assert!(rt; cube.held() == 0, "held");
+    assert_spread(&rt, &mut cube, payload);
+    assert_executed(&rt, &mut cube);
     Ok(())
 }
 
@@ -200,15 +222,20 @@ fn lift_register(cube: &mut Cube) -> Option<Packet> {
     cube.lift(Lift::Registers)
 }
 
+// The read fills the queue of the registers, runs, and is answered by the cube's number.
+fn assert_number(rt: &impl Abort, cube: &mut Cube) {
+    assert!(rt; fills_registers(cube), "full");
+    assert!(rt; cube.held() == 1, "held");
+    assert!(rt; is_run(&cube.registers(), 2, 2047), "read");
+    assert!(rt; cube.register(0) == Some(6), "number");
+    assert!(rt; has_number(lift_register(cube)), "reply");
+    assert!(rt; cube.lift_front(Lift::Registers).is_none(), "lifted");
+}
+
 // A read of register 0 passes through the queues of the registers of a cube of number 6.
 #[test]
 fn registers(rt: HostRuntime) -> Result<(), Fail> {
     let mut cube = one_bank(rt.alloc())?;
-    assert!(rt; fills_registers(&mut cube), "full");
-    assert!(rt; cube.held() == 1, "held");
-    assert!(rt; is_run(&cube.registers(), 2, 2047), "read");
-    assert!(rt; cube.register(0) == Some(6), "number");
-    assert!(rt; has_number(lift_register(&mut cube)), "reply");
-    assert!(rt; cube.lift_front(Lift::Registers).is_none(), "lifted");
+    assert_number(&rt, &mut cube);
     Ok(())
 }

@@ -115,18 +115,22 @@ fn gives_untagged(host: &mut Host, address: u64) -> bool {
 }
 
 // Posted and poisoned requests take no tag. Those behind a fence wait for the answer, and its tag is the lowest again.
+fn assert_fence(rt: &impl Abort, host: &mut Host) {
+    assert!(rt; matches!(&host.give(false), Given::Full), "no room");
+    assert!(rt; gives_untagged(host, 0x10), "posted");
+    give_under(rt, host, 0, 0x20);
+    assert!(rt; matches!(&host.give(false), Given::Fence), "fence");
+    settle(rt, host, 0);
+    assert!(rt; gives_untagged(host, 0x40), "poisoned");
+    give_under(rt, host, 0, 0x50);
+    assert!(rt; matches!(&host.give(false), Given::Ended), "ended");
+}
+
 #[test]
 fn fence(rt: HostRuntime) -> Result<(), Fail> {
     let script = Script::parse(rt.alloc(), TEXT, 2, 1)?;
     let mut host = Host::new(rt.alloc(), 1, &script)?;
-    assert!(rt; matches!(&host.give(false), Given::Full), "no room");
-    assert!(rt; gives_untagged(&mut host, 0x10), "posted");
-    give_under(&rt, &mut host, 0, 0x20);
-    assert!(rt; matches!(&host.give(false), Given::Fence), "fence");
-    settle(&rt, &mut host, 0);
-    assert!(rt; gives_untagged(&mut host, 0x40), "poisoned");
-    give_under(&rt, &mut host, 0, 0x50);
-    assert!(rt; matches!(&host.give(false), Given::Ended), "ended");
+    assert_fence(&rt, &mut host);
     Ok(())
 }
 

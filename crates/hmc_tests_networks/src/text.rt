@@ -7,16 +7,14 @@ use hmc_text::words::{first_word, is_passed_over};
 use std::alloc::{AllocError, Global};
 use std::test::Fail;
 
-// Adds the next line and a bar, if there is a line and it has this number.
+// Adds the next line, if there is one, and a bar, or another sign if the line has another number.
 fn add_line(barred: &mut Vec<u8>, lines: &mut Lines, at: u32) -> Result<bool, AllocError> {
-    match lines.next_line() {
-        Some((number, line)) if number == at => {
-            barred.extend_from_slice(line)?;
-            barred.push(b'|')?;
-            Ok(true)
-        }
-        _ => Ok(false),
-    }
+    let Some((number, line)) = lines.next_line() else {
+        return Ok(false);
+    };
+    barred.extend_from_slice(line)?;
+    barred.push(if number == at { b'|' } else { b'?' })?;
+    Ok(true)
 }
 
 // The lines of a text, of which there are at most four, each with a bar behind it. A fifth would be seen.
@@ -76,11 +74,15 @@ fn is_first(line: &str, word: &Option<(&str, &str)>) -> bool {
     }
 }
 
+fn is_parted(row: &(&str, Option<(&str, &str)>, bool)) -> bool {
+    let (line, word, silent) = row;
+    is_first(line, word) && is_passed_over(line.as_bytes()) == *silent
+}
+
 #[test]
 fn blanks_part_words(rt: HostRuntime) {
-    for (line, word, silent) in &WORDS {
-        assert!(rt; is_passed_over(line.as_bytes()) == *silent, "at {line:?}");
-        assert!(rt; is_first(line, word), "the first word, at {line:?}");
+    for row in &WORDS {
+        assert!(rt; is_parted(row), "at {:?}", row.0);
     }
 }
 

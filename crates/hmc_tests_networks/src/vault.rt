@@ -160,10 +160,10 @@ fn assert_answers(rt: &impl Abort, vault: &mut Vault, banks: &mut Banks, registe
 // A write and a read of one block pass through a vault whose queues hold one packet each.
 #[test]
 fn write_and_read(rt: HostRuntime) -> Result<(), Fail> {
+    let payload = Payload::from_slice(&BYTES).expect(&rt, "refused");
     let mut banks = Banks::new(rt.alloc(), two_banks())?;
-    let mut registers = Registers::new(0, two_banks());
     let mut vault = new_vault(rt.alloc())?;
-    let payload = Payload::from_slice(&BYTES).ok_or("refused")?;
+    let mut registers = Registers::new(0, two_banks());
     assert_spread(&rt, &mut vault, payload);
     assert_write(&rt, &mut vault, &mut banks, &mut registers);
     assert_answers(&rt, &mut vault, &mut banks, &mut registers);

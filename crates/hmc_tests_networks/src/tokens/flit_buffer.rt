@@ -3,6 +3,7 @@ ghost use Rattle.std.specs.Prelude.{◌≡◌, ◌<◌, ◌^◌, length};
 use hmc_codes::{Command, Payload, Request};
 use hmc_packet::{Packet, ask};
 use hmc_tokens::{FlitBuffer, Intake, Moved, move_one};
+use std::process::Abort;
 use std::test::Fail;
 
 // A write of 16 bytes under this tag.
@@ -38,16 +39,22 @@ fn moved(from: &mut FlitBuffer, to: &mut FlitBuffer) -> Result<u16, &'static str
     }
 }
 
+fn assert_moves(rt: &impl Abort, from: &mut FlitBuffer, to: &mut FlitBuffer, payload: Payload)
+    requires { length payload ≡ 16 }
+{
+    assert!(rt; put(from, write(payload, 1)), "put first");
+    assert!(rt; put(from, write(payload, 2)), "put second");
+    assert!(rt; moved(from, to) == Ok(1), "first");
+    assert!(rt; moved(from, to) == Err("full"), "second");
+    assert!(rt; from.used() == 2 && to.used() == 2, "used");
+}
+
 // A write of 16 bytes has two flits. A buffer of three tokens takes one of them in, and no second.
 #[test]
 fn write_costs_two_tokens(rt: HostRuntime) -> Result<(), Fail> {
-    let payload = Payload::from_slice(&[7; 16]).ok_or("refused")?;
+    let payload = Payload::from_slice(&[7; 16]).expect(&rt, "refused");
     let mut from = FlitBuffer::new(rt.alloc(), 4)?;
     let mut to = FlitBuffer::new(rt.alloc(), 3)?;
-    assert!(rt; put(&mut from, write(payload, 1)), "put first");
-    assert!(rt; put(&mut from, write(payload, 2)), "put second");
-    assert!(rt; moved(&mut from, &mut to) == Ok(1), "first");
-    assert!(rt; moved(&mut from, &mut to) == Err("full"), "second");
-    assert!(rt; from.used() == 2 && to.used() == 2, "used");
+    assert_moves(&rt, &mut from, &mut to, payload);
     Ok(())
 }

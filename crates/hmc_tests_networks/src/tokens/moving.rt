@@ -3,6 +3,7 @@ ghost use Rattle.std.specs.Prelude.{◌^◌, ◌<◌};
 use hmc_codes::{Command, Payload, Request};
 use hmc_packet::{Packet, ask};
 use hmc_tokens::{Intake, Moved, Queue, move_one};
+use std::process::Abort;
 use std::test::Fail;
 
 // A read that its tag tells from others.
@@ -46,22 +47,29 @@ fn leaves(queue: &mut Queue, tag: Option<u16>) -> bool {
     tag_of(queue.front()) == tag && tag_of(queue.take_out()) == tag
 }
 
+fn assert_moves(rt: &impl Abort, from: &mut Queue, to: &mut Queue) {
+    assert!(rt; moved(from, to) == Err("empty"), "empty");
+    for tag in 7..10 {
+        assert!(rt; put(from, read_with(tag)), "put {tag}");
+    }
+    assert!(rt; moved(from, to) == Ok(7), "moved 7");
+    assert!(rt; moved(from, to) == Ok(8), "moved 8");
+    assert!(rt; moved(from, to) == Err("full"), "full");
+}
+
+fn assert_leaves(rt: &impl Abort, queue: &mut Queue) {
+    assert!(rt; leaves(queue, Some(7)), "7 leaves");
+    assert!(rt; leaves(queue, Some(8)), "8 leaves");
+    assert!(rt; leaves(queue, None), "none is left");
+}
+
 // Three packets leave a queue in their order for one that has room for two.
 #[test]
 fn moves(rt: HostRuntime) -> Result<(), Fail> {
     let mut from = Queue::new(rt.alloc(), 3)?;
     let mut to = Queue::new(rt.alloc(), 2)?;
-    assert!(rt; moved(&mut from, &mut to) == Err("empty"), "empty");
-    for tag in 7..10 {
-        assert!(rt; put(&mut from, read_with(tag)), "put {tag}");
-    }
-    for tag in 7..9 {
-        assert!(rt; moved(&mut from, &mut to) == Ok(tag), "moved {tag}");
-    }
-    assert!(rt; moved(&mut from, &mut to) == Err("full"), "full");
+    assert_moves(&rt, &mut from, &mut to);
     assert!(rt; from.used() == 1, "left");
-    for tag in &[Some(7), Some(8), None] {
-        assert!(rt; leaves(&mut to, *tag), "{tag:?} leaves");
-    }
+    assert_leaves(&rt, &mut to);
     Ok(())
 }
