@@ -4,6 +4,8 @@
 #![tactic(auto)]
 
 #[cfg(test)]
+mod case;
+#[cfg(test)]
 mod cube;
 #[cfg(test)]
 mod host;

@@ -24,6 +24,8 @@ retry = 64
 output = 4
 ";
 
+const BYTES: &str = "000102030405060708090a0b0c0d0e0f";
+
 const NOTHING: &str = "host 0 0 0 0\ncube 0 0 0\nstate drained\n";
 
 fn case_on(alloc: Global, script: &str, schedule: &str) -> Result<String, Fail> {
@@ -79,15 +81,54 @@ fn other_words_are_no_form(rt: HostRuntime) -> Result<(), Fail> {
     Ok(())
 }
 
+// Whether each write that fails, and takes nothing, leaves just the lines before the one that has its number.
+fn each_line_is_one_write(alloc: Global, input: &[u8], report: &str) -> Result<bool, Fail> {
+    let mut before = String::new(alloc);
+    let mut call = 0u32;
+    for line in report.lines() {
+        call = call.wrapping_add(1);
+        let run = Run {
+            writes: &[(call, 0)],
+            ..Run::of(&["run"], input)
+        };
+        if !run.answers(alloc, 4, before.as_str())? {
+            return Ok(false);
+        }
+        before.push_str(line)?;
+        before.push('\n')?;
+    }
+    Ok(before.as_str() == report)
+}
+
+// What a run writes, if its status is 0.
+fn report_of(alloc: Global, input: &[u8]) -> Result<String, Fail> {
+    let words = words_of(alloc, &["run"])?;
+    let mut source = MemorySource::new(alloc, input, &[])?;
+    let mut sink = MemorySink::new(alloc, ROOM, &[])?;
+    if replay(alloc, &words, &mut source, &mut sink) != 0 {
+        return Err("the input is a case".into());
+    }
+    let text = str::from_utf8(sink.as_slice()).map_err(|_| "a report is text")?;
+    Ok(String::from_str(alloc, text)?)
+}
+
 #[test]
-fn a_failing_sink_has_the_lines_before(rt: HostRuntime) -> Result<(), Fail> {
-    let case = case_on(rt.alloc(), "", "")?;
-    let run = Run {
-        writes: &[(3, 0)],
-        ..Run::of(&["run"], case.as_bytes())
-    };
-    let lines = "host 0 0 0 0\ncube 0 0 0\n";
-    assert!(rt; run.answers(rt.alloc(), 4, lines)?, "two lines");
+fn each_line_of_a_report_is_one_write(rt: HostRuntime) -> Result<(), Fail> {
+    let alloc = rt.alloc();
+    let script = format!(in alloc; "0 wr16 0 0 {BYTES}\n0 mdwr 0 4 5\n")?;
+    let case = case_on(alloc, &script, "round 8\n")?;
+    let report = report_of(alloc, case.as_bytes())?;
+    let last = "register 0 4 00000005\nhost 0 2 2 0\ncube 0 2 0\nstate drained\n";
+    assert!(rt; report.ends_with(last), "last lines");
+    assert!(rt;
+        report.contains(&*format!(in alloc; "memory 0 0x0 {BYTES}\n")?),
+        "memory"
+    );
+    assert!(rt; report.lines().count() == 101, "lines");
+    assert!(rt;
+        each_line_is_one_write(alloc, case.as_bytes(), &report)?,
+        "writes"
+    );
     Ok(())
 }
 
