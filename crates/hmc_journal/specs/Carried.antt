@@ -27,7 +27,7 @@ IsPrefix {X = X} front whole = (rest : List X) × (whole ≡ front ++ rest)
 abbrev pub said : ItemFields → ScriptRequest
 said item = record { poisoned = item.poisoned; request = item.request }
 
--- what each host gave is what the script says for it, in order
+-- the requests that each host gave are the first of those that the script has for it, in order
 pub record IsScripted (script : List ItemFields) (journal : List Entry) : Type 0 where
   pub given : (host : ℕ) → IsPrefix (given_by host journal) (map said (items_of host script))
 

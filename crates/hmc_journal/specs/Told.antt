@@ -12,7 +12,7 @@ use Rattle.hmc_journal.specs.Setup.{Setup, shapes_of}
 pub record IsTold (setup : Setup) (journal : List Entry) : Type 0 where
   -- there is an entry for each step of the schedule, and each is the one that its step gives behind the entries before it
   pub whole : IsWhole setup journal
-  -- what the hosts gave is what the script says, in order
+  -- the requests that each host gave are the first of those that the script has for it, in order
   pub scripted : IsScripted setup.script journal
   -- the executions, run in order on a plain machine, give every answer
   pub serial : IsSerial (opening_state (shapes_of setup.topology)) journal

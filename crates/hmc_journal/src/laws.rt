@@ -21,7 +21,7 @@ pub fn one_journal()
     ensures earlier { (setup : Setup) (later past : List Entry) → Lawful setup (later ++ past) → Lawful setup past }
 {}
 
-/// What the hosts gave in a lawful journal is what the script says, in order.
+/// In a lawful journal the requests that each host gave are the first of those that the script has for it, in order.
 pub fn lawful_is_scripted()
     ensures { (setup : Setup) (past : List Entry) → Lawful setup past → IsScripted setup.script past }
 {}
