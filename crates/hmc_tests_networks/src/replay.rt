@@ -61,13 +61,20 @@ impl<'a> Run<'a> {
         }
     }
 
-    // Whether the status is this, and what was written.
-    fn answers(&self, alloc: Global, status: u8, output: &str) -> Result<bool, Fail> {
+    // The status, and what was written.
+    fn gives(&self, alloc: Global) -> Result<(u8, String), Fail> {
         let words = words_of(alloc, self.words)?;
         let mut source = MemorySource::new(alloc, self.input, self.reads)?;
         let mut sink = MemorySink::new(alloc, ROOM, self.writes)?;
-        let found = replay(alloc, &words, &mut source, &mut sink);
-        Ok(found == status && sink.as_slice() == output.as_bytes())
+        let status = replay(alloc, &words, &mut source, &mut sink);
+        let text = str::from_utf8(sink.as_slice()).map_err(|_| "a report is text")?;
+        Ok((status, String::from_str(alloc, text)?))
+    }
+
+    // Whether the status is this, and what was written.
+    fn answers(&self, alloc: Global, status: u8, output: &str) -> Result<bool, Fail> {
+        let (found, written) = self.gives(alloc)?;
+        Ok(found == status && written.as_str() == output)
     }
 }
 
@@ -100,24 +107,13 @@ fn each_line_is_one_write(alloc: Global, input: &[u8], report: &str) -> Result<b
     Ok(before.as_str() == report)
 }
 
-// What a run writes, if its status is 0.
-fn report_of(alloc: Global, input: &[u8]) -> Result<String, Fail> {
-    let words = words_of(alloc, &["run"])?;
-    let mut source = MemorySource::new(alloc, input, &[])?;
-    let mut sink = MemorySink::new(alloc, ROOM, &[])?;
-    if replay(alloc, &words, &mut source, &mut sink) != 0 {
-        return Err("the input is a case".into());
-    }
-    let text = str::from_utf8(sink.as_slice()).map_err(|_| "a report is text")?;
-    Ok(String::from_str(alloc, text)?)
-}
-
 #[test]
 fn each_line_of_a_report_is_one_write(rt: HostRuntime) -> Result<(), Fail> {
     let alloc = rt.alloc();
     let script = format!(in alloc; "0 wr16 0 0 {BYTES}\n0 mdwr 0 4 5\n")?;
     let case = case_on(alloc, &script, "round 8\n")?;
-    let report = report_of(alloc, case.as_bytes())?;
+    let (status, report) = Run::of(&["run"], case.as_bytes()).gives(alloc)?;
+    assert!(rt; status == 0, "status");
     let last = "register 0 4 00000005\nhost 0 2 2 0\ncube 0 2 0\nstate drained\n";
     assert!(rt; report.ends_with(last), "last lines");
     assert!(rt;
