@@ -1,4 +1,4 @@
--- What each operation does, in numbers: one line an operation.
+-- What each operation does, in numbers: one line per operation.
 use Rattle.std.specs.Prelude.{ℕ, ◌+◌, ◌-◌, ◌*◌, ◌/◌, ◌%◌, ◌^◌, Bool, false, ◌||◌, ◌==◌, if◌then◌else◌, pos, neg_ℤ, ◌+ℤ◌, int_lt, int_le, ℤ, bit_and, bit_or, bit_xor}
 use Rattle.std.specs.Int.{Width, w64, w128, bit_not, byte_len, cast_signed}
 use Rattle.hmc_atomics.specs.declared.atomic.Atomic.{Atomic}
@@ -32,15 +32,17 @@ pub record Effect : Type 0 where
 abbrev pub becomes : ℕ → Bool → Effect
 becomes value flag = record { value = value; flag = flag }
 
--- the first number is greater than the second, both read as signed ones in two's complement
+-- the first number is greater than the second, both as signed numbers in two's complement
 abbrev pub is_greater : Width → ℕ → ℕ → Bool
 is_greater width a b = int_lt (cast_signed width b) (cast_signed width a)
 
--- a number isn't one of the signed ones of the width, which go from -2^(bits - 1) to 2^(bits - 1) - 1
+-- a number is not a signed number of the width: these are -2^(bits - 1) to 2^(bits - 1) - 1
 abbrev pub is_out : Width → ℤ → Bool
-is_out width z = int_lt z (neg_ℤ (pos (2 ^ (8 * byte_len width - 1)))) || int_le (pos (2 ^ (8 * byte_len width - 1))) z
+is_out width z =
+    int_lt z (neg_ℤ (pos (2 ^ (8 * byte_len width - 1))))
+    || int_le (pos (2 ^ (8 * byte_len width - 1))) z
 
--- the sum of two numbers, both read as signed ones, is out of their bits
+-- the sum of two numbers, both as signed numbers, is out of the width's range
 abbrev pub overflows : Width → ℕ → ℕ → Bool
 overflows width a b = is_out width (cast_signed width a +ℤ cast_signed width b)
 
@@ -53,16 +55,17 @@ abbrev pub high : ℕ → ℕ
 high m = m / 2 ^ 64
 
 -- the number of two halves
-abbrev pub joined : ℕ → ℕ → ℕ
-joined low high = low + high * 2 ^ 64
+abbrev pub number_of_halves : ℕ → ℕ → ℕ
+number_of_halves low high = low + high * 2 ^ 64
 
--- In an operation on eight bytes h is the half that is acted on, in the others m is the block.
+-- In an operation on eight bytes h is the half that it acts on, in the others m is the block.
 -- The operand is o, and lo and hi are its halves.
 unfoldable pub effect_of : Atomic → (h m lo hi o : ℕ) → Effect
 effect_of Bwr h m lo hi o = becomes (bit_or (bit_and h (bit_not w64 hi)) (bit_and lo hi)) false
 effect_of Inc8 h m lo hi o = becomes ((h + 1) % 2 ^ 64) false
 effect_of TwoAdd8 h m lo hi o =
-    becomes (joined ((low m + lo) % 2 ^ 64) ((high m + hi) % 2 ^ 64)) (overflows w64 (low m) lo || overflows w64 (high m) hi)
+    becomes (number_of_halves ((low m + lo) % 2 ^ 64) ((high m + hi) % 2 ^ 64))
+    (overflows w64 (low m) lo || overflows w64 (high m) hi)
 effect_of Add16 h m lo hi o = becomes ((m + o) % 2 ^ 128) (overflows w128 m o)
 effect_of Xor16 h m lo hi o = becomes (bit_xor m o) false
 effect_of Or16 h m lo hi o = becomes (bit_or m o) false

@@ -1,4 +1,4 @@
--- The atomic commands, one line a command: which operation each is.
+-- The operation of each atomic command, one line per command.
 use Rattle.std.specs.Prelude.{Bool, true, false, Option, Some, None}
 use Rattle.hmc_codes.specs.declared.command.Command.{Command}
 use Rattle.hmc_codes.specs.declared.command.Command.TheVariants as commands

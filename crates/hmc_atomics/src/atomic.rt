@@ -5,7 +5,7 @@ ghost use Rattle.hmc_atomics.specs.Operations.{atomic_of, by_halves};
 
 use hmc_codes::Command;
 
-/// What an atomic command does, whether or not it is posted or returns the old bytes.
+/// The operation of an atomic command. Posted and returning commands have that of the plain one.
 #[derive(Clone, Copy, Debug, PartialEq, Eq)]
 pub enum Atomic {
     /// Bits of a half are written where the operand's high half has them set.
@@ -16,29 +16,29 @@ pub enum Atomic {
     TwoAdd8,
     /// The operand is added to the block.
     Add16,
-    /// Bits of the block are turned over where the operand has them set.
+    /// Bits of the block are inverted where the operand has them set.
     Xor16,
     /// Bits of the block are set where the operand has them set.
     Or16,
-    /// The complement of what `Or16` leaves.
+    /// The complement of the result of `Or16`.
     Nor16,
     /// Bits of the block are cleared where the operand has them clear.
     And16,
-    /// The complement of what `And16` leaves.
+    /// The complement of the result of `And16`.
     Nand16,
-    /// The operand takes the place of the block.
+    /// The operand replaces the block.
     Swap16,
-    /// The operand's high half takes the place of a half that equals its low half.
+    /// The operand's high half replaces a half that equals its low half.
     CasEq8,
-    /// The operand's low half takes the place of a half, if it is greater.
+    /// The operand's low half replaces a half, if it is greater.
     CasGt8,
-    /// The operand's low half takes the place of a half, if it is less.
+    /// The operand's low half replaces a half, if it is less.
     CasLt8,
-    /// The operand takes the place of the block, if it is greater.
+    /// The operand replaces the block, if it is greater.
     CasGt16,
-    /// The operand takes the place of the block, if it is less.
+    /// The operand replaces the block, if it is less.
     CasLt16,
-    /// The operand takes the place of a block of zeros.
+    /// The operand replaces a block of zeros.
     CasZero16,
     /// Whether a half equals the operand's low half.
     Eq8,
@@ -47,7 +47,7 @@ pub enum Atomic {
 }
 
 impl Atomic {
-    /// The operation of an atomic command.
+    /// The operation of a command, or `None` if it isn't atomic.
     #[tactic(auto, unfolding(crate::specs::Operations::atomic_of))]
     pub fn of(command: Command) -> Option<Self>
         ensures { result ≡ atomic_of command }
@@ -75,7 +75,7 @@ impl Atomic {
         }
     }
 
-    /// Whether it is an operation on eight bytes, which acts on one half of a block.
+    /// Whether it acts on eight bytes, one half of a block.
     pub fn by_halves(self) -> bool
         ensures { result ≡ by_halves self }
     {

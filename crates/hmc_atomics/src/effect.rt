@@ -1,18 +1,18 @@
-//! What an operation makes of a block.
+//! What an operation does to a block.
 
 ghost use Rattle.std.specs.Prelude.{◌≡◌};
 ghost use Rattle.hmc_atomics.specs.Act.{acted_of};
 
 use crate::Atomic;
 use crate::halves::{
-    block_becomes, block_replaced, half_becomes, half_number, half_replaced, high_of, joined,
-    low_of,
+    block_becomes, block_replaced, half_becomes, half_number, half_replaced, high_of, low_of,
+    number_of_halves,
 };
 use crate::signed::{is_greater64, is_greater128, overflows64, overflows128};
 use hmc_codes::Acted;
 
-/// What an operation makes of a block and an operand. An operation on eight bytes acts on the high half of the block or on
-/// the low one; the others pass over `high`.
+/// Performs an operation on a block with an operand. An operation on eight bytes acts on the high
+/// or the low half of the block. The others ignore `high`.
 #[tactic(auto, unfolding(crate::specs::Act::acted_of, crate::specs::Effects::effect_of))]
 pub fn act(op: Atomic, high: bool, block: [u8; 16], operand: [u8; 16]) -> Acted
     ensures { result ≡ acted_of op high block operand }
@@ -27,7 +27,7 @@ pub fn act(op: Atomic, high: bool, block: [u8; 16], operand: [u8; 16]) -> Acted
         Atomic::Inc8 => half_becomes(block, high, h.wrapping_add(1), false),
         Atomic::TwoAdd8 => {
             let (first, last) = (low_of(m), high_of(m));
-            let sums = joined(first.wrapping_add(lo), last.wrapping_add(hi));
+            let sums = number_of_halves(first.wrapping_add(lo), last.wrapping_add(hi));
             block_becomes(block, sums, overflows64(first, lo) | overflows64(last, hi))
         }
         Atomic::Add16 => block_becomes(block, m.wrapping_add(o), overflows128(m, o)),

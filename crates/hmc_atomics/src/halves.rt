@@ -3,14 +3,14 @@
 ghost use Rattle.std.specs.Prelude.{◌≡◌, if◌then◌else◌};
 ghost use Rattle.std.specs.Int.{w64, w128, from_le_bytes};
 ghost use Rattle.hmc_atomics.specs.Act.{acted_block, acted_half};
-ghost use Rattle.hmc_atomics.specs.Effects.{becomes, high, joined, low};
-ghost use Rattle.hmc_atomics.specs.Halves.{half_of, with_half};
+ghost use Rattle.hmc_atomics.specs.Effects.{becomes, high, number_of_halves, low};
+ghost use Rattle.hmc_atomics.specs.Halves.{block_half, with_half};
 
 use hmc_codes::Acted;
 
 /// The low half, or the high one.
 pub fn half(block: [u8; 16], high: bool) -> [u8; 8]
-    ensures { result ≡ half_of high block }
+    ensures { result ≡ block_half high block }
 {
     let mut half = [0; 8];
     if high {
@@ -23,7 +23,7 @@ pub fn half(block: [u8; 16], high: bool) -> [u8; 8]
 
 /// The number of a half.
 pub fn half_number(block: [u8; 16], high: bool) -> u64
-    ensures { result ≡ from_le_bytes w64 (half_of high block) }
+    ensures { result ≡ from_le_bytes w64 (block_half high block) }
 {
     u64::from_le_bytes(half(block, high))
 }
@@ -41,7 +41,7 @@ pub fn with_half(block: [u8; 16], high: bool, half: [u8; 8]) -> [u8; 16]
     new
 }
 
-/// A half has its new value; answered are the old half and eight zero bytes.
+/// One half gets a new value. The answer is the old half and eight zero bytes.
 pub fn half_becomes(block: [u8; 16], high: bool, value: u64, flag: bool) -> Acted
     ensures { result ≡ acted_half high block (becomes value flag) }
 {
@@ -54,7 +54,7 @@ pub fn half_becomes(block: [u8; 16], high: bool, value: u64, flag: bool) -> Acte
     }
 }
 
-/// The block has its new value; answered is the old block.
+/// The block gets a new value. The answer is the old block.
 pub fn block_becomes(block: [u8; 16], value: u128, flag: bool) -> Acted
     ensures { result ≡ acted_block block (becomes value flag) }
 {
@@ -65,17 +65,19 @@ pub fn block_becomes(block: [u8; 16], value: u128, flag: bool) -> Acted
     }
 }
 
-/// A half has a new value where the test passes, and else stays; the flag is the test.
+/// A half gets a new value if the test passes, and else stays. The flag is the test.
 pub fn half_replaced(block: [u8; 16], high: bool, passes: bool, value: u64) -> Acted
-    ensures { result ≡ acted_half high block (becomes (if passes then value else from_le_bytes w64 (half_of high block)) passes) }
+    ensures { result ≡ acted_half high block (becomes
+        (if passes then value else from_le_bytes w64 (block_half high block)) passes) }
 {
     let stays = half_number(block, high);
     half_becomes(block, high, if passes { value } else { stays }, passes)
 }
 
-/// The block has a new value where the test passes, and else stays; the flag is the test.
+/// The block gets a new value if the test passes, and else stays. The flag is the test.
 pub fn block_replaced(block: [u8; 16], passes: bool, value: u128) -> Acted
-    ensures { result ≡ acted_block block (becomes (if passes then value else from_le_bytes w128 block) passes) }
+    ensures { result ≡ acted_block block (becomes
+        (if passes then value else from_le_bytes w128 block) passes) }
 {
     let stays = u128::from_le_bytes(block);
     block_becomes(block, if passes { value } else { stays }, passes)
@@ -96,8 +98,8 @@ pub fn high_of(number: u128) -> u64
 }
 
 /// The number of two halves.
-pub fn joined(low: u64, high: u64) -> u128
-    ensures { result ≡ joined low high }
+pub fn number_of_halves(low: u64, high: u64) -> u128
+    ensures { result ≡ number_of_halves low high }
 {
     u128::from(low) | u128::from(high) << 64
 }

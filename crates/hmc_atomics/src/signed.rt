@@ -1,4 +1,4 @@
-//! Numbers that are read as signed ones.
+//! Numbers as signed numbers in two's complement.
 
 ghost use Rattle.std.specs.Prelude.{◌≡◌};
 ghost use Rattle.std.specs.Int.{w64, w128};

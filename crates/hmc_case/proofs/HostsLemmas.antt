@@ -5,11 +5,13 @@ use Rattle.std.proofs.lemmas.Bool.Decides.{nat_tests}
 use Rattle.std.proofs.lemmas.List.Elements.{All-nil, All-cons, All-head, All-tail}
 use Rattle.std.proofs.lemmas.List.Folds.{list_any_none, list_all_at}
 use Rattle.std.proofs.lemmas.List.FromFn.{length-range_with_len, get_or-range_with_len}
-use Rattle.std.specs.List.{All, list_any, list_all, cons_option, range_with_len}
+use Rattle.std.specs.List.{All, list_any, list_all, cons_option}
 use Rattle.hmc_codes.specs.declared.place.Place.{Place}
 use Rattle.hmc_codes.specs.declared.place.Place.TheVariants.{Host, Port}
-use Rattle.hmc_case.specs.Places.{is_host, IsPlaceOf, IsJoinOf}
-use Rattle.hmc_case.specs.Together.{host_number, hosts_of}
+use Rattle.hmc_codes.specs.Numbers.{upto}
+use Rattle.hmc_codes.specs.Places.{is_host, host_number}
+use Rattle.hmc_case.specs.Places.{IsPlaceOf, IsJoinOf}
+use Rattle.hmc_case.specs.Together.{hosts_of}
 use Rattle.hmc_case.specs.declared.setup.LinkRow.{LinkRow}
 
 one_below : (a b : Place) (cubes : ℕ) (rest : List ℕ) → IsPlaceOf 8 cubes a → IsPlaceOf 8 cubes b → All (λ host. host < 8) rest → All (λ host. host < 8) (cons_option (cond (is_host a) (host_number a) (host_number b)) rest)
@@ -26,10 +28,10 @@ hosts_below (link ∷ links) cubes all =
     one_below link.join.a link.join.b cubes (hosts_of links) here.a here.b rest
 
 -- hosts below 8, among which is each number below their count, are at most 8
-pub few_hosts : (hosts : List ℕ) → All (λ host. host < 8) hosts → list_all (λ number. list_any (λ other. other == number) hosts) (range_with_len 0 (length hosts)) ≡ true → length hosts ≤ 8
+pub few_hosts : (hosts : List ℕ) → All (λ host. host < 8) hosts → list_all (λ number. list_any (λ other. other == number) hosts) (upto (length hosts)) ≡ true → length hosts ≤ 8
 few_hosts hosts small there =
     let has = λ (number : ℕ). list_any (λ other. other == number) hosts in
-    let numbers = range_with_len 0 (length hosts) in
+    let numbers = upto (length hosts) in
     let no : 8 < length hosts → ⊥ = λ more.
     let missing : has 8 ≡ false = list_any_none (λ other. other == 8) hosts (λ k d below. let less = small k d below in not_eight (get_or hosts k d) less) in
     let within : 8 < length numbers = omega (arith, length-range_with_len 0 (length hosts)) in

@@ -19,15 +19,17 @@ use Rattle.hmc_case.specs.declared.fault.Section.TheVariants.{Toml, Top, Script,
 -- the fault is that of a line of this text
 abbrev pub in_text : {A K : Type 0} → Section → (K → CaseKind) → Result A (ℕ × K) → Result A Fault
 in_text section kind_of (Ok x) = Ok x
-in_text section kind_of (Err fault) = Err (record { section = section; line = fault.0; kind = kind_of fault.1 })
+in_text section kind_of (Err fault) =
+    Err (record { section = section; line = fault.0; kind = kind_of fault.1 })
 
--- a case: its cubes and links, and what is to be done with them
+-- a case: its cubes and links, its script and its schedule
 pub record CaseFields : Type 0 where
   pub net : NetFields
   pub script : List ItemFields
   pub schedule : List Step
 
--- The document comes first, then its keys, then the cubes and links, then the script, and the schedule last.
+-- The document comes first, then its keys, then the cubes and links, then the script, and the
+-- schedule last.
 unfoldable pub case_of : List ℕ → Result CaseFields Fault
 case_of bytes = do
   table ← in_section Toml 0 (table_in bytes)
@@ -37,7 +39,8 @@ case_of bytes = do
   schedule ← in_text Schedule kinds.Schedule (schedule_of (plan_of net) parts.schedule)
   Ok (record { net = net; script = script; schedule = schedule })
 
--- Each request is one of a host to a cube of the case, and each step is one of its parts.
+-- what every case keeps: each request is of one of its hosts to one of its cubes, and each step
+-- names its parts
 pub record IsCase (case : CaseFields) : Type 0 where
   pub net : IsNet case.net
   pub script : All (IsWithin case.net.hosts (length case.net.cubes)) case.script

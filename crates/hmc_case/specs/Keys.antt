@@ -1,4 +1,5 @@
--- The keys of a table, each judged in turn: it is missing, its value is of another type, or its value is out of range.
+-- The keys of a table, one after another: a key is missing, its value is of another type, or its
+-- value is out of range.
 use Rattle.std.specs.Prelude.{ℕ, suc, ℤ, pos, negsuc, nat_le, Bool, true, ◌&&◌, ◌||◌, ◌==◌, List, codes, Option, Some, None, Result, Ok, if◌then◌else◌}
 use Rattle.std.specs.Str.{bytes_eq}
 use Rattle.toml.specs.Data.{Data, Items, no_items, item, Members, no_members, member, get_member, as_integer, as_str, as_array, as_table}
@@ -12,13 +13,15 @@ use Rattle.hmc_case.specs.declared.keys.Part.TheVariants.{Top, Cube, Link}
 -- the keys of each table
 abbrev pub is_key : Part → List ℕ → Bool
 is_key Top key =
-    bytes_eq key (codes "profile") || bytes_eq key (codes "cubes") || bytes_eq key (codes "links") || bytes_eq key (codes "script")
-    || bytes_eq key (codes "schedule")
+    bytes_eq key (codes "profile") || bytes_eq key (codes "cubes") || bytes_eq key (codes "links")
+    || bytes_eq key (codes "script") || bytes_eq key (codes "schedule")
 is_key Cube key =
-    bytes_eq key (codes "vault_bits") || bytes_eq key (codes "bank_bits") || bytes_eq key (codes "rows") || bytes_eq key (codes "queue")
+    bytes_eq key (codes "vault_bits") || bytes_eq key (codes "bank_bits")
+    || bytes_eq key (codes "rows") || bytes_eq key (codes "queue")
 is_key Link key =
-    bytes_eq key (codes "a") || bytes_eq key (codes "b") || bytes_eq key (codes "line") || bytes_eq key (codes "tokens")
-    || bytes_eq key (codes "retry") || bytes_eq key (codes "output")
+    bytes_eq key (codes "a") || bytes_eq key (codes "b") || bytes_eq key (codes "line")
+    || bytes_eq key (codes "tokens") || bytes_eq key (codes "retry")
+    || bytes_eq key (codes "output")
 
 -- each key of the table is one of its part
 abbrev pub has_only_keys : Part → Members → Bool
@@ -58,7 +61,7 @@ text_at key table = do
   value ← value_at key table
   or_fault kinds.Kind (as_str value)
 
--- how many items there are
+-- the number of items
 abbrev pub count_of : Items → ℕ
 count_of no_items = 0
 count_of (item value items) = suc (count_of items)

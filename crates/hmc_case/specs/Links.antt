@@ -1,11 +1,14 @@
 -- Links.
 use Rattle.std.specs.Prelude.{ℕ, List, [], length, codes, Result, Ok}
 use Rattle.toml.specs.Data.{Data, Items, Members}
+use Rattle.hmc_codes.specs.Limits.{most_line, least_flits, most_tokens, most_queue}
 use Rattle.hmc_codes.specs.Link.{LinkFields}
+use Rattle.hmc_codes.specs.Profile.{most_retry}
 use Rattle.hmc_text.specs.Reading.{◌>>=◌}
 use Rattle.hmc_case.specs.Keys.{table_of, text_at, number_at}
 use Rattle.hmc_case.specs.Places.{ends_of, may_join}
 use Rattle.hmc_case.specs.Reading.{Fault, in_section, in_turn}
+use Rattle.hmc_case.specs.Setup.{only_profile}
 use Rattle.hmc_case.specs.declared.fault.CaseKind.{CaseKind}
 use Rattle.hmc_case.specs.declared.fault.Section.TheVariants.{Link}
 use Rattle.hmc_case.specs.declared.keys.Part.TheVariants as parts
@@ -14,13 +17,19 @@ use Rattle.hmc_case.specs.declared.setup.LinkRow.{LinkRow}
 -- the sizes of a link
 unfoldable pub sizes_of : Members → Result LinkFields CaseKind
 sizes_of table = do
-  line ← number_at (codes "line") 1 64 table
-  tokens ← number_at (codes "tokens") 17 1024 table
-  retry ← number_at (codes "retry") 17 256 table
-  output ← number_at (codes "output") 1 64 table
-  Ok (record { line = line; tokens = tokens; retry = retry; output = output })
+  line ← number_at (codes "line") 1 most_line table
+  tokens ← number_at (codes "tokens") least_flits most_tokens table
+  retry ← number_at (codes "retry") least_flits (most_retry only_profile) table
+  output ← number_at (codes "output") 1 most_queue table
+  Ok (record {
+    line = line;
+    tokens = tokens;
+    retry = retry;
+    output = output;
+    profile = only_profile;
+  })
 
--- a link: its table, its keys, its ends, and what these may join beside the links before it
+-- a link: its table, its keys, its ends, and what these may join, given the links before it
 unfoldable pub link_of : ℕ → List LinkRow → Data → Result LinkRow CaseKind
 link_of cubes links value = do
   table ← table_of parts.Link value

@@ -3,6 +3,7 @@ use Rattle.std.specs.Prelude.{ℕ, List, codes, Option, None, Result, Ok, if◌t
 use Rattle.std.specs.Str.{is_utf8}
 use Rattle.toml.specs.Data.{Items, Members}
 use Rattle.toml.specs.Parse.{parse_document}
+use Rattle.hmc_codes.specs.Limits.{most_cubes, most_links}
 use Rattle.hmc_text.specs.Reading.{◌>>=◌, or_fault}
 use Rattle.hmc_case.specs.Keys.{known_keys, number_at, items_at, text_at}
 use Rattle.hmc_case.specs.declared.fault.CaseKind.{CaseKind}
@@ -17,20 +18,20 @@ document_of bytes = if is_utf8 bytes then parse_document bytes else None
 abbrev pub table_in : List ℕ → Result Members CaseKind
 table_in bytes = or_fault Syntax (document_of bytes)
 
--- what stands at the keys of a case
+-- the values at the keys of a case
 pub record PartsFields : Type 0 where
   pub cubes : Items
   pub links : Items
   pub script : List ℕ
   pub schedule : List ℕ
 
--- The profile is 1. There are at most 8 cubes and 32 links.
+-- the keys of a case; until there are two profiles, the profile is 1
 unfoldable pub parts_of : Members → Result PartsFields CaseKind
 parts_of table = do
   known ← known_keys Top table
   profile ← number_at (codes "profile") 1 1 table
-  cubes ← items_at (codes "cubes") 8 table
-  links ← items_at (codes "links") 32 table
+  cubes ← items_at (codes "cubes") most_cubes table
+  links ← items_at (codes "links") most_links table
   script ← text_at (codes "script") table
   schedule ← text_at (codes "schedule") table
   Ok (record { cubes = cubes; links = links; script = script; schedule = schedule })

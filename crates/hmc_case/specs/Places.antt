@@ -1,6 +1,8 @@
 -- Where links end.
 use Rattle.std.specs.Prelude.{ℕ, ◌+◌, ◌-◌, ◌<◌, ◌≡◌, ◌==◌, ◌&&◌, ◌||◌, not, nat_le, nat_lt, Bool, true, false, List, [], ◌∷◌, Option, Some, None, option_map, Result, Ok, if◌then◌else◌}
 use Rattle.std.specs.List.{list_any}
+use Rattle.hmc_codes.specs.Limits.{most_hosts, most_cubes, ports}
+use Rattle.hmc_codes.specs.Places.{is_host, same_place}
 use Rattle.hmc_codes.specs.declared.place.Join.{Join}
 use Rattle.hmc_codes.specs.declared.place.Place.{Place}
 use Rattle.hmc_codes.specs.declared.place.Place.TheVariants.{Host, Port}
@@ -15,45 +17,38 @@ abbrev pub digit_of : ℕ → ℕ → Option ℕ
 digit_of limit byte = if nat_le 48 byte && nat_lt byte (48 + limit) then Some (byte - 48) else None
 
 -- a port, by the digits of its cube and of its own
-abbrev pub port_at : Option ℕ → Option ℕ → Option Place
-port_at (Some cube) (Some port) = Some (Port cube port)
-port_at _ _ = None
+abbrev pub port_of_digits : Option ℕ → Option ℕ → Option Place
+port_of_digits (Some cube) (Some port) = Some (Port cube port)
+port_of_digits _ _ = None
 
--- `h` (104) and a digit 0 to 7, or `c` (99), a digit 0 to 7, `.` (46) and a digit 0 to 3
+-- `h` (104) and the digit of a host, or `c` (99), the digit of a cube, `.` (46) and that of a port
 abbrev pub place_of : List ℕ → Option Place
-place_of (letter ∷ host ∷ []) = if letter == 104 then option_map Host (digit_of 8 host) else None
-place_of (letter ∷ cube ∷ dot ∷ port ∷ []) = if letter == 99 && dot == 46 then port_at (digit_of 8 cube) (digit_of 4 port) else None
+place_of (letter ∷ host ∷ []) =
+    if letter == 104 then option_map Host (digit_of most_hosts host) else None
+place_of (letter ∷ cube ∷ dot ∷ port ∷ []) =
+    if letter == 99 && dot == 46
+    then port_of_digits (digit_of most_cubes cube) (digit_of ports port) else None
 place_of _ = None
 
--- the place is a host
-abbrev pub is_host : Place → Bool
-is_host (Host host) = true
-is_host (Port cube port) = false
-
--- a port is one of so many cubes
+-- the place is a host, or a port of one of this many cubes
 abbrev pub is_there : ℕ → Place → Bool
 is_there cubes (Host host) = true
 is_there cubes (Port cube port) = nat_lt cube cubes
 
--- a host among so many, or a port of a cube among so many
+-- one of this many hosts, or a port of one of this many cubes
 abbrev pub IsPlaceOf : ℕ → ℕ → Place → Type 0
 IsPlaceOf hosts cubes (Host host) = host < hosts
-IsPlaceOf hosts cubes (Port cube port) = (cube < cubes) × (port < 4)
+IsPlaceOf hosts cubes (Port cube port) = (cube < cubes) × (port < ports)
 
 -- both are ports of one cube
 abbrev pub is_same_cube : Place → Place → Bool
 is_same_cube (Port cube port) (Port other other_port) = cube == other
 is_same_cube _ _ = false
 
--- the two are one host or one port
-abbrev pub is_same : Place → Place → Bool
-is_same (Host host) (Host other) = host == other
-is_same (Port cube port) (Port other other_port) = cube == other && port == other_port
-is_same _ _ = false
-
 -- one of the links ends there
 abbrev pub is_taken : List LinkRow → Place → Bool
-is_taken links place = list_any (λ link. is_same link.join.a place || is_same link.join.b place) links
+is_taken links place =
+    list_any (λ link. same_place link.join.a place || same_place link.join.b place) links
 
 -- Of a link's ends a comes before b. Until there are networks, a is a host.
 unfoldable pub ends_of : ℕ → List ℕ → List ℕ → Result Join CaseKind
@@ -65,14 +60,15 @@ ends_of cubes a b = do
   there ← or_refuse kinds.NoCube (is_there cubes second)
   Ok (record { a = first; b = second })
 
--- what a link may not join, beside the links before it: two hosts, a cube to itself, an end of an earlier link
+-- a link may not join two hosts, a cube to itself, or an end of an earlier link
 unfoldable pub may_join : List LinkRow → Join → Result (Unit {0}) CaseKind
 may_join links join = do
   hosts ← or_refuse kinds.Hosts (not (is_host join.a && is_host join.b))
   itself ← or_refuse kinds.SelfJoined (not (is_same_cube join.a join.b))
   or_refuse kinds.Taken (not (is_taken links join.a || is_taken links join.b))
 
--- Both ends are places of a case with so many hosts and cubes. Until there are networks, a is a host and b a port.
+-- Both ends are places of a case with this many hosts and cubes. Until there are networks, a is a
+-- host and b a port.
 pub record IsJoinOf (hosts cubes : ℕ) (join : Join) : Type 0 where
   pub a : IsPlaceOf hosts cubes join.a
   pub b : IsPlaceOf hosts cubes join.b

@@ -1,7 +1,7 @@
 -- Steps that may fail: the faults of a case, and rows that are read in turn.
 use Rattle.std.specs.Prelude.{◌≡◌, ℕ, Bool, true, false, List, [], ◌∷◌, ◌++◌, Option, Some, None, Result, Ok, Err}
 use Rattle.toml.specs.Data.{Data, Items, no_items, item}
-use Rattle.hmc_text.specs.InTurn.{AnswersBy, TellsBy}
+use Rattle.hmc_text.specs.InTurn.{AnswersBy, ReportsBy}
 use Rattle.hmc_text.specs.Reading.{◌>>=◌}
 use Rattle.hmc_case.specs.declared.fault.CaseKind.{CaseKind}
 use Rattle.hmc_case.specs.declared.fault.CaseFault.{CaseFault}
@@ -25,22 +25,25 @@ in_section section line (Ok x) = Ok x
 in_section section line (Err kind) = Err (record { section = section; line = line; kind = kind })
 
 -- a row for each item, read in turn with those before it
-unfoldable pub in_turn : {A : Type 0} → (List A → Data → Result A Fault) → List A → Items → Result (List A) Fault
+unfoldable pub in_turn : {A : Type 0} → (List A → Data → Result A Fault) → List A → Items
+    → Result (List A) Fault
 in_turn read rows no_items = Ok rows
 in_turn read rows (item value values) = do
   row ← read rows value
   in_turn read (rows ++ row ∷ []) values
 
--- the fault that an error tells: none if memory ran out
-abbrev pub told : CaseFault → Option Fault
-told faults.Memory = None
-told (faults.Bad section line kind) = Some (record { section = section; line = line; kind = kind })
+-- the fault that an error reports: none where it is out of memory
+abbrev pub fault_of : CaseFault → Option Fault
+fault_of faults.Memory = None
+fault_of (faults.Bad section line kind) =
+    Some (record { section = section; line = line; kind = kind })
 
--- a call answered what reading gives, unless memory ran out
+-- a call returned what reading gives, or was out of memory
 abbrev pub Answers : {X Y : Type 0} → (X → Y) → Result X CaseFault → Result Y Fault → Type 0
-Answers view result read = AnswersBy told view result read
+Answers view result read = AnswersBy fault_of view result read
 
--- a call put the row that was read behind the others, unless memory ran out
-abbrev pub Gains : {A : Type 0} → List A → List A → Result (Unit {0}) CaseFault → Result A Fault → Type 0
+-- a call appended the row that reading gives, or was out of memory
+abbrev pub Gains : {A : Type 0} → List A → List A → Result (Unit {0}) CaseFault → Result A Fault
+    → Type 0
 Gains {A} old new (Ok done) read = (row : A) × (read ≡ Ok row) × (new ≡ old ++ row ∷ [])
-Gains old new (Err e) read = TellsBy told e read
+Gains old new (Err e) read = ReportsBy fault_of e read

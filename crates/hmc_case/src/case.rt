@@ -13,7 +13,7 @@ use hmc_script::Script;
 use std::alloc::Global;
 use std::marker::Model;
 
-/// Cubes and links, what hosts ask of the cubes, and in which order the parts work.
+/// A case: cubes and links, a script and a schedule. Contracts see it as the record `CaseFields`.
 #[derive(Drop)]
 pub struct Case {
     net: Net,
@@ -26,19 +26,28 @@ impl Model for Case {
 
     ghost Value = { CaseFields };
 
-    ghost view = { λ c. record { net = c.net; script = c.script; schedule = c.schedule } };
+    ghost view = { λ c. record {
+      net = c.net;
+      script = c.script;
+      schedule = c.schedule;
+    } };
 
-    ghost invariant = { λ c. IsCase (record { net = c.net; script = c.script; schedule = c.schedule }) };
+    ghost invariant = { λ c. IsCase (record {
+      net = c.net;
+      script = c.script;
+      schedule = c.schedule;
+    }) };
 }
 
 impl Case {
-    /// Reads a case. The fault is the first one: the section, the line there, and what is wrong; `docs/case.md` has their
-    /// order.
+    /// Reads a case. The fault is the first one: the section, the line there, and what is wrong;
+    /// `docs/case.md` has their order.
     #[tactic(auto, unfolding(crate::specs::Case::case_of))]
     pub fn read(alloc: Global, bytes: &[u8]) -> Result<Case, CaseFault>
         ensures exact { Answers (λ case. case) result (case_of bytes.now) }
 
-        // Each number that a part of the case names is one of the case, and the sizes keep their limits.
+        // Each number that a part of the case names is one of the case, and the sizes keep their
+        // limits.
         ensures within { IfOk result IsCase }
     {
         let table = table_in(alloc, bytes)?;
@@ -55,7 +64,7 @@ impl Case {
     }
 
     /// Nothing is done: what every case keeps is the contract.
-    pub fn keeps(&self)
+    pub fn invariant(&self)
         ensures { IsCase self.now }
     {
         let _ = &self.net;
@@ -68,28 +77,29 @@ impl Case {
         self.net.cubes.as_slice()
     }
 
-    /// The links, by their numbers from 0. Link i has the directions 2i, from its end a to b, and 2i + 1, from b to a.
+    /// The links, by their numbers from 0. Link i has the directions 2i, from its end a to b, and
+    /// 2i + 1, from b to a.
     pub fn links(&self) -> &[LinkRow]
         ensures { result.now ≡ self.now.net.links }
     {
         self.net.links.as_slice()
     }
 
-    /// How many hosts there are; 1 to 8.
+    /// The number of hosts; 1 to 8.
     pub fn hosts(&self) -> u8
         ensures { result ≡ self.now.net.hosts }
     {
         self.net.hosts
     }
 
-    /// What hosts ask.
+    /// The requests of the hosts.
     pub fn script(&self) -> &Script
         ensures { result.now ≡ self.now.script }
     {
         &self.script
     }
 
-    /// In which order the parts work.
+    /// The steps of the parts, in order.
     pub fn schedule(&self) -> &Schedule
         ensures { result.now ≡ self.now.schedule }
     {

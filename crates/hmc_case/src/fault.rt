@@ -50,7 +50,7 @@ impl fmt::Display for Section {
 /// What is wrong there.
 #[derive(Clone, Copy, Debug, PartialEq, Eq)]
 pub enum CaseKind {
-    /// The bytes are no TOML document.
+    /// The bytes are not a TOML document.
     Syntax,
     /// A table has a key that it may not have.
     Unknown,
@@ -58,7 +58,7 @@ pub enum CaseKind {
     Missing,
     /// A value is of another type.
     Kind,
-    /// A number, or how many tables there are, is out of range.
+    /// A number, or the length of an array, is out of range.
     Range,
     /// The cubes together have too many bytes.
     Capacity,
@@ -105,16 +105,17 @@ impl fmt::Display for CaseKind {
     }
 }
 
-/// Why bytes are no case.
+/// Why bytes are not a case.
 #[derive(Clone, Copy, Debug, PartialEq, Eq)]
 pub enum CaseFault {
-    /// Want of memory.
+    /// Out of memory.
     Memory,
     /// The first fault.
     Bad {
         /// The part of the case in which it is.
         section: Section,
-        /// The number of the cube or of the link, from 0; the line of the script or of the schedule, from 1; else 0.
+        /// The number of the cube or of the link, from 0; the line of the script or of the
+        /// schedule, from 1; else 0.
         line: u32,
         /// What is wrong.
         kind: CaseKind,
@@ -140,7 +141,7 @@ impl From<AllocError> for CaseFault {
 /// What was read, or else the fault of this line of this section.
 pub fn in_section<T>(section: Section, line: u32, read: Result<T, CaseKind>) -> Result<T, CaseFault>
     ensures value { Answers (λ x. x) result (in_section section line read) }
-    ensures told { result ≢ Err faults.Memory }
+    ensures not_memory { result ≢ Err faults.Memory }
 {
     match read {
         Ok(x) => Ok(x),

@@ -130,7 +130,7 @@ pub fn table_of(part: Part, value: &Value) -> Result<&Table, CaseKind>
     Ok(table)
 }
 
-// How many items there are.
+// The number of items.
 fn count_of(items: &Array) -> usize
     ensures value { result ≡ count_of (array_view items.now) }
     ensures length { result ≡ vec_len items.now }
@@ -141,7 +141,8 @@ fn count_of(items: &Array) -> usize
 /// The array at the key, which has 1 to `most` items.
 #[tactic(auto, unfolding(crate::specs::Keys::items_at))]
 pub fn items_at<'a>(key: &str, most: usize, table: &'a Table) -> Result<&'a Array, CaseKind>
-    ensures value { Gives (λ items. array_view items.now) result (items_at key.now most (table_view table.now)) }
+    ensures value { Gives (λ items. array_view items.now) result
+        (items_at key.now most (table_view table.now)) }
     ensures one { IfOk result (λ items. vec_len items.now ≡ 1) }
 {
     let value = value_at(key, table)?;

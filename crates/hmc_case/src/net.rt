@@ -15,7 +15,7 @@ use std::alloc::Global;
 use std::marker::Model;
 use toml::value::Array;
 
-/// The cubes and links of a case, and how many hosts there are.
+/// The cubes and links of a case, and the number of its hosts.
 #[derive(Drop)]
 pub struct Net {
     pub cubes: Vec<CubeSetup>,
@@ -28,13 +28,21 @@ impl Model for Net {
 
     ghost Value = { NetFields };
 
-    ghost view = { λ n. record { cubes = n.cubes.items; links = n.links.items; hosts = n.hosts } };
+    ghost view = { λ n. record {
+      cubes = n.cubes.items;
+      links = n.links.items;
+      hosts = n.hosts;
+    } };
 
-    ghost invariant = { λ n. IsNet (record { cubes = n.cubes.items; links = n.links.items; hosts = n.hosts }) };
+    ghost invariant = { λ n. IsNet (record {
+      cubes = n.cubes.items;
+      links = n.links.items;
+      hosts = n.hosts;
+    }) };
 }
 
-/// Reads the cubes and links: the cubes come first, then what they are together, then the links, and then what these are
-/// together.
+/// Reads the cubes and links: the cubes come first, then what they are together, then the links and
+/// what these are together.
 #[tactic(auto, unfolding(crate::specs::Net::net_of))]
 pub fn net_of(alloc: Global, cubes: &Array, links: &Array) -> Result<Net, CaseFault>
     requires cubes { vec_len cubes.now ≡ 1 }

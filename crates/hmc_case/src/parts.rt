@@ -9,12 +9,13 @@ ghost use Rattle.hmc_case.specs.declared.fault.Section.TheVariants as sections;
 
 use crate::keys::{Part, items_at, known_keys, number_at, text_at};
 use crate::{CaseFault, CaseKind, Section};
+use hmc_codes::{MOST_CUBES, MOST_LINKS};
 use std::alloc::Global;
 use std::str::from_utf8;
 use toml::Table;
 use toml::value::Array;
 
-/// What stands at the keys of a case.
+/// The values at the keys of a case.
 #[derive(Clone, Copy)]
 pub struct Parts<'a> {
     pub cubes: &'a Array,
@@ -25,7 +26,8 @@ pub struct Parts<'a> {
 
 /// The bytes as a TOML document.
 pub fn table_in(alloc: Global, bytes: &[u8]) -> Result<Table, CaseFault>
-    ensures { Answers (λ table. table_view table) result (in_section sections.Toml 0 (table_in bytes.now)) }
+    ensures { Answers (λ table. table_view table) result
+        (in_section sections.Toml 0 (table_in bytes.now)) }
 {
     let bad = CaseFault::Bad {
         section: Section::Toml,
@@ -50,15 +52,19 @@ pub fn table_in(alloc: Global, bytes: &[u8]) -> Result<Table, CaseFault>
 // The keys of the document.
 #[tactic(auto, unfolding(crate::specs::Parts::parts_of))]
 fn parts_of(table: &Table) -> Result<Parts<'_>, CaseKind>
-    ensures value { Gives (λ parts. record { cubes = array_view parts.cubes.now; links = array_view parts.links.now; script = parts.script.now; schedule = parts.schedule.now })
-        result (parts_of (table_view table.now)) }
+    ensures value { Gives (λ parts. record {
+      cubes = array_view parts.cubes.now;
+      links = array_view parts.links.now;
+      script = parts.script.now;
+      schedule = parts.schedule.now;
+    }) result (parts_of (table_view table.now)) }
     ensures cubes { IfOk result (λ parts. vec_len parts.cubes.now ≡ 1) }
     ensures links { IfOk result (λ parts. vec_len parts.links.now ≡ 1) }
 {
     known_keys(Part::Top, table)?;
     number_at("profile", 1, 1, table)?;
-    let cubes = items_at("cubes", 8, table)?;
-    let links = items_at("links", 32, table)?;
+    let cubes = items_at("cubes", MOST_CUBES as usize, table)?;
+    let links = items_at("links", MOST_LINKS as usize, table)?;
     let script = text_at("script", table)?;
     let schedule = text_at("schedule", table)?;
     Ok(Parts {
@@ -71,8 +77,12 @@ fn parts_of(table: &Table) -> Result<Parts<'_>, CaseKind>
 
 /// The keys of the document, or the fault of section `top`.
 pub fn parts_in(table: &Table) -> Result<Parts<'_>, CaseFault>
-    ensures value { Answers (λ parts. record { cubes = array_view parts.cubes.now; links = array_view parts.links.now; script = parts.script.now; schedule = parts.schedule.now })
-        result (in_section sections.Top 0 (parts_of (table_view table.now))) }
+    ensures value { Answers (λ parts. record {
+      cubes = array_view parts.cubes.now;
+      links = array_view parts.links.now;
+      script = parts.script.now;
+      schedule = parts.schedule.now;
+    }) result (in_section sections.Top 0 (parts_of (table_view table.now))) }
     ensures cubes { IfOk result (λ parts. vec_len parts.cubes.now ≡ 1) }
     ensures links { IfOk result (λ parts. vec_len parts.links.now ≡ 1) }
 {

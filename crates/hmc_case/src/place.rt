@@ -1,11 +1,13 @@
 //! Where links end.
 
 ghost use Rattle.std.specs.Prelude.{◌≡◌, ◌<◌, [], ◌∷◌, true, false, IsTrue, IfSome, IfOk, OnOk};
-ghost use Rattle.hmc_case.specs.Places.{digit_of, place_of, is_host, IsPlaceOf, is_there, is_same_cube, is_same, is_taken, ends_of, may_join};
+ghost use Rattle.hmc_codes.specs.Limits.{most_hosts, most_cubes};
+ghost use Rattle.hmc_codes.specs.Places.{is_host, same_place};
+ghost use Rattle.hmc_case.specs.Places.{digit_of, place_of, IsPlaceOf, is_there, is_same_cube, is_taken, ends_of, may_join};
 
 use crate::fault::refuse_unless;
 use crate::{CaseKind, LinkRow};
-use hmc_codes::{Join, Place};
+use hmc_codes::{Join, MOST_CUBES, MOST_HOSTS, PORTS, Place};
 
 // The digit that the byte is, if it is below the limit.
 fn digit_of(limit: u8, byte: u8) -> Option<u8>
@@ -20,37 +22,37 @@ fn digit_of(limit: u8, byte: u8) -> Option<u8>
     }
 }
 
-fn host_at(letter: u8, host: u8) -> Option<Place>
+fn host_of_digit(letter: u8, host: u8) -> Option<Place>
     ensures value { result ≡ place_of (letter ∷ host ∷ []) }
-    ensures within { IfSome result (IsPlaceOf 8 8) }
+    ensures within { IfSome result (IsPlaceOf most_hosts most_cubes) }
 {
     if letter != b'h' {
         return None;
     }
-    let host = digit_of(8, host)?;
+    let host = digit_of(MOST_HOSTS, host)?;
     Some(Place::Host(host))
 }
 
-fn port_at(letter: u8, cube: u8, dot: u8, port: u8) -> Option<Place>
+fn port_of_digits(letter: u8, cube: u8, dot: u8, port: u8) -> Option<Place>
     ensures value { result ≡ place_of (letter ∷ cube ∷ dot ∷ port ∷ []) }
-    ensures within { IfSome result (IsPlaceOf 8 8) }
+    ensures within { IfSome result (IsPlaceOf most_hosts most_cubes) }
 {
     if letter != b'c' || dot != b'.' {
         return None;
     }
-    let cube = digit_of(8, cube)?;
-    let port = digit_of(4, port)?;
+    let cube = digit_of(MOST_CUBES, cube)?;
+    let port = digit_of(PORTS, port)?;
     Some(Place::Port { cube, port })
 }
 
-// The host or the port that is named so.
+// The host or the port with this name.
 fn place_of(text: &str) -> Option<Place>
     ensures value { result ≡ place_of text.now }
-    ensures within { IfSome result (IsPlaceOf 8 8) }
+    ensures within { IfSome result (IsPlaceOf most_hosts most_cubes) }
 {
     match text.as_bytes() {
-        [letter, host] => host_at(*letter, *host),
-        [letter, cube, dot, port] => port_at(*letter, *cube, *dot, *port),
+        [letter, host] => host_of_digit(*letter, *host),
+        [letter, cube, dot, port] => port_of_digits(*letter, *cube, *dot, *port),
         _ => None,
     }
 }
@@ -61,10 +63,11 @@ fn is_host(place: Place) -> bool
     matches!(place, Place::Host(_))
 }
 
-// Whether a port is one of so many cubes.
+// Whether the place is a host, or a port of one of this many cubes.
 fn is_there(cubes: u8, place: Place) -> bool
     ensures value { result ≡ is_there cubes place }
-    ensures within { IsTrue result → IsPlaceOf 8 8 place → IsPlaceOf 8 cubes place }
+    ensures within { IsTrue result → IsPlaceOf most_hosts most_cubes place
+        → IsPlaceOf most_hosts cubes place }
 {
     match place {
         Place::Host(_) => true,
@@ -82,9 +85,9 @@ fn is_same_cube(place: Place, other: Place) -> bool
     }
 }
 
-/// Whether the two are one host or one port.
-fn is_same(place: Place, other: Place) -> bool
-    ensures { result ≡ is_same place other }
+// Whether the two are one host or one port.
+fn same_place(place: Place, other: Place) -> bool
+    ensures { result ≡ same_place place other }
 {
     match (place, other) {
         (Place::Host(host), Place::Host(other)) => host == other,
@@ -103,15 +106,15 @@ fn is_same(place: Place, other: Place) -> bool
 pub fn is_taken(links: &[LinkRow], place: Place) -> bool
     ensures { result ≡ is_taken links.now place }
 {
-    links.iter().any(|link| is_same(link.join.a, place) || is_same(link.join.b, place))
+    links.iter().any(|link| same_place(link.join.a, place) || same_place(link.join.b, place))
 }
 
-/// The ends that are named so, a before b.
+/// The ends with these names, a before b.
 #[tactic(auto, unfolding(crate::specs::Places::ends_of))]
 pub fn ends_of(cubes: u8, a: &str, b: &str) -> Result<Join, CaseKind>
     ensures value { result ≡ ends_of cubes a.now b.now }
-    ensures a { IfOk result (λ join. IsPlaceOf 8 cubes join.a) }
-    ensures b { IfOk result (λ join. IsPlaceOf 8 cubes join.b) }
+    ensures a { IfOk result (λ join. IsPlaceOf most_hosts cubes join.a) }
+    ensures b { IfOk result (λ join. IsPlaceOf most_hosts cubes join.b) }
     ensures host { IfOk result (λ join. is_host join.a ≡ true) }
 {
     let Some(first) = place_of(a) else {
@@ -129,7 +132,7 @@ pub fn ends_of(cubes: u8, a: &str, b: &str) -> Result<Join, CaseKind>
     })
 }
 
-/// What a link may not join, beside the links before it.
+/// A link may not join two hosts, a cube to itself, or an end of an earlier link.
 #[tactic(auto, unfolding(crate::specs::Places::may_join))]
 pub fn may_join(links: &[LinkRow], join: Join) -> Result<(), CaseKind>
     ensures value { result ≡ may_join links.now join }

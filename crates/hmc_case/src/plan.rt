@@ -1,7 +1,8 @@
-//! What the schedule of a case is read for.
+//! The parts that the schedule of a case may name.
 
 ghost use Rattle.std.specs.Prelude.{◌≡◌, ◌≤◌, length, map, IfOk};
-ghost use Rattle.std.specs.List.{range_with_len};
+ghost use Rattle.hmc_codes.specs.Limits.{most_cubes, ports};
+ghost use Rattle.hmc_codes.specs.Numbers.{upto};
 ghost use Rattle.hmc_codes.specs.declared.place.Place.TheVariants as places;
 ghost use Rattle.hmc_case.specs.Places.{is_taken};
 ghost use Rattle.hmc_case.specs.Plan.{plans_of, plan_of};
@@ -10,13 +11,13 @@ use crate::net::Net;
 use crate::place::is_taken;
 use crate::rows::append;
 use crate::{CubeSetup, LinkRow};
-use hmc_codes::{Memory, Place};
+use hmc_codes::{Memory, PORTS, Place};
 use hmc_schedule::{CubePlan, Plan};
 use std::alloc::Global;
 
 // Which ports of a cube a link joins.
-fn ports_of(links: &[LinkRow], cube: u8) -> [bool; 4]
-    ensures { result ≡ map (λ port. is_taken links.now (places.Port cube port)) (range_with_len 0 4) }
+fn ports_of(links: &[LinkRow], cube: u8) -> [bool; PORTS as usize]
+    ensures { result ≡ map (λ port. is_taken links.now (places.Port cube port)) (upto ports) }
 {
     [
         is_taken(links, Place::Port { cube, port: 0 }),
@@ -28,7 +29,7 @@ fn ports_of(links: &[LinkRow], cube: u8) -> [bool; 4]
 
 // Each cube of a plan.
 fn plans_of(alloc: Global, links: &[LinkRow], cubes: &[CubeSetup]) -> Result<Vec<CubePlan>, Memory>
-    requires { length cubes.now ≤ 8 }
+    requires { length cubes.now ≤ most_cubes }
     ensures { IfOk result (λ plans. plans.items ≡ plans_of links.now 0 cubes.now) }
 {
     let mut plans = Vec::new(alloc);

@@ -4,7 +4,7 @@ ghost use Rattle.std.specs.Prelude.{◌≡◌, [], ◌∷◌, ◌++◌, OnOk, On
 
 use hmc_codes::Memory;
 
-/// Puts an item behind the others. A refusal changes nothing.
+/// Appends an item. Where it is out of memory nothing changes.
 pub fn append<T: Copy>(items: &mut Vec<T>, item: T) -> Result<(), Memory>
     ensures ok { OnOk result (items.new.items ≡ items.old.items ++ item ∷ []) }
     ensures err { OnErr result (items.new.items ≡ items.old.items) }

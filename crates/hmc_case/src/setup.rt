@@ -1,9 +1,15 @@
-//! What a case says of a cube and of a link.
+//! What a case states of a cube and of a link, and what it doesn't state yet.
 
-ghost use Rattle.hmc_case.specs.Setup.{IsCube};
+ghost use Rattle.hmc_case.specs.Setup.{IsCubeSetup};
 
-use hmc_codes::{Join, LinkSetup, Shape};
+use hmc_codes::{Join, LinkSetup, Profile, Shape};
 use std::marker::Model;
+
+// Until cases have a key for the profile of a link and one for the block of a cube, each link has
+// this profile and each cube this block.
+pub(crate) const ONLY_PROFILE: Profile = Profile::One;
+
+pub(crate) const ONLY_BLOCK: u16 = 256;
 
 /// A cube of a case.
 #[derive(Clone, Copy, Debug, PartialEq, Eq)]
@@ -15,21 +21,21 @@ pub struct CubeSetup {
 }
 
 impl Model for CubeSetup {
-    ghost use Rattle.hmc_case.specs.Setup.{CubeFields, IsCube};
+    ghost use Rattle.hmc_case.specs.Setup.{CubeSetupFields, IsCubeSetup};
 
-    ghost Value = { CubeFields };
+    ghost Value = { CubeSetupFields };
 
     ghost view = { λ s. record { shape = s.shape; queue = s.queue } };
 
-    ghost invariant = { λ s. IsCube (record { shape = s.shape; queue = s.queue }) };
+    ghost invariant = { λ s. IsCubeSetup (record { shape = s.shape; queue = s.queue }) };
 
     ghost inverse = { λ s. record { shape = s.shape; queue = s.queue } };
 }
 
 impl CubeSetup {
     /// Nothing is done: what every cube of a case keeps is the contract.
-    pub fn keeps(&self)
-        ensures { IsCube self.now }
+    pub fn invariant(&self)
+        ensures { IsCubeSetup self.now }
     {
         let _ = &self.queue;
     }

@@ -2,6 +2,7 @@
 
 ghost use Rattle.std.specs.Prelude.{◌≤◌, IfOk};
 ghost use Rattle.std.specs.List.{All};
+ghost use Rattle.hmc_codes.specs.Limits.{most_hosts, most_cubes};
 ghost use Rattle.hmc_schedule.specs.Plan.{IsStepOf};
 ghost use Rattle.hmc_schedule.specs.Schedule.{schedule_of};
 ghost use Rattle.hmc_script.specs.Items.{IsWithin};
@@ -19,10 +20,10 @@ use hmc_schedule::{Schedule, ScheduleFault};
 use hmc_script::{Script, ScriptFault};
 use std::alloc::Global;
 
-/// The script of a case with so many hosts and cubes.
+/// The script of a case with this many hosts and cubes.
 pub fn script_of(alloc: Global, hosts: u8, cubes: u8, text: &str) -> Result<Script, CaseFault>
-    requires hosts { hosts ≤ 8 }
-    requires cubes { cubes ≤ 8 }
+    requires hosts { hosts ≤ most_hosts }
+    requires cubes { cubes ≤ most_cubes }
     ensures value { Answers (λ script. script) result
         (in_text sections.Script kinds.Script (script_of hosts cubes text.now)) }
     ensures within { IfOk result (All (IsWithin hosts cubes)) }

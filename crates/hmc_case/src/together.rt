@@ -1,24 +1,24 @@
 //! The cubes and links of a case together.
 
 ghost use Rattle.std.specs.Prelude.{◌≡◌, ◌≤◌, ◌<◌, ◌==◌, true, nat_le, nat_lt, length, IsTrue, IfOk, OnOk};
-ghost use Rattle.std.specs.List.{All, list_any, list_all, range_with_len};
+ghost use Rattle.std.specs.List.{All, list_any, list_all};
+ghost use Rattle.hmc_codes.specs.Limits.{most_hosts, most_memory};
 ghost use Rattle.hmc_case.specs.Reading.{Answers, in_section};
 ghost use Rattle.hmc_case.specs.declared.fault.Section.TheVariants as sections;
-ghost use Rattle.hmc_case.specs.Together.{total_capacity, in_capacity, host_number, host_of, hosts_of, are_from_zero, count_of_hosts};
+ghost use Rattle.hmc_codes.specs.Numbers.{upto};
+ghost use Rattle.hmc_codes.specs.Places.{host_number};
+ghost use Rattle.hmc_case.specs.Together.{total_capacity, in_capacity, host_at, hosts_of, host_count, are_from_zero, count_from_zero};
 
 use crate::fault::{in_section, refuse_unless};
 use crate::{CaseFault, CaseKind, CubeSetup, LinkRow, Section};
-use hmc_codes::Place;
+use hmc_codes::{MOST_MEMORY, Place};
 use std::alloc::{AllocError, Global};
-
-/// The most bytes that all cubes together have.
-const MOST_BYTES: u64 = 16_777_216;
 
 // Whether all cubes together have no more bytes than they may.
 fn fit(cubes: &[CubeSetup]) -> bool
-    ensures { result ≡ nat_le (total_capacity cubes.now) 16777216 }
+    ensures { result ≡ nat_le (total_capacity cubes.now) most_memory }
 {
-    let mut left = MOST_BYTES;
+    let mut left = MOST_MEMORY;
     'cubes: for cube in cubes {
         let capacity = cube.shape.capacity();
         if left < capacity {
@@ -29,10 +29,10 @@ fn fit(cubes: &[CubeSetup]) -> bool
     true
 }
 
-/// All cubes together have at most 16,777,216 bytes.
+/// All cubes together have at most `MOST_MEMORY` bytes.
 pub fn in_capacity(cubes: &[CubeSetup]) -> Result<(), CaseKind>
     ensures value { result ≡ in_capacity cubes.now }
-    ensures within { OnOk result (total_capacity cubes.now ≤ 16777216) }
+    ensures within { OnOk result (total_capacity cubes.now ≤ most_memory) }
 {
     refuse_unless(fit(cubes), CaseKind::Capacity)
 }
@@ -47,8 +47,8 @@ fn host_number(place: Place) -> Option<u8>
 }
 
 // The host at which a link ends, if it ends at one.
-fn host_of(link: &LinkRow) -> Option<u8>
-    ensures { result ≡ host_of link.now }
+fn host_at(link: &LinkRow) -> Option<u8>
+    ensures { result ≡ host_at link.now }
 {
     match link.join.a {
         Place::Host(host) => Some(host),
@@ -56,11 +56,11 @@ fn host_of(link: &LinkRow) -> Option<u8>
     }
 }
 
-// The hosts in the order of their links.
+// The hosts that the links join, in the order of the links.
 fn hosts_of(alloc: Global, links: &[LinkRow]) -> Result<Vec<u8>, AllocError>
     ensures { IfOk result (λ hosts. hosts.items ≡ hosts_of links.now) }
 {
-    links.iter().filter_map(|link| host_of(link)).collect(alloc)
+    links.iter().filter_map(|link| host_at(link)).collect(alloc)
 }
 
 fn are_below(numbers: &[u8], limit: usize) -> bool
@@ -76,7 +76,8 @@ fn has(numbers: &[u8], number: usize) -> bool
 }
 
 fn have_all_below(numbers: &[u8], limit: usize) -> bool
-    ensures { result ≡ list_all (λ number. list_any (λ other. other == number) numbers.now) (range_with_len 0 limit) }
+    ensures { result
+        ≡ list_all (λ number. list_any (λ other. other == number) numbers.now) (upto limit) }
 {
     (0..limit).all(|number| has(numbers, number))
 }
@@ -84,38 +85,43 @@ fn have_all_below(numbers: &[u8], limit: usize) -> bool
 // Whether the numbers are 0 to one less than their count.
 fn are_from_zero(numbers: &[u8]) -> bool
     ensures value { result ≡ are_from_zero numbers.now }
-    ensures below { IsTrue result → list_all (λ number. nat_lt number (length numbers.now)) numbers.now ≡ true }
-    ensures few { IsTrue result → All (λ number. number < 8) numbers.now → length numbers.now ≤ 8 }
+    ensures below { IsTrue result
+        → list_all (λ number. nat_lt number (length numbers.now)) numbers.now ≡ true }
+    ensures few { IsTrue result → All (λ number. number < most_hosts) numbers.now
+        → length numbers.now ≤ most_hosts }
 {
     let limit = numbers.len();
     are_below(numbers, limit) && have_all_below(numbers, limit)
 }
 
-// How many hosts there are: one at least, numbered from 0 without a gap.
-#[tactic(auto, unfolding(crate::specs::Together::count_of_hosts))]
-fn count_of_hosts(hosts: &[u8]) -> Result<u8, CaseKind>
-    requires { All (λ host. host < 8) hosts.now }
-    ensures value { result ≡ count_of_hosts hosts.now }
+// The number of numbers: one at least, and 0 to one less than their count.
+#[tactic(auto, unfolding(crate::specs::Together::count_from_zero))]
+fn count_from_zero(numbers: &[u8]) -> Result<u8, CaseKind>
+    requires { All (λ number. number < most_hosts) numbers.now }
+    ensures value { result ≡ count_from_zero numbers.now }
     ensures some { IfOk result (λ count. 1 ≤ count) }
-    ensures few { IfOk result (λ count. count ≤ 8) }
-    ensures below { IfOk result (λ count. list_all (λ host. nat_lt host count) hosts.now ≡ true) }
-    ensures all { IfOk result (λ count. count ≡ length hosts.now) }
+    ensures few { IfOk result (λ count. count ≤ most_hosts) }
+    ensures below { IfOk result (λ count.
+        list_all (λ number. nat_lt number count) numbers.now ≡ true) }
+    ensures all { IfOk result (λ count. count ≡ length numbers.now) }
 {
-    let count = hosts.len();
+    let count = numbers.len();
     refuse_unless(1 <= count, CaseKind::Hosts)?;
-    refuse_unless(are_from_zero(hosts), CaseKind::Hosts)?;
+    refuse_unless(are_from_zero(numbers), CaseKind::Hosts)?;
     Ok(count as u8)
 }
 
-/// How many hosts the links join: one at least, numbered from 0 without a gap.
+/// The number of hosts that the links join: one at least, numbered from 0 without a gap.
 pub fn host_count(alloc: Global, links: &[LinkRow]) -> Result<u8, CaseFault>
-    requires { All (λ host. host < 8) (hosts_of links.now) }
-    ensures value { Answers (λ count. count) result (in_section sections.Net 0 (count_of_hosts (hosts_of links.now))) }
+    requires { All (λ host. host < most_hosts) (hosts_of links.now) }
+    ensures value { Answers (λ count. count) result
+        (in_section sections.Net 0 (count_from_zero (hosts_of links.now))) }
     ensures some { IfOk result (λ count. 1 ≤ count) }
-    ensures few { IfOk result (λ count. count ≤ 8) }
-    ensures below { IfOk result (λ count. list_all (λ host. nat_lt host count) (hosts_of links.now) ≡ true) }
-    ensures all { IfOk result (λ count. count ≡ length (hosts_of links.now)) }
+    ensures few { IfOk result (λ count. count ≤ most_hosts) }
+    ensures below { IfOk result
+        (λ count. list_all (λ host. nat_lt host count) (hosts_of links.now) ≡ true) }
+    ensures all { IfOk result (λ count. count ≡ host_count links.now) }
 {
     let hosts = hosts_of(alloc, links)?;
-    in_section(Section::Net, 0, count_of_hosts(&hosts))
+    in_section(Section::Net, 0, count_from_zero(&hosts))
 }

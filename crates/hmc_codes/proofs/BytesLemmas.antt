@@ -2,7 +2,7 @@
 use Rattle.std.proofs.Common.{◌≡◌, ◌-◌, ◌∙◌, ℕ, zero, suc, List, [], ◌∷◌, ◌++◌, length, take, drop, ap, lit<}
 use Rattle.std.specs.Prelude.{replicate}
 use Rattle.std.proofs.lemmas.List.{drop-replicate}
-use Rattle.hmc_codes.specs.Bytes.{IsBytes, padded}
+use Rattle.hmc_codes.specs.Bytes.{IsBytes, padded_bytes}
 
 pub IsBytes-[] : IsBytes []
 IsBytes-[] k = lit< tt
@@ -28,12 +28,12 @@ IsBytes-zeros zero k = lit< tt
 IsBytes-zeros (suc n) zero = lit< tt
 IsBytes-zeros (suc n) (suc k) = IsBytes-zeros n k
 
-pub IsBytes-padded : (size : ℕ) (xs : List ℕ) → IsBytes xs → IsBytes (padded size xs)
-unfolding padded
+pub IsBytes-padded : (size : ℕ) (xs : List ℕ) → IsBytes xs → IsBytes (padded_bytes size xs)
+unfolding padded_bytes
 IsBytes-padded size xs p = IsBytes-append xs _ p (IsBytes-zeros (size - length xs))
 
 -- zeros whose front is written over
-pub padded_by_copy : (size : ℕ) (xs front : List ℕ) → front ≡ xs → front ++ drop (length xs) (replicate size 0) ≡ padded size xs
-unfolding padded
+pub padded_by_copy : (size : ℕ) (xs front : List ℕ) → front ≡ xs → front ++ drop (length xs) (replicate size 0) ≡ padded_bytes size xs
+unfolding padded_bytes
 padded_by_copy size xs front is =
     ap (λ l. l ++ drop (length xs) (replicate size 0)) is ∙ ap (λ l. xs ++ l) (drop-replicate (length xs) size 0)

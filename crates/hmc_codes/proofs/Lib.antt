@@ -1,3 +1,4 @@
 pub mod Codes
 pub mod BytesLemmas
+pub mod Blocks
 mod Worked

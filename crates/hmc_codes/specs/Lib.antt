@@ -8,3 +8,10 @@ pub mod Request
 pub mod Shape
 pub mod Text
 pub mod Link
+pub mod Limits
+pub mod Profile
+pub mod Graph
+pub mod Flit
+pub mod Numbers
+pub mod Places
+pub mod Answer

@@ -3,7 +3,7 @@ use Rattle.std.specs.Prelude.{◌≡◌}
 use Rattle.hmc_codes.specs.declared.table.Line as declared
 use Rattle.hmc_codes.specs.Table as table
 
--- the code's line says what the table's line says
+-- the code's line has the entries of the table's line
 pub record IsLine (line : declared.Line) (wanted : table.Line) : Type 0 where
   pub word : line.word.now ≡ wanted.word
   pub code : line.code ≡ wanted.code

@@ -1,37 +1,45 @@
 -- The shape of a cube's memory, and its address map.
-use Rattle.std.specs.Prelude.{◌≤◌, ◌*◌, ◌/◌, ◌%◌, ◌^◌, ℕ}
+use Rattle.std.specs.Prelude.{◌≡◌, ◌≤◌, ◌*◌, ◌/◌, ◌%◌, ◌^◌, ◌==◌, ◌||◌, ℕ, Bool, true}
+use Rattle.hmc_codes.specs.Limits.{most_vault_bits, most_bank_bits, most_rows}
 
--- a cube has 2^vault_bits vaults, each 2^bank_bits banks, and each bank so many rows
+-- a cube has 2^vault_bits vaults, each 2^bank_bits banks, each bank so many rows, and each row so
+-- many bytes
 pub record ShapeFields : Type 0 where
   pub vault_bits : ℕ
   pub bank_bits : ℕ
   pub rows : ℕ
+  pub block : ℕ
 
--- at most 32 vaults of 16 banks of 1,024 rows
+-- the sizes of a block
+abbrev pub is_block : ℕ → Bool
+is_block bytes = bytes == 32 || bytes == 64 || bytes == 128 || bytes == 256
+
+-- what every shape keeps
 pub record IsShape (shape : ShapeFields) : Type 0 where
-  pub vault_bits : shape.vault_bits ≤ 5
-  pub bank_bits : shape.bank_bits ≤ 4
+  pub vault_bits : shape.vault_bits ≤ most_vault_bits
+  pub bank_bits : shape.bank_bits ≤ most_bank_bits
   pub some_rows : 1 ≤ shape.rows
-  pub rows : shape.rows ≤ 1024
+  pub rows : shape.rows ≤ most_rows
+  pub block : is_block shape.block ≡ true
 
--- bytes in a cube: each row has 256
+-- the bytes of a cube: each row is one block
 abbrev pub capacity_of : ShapeFields → ℕ
-capacity_of shape = 256 * 2 ^ shape.vault_bits * 2 ^ shape.bank_bits * shape.rows
+capacity_of shape = shape.block * 2 ^ shape.vault_bits * 2 ^ shape.bank_bits * shape.rows
 
--- From the lowest bit on an address has the offset in a row, the vault, the bank and the row.
+-- From the lowest bit on an address has the offset in a block, the vault, the bank and the row.
 
--- the byte in its row: the lowest eight bits
-abbrev pub offset_of : ℕ → ℕ
-offset_of address = address % 256
+-- the byte in its block: as many bits as the block has bytes for
+abbrev pub offset_of : ShapeFields → ℕ → ℕ
+offset_of shape address = address % shape.block
 
 -- the vault: the next vault_bits bits
 abbrev pub vault_of : ShapeFields → ℕ → ℕ
-vault_of shape address = address / 256 % 2 ^ shape.vault_bits
+vault_of shape address = address / shape.block % 2 ^ shape.vault_bits
 
 -- the bank in the vault: the next bank_bits bits
 abbrev pub bank_of : ShapeFields → ℕ → ℕ
-bank_of shape address = address / 256 / 2 ^ shape.vault_bits % 2 ^ shape.bank_bits
+bank_of shape address = address / shape.block / 2 ^ shape.vault_bits % 2 ^ shape.bank_bits
 
 -- the row in the bank: all bits above
 abbrev pub row_of : ShapeFields → ℕ → ℕ
-row_of shape address = address / 256 / 2 ^ shape.vault_bits / 2 ^ shape.bank_bits
+row_of shape address = address / shape.block / 2 ^ shape.vault_bits / 2 ^ shape.bank_bits

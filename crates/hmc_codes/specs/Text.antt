@@ -1,4 +1,4 @@
--- How requests and answers are written: words with one space between.
+-- The texts of requests and answers: words with one space between.
 use Rattle.std.specs.Prelude.{ℕ, Bool, true, false, List, [], ◌∷◌, ◌++◌, take, codes, if◌then◌else◌, Option, Some, None, option_to_list}
 use Rattle.std.specs.Fmt.{decimal, digits}
 use Rattle.std.specs.Int.{w32, to_be_bytes, from_le_bytes}
@@ -11,10 +11,10 @@ use Rattle.hmc_codes.specs.declared.answer.Answer.{Answer}
 use Rattle.hmc_codes.specs.declared.answer.Answer.TheVariants.{Silent, Done, Read, Register, Stored, Refused}
 
 -- the words with one space between
-abbrev pub spaced : List (List ℕ) → List ℕ
-spaced [] = []
-spaced (w ∷ []) = w
-spaced (w ∷ v ∷ vs) = w ++ (32 ∷ spaced (v ∷ vs))
+abbrev pub spaced_words : List (List ℕ) → List ℕ
+spaced_words [] = []
+spaced_words (w ∷ []) = w
+spaced_words (w ∷ v ∷ vs) = w ++ (32 ∷ spaced_words (v ∷ vs))
 
 -- the same as a line: a line feed ends it
 abbrev pub line : List (List ℕ) → List ℕ
@@ -39,15 +39,16 @@ is_mdwr _ = false
 abbrev pub value_in : List ℕ → ℕ
 value_in payload = from_le_bytes w32 (take 4 payload)
 
--- the word behind the address: a value, the payload's bytes, or none
+-- the word after the address: a value, the payload's bytes, or none
 abbrev pub operand_of : Bool → List ℕ → Option (List ℕ)
 operand_of true payload = Some (decimal (value_in payload))
 operand_of false [] = None
 operand_of false (b ∷ bs) = Some (encode_lower (b ∷ bs))
 
--- a request with these words behind its address
+-- a request with these words after its address
 abbrev pub request_with : RequestFields → List (List ℕ) → List ℕ
-request_with r operands = spaced (word_of r.command ∷ decimal r.cube ∷ hex_number r.address ∷ operands)
+request_with r operands =
+    spaced_words (word_of r.command ∷ decimal r.cube ∷ hex_number r.address ∷ operands)
 
 -- a request as a script has it, without the host
 unfoldable pub request_text : RequestFields → List ℕ
@@ -56,8 +57,10 @@ request_text r = request_with r (option_to_list (operand_of (is_mdwr r.command) 
 -- an answer as a report has it
 unfoldable pub answer_text : Answer → List ℕ
 answer_text Silent = codes "silent"
-answer_text (Done flag) = spaced (codes "done" ∷ flag_text flag ∷ [])
-answer_text (Read flag payload) = spaced (codes "read" ∷ flag_text flag ∷ encode_lower payload ∷ [])
-answer_text (Register value) = spaced (codes "register" ∷ encode_lower (to_be_bytes w32 value) ∷ [])
+answer_text (Done flag) = spaced_words (codes "done" ∷ flag_text flag ∷ [])
+answer_text (Read flag payload) =
+    spaced_words (codes "read" ∷ flag_text flag ∷ encode_lower payload ∷ [])
+answer_text (Register value) =
+    spaced_words (codes "register" ∷ encode_lower (to_be_bytes w32 value) ∷ [])
 answer_text Stored = codes "stored"
-answer_text (Refused errstat) = spaced (codes "error" ∷ decimal errstat ∷ [])
+answer_text (Refused errstat) = spaced_words (codes "error" ∷ decimal errstat ∷ [])

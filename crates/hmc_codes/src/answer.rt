@@ -2,20 +2,22 @@
 
 use crate::Payload;
 
-/// What a request is answered by.
+/// The answer to a request.
 #[derive(Clone, Copy)]
 pub enum Answer {
-    /// Nothing: the request was posted.
+    /// No answer: the request was posted.
     Silent,
-    /// The request was carried out. The flag says whether an atomic command's condition held or its sum was out of range.
+    /// The request was performed. The flag says whether an atomic command's condition held, or its
+    /// sum was out of range.
     Done { flag: bool },
-    /// The bytes that a read, an atomic command or a logic unit gives back, and its flag.
+    /// The bytes that a read, an atomic command or a logic unit returns, and its flag.
     Read { flag: bool, payload: Payload },
     /// The value of a register.
     Register { value: u32 },
     /// A register was written.
     Stored,
-    /// The request has an error, of this number, and changed nothing. A packet has room for numbers below 128.
+    /// The request has the error with this number, and changed nothing. A response carries numbers
+    /// below 128.
     Refused { errstat: u8 },
 }
 

@@ -5,14 +5,15 @@ ghost use Rattle.hmc_codes.specs.declared.command.Command.{Command};
 ghost use Rattle.hmc_codes.specs.Codes.{command_of};
 ghost use Rattle.hmc_codes.specs.Commands.{code_of, word_of, layout_of, family_of, reply_of, permits, allows_of, is_posted, payload_len_of};
 
-use crate::table::{COMMANDS, line_of};
+use crate::table::{COMMANDS, table_line};
 use crate::{Family, Layout, Length};
 
 /// The command of a packet: a variant for each code of the table.
 ///
-/// `Wr..` and `Rd..` write and read so many bytes, and `Mdwr` and `Mdrd` a register. `Unit..` is carried out by a logic
-/// unit, and the other requests are atomic commands on 8 or 16 bytes. Those that begin with `P` are posted: nothing
-/// answers them. `Null`, `Pret`, `Tret` and `Irtry` steer a link, and `..Rs` and `Error` answer.
+/// `Wr..` and `Rd..` write and read this number of bytes, and `Mdwr` and `Mdrd` a register. A logic
+/// unit performs `Unit..`. The other requests are atomic commands on 8 or 16 bytes. Those that
+/// begin with `P`, except `Pret`, are posted: they have no response. `Null`, `Pret`, `Tret` and
+/// `Irtry` control a link. `..Rs` and `Error` are responses.
 #[derive(Clone, Copy, Debug, PartialEq, Eq)]
 pub enum Command {
     Null,
@@ -89,7 +90,7 @@ pub enum Command {
 }
 
 // The first command with this code.
-#[tactic(auto, unfolding(crate::specs::Codes::command_of, crate::specs::Codes::commands))]
+#[tactic(auto, unfolding(crate::specs::Codes::command_of, crate::specs::Codes::all_commands))]
 fn at_code(code: u8) -> Option<Command>
     ensures { result ≡ command_of code }
 {
@@ -113,61 +114,62 @@ impl Command {
     pub fn code(self) -> u8
         ensures { result ≡ code_of self }
     {
-        line_of(self).code
+        table_line(self).code
     }
 
-    /// The word of a script line and of a report; scripts have only those of requests.
+    /// The word of a script line and of a report. Scripts have only those of requests.
     pub fn word(self) -> &'static str
         ensures { result.now ≡ word_of self }
     {
-        line_of(self).word
+        table_line(self).word
     }
 
     /// The fields of a packet with this command.
     pub fn layout(self) -> Layout
         ensures { result ≡ layout_of self }
     {
-        line_of(self).layout
+        table_line(self).layout
     }
 
-    /// Whether packets with this command steer the link, ask or answer.
+    /// The family: flow packets, requests or responses.
     pub fn family(self) -> Family
         ensures { result ≡ family_of self }
     {
-        match line_of(self).layout {
+        match table_line(self).layout {
             Layout::Null | Layout::Pret | Layout::Tret | Layout::Irtry => Family::Flow,
             Layout::Ask => Family::Ask,
             Layout::Reply => Family::Reply,
         }
     }
 
-    /// The command of the packet that answers a request: `None` where it is posted, and of a command that asks nothing.
+    /// The command of the response to a request. `None` if the request is posted, or the command is
+    /// not that of a request.
     pub fn reply(self) -> Option<Self>
         ensures { result ≡ reply_of self }
     {
-        line_of(self).reply
+        table_line(self).reply
     }
 
-    /// Whether it is a request that nothing answers.
+    /// Whether it is a request without a response.
     pub fn posted(self) -> bool
         ensures { result ≡ is_posted self }
     {
-        let line = line_of(self);
+        let line = table_line(self);
         line.layout == Layout::Ask && line.reply.is_none()
     }
 
-    /// Whether the table permits packets of this many flits, header and tail included.
+    /// Whether the table permits packets of this many flits, with header and tail.
     pub fn allows(self, flits: u8) -> bool
         ensures { result ≡ allows_of self flits }
     {
-        line_of(self).flits.permits(flits)
+        table_line(self).flits.permits(flits)
     }
 
-    /// How many bytes of payload a request with this command carries: 0, 16 to 128 in steps of 16, or 256.
+    /// The payload bytes of a request with this command: 0, 16 to 128 in steps of 16, or 256.
     pub fn payload_len(self) -> usize
         ensures { result ≡ payload_len_of self }
     {
-        match line_of(self).flits {
+        match table_line(self).flits {
             Length::Fixed(flits) => 16 * usize::from(flits.saturating_sub(1)),
             Length::Data => 0,
         }

@@ -1,6 +1,6 @@
 //! The three kinds of packets.
 
-/// Whether a packet steers the link, asks for something, or answers.
+/// What a packet is for.
 #[derive(Clone, Copy, Debug, PartialEq, Eq)]
 pub enum Family {
     /// NULL, PRET, TRET and IRTRY: packets between the two ends of a link.

@@ -1,4 +1,4 @@
-//! How long packets with a command are.
+//! The lengths of packets with a command.
 
 ghost use Rattle.std.specs.Prelude.{◌≡◌};
 

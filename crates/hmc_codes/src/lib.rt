@@ -1,23 +1,29 @@
-//! Plain data that all layers share: commands and their table, payloads, requests, answers, the shape of a cube's memory
-//! with its address map, the sizes of a link and where it ends, and where answers are lifted from. None of it holds
-//! memory, and `text` alone takes some.
+//! Plain data of all layers: commands and their table, payloads, requests, answers, the shape of a
+//! cube's memory with its address map, the setup of a link and its ends, the graph of links,
+//! counts, and the limits of cases. Only `text` allocates.
 //!
-//! Contracts see a payload as the list of its bytes, and a request, a shape and a link's sizes as records of their
-//! fields, whose ranges hold of every value. The other types are seen as they stand. What the table says of a command is
-//! named `code_of`, `word_of`, `allows_of` and the like, where an address lies `vault_of`, `bank_of` and `row_of`, and the
-//! texts are `request_text` and `answer_text`: a layer above may rest on all of these.
+//! Contracts see a payload as the list of its bytes, and a request, a shape, a graph and a link's
+//! setup as records of their fields. A request, a shape and a setup keep the ranges of their
+//! fields. The other types are seen as they are. The table gives `code_of`, `word_of`, `allows_of`
+//! and the like of a command, the address map gives `vault_of`, `bank_of` and `row_of` of an
+//! address, and the texts are `request_text` and `answer_text`. The layers above cite these.
 #![tactic(auto)]
 
 mod answer;
 mod command;
+mod counts;
 mod family;
+mod flit;
+mod graph;
 mod layout;
 mod length;
 mod lift;
+mod limits;
 mod link_setup;
 mod memory;
 mod payload;
 mod place;
+mod profile;
 mod request;
 mod shape;
 mod table;
@@ -26,18 +32,24 @@ mod unit;
 
 pub use answer::{Acted, Answer};
 pub use command::Command;
+pub use counts::{Counters, CubeCounts, HostCounts, TokenRow};
 pub use family::Family;
+pub use flit::{Flit, ZERO_FLIT};
+pub use graph::Graph;
 pub use layout::Layout;
 pub use length::Length;
 pub use lift::Lift;
+pub use limits::{
+    LEAST_FLITS, MOST_BANK_BITS, MOST_CUBES, MOST_HOSTS, MOST_INPUT, MOST_LINE, MOST_LINKS,
+    MOST_MEMORY, MOST_QUEUE, MOST_REQUESTS, MOST_ROWS, MOST_STEPS, MOST_TOKENS, MOST_VAULT_BITS,
+    PORTS, TAGS,
+};
 pub use link_setup::LinkSetup;
 pub use memory::Memory;
 pub use payload::Payload;
 pub use place::{Join, Place};
+pub use profile::Profile;
 pub use request::Request;
 pub use shape::{Shape, Spot};
 pub use table::COMMANDS;
 pub use unit::Unit;
-
-/// The unit of transfer on a link: 16 bytes.
-pub type Flit = [u8; 16];

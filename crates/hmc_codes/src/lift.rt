@@ -1,10 +1,10 @@
-//! Where answers are lifted from.
+//! The queues that answers are lifted from.
 
 /// A queue of answers of a cube.
 #[derive(Clone, Copy, Debug, PartialEq, Eq)]
 pub enum Lift {
-    /// That of a vault, by its number, below 32.
+    /// The queue of a vault, by its number, below 32.
     Vault(u8),
-    /// That of the registers.
+    /// The queue of the registers.
     Registers,
 }

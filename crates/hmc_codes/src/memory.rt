@@ -1,8 +1,8 @@
-//! The one answer that a call may give freely.
+//! Out of memory: the one error that any call that allocates may return.
 
 use std::alloc::{AllocError, AllocFailed};
 
-/// Want of memory: the call could not have what it needs.
+/// Out of memory: an allocation failed.
 #[derive(Clone, Copy, Debug, PartialEq, Eq)]
 pub struct Memory;
 

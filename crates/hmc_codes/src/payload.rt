@@ -1,7 +1,7 @@
 //! The payload of a packet.
 
 ghost use Rattle.std.specs.Prelude.{◌≡◌, ◌≤◌, ◌↔◌, [], length, IsTrue, IsSome, IfSome};
-ghost use Rattle.hmc_codes.specs.Bytes.{IsBytes, padded};
+ghost use Rattle.hmc_codes.specs.Bytes.{IsBytes, padded_bytes};
 
 use std::marker::Model;
 
@@ -11,14 +11,14 @@ const MOST_BYTES: usize = 256;
 /// At most 256 bytes, which no call changes. Contracts see the list of them.
 #[derive(Clone, Copy)]
 pub struct Payload {
-    // What stands behind the first `len` bytes is zero.
+    // The bytes after the first `len` are zero.
     bytes: [u8; 256],
     len: usize,
 }
 
 impl Model for Payload {
     ghost use Rattle.std.specs.Prelude.{◌≡◌, ◌≤◌, ℕ, List, length, take};
-    ghost use Rattle.hmc_codes.specs.Bytes.{IsBytes, padded};
+    ghost use Rattle.hmc_codes.specs.Bytes.{IsBytes, padded_bytes};
     ghost use Rattle.hmc_codes.specs.Padding.{length-front};
     ghost use Rattle.std.proofs.Common.{sym};
 
@@ -26,17 +26,22 @@ impl Model for Payload {
 
     ghost view = { λ p. take p.len p.bytes };
 
-    ghost invariant = { λ p. (p.len ≤ 256) × (p.bytes ≡ padded 256 (take p.len p.bytes)) × IsBytes p.bytes };
+    ghost invariant = { λ p. (p.len ≤ 256)
+        × (p.bytes ≡ padded_bytes 256 (take p.len p.bytes))
+        × IsBytes p.bytes };
 
-    ghost inverse = { λ bytes. record { bytes = padded 256 bytes; len = length bytes } };
+    ghost inverse = { λ bytes. record { bytes = padded_bytes 256 bytes; len = length bytes } };
 
-    ghost inverse_ok = { λ p kept i. record { bytes = sym kept.1 i; len = length-front 256 p.len p.bytes kept.0 kept.1 i } };
+    ghost inverse_ok = { λ p kept i. record {
+      bytes = sym kept.1 i;
+      len = length-front 256 p.len p.bytes kept.0 kept.1 i;
+    } };
 }
 
-// The bytes, and zeros behind them.
+// The bytes, and zeros after them.
 fn array_of(bytes: &[u8]) -> [u8; 256]
     requires { length bytes.now ≤ 256 }
-    ensures bytes { result ≡ padded 256 bytes.now }
+    ensures bytes { result ≡ padded_bytes 256 bytes.now }
     ensures are_bytes { IsBytes result }
 {
     let mut array = [0; 256];
@@ -55,7 +60,7 @@ impl Payload {
         }
     }
 
-    /// These bytes; `None` where they are more than 256.
+    /// These bytes, or `None` if they are more than 256.
     pub fn from_slice(bytes: &[u8]) -> Option<Self>
         ensures fits { IsSome result ↔ (length bytes.now ≤ 256) }
         ensures bytes { IfSome result (λ payload. payload ≡ bytes.now) }
@@ -78,14 +83,14 @@ impl Payload {
         &self.bytes[..self.len]
     }
 
-    /// How many bytes there are, 0 to 256.
+    /// The number of bytes, 0 to 256.
     pub fn len(&self) -> usize
         ensures { result ≡ length self.now }
     {
         self.len
     }
 
-    /// Whether there are none.
+    /// Whether there are no bytes.
     pub fn is_empty(&self) -> bool
         ensures { IsTrue result ↔ (self.now ≡ []) }
     {

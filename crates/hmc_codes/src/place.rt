@@ -1,4 +1,4 @@
-//! Where links end.
+//! The ends of links.
 
 /// An end of a link.
 #[derive(Clone, Copy, Debug, PartialEq, Eq)]

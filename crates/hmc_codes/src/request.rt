@@ -14,8 +14,8 @@ pub struct Request {
     pub cube: u8,
     /// Below 2^34; the number of a register for `mdrd` and `mdwr`.
     pub address: u64,
-    /// As long as `payload_len` of the command says. An `mdwr` has the value in the first four bytes, the lowest first,
-    /// and zeros in the other twelve.
+    /// As long as `payload_len` of the command. The payload of an `mdwr` is the value in four
+    /// little-endian bytes, and twelve zero bytes.
     pub payload: Payload,
 }
 
@@ -24,16 +24,31 @@ impl Model for Request {
 
     ghost Value = { RequestFields };
 
-    ghost view = { λ r. record { command = r.command; cube = r.cube; address = r.address; payload = r.payload } };
+    ghost view = { λ r. record {
+      command = r.command;
+      cube = r.cube;
+      address = r.address;
+      payload = r.payload;
+    } };
 
-    ghost invariant = { λ r. IsRequest (record { command = r.command; cube = r.cube; address = r.address; payload = r.payload }) };
+    ghost invariant = { λ r. IsRequest (record {
+      command = r.command;
+      cube = r.cube;
+      address = r.address;
+      payload = r.payload;
+    }) };
 
-    ghost inverse = { λ r. record { command = r.command; cube = r.cube; address = r.address; payload = r.payload } };
+    ghost inverse = { λ r. record {
+      command = r.command;
+      cube = r.cube;
+      address = r.address;
+      payload = r.payload;
+    } };
 }
 
 impl Request {
-    /// Nothing is done: what every request keeps is the contract.
-    pub fn keeps(&self)
+    /// Does nothing. Its contract is what every request keeps.
+    pub fn invariant(&self)
         ensures { IsRequest self.now }
     {
         let _ = &self.command;

@@ -1,9 +1,9 @@
-//! The command table: one row a command.
+//! The command table: one row per command.
 
 ghost use Rattle.std.specs.Prelude.{◌≡◌};
-ghost use Rattle.hmc_codes.specs.Codes.{commands};
+ghost use Rattle.hmc_codes.specs.Codes.{all_commands};
 ghost use Rattle.hmc_codes.specs.Line.{IsLine};
-ghost use Rattle.hmc_codes.specs.Table.{line_of, flow, answered, posted, response};
+ghost use Rattle.hmc_codes.specs.Table.{table_line, flow_packet, answered_request, posted_request, response_packet};
 
 use crate::{Command, Layout, Length};
 
@@ -16,15 +16,15 @@ pub struct Line {
     pub code: u8,
     /// The fields of a packet.
     pub layout: Layout,
-    /// The flits of a packet, header and tail included.
+    /// The flits of a packet, with header and tail.
     pub flits: Length,
-    /// The command of the packet that answers it.
+    /// The command of the response.
     pub reply: Option<Command>,
 }
 
 impl Line {
-    fn flow(word: &'static str, code: u8, layout: Layout) -> Self
-        ensures { IsLine result (flow word.now code layout) }
+    fn flow_packet(word: &'static str, code: u8, layout: Layout) -> Self
+        ensures { IsLine result (flow_packet word.now code layout) }
     {
         Line {
             word,
@@ -35,8 +35,8 @@ impl Line {
         }
     }
 
-    fn answered(word: &'static str, code: u8, flits: Length, reply: Command) -> Self
-        ensures { IsLine result (answered word.now code flits reply) }
+    fn answered_request(word: &'static str, code: u8, flits: Length, reply: Command) -> Self
+        ensures { IsLine result (answered_request word.now code flits reply) }
     {
         Line {
             word,
@@ -47,8 +47,8 @@ impl Line {
         }
     }
 
-    fn posted(word: &'static str, code: u8, flits: Length) -> Self
-        ensures { IsLine result (posted word.now code flits) }
+    fn posted_request(word: &'static str, code: u8, flits: Length) -> Self
+        ensures { IsLine result (posted_request word.now code flits) }
     {
         Line {
             word,
@@ -59,8 +59,8 @@ impl Line {
         }
     }
 
-    fn response(word: &'static str, code: u8, flits: Length) -> Self
-        ensures { IsLine result (response word.now code flits) }
+    fn response_packet(word: &'static str, code: u8, flits: Length) -> Self
+        ensures { IsLine result (response_packet word.now code flits) }
     {
         Line {
             word,
@@ -77,77 +77,77 @@ macro_rules! table {
     ($rows:ident $($command:expr)?) => {
         $rows! {
             $($command;)?
-            Null => flow("null", 0, Layout::Null),
-            Pret => flow("pret", 1, Layout::Pret),
-            Tret => flow("tret", 2, Layout::Tret),
-            Irtry => flow("irtry", 3, Layout::Irtry),
-            Wr16 => answered("wr16", 8, Length::Fixed(2), Command::WrRs),
-            Wr32 => answered("wr32", 9, Length::Fixed(3), Command::WrRs),
-            Wr48 => answered("wr48", 10, Length::Fixed(4), Command::WrRs),
-            Wr64 => answered("wr64", 11, Length::Fixed(5), Command::WrRs),
-            Wr80 => answered("wr80", 12, Length::Fixed(6), Command::WrRs),
-            Wr96 => answered("wr96", 13, Length::Fixed(7), Command::WrRs),
-            Wr112 => answered("wr112", 14, Length::Fixed(8), Command::WrRs),
-            Wr128 => answered("wr128", 15, Length::Fixed(9), Command::WrRs),
-            Wr256 => answered("wr256", 79, Length::Fixed(17), Command::WrRs),
-            Pwr16 => posted("pwr16", 24, Length::Fixed(2)),
-            Pwr32 => posted("pwr32", 25, Length::Fixed(3)),
-            Pwr48 => posted("pwr48", 26, Length::Fixed(4)),
-            Pwr64 => posted("pwr64", 27, Length::Fixed(5)),
-            Pwr80 => posted("pwr80", 28, Length::Fixed(6)),
-            Pwr96 => posted("pwr96", 29, Length::Fixed(7)),
-            Pwr112 => posted("pwr112", 30, Length::Fixed(8)),
-            Pwr128 => posted("pwr128", 31, Length::Fixed(9)),
-            Pwr256 => posted("pwr256", 95, Length::Fixed(17)),
-            Rd16 => answered("rd16", 48, Length::Fixed(1), Command::RdRs),
-            Rd32 => answered("rd32", 49, Length::Fixed(1), Command::RdRs),
-            Rd48 => answered("rd48", 50, Length::Fixed(1), Command::RdRs),
-            Rd64 => answered("rd64", 51, Length::Fixed(1), Command::RdRs),
-            Rd80 => answered("rd80", 52, Length::Fixed(1), Command::RdRs),
-            Rd96 => answered("rd96", 53, Length::Fixed(1), Command::RdRs),
-            Rd112 => answered("rd112", 54, Length::Fixed(1), Command::RdRs),
-            Rd128 => answered("rd128", 55, Length::Fixed(1), Command::RdRs),
-            Rd256 => answered("rd256", 119, Length::Fixed(1), Command::RdRs),
-            Mdwr => answered("mdwr", 16, Length::Fixed(2), Command::MdWrRs),
-            Mdrd => answered("mdrd", 40, Length::Fixed(1), Command::MdRdRs),
-            Bwr => answered("bwr", 17, Length::Fixed(2), Command::WrRs),
-            TwoAdd8 => answered("2add8", 18, Length::Fixed(2), Command::WrRs),
-            Add16 => answered("add16", 19, Length::Fixed(2), Command::WrRs),
-            Pbwr => posted("pbwr", 33, Length::Fixed(2)),
-            PtwoAdd8 => posted("p2add8", 34, Length::Fixed(2)),
-            Padd16 => posted("padd16", 35, Length::Fixed(2)),
-            Bwr8r => answered("bwr8r", 81, Length::Fixed(2), Command::RdRs),
-            TwoAdds8r => answered("2adds8r", 82, Length::Fixed(2), Command::RdRs),
-            Adds16r => answered("adds16r", 83, Length::Fixed(2), Command::RdRs),
-            Xor16 => answered("xor16", 64, Length::Fixed(2), Command::RdRs),
-            Or16 => answered("or16", 65, Length::Fixed(2), Command::RdRs),
-            Nor16 => answered("nor16", 66, Length::Fixed(2), Command::RdRs),
-            And16 => answered("and16", 67, Length::Fixed(2), Command::RdRs),
-            Nand16 => answered("nand16", 68, Length::Fixed(2), Command::RdRs),
-            Inc8 => answered("inc8", 80, Length::Fixed(1), Command::WrRs),
-            Pinc8 => posted("pinc8", 84, Length::Fixed(1)),
-            Casgt8 => answered("casgt8", 96, Length::Fixed(2), Command::RdRs),
-            Caslt8 => answered("caslt8", 97, Length::Fixed(2), Command::RdRs),
-            Casgt16 => answered("casgt16", 98, Length::Fixed(2), Command::RdRs),
-            Caslt16 => answered("caslt16", 99, Length::Fixed(2), Command::RdRs),
-            Caseq8 => answered("caseq8", 100, Length::Fixed(2), Command::RdRs),
-            Caszero16 => answered("caszero16", 101, Length::Fixed(2), Command::RdRs),
-            Eq16 => answered("eq16", 104, Length::Fixed(2), Command::WrRs),
-            Eq8 => answered("eq8", 105, Length::Fixed(2), Command::WrRs),
-            Swap16 => answered("swap16", 106, Length::Fixed(2), Command::RdRs),
-            Unit0 => answered("unit0", 112, Length::Fixed(2), Command::RdRs),
-            Unit1 => answered("unit1", 113, Length::Fixed(2), Command::RdRs),
-            Unit2 => answered("unit2", 114, Length::Fixed(2), Command::RdRs),
-            Unit3 => answered("unit3", 115, Length::Fixed(2), Command::RdRs),
-            Unit4 => answered("unit4", 116, Length::Fixed(2), Command::RdRs),
-            Unit5 => answered("unit5", 117, Length::Fixed(2), Command::RdRs),
-            Unit6 => answered("unit6", 118, Length::Fixed(2), Command::RdRs),
-            Unit7 => answered("unit7", 120, Length::Fixed(2), Command::RdRs),
-            RdRs => response("rd_rs", 56, Length::Data),
-            WrRs => response("wr_rs", 57, Length::Fixed(1)),
-            MdRdRs => response("md_rd_rs", 58, Length::Fixed(2)),
-            MdWrRs => response("md_wr_rs", 59, Length::Fixed(1)),
-            Error => response("error", 62, Length::Fixed(1)),
+            Null => flow_packet("null", 0, Layout::Null),
+            Pret => flow_packet("pret", 1, Layout::Pret),
+            Tret => flow_packet("tret", 2, Layout::Tret),
+            Irtry => flow_packet("irtry", 3, Layout::Irtry),
+            Wr16 => answered_request("wr16", 8, Length::Fixed(2), Command::WrRs),
+            Wr32 => answered_request("wr32", 9, Length::Fixed(3), Command::WrRs),
+            Wr48 => answered_request("wr48", 10, Length::Fixed(4), Command::WrRs),
+            Wr64 => answered_request("wr64", 11, Length::Fixed(5), Command::WrRs),
+            Wr80 => answered_request("wr80", 12, Length::Fixed(6), Command::WrRs),
+            Wr96 => answered_request("wr96", 13, Length::Fixed(7), Command::WrRs),
+            Wr112 => answered_request("wr112", 14, Length::Fixed(8), Command::WrRs),
+            Wr128 => answered_request("wr128", 15, Length::Fixed(9), Command::WrRs),
+            Wr256 => answered_request("wr256", 79, Length::Fixed(17), Command::WrRs),
+            Pwr16 => posted_request("pwr16", 24, Length::Fixed(2)),
+            Pwr32 => posted_request("pwr32", 25, Length::Fixed(3)),
+            Pwr48 => posted_request("pwr48", 26, Length::Fixed(4)),
+            Pwr64 => posted_request("pwr64", 27, Length::Fixed(5)),
+            Pwr80 => posted_request("pwr80", 28, Length::Fixed(6)),
+            Pwr96 => posted_request("pwr96", 29, Length::Fixed(7)),
+            Pwr112 => posted_request("pwr112", 30, Length::Fixed(8)),
+            Pwr128 => posted_request("pwr128", 31, Length::Fixed(9)),
+            Pwr256 => posted_request("pwr256", 95, Length::Fixed(17)),
+            Rd16 => answered_request("rd16", 48, Length::Fixed(1), Command::RdRs),
+            Rd32 => answered_request("rd32", 49, Length::Fixed(1), Command::RdRs),
+            Rd48 => answered_request("rd48", 50, Length::Fixed(1), Command::RdRs),
+            Rd64 => answered_request("rd64", 51, Length::Fixed(1), Command::RdRs),
+            Rd80 => answered_request("rd80", 52, Length::Fixed(1), Command::RdRs),
+            Rd96 => answered_request("rd96", 53, Length::Fixed(1), Command::RdRs),
+            Rd112 => answered_request("rd112", 54, Length::Fixed(1), Command::RdRs),
+            Rd128 => answered_request("rd128", 55, Length::Fixed(1), Command::RdRs),
+            Rd256 => answered_request("rd256", 119, Length::Fixed(1), Command::RdRs),
+            Mdwr => answered_request("mdwr", 16, Length::Fixed(2), Command::MdWrRs),
+            Mdrd => answered_request("mdrd", 40, Length::Fixed(1), Command::MdRdRs),
+            Bwr => answered_request("bwr", 17, Length::Fixed(2), Command::WrRs),
+            TwoAdd8 => answered_request("2add8", 18, Length::Fixed(2), Command::WrRs),
+            Add16 => answered_request("add16", 19, Length::Fixed(2), Command::WrRs),
+            Pbwr => posted_request("pbwr", 33, Length::Fixed(2)),
+            PtwoAdd8 => posted_request("p2add8", 34, Length::Fixed(2)),
+            Padd16 => posted_request("padd16", 35, Length::Fixed(2)),
+            Bwr8r => answered_request("bwr8r", 81, Length::Fixed(2), Command::RdRs),
+            TwoAdds8r => answered_request("2adds8r", 82, Length::Fixed(2), Command::RdRs),
+            Adds16r => answered_request("adds16r", 83, Length::Fixed(2), Command::RdRs),
+            Xor16 => answered_request("xor16", 64, Length::Fixed(2), Command::RdRs),
+            Or16 => answered_request("or16", 65, Length::Fixed(2), Command::RdRs),
+            Nor16 => answered_request("nor16", 66, Length::Fixed(2), Command::RdRs),
+            And16 => answered_request("and16", 67, Length::Fixed(2), Command::RdRs),
+            Nand16 => answered_request("nand16", 68, Length::Fixed(2), Command::RdRs),
+            Inc8 => answered_request("inc8", 80, Length::Fixed(1), Command::WrRs),
+            Pinc8 => posted_request("pinc8", 84, Length::Fixed(1)),
+            Casgt8 => answered_request("casgt8", 96, Length::Fixed(2), Command::RdRs),
+            Caslt8 => answered_request("caslt8", 97, Length::Fixed(2), Command::RdRs),
+            Casgt16 => answered_request("casgt16", 98, Length::Fixed(2), Command::RdRs),
+            Caslt16 => answered_request("caslt16", 99, Length::Fixed(2), Command::RdRs),
+            Caseq8 => answered_request("caseq8", 100, Length::Fixed(2), Command::RdRs),
+            Caszero16 => answered_request("caszero16", 101, Length::Fixed(2), Command::RdRs),
+            Eq16 => answered_request("eq16", 104, Length::Fixed(2), Command::WrRs),
+            Eq8 => answered_request("eq8", 105, Length::Fixed(2), Command::WrRs),
+            Swap16 => answered_request("swap16", 106, Length::Fixed(2), Command::RdRs),
+            Unit0 => answered_request("unit0", 112, Length::Fixed(2), Command::RdRs),
+            Unit1 => answered_request("unit1", 113, Length::Fixed(2), Command::RdRs),
+            Unit2 => answered_request("unit2", 114, Length::Fixed(2), Command::RdRs),
+            Unit3 => answered_request("unit3", 115, Length::Fixed(2), Command::RdRs),
+            Unit4 => answered_request("unit4", 116, Length::Fixed(2), Command::RdRs),
+            Unit5 => answered_request("unit5", 117, Length::Fixed(2), Command::RdRs),
+            Unit6 => answered_request("unit6", 118, Length::Fixed(2), Command::RdRs),
+            Unit7 => answered_request("unit7", 120, Length::Fixed(2), Command::RdRs),
+            RdRs => response_packet("rd_rs", 56, Length::Data),
+            WrRs => response_packet("wr_rs", 57, Length::Fixed(1)),
+            MdRdRs => response_packet("md_rd_rs", 58, Length::Fixed(2)),
+            MdWrRs => response_packet("md_wr_rs", 59, Length::Fixed(1)),
+            Error => response_packet("error", 62, Length::Fixed(1)),
         }
     };
 }
@@ -166,9 +166,9 @@ macro_rules! variants {
 pub const COMMANDS: [Command; 71] = table!(variants);
 
 /// The row of a command.
-#[tactic(auto, unfolding(crate::specs::Table::line_of))]
-pub fn line_of(command: Command) -> Line
-    ensures { IsLine result (line_of command) }
+#[tactic(auto, unfolding(crate::specs::Table::table_line))]
+pub fn table_line(command: Command) -> Line
+    ensures { IsLine result (table_line command) }
 {
     table!(row_of command)
 }

@@ -1,9 +1,9 @@
-//! How requests and answers are written in scripts and reports.
+//! The texts of requests and answers in scripts and reports.
 
 ghost use Rattle.std.specs.Prelude.{◌≡◌, ◌≤◌, ◌∷◌, [], length, codes, option_map, IfOk, string_bytes};
 ghost use Rattle.std.specs.Int.{w32, to_be_bytes};
 ghost use Rattle.hex.specs.Hex.{encode_lower};
-ghost use Rattle.hmc_codes.specs.Text.{spaced, flag_text, is_mdwr, value_in, operand_of, request_with, request_text, answer_text};
+ghost use Rattle.hmc_codes.specs.Text.{spaced_words, flag_text, is_mdwr, value_in, operand_of, request_with, request_text, answer_text};
 
 use crate::{Answer, Command, Memory, Payload, Request};
 use std::alloc::Global;
@@ -37,20 +37,22 @@ fn bare(alloc: Global, request: &Request) -> Result<String, Memory>
     Ok(format!(in alloc; "{word} {cube} 0x{address:x}")?)
 }
 
-// A request and the one word behind its address.
+// A request and the one word after its address.
 fn with_operand(alloc: Global, request: &Request, operand: &str) -> Result<String, Memory>
-    ensures { IfOk result (λ text. string_bytes text ≡ request_with request.now (operand.now ∷ [])) }
+    ensures { IfOk result (λ text.
+        string_bytes text ≡ request_with request.now (operand.now ∷ [])) }
 {
     let head = bare(alloc, request)?;
     Ok(format!(in alloc; "{head} {operand}")?)
 }
 
-// The word behind the address, if there is one.
+// The word after the address, if there is one.
 fn operand(alloc: Global, request: &Request) -> Result<Option<String>, Memory>
     ensures { IfOk result (λ word.
-        option_map string_bytes word ≡ operand_of (is_mdwr request.now.command) request.now.payload) }
+        option_map string_bytes word ≡
+        operand_of (is_mdwr request.now.command) request.now.payload) }
 {
-    request.keeps();
+    request.invariant();
     let payload = &request.payload;
     if request.command.is_mdwr() {
         let value = payload.value();
@@ -63,9 +65,10 @@ fn operand(alloc: Global, request: &Request) -> Result<Option<String>, Memory>
 }
 
 impl Request {
-    /// The request as a script has it, without the host and without a line feed: the command's word, the cube in decimal,
-    /// the address in hexadecimal behind `0x`, and the payload in lower-case hexadecimal, or of an `mdwr` its value in
-    /// decimal. Where there is no payload nothing stands behind the address. `Memory` comes only for want of memory.
+    /// The request as a script has it, without the host and without a line feed: the command's
+    /// word, the cube in decimal, `0x` and the address in hexadecimal, and the payload in
+    /// lower-case hexadecimal. An `mdwr` has its value in decimal in place of the payload. If there
+    /// is no payload, the address is the last word. `Memory` if out of memory.
     #[tactic(auto, unfolding(crate::specs::Text::request_text))]
     pub fn text(&self, alloc: Global) -> Result<String, Memory>
         ensures { IfOk result (λ text. string_bytes text ≡ request_text self.now) }
@@ -86,7 +89,8 @@ fn flag_digit(flag: bool) -> &'static str
 
 fn read_text(alloc: Global, flag: bool, payload: &Payload) -> Result<String, Memory>
     ensures { IfOk result (λ text.
-        string_bytes text ≡ spaced (codes "read" ∷ flag_text flag ∷ encode_lower payload.now ∷ [])) }
+        string_bytes text ≡ spaced_words
+        (codes "read" ∷ flag_text flag ∷ encode_lower payload.now ∷ [])) }
 {
     let flag = flag_digit(flag);
     let bytes = hex::encode(alloc, payload.as_slice())?;
@@ -95,16 +99,17 @@ fn read_text(alloc: Global, flag: bool, payload: &Payload) -> Result<String, Mem
 
 fn register_text(alloc: Global, value: u32) -> Result<String, Memory>
     ensures { IfOk result (λ text.
-        string_bytes text ≡ spaced (codes "register" ∷ encode_lower (to_be_bytes w32 value) ∷ [])) }
+        string_bytes text ≡ spaced_words
+        (codes "register" ∷ encode_lower (to_be_bytes w32 value) ∷ [])) }
 {
     let digits = hex::encode(alloc, value.to_be_bytes().as_slice())?;
     Ok(format!(in alloc; "register {digits}")?)
 }
 
 impl Answer {
-    /// The answer as a report has it, without a line feed: its word, then the flag as 0 or 1 and the bytes in lower-case
-    /// hexadecimal, the register's value in eight digits, or the error's number in decimal. `Memory` comes only for want of
-    /// memory.
+    /// The answer as a report has it, without a line feed: its word, then the flag as 0 or 1 and
+    /// the bytes in lower-case hexadecimal, the register's value in eight digits, or the error's
+    /// number in decimal. `Memory` if out of memory.
     #[tactic(auto, unfolding(crate::specs::Text::answer_text))]
     pub fn text(&self, alloc: Global) -> Result<String, Memory>
         ensures { IfOk result (λ text. string_bytes text ≡ answer_text self.now) }

@@ -3,4 +3,5 @@ mod Divide
 pub mod Bits
 mod Register
 pub mod Check
+mod TableLemmas
 mod Worked

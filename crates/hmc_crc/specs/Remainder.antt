@@ -7,12 +7,14 @@ use Rattle.hmc_crc.specs.Bits.{bits_of, number_of}
 
 -- the powers of x in the divisor, below its leading x ^ 32
 abbrev pub powers_of_divisor : List ℕ
-powers_of_divisor = 30 ∷ 29 ∷ 28 ∷ 26 ∷ 20 ∷ 19 ∷ 17 ∷ 16 ∷ 15 ∷ 11 ∷ 10 ∷ 7 ∷ 6 ∷ 4 ∷ 2 ∷ 1 ∷ 0 ∷ []
+powers_of_divisor =
+    30 ∷ 29 ∷ 28 ∷ 26 ∷ 20 ∷ 19 ∷ 17 ∷ 16 ∷ 15 ∷ 11 ∷ 10 ∷ 7 ∷ 6 ∷ 4 ∷ 2 ∷ 1 ∷ 0 ∷ []
 
 -- the coefficients below x ^ width of a sum of powers of x
 unfoldable pub coefficients : ℕ → List ℕ → List Bool
 coefficients zero powers = []
-coefficients (suc width) powers = list_any (λ power. power == width) powers ∷ coefficients width powers
+coefficients (suc width) powers =
+    list_any (λ power. power == width) powers ∷ coefficients width powers
 
 -- the divisor without its leading x ^ 32
 unfoldable pub divisor : List Bool
@@ -29,8 +31,8 @@ plus [] ys = ys
 plus (x ∷ xs) [] = x ∷ xs
 plus (x ∷ xs) (y ∷ ys) = xor x y ∷ plus xs ys
 
--- what is left after n steps of long division: each drops the leading coefficient, and where that is
--- one adds the divisor, whose own leading one has cancelled it, to what follows
+-- what is left after n steps of long division: each drops the leading coefficient, and where that
+-- is one adds the divisor, whose own leading one has cancelled it, to what follows
 unfoldable pub divide : List Bool → ℕ → List Bool → List Bool
 divide by zero bits = bits
 divide by (suc n) [] = []

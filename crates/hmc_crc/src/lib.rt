@@ -5,11 +5,13 @@
 //! is the remainder of that polynomial times x^32. Nothing is reflected, added before or inverted
 //! after.
 //!
-//! A layer above uses [`crc`], whose result is `crc_of` of the bytes, and [`check_is_a_word`],
-//! which says that `crc_of` fits 32 bits whatever the bytes are. Which bytes of a packet are
-//! covered, and where the check stands in it, is the packet layer's.
+//! [`crc`] returns `crc_of` of the bytes, and [`check_is_a_word`] states that `crc_of` fits 32 bits
+//! whatever the bytes are. Which bytes of a packet are covered, and where the check is in it, is
+//! defined by the packet layer.
 #![tactic(auto)]
 
 mod remainder;
+mod table;
 
 pub use remainder::{POLYNOMIAL, check_is_a_word, crc};
+pub use table::crc_fast;

@@ -18,8 +18,8 @@ pub fn crc(bytes: &[u8]) -> u32
     register
 }
 
-/// Every check is a number of 32 bits, and every remainder has 32 coefficients. It runs nothing: a
-/// layer above calls it to have these two facts.
+/// Does nothing. Its contract is that every check is a number of 32 bits, and that every remainder
+/// has 32 coefficients.
 pub fn check_is_a_word()
     ensures below { (bytes : List ℕ) → crc_of bytes < 2 ^ 32 }
     ensures coefficients { (bytes : List ℕ) → length (remainder bytes) ≡ 32 }

@@ -1,7 +1,7 @@
-//! The ports of a cube, and where a packet goes that stands in one.
+//! The ports of a cube, and where a packet goes from one.
 //!
-//! A [`PortBuffer`] is the input buffer of a port. [`To`] names the places that a packet can go to from there, and
-//! [`To::of`] the one that a packet goes to, as `where_to` says it.
+//! A [`PortBuffer`] is the input buffer of a port. [`To`] names the places that a packet can go to
+//! from there. [`To::of`] is the place of a packet, by the definition `where_to`.
 #![tactic(auto)]
 
 mod to;

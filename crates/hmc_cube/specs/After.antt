@@ -1,4 +1,4 @@
--- What the calls of a cube answer and leave.
+-- What the calls of a cube return and leave.
 use Rattle.std.specs.Prelude.{ℕ, [], ◌∷◌, ◌++◌, drop}
 use Rattle.hmc_codes.specs.declared.lift.Lift.{Lift}
 use Rattle.hmc_codes.specs.declared.lift.Lift.TheVariants as lifts
@@ -17,43 +17,50 @@ use Rattle.hmc_cube.specs.Cube.{CubeFields, vault_at, with_vault}
 -- a packet has entered a vault, or the queue of the registers
 abbrev pub after_enter : To → PacketFields → CubeFields → CubeFields
 after_enter (Vault vault) packet cube =
-    with_vault cube vault (record (vault_at cube vault) { entering = (vault_at cube vault).entering ++ packet ∷ [] })
-after_enter Registers packet cube = record cube { waiting = cube.waiting ++ packet ∷ [] }
+    with_vault cube vault (record (vault_at cube vault) {
+      vault_queue = (vault_at cube vault).vault_queue ++ packet ∷ [];
+    })
+after_enter Registers packet cube =
+    record cube { register_queue = cube.register_queue ++ packet ∷ [] }
 after_enter _ packet cube = cube
 
--- a spread of a vault has answered this
+-- a spread of a vault has returned this
 abbrev pub after_spread : (vault : ℕ) → Spread → CubeFields → CubeFields
-after_spread vault (Moved bank) cube = with_vault cube vault (spread_gives (Moved bank) (vault_at cube vault))
+after_spread vault (Moved bank) cube =
+    with_vault cube vault (spread_gives (Moved bank) (vault_at cube vault))
 after_spread vault _ cube = cube
 
--- what an execution by a bank answers
+-- what an execution by a bank returns
 abbrev pub bank_says : CubeFields → (vault bank : ℕ) → Executed
 bank_says cube vault bank =
-    execute_says (bank_at (vault_at cube vault) bank) (vault_at cube vault).answers cube.size cube.state
+    execute_says (bank_at (vault_at cube vault) bank) (vault_at cube vault).answers
+    cube.size cube.state
 
--- an execution by a bank has answered this
+-- an execution by a bank has returned this
 abbrev pub after_execute : (vault bank : ℕ) → Executed → CubeFields → CubeFields
 after_execute vault bank (Ran host tag request answer) cube =
-    record (with_vault cube vault (execute_gives bank (Ran host tag request answer) (vault_at cube vault))) {
-      state = cube_after (Ran host tag request answer) cube.state;
+    let ran = Ran host tag request answer in
+    record (with_vault cube vault (execute_gives bank ran (vault_at cube vault))) {
+      state = cube_after ran cube.state;
     }
 after_execute vault bank _ cube = cube
 
--- what an execution by the registers answers
+-- what an execution by the registers returns
 abbrev pub registers_say : CubeFields → Executed
-registers_say cube = execute_says cube.waiting cube.answers cube.size cube.state
+registers_say cube = execute_says cube.register_queue cube.answers cube.size cube.state
 
--- an execution by the registers has answered this
+-- an execution by the registers has returned this
 abbrev pub after_registers : Executed → CubeFields → CubeFields
 after_registers executed cube =
     record cube {
       state = cube_after executed cube.state;
-      waiting = waiting_after executed cube.waiting;
+      register_queue = waiting_after executed cube.register_queue;
       answers = answers_after executed cube.answers;
     }
 
 -- the front of the answers of a place was lifted, if there was one
 abbrev pub after_lift : Lift → CubeFields → CubeFields
 after_lift (lifts.Vault vault) cube =
-    with_vault cube vault (record (vault_at cube vault) { answers = drop 1 (vault_at cube vault).answers })
+    with_vault cube vault
+    (record (vault_at cube vault) { answers = drop 1 (vault_at cube vault).answers })
 after_lift lifts.Registers cube = record cube { answers = drop 1 cube.answers }

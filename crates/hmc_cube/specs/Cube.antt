@@ -5,12 +5,12 @@ use Rattle.hmc_packet.specs.Packet.{PacketFields}
 use Rattle.hmc_serial.specs.Cube.{CubeState, opening}
 use Rattle.hmc_vault.specs.Vault.{VaultFields, opening_vault, held_by}
 
--- memory and registers, the vaults, and the requests that wait for the registers with the answers to them;
--- each queue has room for so many packets
+-- memory and registers, the vaults, the requests that wait for the registers, and their answers;
+-- each queue has room for `size` packets
 pub record CubeFields : Type 0 where
   pub state : CubeState
   pub vaults : List VaultFields
-  pub waiting : List PacketFields
+  pub register_queue : List PacketFields
   pub answers : List PacketFields
   pub size : ℕ
 
@@ -19,14 +19,14 @@ abbrev pub opening_cube : (number : ℕ) → ShapeFields → (size : ℕ) → Cu
 opening_cube number shape size = record {
   state = opening shape number;
   vaults = replicate (2 ^ shape.vault_bits) (opening_vault shape.bank_bits size);
-  waiting = [];
+  register_queue = [];
   answers = [];
   size = size;
 }
 
--- what stands for a vault that isn't there
+-- the value for a vault that isn't there
 abbrev pub no_vault : VaultFields
-no_vault = record { entering = []; banks = []; answers = []; size = 0 }
+no_vault = record { vault_queue = []; banks = []; answers = []; size = 0 }
 
 -- the vault with a number
 abbrev pub vault_at : CubeFields → ℕ → VaultFields
@@ -38,4 +38,4 @@ with_vault cube place vault = record cube { vaults = slice_set cube.vaults place
 
 -- the number of packets in all queues
 abbrev pub held_in_cube : CubeFields → ℕ
-held_in_cube cube = sum_by held_by cube.vaults + length cube.waiting + length cube.answers
+held_in_cube cube = sum_by held_by cube.vaults + length cube.register_queue + length cube.answers

@@ -1,9 +1,9 @@
 -- The queues of a cube that packets enter, and those that they are lifted from.
-use Rattle.std.specs.Prelude.{◌≡◌, ◌<◌, ◌^◌, false, ◌⊎◌, List, []}
+use Rattle.std.specs.Prelude.{◌≡◌, ◌<◌, ◌^◌, true, false, List, []}
 use Rattle.hmc_codes.specs.declared.lift.Lift.{Lift}
 use Rattle.hmc_codes.specs.declared.lift.Lift.TheVariants as lifts
-use Rattle.hmc_codes.specs.declared.command.Command.TheVariants.{Mdwr, Mdrd}
 use Rattle.hmc_packet.specs.Packet.{PacketFields}
+use Rattle.hmc_serial.specs.Unit.{is_for_registers}
 use Rattle.hmc_crossbar.specs.declared.to.To.{To}
 use Rattle.hmc_crossbar.specs.declared.to.To.TheVariants.{Vault, Registers}
 use Rattle.hmc_vault.specs.Packets.{IsForBanks}
@@ -12,7 +12,7 @@ use Rattle.hmc_cube.specs.Cube.{CubeFields, vault_at}
 -- an unpoisoned request that reads or writes a register
 pub record IsForRegisters (packet : PacketFields) : Type 0 where
   pub unpoisoned : packet.poisoned ≡ false
-  pub register : (packet.command ≡ Mdrd) ⊎ (packet.command ≡ Mdwr)
+  pub for_registers : is_for_registers packet.command ≡ true
 
 -- a vault of the cube, or its registers
 abbrev pub IsHere : CubeFields → To → Type 0
@@ -28,8 +28,8 @@ IsFor _ packet = ⊥
 
 -- the queue that packets to a place enter
 abbrev pub entrance : CubeFields → To → List PacketFields
-entrance cube (Vault vault) = (vault_at cube vault).entering
-entrance cube Registers = cube.waiting
+entrance cube (Vault vault) = (vault_at cube vault).vault_queue
+entrance cube Registers = cube.register_queue
 entrance cube _ = []
 
 -- the answers of a vault of the cube, or those of its registers

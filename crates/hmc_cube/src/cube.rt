@@ -1,6 +1,7 @@
 //! One cube.
 
 ghost use Rattle.std.specs.Prelude.{◌≡◌, ◌≤◌, ◌<◌, ◌+◌, ◌%◌, ◌^◌, ◌↔◌, [], IsTrue, IfOk, All, length, replicate, slice_get, slice_range, sum_by};
+ghost use Rattle.hmc_codes.specs.Limits.{most_vault_bits, most_bank_bits};
 ghost use Rattle.hmc_codes.specs.Shape.{capacity_of};
 ghost use Rattle.hmc_vault.specs.Packets.{IsForBanks};
 ghost use Rattle.hmc_vault.specs.Vault.{opening_vault, bank_at, held_by};
@@ -25,51 +26,53 @@ pub struct Cube {
     banks: Banks,
     registers: Registers,
     vaults: Vec<Vault>,
-    // The requests that wait for the registers, and the answers to them.
-    waiting: Queue,
+    // The requests that wait for the registers, and their answers.
+    register_queue: Queue,
     answers: Queue,
 }
 
 impl Model for Cube {
     ghost use Rattle.hmc_cube.specs.Cube.{CubeFields};
-    ghost use Rattle.hmc_cube.specs.Kept.{whole, IsKept};
+    ghost use Rattle.hmc_cube.specs.Kept.{cube_of_parts, IsCubeOfParts};
 
     ghost Value = { CubeFields };
 
-    ghost view = { λ c. whole c.banks c.registers c.vaults.items c.waiting c.answers };
+    ghost view = { λ c.
+        cube_of_parts c.banks c.registers c.vaults.items c.register_queue c.answers };
 
-    ghost invariant = { λ c. IsKept c.banks.shape c.vaults.items c.waiting c.answers };
+    ghost invariant = { λ c.
+        IsCubeOfParts c.banks.shape c.vaults.items c.register_queue c.answers };
 }
 
 impl Cube {
     ghost use Rattle.hmc_cube.specs.Parts.{AreParts};
 
-    /// A cube with this number and shape, whose queues have room for so many packets each and hold none. All its bytes are
-    /// zero.
+    /// A cube with this number and shape. Each queue is empty and has room for this number of
+    /// packets. All its bytes are zero. `Memory` if out of memory.
     pub fn new(alloc: Global, number: u8, shape: Shape, queue: u8) -> Result<Self, Memory>
         ensures { IfOk result (λ cube. cube ≡ opening_cube number shape queue) }
     {
-        shape.keeps();
+        shape.invariant();
         let registers = Registers::new(number, shape);
         let vaults = new_vaults(alloc, 1 << shape.vault_bits, shape.bank_bits, queue)?;
-        let waiting = Queue::new(alloc, queue)?;
+        let register_queue = Queue::new(alloc, queue)?;
         let answers = Queue::new(alloc, queue)?;
         let banks = Banks::new(alloc, shape)?;
         Ok(Cube {
             banks,
             registers,
             vaults,
-            waiting,
+            register_queue,
             answers,
         })
     }
 
-    /// Nothing is done: what each cube keeps is the contract.
-    pub fn keeps(&self)
+    /// Does nothing. Its contract is what every cube keeps.
+    pub fn invariant(&self)
         ensures { AreParts self.now }
     {
-        self.banks.keeps();
-        self.registers.keeps();
+        self.banks.invariant();
+        self.registers.invariant();
     }
 
     /// Whether a vault, or the queue of the registers, has room for a packet.
@@ -79,12 +82,12 @@ impl Cube {
     {
         match to {
             To::Vault(vault) => self.vaults[usize::from(vault)].enter_room(),
-            To::Registers => self.waiting.used() < self.waiting.size(),
+            To::Registers => self.register_queue.used() < self.register_queue.size(),
             To::Port(_) | To::Nowhere => unreachable!(),
         }
     }
 
-    /// Takes a request into a vault, or into the queue of the registers.
+    /// Appends a request to a vault's queue, or to the queue of the registers.
     pub fn enter(&mut self, to: To, packet: Packet)
         requires here { IsHere self.old to }
         requires room { length (entrance self.old to) < self.old.size }
@@ -109,11 +112,11 @@ impl Cube {
     }
 
     fn enter_registers(&mut self, packet: Packet)
-        requires room { length self.old.waiting < self.old.size }
+        requires room { length self.old.register_queue < self.old.size }
         requires request { IsForRegisters packet }
         ensures { self.new ≡ after_enter To.Registers packet self.old }
     {
-        self.waiting.take_in(packet);
+        self.register_queue.take_in(packet);
     }
 
     /// Moves the front of a vault's queue to the queue of its bank.
@@ -146,10 +149,10 @@ impl Cube {
         ensures answer { result ≡ registers_say self.old }
         ensures leaves { self.new ≡ after_registers result self.old }
         ensures shape { self.new.state.shape ≡ self.old.state.shape }
-        ensures empty { (result ≡ Executed.Empty) ↔ (self.old.waiting ≡ []) }
+        ensures empty { (result ≡ Executed.Empty) ↔ (self.old.register_queue ≡ []) }
     {
         execute_front(
-            &mut self.waiting,
+            &mut self.register_queue,
             &mut self.answers,
             &mut self.banks,
             &mut self.registers,
@@ -167,7 +170,7 @@ impl Cube {
         }
     }
 
-    /// Removes that front and gives it.
+    /// Removes that front and returns it.
     pub fn lift(&mut self, from: Lift) -> Option<Packet>
         requires { IsLift self.old from }
         ensures front { result ≡ slice_get (answers_at self.old from) 0 }
@@ -195,7 +198,7 @@ impl Cube {
         self.answers.take_out()
     }
 
-    /// The number of bytes, 256 to 134,217,728.
+    /// The number of bytes, 32 to 134,217,728.
     pub fn capacity(&self) -> u64
         ensures { result ≡ capacity_of self.now.state.shape }
     {
@@ -211,7 +214,7 @@ impl Cube {
         self.banks.get16(place)
     }
 
-    /// The value of a register, if there is one with this number.
+    /// The value of a register, or `None` if there is none with this number.
     pub fn register(&self, number: u64) -> Option<u32>
         ensures { result ≡ slice_get self.now.state.registers number }
     {
@@ -222,14 +225,15 @@ impl Cube {
     pub fn held(&self) -> u32
         ensures { result ≡ held_in_cube self.now }
     {
-        held_in(&self.vaults) + self.waiting.used() + self.answers.used()
+        held_in(&self.vaults) + self.register_queue.used() + self.answers.used()
     }
 }
 
-// So many new vaults.
+// This number of new vaults.
 fn new_vaults(alloc: Global, count: usize, bank_bits: u8, queue: u8) -> Result<Vec<Vault>, Memory>
-    requires { bank_bits ≤ 4 }
-    ensures { IfOk result (λ vaults. vaults.items ≡ replicate count (opening_vault bank_bits queue)) }
+    requires { bank_bits ≤ most_bank_bits }
+    ensures { IfOk result (λ vaults.
+        vaults.items ≡ replicate count (opening_vault bank_bits queue)) }
 {
     let mut vaults = Vec::with_capacity(alloc, count)?;
     for i in 0..count {
@@ -240,7 +244,7 @@ fn new_vaults(alloc: Global, count: usize, bank_bits: u8, queue: u8) -> Result<V
 
 // The number of packets in vaults.
 fn held_in(vaults: &[Vault]) -> u32
-    requires { length vaults.now ≤ 32 }
+    requires { length vaults.now ≤ 2 ^ most_vault_bits }
     ensures held { result ≡ sum_by held_by vaults.now }
     ensures few { result < 2 ^ 20 }
 {

@@ -1,7 +1,8 @@
 //! Changes of one case, each with the fault that it is reported as.
 //!
-//! The table is a text. A line `- LINE` takes the place of that line of the base case, with the lines `+ LINE` that follow it;
-//! `= REPORT` ends a change. Lines that begin otherwise are passed over.
+//! The table is a text. A line `- LINE` takes that line out of the base case, and the lines
+//! `+ LINE` that follow it are put in its place; `= REPORT` ends a change. Lines that begin
+//! otherwise are skipped.
 
 use std::alloc::{AllocError, Global};
 
@@ -21,8 +22,8 @@ fn push_new(text: &mut String, change: &[&str]) -> Result<(), AllocError> {
     Ok(())
 }
 
-// What stands behind the place where the change takes this line away.
-fn behind<'c, 't>(line: &str, change: &'c [&'t str]) -> Option<&'c [&'t str]> {
+// What follows the place where the change takes this line out.
+fn after_removal<'c, 't>(line: &str, change: &'c [&'t str]) -> Option<&'c [&'t str]> {
     for at in 0..change.len() {
         if change[at].strip_prefix("- ") == Some(line) {
             return Some(&change[at + 1..]);
@@ -35,7 +36,7 @@ fn behind<'c, 't>(line: &str, change: &'c [&'t str]) -> Option<&'c [&'t str]> {
 pub fn changed(alloc: Global, base: &str, change: &[&str]) -> Result<String, AllocError> {
     let mut text = String::new(alloc);
     for line in base.lines() {
-        match behind(line, change) {
+        match after_removal(line, change) {
             Some(new) => push_new(&mut text, new)?,
             None => push_line(&mut text, line)?,
         }

@@ -1,7 +1,7 @@
 //! Texts of scripts and schedules, each with the fault that it is reported as.
 //!
-//! The table is a text. `TEXT = LINE KIND` is a row; in its text `\n`, `\r` and `\t` stand for those bytes. Lines with no ` = `
-//! are passed over.
+//! The table is a text. `TEXT = LINE KIND` is a row; in its text `\n`, `\r` and `\t` are those
+//! bytes. Lines without ` = ` are skipped.
 
 use hmc_codes::Shape;
 use hmc_schedule::{CubePlan, Plan, Schedule, ScheduleFault};
@@ -17,13 +17,15 @@ pub enum Texts {
     Schedules(Plan),
 }
 
-/// One host, two directions of links, and one cube with one vault of one bank: twelve steps a round.
+/// One host, two directions of links, and one cube with one vault of one bank: twelve steps a
+/// round.
 pub fn small(alloc: Global) -> Result<Plan, AllocError> {
     let cube = CubePlan {
         shape: Shape {
             vault_bits: 0,
             bank_bits: 0,
             rows: 4,
+            block: 256,
         },
         ports: [true, false, false, false],
     };
@@ -41,6 +43,7 @@ pub fn wide(alloc: Global) -> Result<Plan, AllocError> {
             vault_bits: 1,
             bank_bits: 1,
             rows: 4,
+            block: 256,
         },
         ports: [true, false, true, false],
     };
@@ -49,6 +52,7 @@ pub fn wide(alloc: Global) -> Result<Plan, AllocError> {
             vault_bits: 0,
             bank_bits: 2,
             rows: 4,
+            block: 256,
         },
         ports: [false, true, false, false],
     };
@@ -59,7 +63,7 @@ pub fn wide(alloc: Global) -> Result<Plan, AllocError> {
     })
 }
 
-// The bytes that the text of a row stands for.
+// The bytes that the text of a row is for.
 fn unescaped(alloc: Global, text: &str) -> Result<String, AllocError> {
     let text = text.replace(alloc, "\\n", "\n")?;
     let text = text.replace(alloc, "\\r", "\r")?;

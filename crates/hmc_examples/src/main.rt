@@ -1,6 +1,7 @@
-//! Replays each example case, and compares its report with the one that stands beside it. Reports came from a model in another
-//! language, or were found by hand (docs/DECISIONS.md says which). Then it replays each bad case of a table, and reads each
-//! script and schedule of further tables, and compares the faults.
+//! Replays each example case, and compares its report with the one beside it. Those reports came
+//! from a model in another language, or were found by hand (docs/DECISIONS.md says which). Then it
+//! replays each bad case of a table, reads each script and schedule of further tables, and compares
+//! the faults.
 #![tactic(auto)]
 
 mod faults;
@@ -54,7 +55,7 @@ fn file(rt: &(impl Files + AllocGlobal), name: &str) -> Result<String, io::Error
     fs::read_to_string(rt, name)
 }
 
-// Whether the example's report is the one that stands beside it.
+// Whether the example's report is the one beside it.
 fn example_is_reported(rt: &(impl Files + AllocGlobal), name: &str) -> Result<bool, io::Error> {
     let alloc = rt.alloc();
     let case = file(rt, format!(in alloc; "{name}.toml")?.as_str())?;
@@ -96,7 +97,7 @@ fn faults_reported<'a>(
     Ok((count, None))
 }
 
-// Tells how many rows were reported as they say, and which is the first that wasn't.
+// Prints how many rows were reported as they say, and which is the first that wasn't.
 fn print_count(
     rt: &impl Print,
     name: &str,
@@ -110,7 +111,7 @@ fn print_count(
     Ok(())
 }
 
-// Reads each text of a table, and tells how many faults are as it says.
+// Reads each text of a table, and prints how many faults are as it says.
 fn print_table(
     rt: &(impl Files + AllocGlobal + Print),
     name: &str,

@@ -12,7 +12,7 @@ use Rattle.hmc_host.specs.declared.given.Given.{Given}
 use Rattle.hmc_host.specs.declared.given.Given.TheVariants.{Ended, Fence, Tags, Full, Gave}
 use Rattle.hmc_host.specs.Tags.{lowest_free, IsFree, IsOut, IsLowestFree, with_out}
 use Rattle.hmc_host.specs.Host.{HostFields, IsHost}
-use Rattle.hmc_host.specs.Give.{wants_tag, tag_for, gave, next_item, next_says, give_says, after_give, taken_tag}
+use Rattle.hmc_host.specs.Give.{wants_tag, tag_for, gave_request, next_item, next_says, give_says, after_give, taken_tag}
 
 -- ---- tags
 
@@ -52,7 +52,7 @@ none_free tags none tag within =
 -- a request goes out unless something holds it
 abbrev held : (fence lacks full : Bool) → (number : ℕ) → ItemFields → (tag : Option ℕ) → Given
 held fence lacks full number item tag =
-    (if fence then Fence else if lacks then Tags else if full then Full else gave number item tag)
+    (if fence then Fence else if lacks then Tags else if full then Full else gave_request number item tag)
 
 held_not_ended : (fence lacks full : Bool) (number : ℕ) (item : ItemFields) (tag : Option ℕ) → held fence lacks full number item tag ≢ Ended
 held_not_ended true lacks full number item tag is = cc

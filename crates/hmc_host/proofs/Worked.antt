@@ -1,18 +1,18 @@
--- Definitions computed at host 2, where three tags stand for all.
+-- Definitions computed at host 2: with three tags, and with all of them.
 use Rattle.std.proofs.Common.{◌≡◌, ℕ, Bool, List, [], ◌∷◌, Option, Some, None, true, false, refl}
-use Rattle.std.specs.Prelude.{map}
-use Rattle.hmc_codes.specs.Table.{line_of}
+use Rattle.std.specs.Prelude.{map, length, replicate, ◌++◌}
+use Rattle.hmc_codes.specs.Table.{table_line}
 use Rattle.hmc_codes.specs.declared.command.Command.{Command}
 use Rattle.hmc_codes.specs.declared.command.Command.TheVariants.{Rd16, Pinc8, WrRs}
 use Rattle.hmc_codes.specs.declared.answer.Answer.TheVariants as answers
 use Rattle.hmc_codes.specs.Request.{RequestFields}
 use Rattle.hmc_packet.specs.Packet.{PacketFields, null_packet}
-use Rattle.hmc_packet.specs.Transactions.{asked, answer_by, answer_in}
+use Rattle.hmc_packet.specs.Transactions.{request_packet, answer_by, answer_in}
 use Rattle.hmc_script.specs.Items.{ItemFields}
 use Rattle.hmc_host.specs.declared.given.Given.{Given}
 use Rattle.hmc_host.specs.declared.given.Given.TheVariants.{Ended, Fence, Tags, Full, Gave}
 use Rattle.hmc_host.specs.declared.settled.Settled.TheVariants.{Discarded, Took}
-use Rattle.hmc_host.specs.Tags.{lowest_free, number_out, IsFree, IsOut}
+use Rattle.hmc_host.specs.Tags.{none_out, lowest_free, number_out, IsFree, IsOut}
 use Rattle.hmc_host.specs.Host.{HostFields, items_of}
 use Rattle.hmc_host.specs.Give.{wants_tag, give_says, after_give}
 use Rattle.hmc_host.specs.Settle.{settle_says, after_settle}
@@ -23,7 +23,7 @@ request_with command = record { command = command; cube = 1; address = 0x40; pay
 abbrev item_of : (host : ℕ) (fenced poisoned : Bool) → Command → ItemFields
 item_of host fenced poisoned command = record { host = host; fenced = fenced; poisoned = poisoned; request = request_with command }
 
--- a read, a read behind a fence, a posted increment, and a poisoned read
+-- a read, a read after a fence, a posted increment, and a poisoned read
 abbrev read : ItemFields
 read = item_of 2 false false Rd16
 
@@ -47,7 +47,7 @@ host_with items tags = record { number = 2; items = items; given = 0; tags = tag
 
 -- a request goes out under a tag, or under none
 abbrev goes_out : Command → (tag : ℕ) → Option ℕ → (poisoned : Bool) → Given
-goes_out command carried tag poisoned = Gave (asked (request_with command) carried 2 poisoned) (request_with command) tag poisoned
+goes_out command carried tag poisoned = Gave (request_packet (request_with command) carried 2 poisoned) (request_with command) tag poisoned
 
 -- tags
 lowest_free-each : map lowest_free (two_out ∷ all_out ∷ []) ≡ Some 1 ∷ None ∷ []
@@ -62,47 +62,69 @@ IsFree-second = refl
 IsOut-third : IsOut two_out 2
 IsOut-third = refl
 
+-- a host has 2,048 tags, and none is out at first
+none_out-all : length none_out ≡ 2048
+unfolding none_out
+none_out-all = refl
+
+none_out-none : number_out none_out ≡ 0
+unfolding none_out
+none_out-none = refl
+
+-- a read takes tag 0 at first; under 2,047 tags the last one, and under 2,048 none
+give_says-first : give_says (host_with (read ∷ []) none_out) true ≡ goes_out Rd16 0 (Some 0) false
+unfolding give_says none_out table_line
+give_says-first = refl
+
+give_says-last : give_says (host_with (read ∷ []) (replicate 2047 true ++ false ∷ [])) true ≡ goes_out Rd16 2047 (Some 2047) false
+unfolding give_says table_line
+give_says-last = refl
+
+give_says-all_out : give_says (host_with (read ∷ []) (map (λ out. true) none_out)) true ≡ Tags
+unfolding give_says none_out table_line
+give_says-all_out = refl
+
 -- of a script a host has its own requests, in their order
 items_of-second : items_of 2 (read ∷ item_of 1 false false Rd16 ∷ posted ∷ item_of 3 true false Rd16 ∷ fenced ∷ []) ≡ read ∷ posted ∷ fenced ∷ []
 items_of-second = refl
 
 wants_tag-each : map wants_tag (read ∷ fenced ∷ posted ∷ poisoned ∷ item_of 2 false true Pinc8 ∷ []) ≡ true ∷ true ∷ false ∷ false ∷ false ∷ []
-unfolding line_of
+unfolding table_line
 wants_tag-each = refl
 
 -- all tags are out and there is no room: the fence comes first, then the tags, then the room
 give_says-order : map (λ (item : ItemFields). give_says (host_with (item ∷ []) all_out) false) (fenced ∷ read ∷ posted ∷ poisoned ∷ []) ≡ Fence ∷ Tags ∷ Full ∷ Full ∷ []
-unfolding give_says line_of
+unfolding give_says table_line
 give_says-order = refl
 
--- where no request is left nothing else is asked
+-- where no request is left nothing else matters
 give_says-ended : give_says (record (host_with (fenced ∷ []) all_out) { given = 1 }) false ≡ Ended
 unfolding give_says
 give_says-ended = refl
 
--- some tag is out: what stands behind a fence waits, and a read takes the lowest tag that isn't out
+-- some tag is out: a request after a fence waits, and a read takes the lowest tag that isn't out
 give_says-some_out : map (λ (item : ItemFields). give_says (host_with (item ∷ []) two_out) true) (fenced ∷ read ∷ []) ≡ Fence ∷ goes_out Rd16 1 (Some 1) false ∷ []
-unfolding give_says line_of
+unfolding give_says table_line
 give_says-some_out = refl
 
 -- none is out: a fence holds nothing
 give_says-fence_passed : give_says (host_with (fenced ∷ []) (false ∷ false ∷ [])) true ≡ goes_out Rd16 0 (Some 0) false
-unfolding give_says line_of
+unfolding give_says table_line
 give_says-fence_passed = refl
 
 -- posted and poisoned requests need no tag, and carry 0
 give_says-without_tag : map (λ (item : ItemFields). give_says (host_with (item ∷ []) all_out) true) (posted ∷ poisoned ∷ []) ≡ goes_out Pinc8 0 None false ∷ goes_out Rd16 0 None true ∷ []
-unfolding give_says line_of
+unfolding give_says table_line
 give_says-without_tag = refl
 
 -- a host without room asks for a tag first, and else for room
 give_says-full : give_says (host_with (read ∷ []) two_out) false ≡ Full
-unfolding give_says line_of
+unfolding give_says table_line
 give_says-full = refl
 
 -- the second request follows the first
 give_says-second : give_says (record (host_with (read ∷ posted ∷ []) two_out) { given = 1 }) true ≡ goes_out Pinc8 0 None false
-unfolding give_says line_of
+unfolding give_says table_line
 give_says-second = refl
 
 -- one more was given, and its tag is out
@@ -124,8 +146,8 @@ unfolding answer_in answer_by
 settle_says-each = refl
 
 -- its tag is no longer out
-after_settle-took : after_settle (Took 2 (answers.Done true)) (host_with (read ∷ []) all_out) ≡ host_with (read ∷ []) (true ∷ true ∷ false ∷ [])
-after_settle-took = refl
+after_settle-took_answer : after_settle (Took 2 (answers.Done true)) (host_with (read ∷ []) all_out) ≡ host_with (read ∷ []) (true ∷ true ∷ false ∷ [])
+after_settle-took_answer = refl
 
 after_settle-discarded : after_settle Discarded (host_with (read ∷ []) all_out) ≡ host_with (read ∷ []) all_out
 after_settle-discarded = refl

@@ -3,7 +3,7 @@ use Rattle.std.specs.Prelude.{ℕ, ◌+◌, Bool, not, ◌&&◌, if◌then◌els
 use Rattle.std.specs.Option.{unwrap_or}
 use Rattle.hmc_codes.specs.Commands.{is_posted}
 use Rattle.hmc_script.specs.Items.{ItemFields}
-use Rattle.hmc_packet.specs.Transactions.{asked}
+use Rattle.hmc_packet.specs.Transactions.{request_packet}
 use Rattle.hmc_host.specs.declared.given.Given.{Given}
 use Rattle.hmc_host.specs.declared.given.Given.TheVariants.{Ended, Fence, Tags, Full, Gave}
 use Rattle.hmc_host.specs.Tags.{is_some_out, lowest_free, with_out}
@@ -22,8 +22,10 @@ abbrev pub lacks_tag : ItemFields → (tags : List Bool) → Bool
 lacks_tag item tags = wants_tag item && is_none (lowest_free tags)
 
 -- a host's request goes out under a tag, or under tag 0 where it has none
-abbrev pub gave : (number : ℕ) → ItemFields → (tag : Option ℕ) → Given
-gave number item tag = Gave (asked item.request (unwrap_or tag 0) number item.poisoned) item.request tag item.poisoned
+abbrev pub gave_request : (number : ℕ) → ItemFields → (tag : Option ℕ) → Given
+gave_request number item tag =
+    Gave (request_packet item.request (unwrap_or tag 0) number item.poisoned)
+    item.request tag item.poisoned
 
 -- the next request goes out, unless a fence holds it, or it lacks a tag or room
 abbrev pub item_says : HostFields → ItemFields → (room : Bool) → Given
@@ -31,13 +33,13 @@ item_says host item room =
     (if item.fenced && is_some_out host.tags then Fence else
     if lacks_tag item host.tags then Tags else
     if not room then Full else
-    gave host.number item (tag_for item host.tags))
+    gave_request host.number item (tag_for item host.tags))
 
 -- the request that follows those that were given, if one is left
 abbrev pub next_item : HostFields → Option ItemFields
 next_item host = slice_get host.items host.given
 
--- what the host answers that has this request next
+-- what a host answers whose next request this is
 abbrev pub next_says : HostFields → Option ItemFields → (room : Bool) → Given
 next_says host None room = Ended
 next_says host (Some item) room = item_says host item room

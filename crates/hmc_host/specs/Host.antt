@@ -1,10 +1,11 @@
 -- A host, as the contracts see it.
 use Rattle.std.specs.Prelude.{◌≡◌, ◌≤◌, ◌<◌, ℕ, ◌==◌, Bool, List, length}
 use Rattle.std.specs.List.{filter}
+use Rattle.hmc_codes.specs.Limits.{most_hosts, most_requests, tags as all_tags}
 use Rattle.hmc_script.specs.Items.{ItemFields}
 use Rattle.hmc_host.specs.Tags.{none_out}
 
--- its number, its own requests of the script, how many of them it gave, and its tags
+-- its number, its own requests of the script, the number of those given, and its tags
 pub record HostFields : Type 0 where
   pub number : ℕ
   pub items : List ItemFields
@@ -17,11 +18,16 @@ items_of number script = filter (λ item. item.host == number) script
 
 -- at first no request was given and no tag is out
 abbrev pub opening_host : (number : ℕ) → (script : List ItemFields) → HostFields
-opening_host number script = record { number = number; items = items_of number script; given = 0; tags = none_out }
+opening_host number script = record {
+  number = number;
+  items = items_of number script;
+  given = 0;
+  tags = none_out;
+}
 
--- what each host keeps
+-- what every host keeps
 pub record IsHost (host : HostFields) : Type 0 where
-  pub number : host.number < 8
-  pub few : length host.items ≤ 65536
+  pub number : host.number < most_hosts
+  pub few : length host.items ≤ most_requests
   pub given : host.given ≤ length host.items
-  pub tags : length host.tags ≡ 2048
+  pub tags : length host.tags ≡ all_tags

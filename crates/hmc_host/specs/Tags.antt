@@ -1,12 +1,13 @@
 -- The tags of a host: a flag for each, true where the tag is out.
 use Rattle.std.specs.Prelude.{◌≡◌, ◌<◌, ℕ, nat_lt, Bool, true, false, not, List, length, replicate, slice_get, slice_set, count_by, Option, Some, None}
 use Rattle.std.specs.List.{position}
+use Rattle.hmc_codes.specs.Limits.{tags as all_tags}
 
 -- at first no tag is out
 unfoldable pub none_out : List Bool
-none_out = replicate 2048 false
+none_out = replicate all_tags false
 
--- how many tags are out
+-- the number of tags that are out
 abbrev pub number_out : List Bool → ℕ
 number_out tags = count_by (λ out. out) tags
 
@@ -36,7 +37,7 @@ pub record IsLowestFree (tags : List Bool) (tag : ℕ) : Type 0 where
   pub free : IsFree tags tag
   pub below : (lower : ℕ) → lower < tag → IsOut tags lower
 
--- what each host's tags keep: there are 2,048, and it is known how many are out
+-- what every host's tags keep: their number, and the number of those that are out
 pub record AreTags (tags : List Bool) (number : ℕ) : Type 0 where
-  pub all : length tags ≡ 2048
+  pub all : length tags ≡ all_tags
   pub count : number ≡ number_out tags

@@ -2,9 +2,10 @@
 
 ghost use Rattle.std.specs.Prelude.{◌≡◌, ◌≢◌, ◌<◌, ◌≤◌, ◌↔◌, ℕ, IfOk, OnOk, OnErr, true, false, length, ◌++◌, ◌∷◌, []};
 ghost use Rattle.std.specs.Option.{ForSome};
+ghost use Rattle.hmc_codes.specs.Limits.{most_hosts, most_requests, tags as all_tags};
 ghost use Rattle.hmc_host.specs.Tags.{number_out, IsFree, IsOut, IsLowestFree};
 ghost use Rattle.hmc_host.specs.Host.{opening_host, items_of, IsHost};
-ghost use Rattle.hmc_host.specs.Give.{wants_tag, tag_for, gave, give_says, after_give, taken_tag};
+ghost use Rattle.hmc_host.specs.Give.{wants_tag, tag_for, gave_request, give_says, after_give, taken_tag};
 ghost use Rattle.hmc_host.specs.Settle.{IsAwaited, settle_says, after_settle};
 
 use crate::tags::Tags;
@@ -15,7 +16,7 @@ use hmc_script::{Item, Script};
 use std::alloc::Global;
 use std::marker::Model;
 
-/// One host. Contracts see its number, its requests, how many of them it has given, and its tags.
+/// One host. Contracts see its number, its requests, the number of those given, and its tags.
 #[derive(Drop)]
 pub struct Host {
     number: u8,
@@ -29,20 +30,30 @@ impl Model for Host {
 
     ghost Value = { HostFields };
 
-    ghost view = { λ h. record { number = h.number; items = h.items.items; given = h.given; tags = h.tags } };
+    ghost view = { λ h. record {
+      number = h.number;
+      items = h.items.items;
+      given = h.given;
+      tags = h.tags;
+    } };
 
-    ghost invariant = { λ h. IsHost (record { number = h.number; items = h.items.items; given = h.given; tags = h.tags }) };
+    ghost invariant = { λ h. IsHost (record {
+      number = h.number;
+      items = h.items.items;
+      given = h.given;
+      tags = h.tags;
+    }) };
 }
 
 impl Host {
     /// A host that has given none of its requests of a script. The number is below 8.
     pub fn new(alloc: Global, number: u8, script: &Script) -> Result<Self, Memory>
-        requires { number < 8 }
+        requires { number < most_hosts }
         ensures { IfOk result (λ host. host ≡ opening_host number script.now) }
     {
         let items = items_of(alloc, number, script)?;
         let tags = Tags::new(alloc)?;
-        tags.keeps();
+        tags.invariant();
         Ok(Host {
             number,
             items,
@@ -51,17 +62,17 @@ impl Host {
         })
     }
 
-    /// Nothing is done: what each host keeps is the contract.
-    pub fn keeps(&self)
+    /// Does nothing. Its contract is what every host keeps.
+    pub fn invariant(&self)
         ensures { IsHost self.now }
     {
         let _ = &self.number;
     }
 
-    /// How many tags are out, at most 2,048.
+    /// The number of tags that are out, at most `TAGS`.
     pub fn out(&self) -> u16
         ensures number { result ≡ number_out self.now.tags }
-        ensures few { result ≤ 2048 }
+        ensures few { result ≤ all_tags }
     {
         self.tags.out()
     }
@@ -73,17 +84,17 @@ impl Host {
 
         // Where it ends, where it lacks a tag, and which tag it takes.
         ensures ended { (result ≡ Given.Ended) ↔ (self.old.given ≡ length self.old.items) }
-        ensures tags { result ≡ Given.Tags → (tag : ℕ) → tag < 2048 → IsOut self.old.tags tag }
+        ensures tags { result ≡ Given.Tags → (tag : ℕ) → tag < all_tags → IsOut self.old.tags tag }
         ensures lowest { ForSome (taken_tag result) (IsLowestFree self.old.tags) }
     {
-        self.keeps();
+        self.invariant();
         let given = self.next_given(room);
         self.note(&given);
         given
     }
 
-    /// Takes the answer of a packet that came, and frees its tag. A packet that isn't poisoned answers a request whose tag
-    /// is out.
+    /// Takes the answer of a packet that came, and frees its tag. A packet that isn't poisoned is a
+    /// reply whose tag is out.
     pub fn settle(&mut self, packet: &Packet) -> Settled
         requires { packet.now.poisoned ≡ false → IsAwaited self.old packet.now }
         ensures answer { result ≡ settle_says packet.now }
@@ -119,7 +130,7 @@ impl Host {
         if !room {
             return Given::Full;
         }
-        gave(self.number, item, tag)
+        gave_request(self.number, item, tag)
     }
 
     // A request was given, or nothing.
@@ -154,10 +165,10 @@ fn tag_for(item: &Item, tags: &Tags) -> Option<u16>
 }
 
 // A request as it goes out.
-fn gave(number: u8, item: &Item, tag: Option<u16>) -> Given
-    requires number { number < 8 }
-    requires tag { ForSome tag (λ tag. tag < 2048) }
-    ensures { result ≡ gave number item.now tag }
+fn gave_request(number: u8, item: &Item, tag: Option<u16>) -> Given
+    requires number { number < most_hosts }
+    requires tag { ForSome tag (λ tag. tag < all_tags) }
+    ensures { result ≡ gave_request number item.now tag }
 {
     Given::Gave {
         packet: ask(&item.request, tag.unwrap_or(0), number, item.poisoned),
@@ -170,9 +181,9 @@ fn gave(number: u8, item: &Item, tag: Option<u16>) -> Given
 // The requests of a host.
 fn items_of(alloc: Global, number: u8, script: &Script) -> Result<Vec<Item>, Memory>
     ensures items { IfOk result (λ items. items.items ≡ items_of number script.now) }
-    ensures few { IfOk result (λ items. length items.items ≤ 65536) }
+    ensures few { IfOk result (λ items. length items.items ≤ most_requests) }
 {
-    script.keeps();
+    script.invariant();
     let mut items = Vec::new(alloc);
     for at in 0..script.len() {
         let item = script.item(at);

@@ -9,8 +9,9 @@ pub enum Settled {
     Discarded,
     /// It answered a request.
     Took {
-        /// The request's tag, below 2,048. It is no longer out.
+        /// The request's tag, below `TAGS`. It is no longer out.
         tag: u16,
+        /// The answer to the request.
         answer: Answer,
     },
 }

@@ -2,20 +2,18 @@
 
 ghost use Rattle.std.specs.Prelude.{◌≡◌, ◌≤◌, ◌<◌, IfOk, false, length, slice_set};
 ghost use Rattle.std.specs.Option.{ForSome};
+ghost use Rattle.hmc_codes.specs.Limits.{tags as all_tags};
 ghost use Rattle.hmc_host.specs.Tags.{none_out, number_out, is_some_out, lowest_free, with_out, IsFree, IsOut};
 
-use hmc_codes::Memory;
+use hmc_codes::{Memory, TAGS};
 use std::alloc::Global;
 use std::marker::Model;
 
-/// How many tags a host has.
-const ALL: usize = 2048;
-
-/// Which of the 2,048 tags of a host are out. Contracts see a flag for each.
+/// Which tags of a host are out. Contracts see a flag for each of them.
 #[derive(Drop)]
 pub struct Tags {
     flags: Vec<bool>,
-    // How many are out.
+    // The number of those that are out.
     number: u16,
 }
 
@@ -36,21 +34,21 @@ impl Tags {
     pub fn new(alloc: Global) -> Result<Self, Memory>
         ensures { IfOk result (λ tags. tags ≡ none_out) }
     {
-        let flags = vec![in alloc; false; ALL]?;
+        let flags = vec![in alloc; false; TAGS as usize]?;
         Ok(Tags { flags, number: 0 })
     }
 
-    /// Nothing is done: how many tags there are is the contract.
-    pub fn keeps(&self)
-        ensures { length self.now ≡ 2048 }
+    /// Does nothing. Its contract is the number of tags.
+    pub fn invariant(&self)
+        ensures { length self.now ≡ all_tags }
     {
         let _ = &self.flags;
     }
 
-    /// How many tags are out, at most all.
+    /// The number of tags that are out.
     pub fn out(&self) -> u16
         ensures number { result ≡ number_out self.now }
-        ensures few { result ≤ 2048 }
+        ensures few { result ≤ all_tags }
     {
         self.number
     }
@@ -62,10 +60,10 @@ impl Tags {
         0 < self.number
     }
 
-    /// The lowest tag that isn't out. No more flags are looked at than there are tags out, and one.
+    /// The lowest tag that isn't out, if there is one.
     pub fn lowest_free(&self) -> Option<u16>
         ensures lowest { result ≡ lowest_free self.now }
-        ensures small { ForSome result (λ tag. tag < 2048) }
+        ensures small { ForSome result (λ tag. tag < all_tags) }
     {
         let tag = first_unset(&self.flags)?;
         Some(tag as u16)

@@ -1,5 +1,7 @@
--- Nothing is on its way where the test of all rooms that there are says so: in the others there is nothing.
+-- Nothing is on its way where the test of all queues that there are says so: in the others there is
+-- nothing.
 use Rattle.std.proofs.Common.{◌≡◌, ◌<◌, ◌+◌, ◌*◌, ◌/◌, ◌%◌, ◌^◌, ◌∙◌, ◌==◌, ◌&&◌, ℕ, zero, suc, Bool, true, false, if◌then◌else◌, Option, Some, None, List, [], ◌∷◌, ◌++◌, All, length, map, refl, sym, ap, subst, arith, eqb-true}
+use Rattle.std.specs.Prelude.{option_map}
 use Rattle.std.specs.List.{list_all, flat_map}
 use Rattle.std.proofs.lemmas.List.Elements.{All-head, All-nil, All-cons, All-append, All-drop, All-get_or}
 use Rattle.std.proofs.lemmas.List.Sums.{AllPass-from_list_all}
@@ -21,15 +23,17 @@ use Rattle.hmc_journal.specs.declared.outcome.Goal.{Goal}
 use Rattle.hmc_journal.specs.declared.outcome.Goal.TheVariants as goals
 use Rattle.hmc_journal.specs.declared.outcome.Outcome.{Outcome}
 use Rattle.hmc_journal.specs.declared.outcome.Outcome.TheVariants as outcomes
-use Rattle.hmc_journal.specs.Setup.{Topology, Setup, shape_of, is_for_registers, end_of}
+use Rattle.hmc_serial.specs.Unit.{is_for_registers}
+use Rattle.hmc_journal.specs.Setup.{Topology, Setup, shape_of, end_of, direction_from}
 use Rattle.hmc_journal.specs.Wires.{accepted}
-use Rattle.hmc_journal.specs.Rooms.{Room, arrival, buffer_at, begun, contents, entered, left, enters, goal_room, is_at, queue_of, answers_of, unless_posted, taken_in, packet_if}
-use Rattle.hmc_journal.specs.Rooms.Room.{Output, Port, Host, Vault, Bank, Registers, Answers}
-use Rattle.hmc_journal.specs.Drained.{IsDrained, is_drained, upto, direction_rooms, cube_rooms, vault_rooms}
-use Rattle.hmc_journal.specs.Housed.{IsOneCube}
+use Rattle.hmc_journal.specs.Queues.{QueueId, landing_buffer, buffer_at, begun, contents, entered, left, enters, goal_queue, queue_of, answers_of, unless_posted, taken_in, packet_if, Arrival, arrival_in, arrived, same_queue}
+use Rattle.hmc_journal.specs.Queues.QueueId.{Output, Port, Host, Vault, Bank, Registers, Answers}
+use Rattle.hmc_codes.specs.Numbers.{upto}
+use Rattle.hmc_journal.specs.Drained.{IsDrained, is_drained, direction_queues, cube_queues, vault_queues}
+use Rattle.hmc_journal.proofs.OneCube.{OneCube}
 use Rattle.hmc_journal.specs.Lawful.{Lawful}
-use Rattle.hmc_journal.proofs.Right.{Right, right_entry, lawful_past}
-use Rattle.hmc_journal.proofs.Moves.{room_is}
+use Rattle.hmc_journal.proofs.EntryRule.{EntryRule, entry_rule, lawful_past}
+use Rattle.hmc_journal.proofs.Moves.{same_queue_is, arrives}
 use Rattle.hmc_journal.proofs.Standing.{Stands, IsBound}
 use Rattle.hmc_journal.proofs.Entering.{Kept, contents_stand, front_stands, begun_stand}
 use Rattle.hmc_journal.proofs.OneLink.{one_link}
@@ -77,11 +81,11 @@ below_power n bits = let some : 0 < 2 ^ bits = pow_pos bits in omega arith
 vault_there : (topology : Topology) (vault : ℕ) (packet : PacketFields) → IsBound topology (goals.Vault vault) packet → vault < 2 ^ (shape_of topology 0).vault_bits
 vault_there topology vault packet is =
     let named : vault_of (shape_of topology 0) packet.address ≡ vault = named_vault (is_for_registers packet.command) (vault_of (shape_of topology 0) packet.address) vault is.is_goal in
-    subst (λ (n : ℕ). n < 2 ^ (shape_of topology 0).vault_bits) named (below_power (packet.address / 256) (shape_of topology 0).vault_bits)
+    subst (λ (n : ℕ). n < 2 ^ (shape_of topology 0).vault_bits) named (below_power (packet.address / (shape_of topology 0).block) (shape_of topology 0).vault_bits)
 
 bank_there : (topology : Topology) (bank : ℕ) (packet : PacketFields) → bank_of (shape_of topology 0) packet.address ≡ bank → bank < 2 ^ (shape_of topology 0).bank_bits
 bank_there topology bank packet is =
-    subst (λ (n : ℕ). n < 2 ^ (shape_of topology 0).bank_bits) is (below_power (packet.address / 256 / 2 ^ (shape_of topology 0).vault_bits) (shape_of topology 0).bank_bits)
+    subst (λ (n : ℕ). n < 2 ^ (shape_of topology 0).bank_bits) is (below_power (packet.address / (shape_of topology 0).block / 2 ^ (shape_of topology 0).vault_bits) (shape_of topology 0).bank_bits)
 
 -- answers of a vault enter from one of its banks alone
 from_bank : (posted : Bool) (unit : RequestUnit) (vault : ℕ) → unless_posted posted (answers_of unit) ≡ Some (Answers 0 (lifts.Vault vault)) → (bank : ℕ) × (queue_of unit ≡ Bank 0 vault bank)
@@ -97,48 +101,60 @@ not_buffer outcomes.Poisoned (places.Port cube port) vault is = cc
 not_buffer outcomes.Quiet place vault is = cc
 not_buffer outcomes.Gathered place vault is = cc
 
-not_goal : (topology : Topology) (cube : ℕ) (goal : Goal) (vault : ℕ) → Some (goal_room topology cube goal) ≡ Some (Answers 0 (lifts.Vault vault)) → ⊥
+not_output : (direction : Option ℕ) (vault : ℕ) → option_map Output direction ≡ Some (Answers 0 (lifts.Vault vault)) → ⊥
+not_output None vault is = cc
+not_output (Some direction) vault is = cc
+
+not_goal : (topology : Topology) (cube : ℕ) (goal : Goal) (vault : ℕ) → goal_queue topology cube goal ≡ Some (Answers 0 (lifts.Vault vault)) → ⊥
 not_goal topology cube (goals.Vault v) vault is = cc
 not_goal topology cube goals.Registers vault is = cc
-not_goal topology cube (goals.Port port) vault is = cc
+not_goal topology cube (goals.Port port) vault is = not_output (direction_from topology (places.Port cube port)) vault is
 
-entering_there : (setup : Setup) (one : IsOneCube setup) (entry : Entry) (past : List Entry) (vault : ℕ) → Right setup past entry → Kept setup one.port past → enters setup.topology entry ≡ Some (Answers 0 (lifts.Vault vault))
+abbrev entering_queue : Option Arrival → Option QueueId
+entering_queue None = None
+entering_queue (Some arrival) = Some arrival.queue
+
+queue_is : (there : Option QueueId) (packet : Unit {0} → PacketFields) → entering_queue (arrival_in there packet) ≡ there
+queue_is None packet = refl
+queue_is (Some queue) packet = refl
+
+entering_there : (setup : Setup) (one : OneCube setup) (entry : Entry) (past : List Entry) (vault : ℕ) → EntryRule setup past entry → Kept setup one.port past → entering_queue (arrives setup.topology past entry) ≡ Some (Answers 0 (lifts.Vault vault))
     → vault < 2 ^ (shape_of setup.topology 0).vault_bits
 unfolding enters
-entering_there setup one (Gave host tag poisoned request) past vault right kept is = cc
-entering_there setup one (Landed direction flit outcome) past vault right kept is = absurd (not_buffer outcome (end_of setup.topology direction) vault is)
-entering_there setup one (Shifted cube port goal) past vault right kept is = absurd (not_goal setup.topology cube goal vault is)
+entering_there setup one (Gave host tag poisoned request) past vault right kept is = absurd (not_output (direction_from setup.topology (places.Host host)) vault (sym (queue_is _ _) ∙ is))
+entering_there setup one (Landed direction flit outcome) past vault right kept is = absurd (not_buffer outcome (end_of setup.topology direction) vault (sym (queue_is _ _) ∙ is))
+entering_there setup one (Shifted cube port goal) past vault right kept is = absurd (not_goal setup.topology cube goal vault (sym (queue_is _ _) ∙ is))
 entering_there setup one (Spread cube v bank) past vault right kept is = cc
 entering_there setup one (Executed unit host tag request answer) past vault right kept is =
-    let from = from_bank (is_posted request.command) unit vault is in
+    let from = from_bank (is_posted request.command) unit vault (sym (queue_is _ _) ∙ is) in
     let stands = front_stands setup one.port past (queue_of unit) kept right.at in
-    let bound = subst (λ (room : Room). Stands setup.topology one.port room right.at.front) from.1 stands in
+    let bound = subst (λ (room : QueueId). Stands setup.topology one.port room right.at.front) from.1 stands in
     vault_there setup.topology vault right.at.front bound.bound
-entering_there setup one (Lifted cube from port) past vault right kept is = cc
+entering_there setup one (Lifted cube from port) past vault right kept is = absurd (not_output (direction_from setup.topology (places.Port cube port)) vault (sym (queue_is _ _) ∙ is))
 entering_there setup one _ past vault right kept is = cc
-
-at_room : (to : Option Room) (room : Room) → is_at to room ≡ true → to ≡ Some room
-at_room None room is = cc
-at_room (Some there) room is = ap Some (room_is there room is)
 
 entered_if : (P : PacketFields → Type 0) (here : Bool) (packet : Unit {0} → PacketFields) → (here ≡ true → P (packet tt)) → All P (packet_if here packet)
 entered_if P true packet holds = All-cons P (packet tt) [] (holds refl) (All-nil P)
 entered_if P false packet holds = All-nil P
 
-answers_there : (setup : Setup) (past : List Entry) (vault : ℕ) → IsOneCube setup → Lawful setup past → All (λ (packet : PacketFields). vault < 2 ^ (shape_of setup.topology 0).vault_bits) (entered setup.topology past (Answers 0 (lifts.Vault vault)))
-unfolding entered
+entered_then : (Q : Type 0) (room : QueueId) (to : Option Arrival) → (entering_queue to ≡ Some room → Q) → All (λ (packet : PacketFields). Q) (arrived room to)
+entered_then Q room None holds = All-nil (λ (packet : PacketFields). Q)
+entered_then Q room (Some arrival) holds = entered_if (λ (packet : PacketFields). Q) (same_queue arrival.queue room) arrival.packet (λ here. holds (ap Some (same_queue_is arrival.queue room here)))
+
+answers_there : (setup : Setup) (past : List Entry) (vault : ℕ) → OneCube setup → Lawful setup past → All (λ (packet : PacketFields). vault < 2 ^ (shape_of setup.topology 0).vault_bits) (entered setup.topology past (Answers 0 (lifts.Vault vault)))
+unfolding entered contents
 answers_there setup [] vault one lawful = All-nil (λ (packet : PacketFields). vault < 2 ^ (shape_of setup.topology 0).vault_bits)
 answers_there setup (entry ∷ past) vault one lawful =
     let P : PacketFields → Type 0 = λ packet. vault < 2 ^ (shape_of setup.topology 0).vault_bits in
     let before = lawful_past setup entry past lawful in
     All-append P (entered setup.topology past (Answers 0 (lifts.Vault vault))) _ (answers_there setup past vault one before)
-    (entered_if P (is_at (enters setup.topology entry) (Answers 0 (lifts.Vault vault))) _
-    (λ here. entering_there setup one entry past vault (right_entry setup entry past lawful) (kept setup past one before) (at_room (enters setup.topology entry) (Answers 0 (lifts.Vault vault)) here)))
+    (entered_then (vault < 2 ^ (shape_of setup.topology 0).vault_bits) (Answers 0 (lifts.Vault vault)) (arrives setup.topology past entry)
+    (entering_there setup one entry past vault (entry_rule setup entry past lawful) (kept setup past one before)))
 
 -- what the test says of each room that there is
 record IsEmptied (topology : Topology) (past : List Entry) : Type 0 where
   output : (direction : ℕ) → direction < 2 → contents topology past (Output direction) ≡ []
-  arrivals : (direction : ℕ) → direction < 2 → contents topology past (arrival topology direction) ≡ []
+  arrivals : (direction : ℕ) → direction < 2 → contents topology past (landing_buffer topology direction) ≡ []
   registers : contents topology past (Registers 0) ≡ []
   register_answers : contents topology past (Answers 0 lifts.Registers) ≡ []
   vaults : (vault : ℕ) → vault < 2 ^ (shape_of topology 0).vault_bits → contents topology past (Vault 0 vault) ≡ []
@@ -147,10 +163,10 @@ record IsEmptied (topology : Topology) (past : List Entry) : Type 0 where
   wires : (direction : ℕ) → direction < 2 → length (begun topology past direction) ≡ length (accepted direction past)
 
 -- whether a room is empty
-abbrev empties : Topology → List Entry → Room → Bool
+abbrev empties : Topology → List Entry → QueueId → Bool
 empties topology past room = length (contents topology past room) == 0
 
-vault_part : (p : Room → Bool) (topology : Topology) (vault : ℕ) → list_all p (vault_rooms topology 0 vault) ≡ true
+vault_part : (p : QueueId → Bool) (topology : Topology) (vault : ℕ) → list_all p (vault_queues topology 0 vault) ≡ true
     → (p (Vault 0 vault) ≡ true) × (list_all p (map (Bank 0 vault) (upto (2 ^ (shape_of topology 0).bank_bits))) ≡ true) × (p (Answers 0 (lifts.Vault vault)) ≡ true)
 vault_part p topology vault all =
     let banks = map (Bank 0 vault) (upto (2 ^ (shape_of topology 0).bank_bits)) in
@@ -158,24 +174,24 @@ vault_part p topology vault all =
     let second = both_hold (list_all p banks) (list_all p (Answers 0 (lifts.Vault vault) ∷ [])) (sym (list_all-append p banks (Answers 0 (lifts.Vault vault) ∷ [])) ∙ first.1) in
     (first.0, second.0, (both_hold (p (Answers 0 (lifts.Vault vault))) true second.1).0)
 
-bank_part : (p : Room → Bool) (vault n bank : ℕ) → list_all p (map (Bank 0 vault) (upto n)) ≡ true → bank < n → p (Bank 0 vault bank) ≡ true
+bank_part : (p : QueueId → Bool) (vault n bank : ℕ) → list_all p (map (Bank 0 vault) (upto n)) ≡ true → bank < n → p (Bank 0 vault bank) ≡ true
 bank_part p vault n bank all h = upto_at (λ b. p (Bank 0 vault b)) n bank (sym (list_all-map p (Bank 0 vault) (upto n)) ∙ all) h
 
 emptied : (topology : Topology) (past : List Entry) → length topology.cubes ≡ 1 → length topology.links ≡ 1 → is_drained topology past ≡ true → IsEmptied topology past
 unfolding is_drained
 emptied topology past one_cube one_link all =
     let p = empties topology past in
-    let directions = flat_map (direction_rooms topology) (upto (2 * length topology.links)) in
-    let cubes = flat_map (cube_rooms topology) (upto (length topology.cubes)) in
+    let directions = flat_map (direction_queues topology) (upto (2 * length topology.links)) in
+    let cubes = flat_map (cube_queues topology) (upto (length topology.cubes)) in
     let two = both_hold (list_all p (directions ++ cubes)) _ all in
-    let rooms = both_hold (list_all p directions) (list_all p cubes) (sym (list_all-append p directions cubes) ∙ two.0) in
-    let cube = flat_at p (cube_rooms topology) (length topology.cubes) 0 rooms.1 (omega arith) in
+    let queues = both_hold (list_all p directions) (list_all p cubes) (sym (list_all-append p directions cubes) ∙ two.0) in
+    let cube = flat_at p (cube_queues topology) (length topology.cubes) 0 queues.1 (omega arith) in
     let registers = both_hold (p (Registers 0)) _ cube in
     let register_answers = both_hold (p (Answers 0 lifts.Registers)) _ registers.1 in
-    let vault = λ (v : ℕ) (h : v < 2 ^ (shape_of topology 0).vault_bits). vault_part p topology v (flat_at p (vault_rooms topology 0) (2 ^ (shape_of topology 0).vault_bits) v register_answers.1 h) in
-    let way = λ (d : ℕ) (h : d < 2). flat_at p (direction_rooms topology) (2 * length topology.links) d rooms.0 (omega arith) in record {
-      output = λ d h. none_by _ (both_hold (p (Output d)) _ (way d h)).0;
-      arrivals = λ d h. none_by _ (both_hold (p (arrival topology d)) true (both_hold (p (Output d)) _ (way d h)).1).0;
+    let vault = λ (v : ℕ) (h : v < 2 ^ (shape_of topology 0).vault_bits). vault_part p topology v (flat_at p (vault_queues topology 0) (2 ^ (shape_of topology 0).vault_bits) v register_answers.1 h) in
+    let direction_at = λ (d : ℕ) (h : d < 2). flat_at p (direction_queues topology) (2 * length topology.links) d queues.0 (omega arith) in record {
+      output = λ d h. none_by _ (both_hold (p (Output d)) _ (direction_at d h)).0;
+      arrivals = λ d h. none_by _ (both_hold (p (landing_buffer topology d)) true (both_hold (p (Output d)) _ (direction_at d h)).1).0;
       registers = none_by _ registers.0;
       register_answers = none_by _ register_answers.0;
       vaults = λ v h. none_by _ (vault v h).0;
@@ -184,16 +200,16 @@ emptied topology past one_cube one_link all =
       wires = λ d h. eqb-true _ _ (upto_at (λ direction. length (begun topology past direction) == length (accepted direction past)) (2 * length topology.links) d two.1 (omega arith));
     }
 
-contents_there : (setup : Setup) (past : List Entry) (vault : ℕ) → IsOneCube setup → Lawful setup past → All (λ (packet : PacketFields). vault < 2 ^ (shape_of setup.topology 0).vault_bits) (contents setup.topology past (Answers 0 (lifts.Vault vault)))
+contents_there : (setup : Setup) (past : List Entry) (vault : ℕ) → OneCube setup → Lawful setup past → All (λ (packet : PacketFields). vault < 2 ^ (shape_of setup.topology 0).vault_bits) (contents setup.topology past (Answers 0 (lifts.Vault vault)))
 unfolding contents
 contents_there setup past vault one lawful =
     All-drop (λ (packet : PacketFields). vault < 2 ^ (shape_of setup.topology 0).vault_bits) (left past (Answers 0 (lifts.Vault vault))) (entered setup.topology past (Answers 0 (lifts.Vault vault))) (answers_there setup past vault one lawful)
 
-room_empty : (setup : Setup) (past : List Entry) (one : IsOneCube setup) → Lawful setup past → IsEmptied setup.topology past → (room : Room) → contents setup.topology past room ≡ []
+room_empty : (setup : Setup) (past : List Entry) (one : OneCube setup) → Lawful setup past → IsEmptied setup.topology past → (room : QueueId) → contents setup.topology past room ≡ []
 room_empty setup past one lawful is room =
     by_front (Stands setup.topology one.port room) (contents setup.topology past room) (contents_stand setup one.port past room (kept setup past one lawful)) (by_room room)
   where
-    by_room : (room : Room) (packet : PacketFields) → Stands setup.topology one.port room packet → contents setup.topology past room ≡ []
+    by_room : (room : QueueId) (packet : PacketFields) → Stands setup.topology one.port room packet → contents setup.topology past room ≡ []
     by_room (Output zero) packet stands = is.output 0 (omega arith)
     by_room (Output (suc zero)) packet stands = is.output 1 (omega arith)
     by_room (Output (suc (suc d))) packet stands = absurd stands
@@ -215,7 +231,7 @@ room_empty setup past one lawful is room =
     by_room (Answers (suc cube) from) packet stands = absurd stands
 
 -- on a direction that isn't there nothing was begun, and so nothing was accepted
-far_wire : (setup : Setup) (past : List Entry) (one : IsOneCube setup) (direction : ℕ) → Lawful setup past → length (begun setup.topology past (suc (suc direction))) ≡ length (accepted (suc (suc direction)) past)
+far_wire : (setup : Setup) (past : List Entry) (one : OneCube setup) (direction : ℕ) → Lawful setup past → length (begun setup.topology past (suc (suc direction))) ≡ length (accepted (suc (suc direction)) past)
 far_wire setup past one direction lawful =
     let is_kept = kept setup past one lawful in
     let none : begun setup.topology past (suc (suc direction)) ≡ [] =
@@ -225,8 +241,8 @@ far_wire setup past one direction lawful =
     let zeroth : length (begun setup.topology past (suc (suc direction))) ≡ 0 = ap length none in
     omega arith
 
-pub drained_by_test : (setup : Setup) (past : List Entry) → IsOneCube setup → Lawful setup past → is_drained setup.topology past ≡ true → IsDrained setup.topology past
-drained_by_test setup past one lawful all = record { rooms = room_empty setup past one lawful is; wires = by_direction }
+pub drained_by_test : (setup : Setup) (past : List Entry) → OneCube setup → Lawful setup past → is_drained setup.topology past ≡ true → IsDrained setup.topology past
+drained_by_test setup past one lawful all = record { queues = room_empty setup past one lawful is; wires = by_direction }
   where
     is : IsEmptied setup.topology past
     is = emptied setup.topology past (ap length one.cubes) (ap length one.links) all
@@ -247,5 +263,5 @@ same_count n m is = grind (arith, nat_tests)
 pub test_by_drained : (topology : Topology) (past : List Entry) → IsDrained topology past → is_drained topology past ≡ true
 unfolding is_drained
 test_by_drained topology past drained =
-    rw (all_pass (λ room. length (contents topology past room) == 0) _ (λ room. same_count (length (contents topology past room)) 0 (ap length (drained.rooms room))))
+    rw (all_pass (λ room. length (contents topology past room) == 0) _ (λ room. same_count (length (contents topology past room)) 0 (ap length (drained.queues room))))
     (all_pass (λ direction. length (begun topology past direction) == length (accepted direction past)) _ (λ direction. same_count _ _ (drained.wires direction)))

@@ -1,10 +1,11 @@
 pub mod InOrder
 pub mod OneJournal
-pub mod Right
+pub mod EntryRule
 pub mod Order
 pub mod Serial
 pub mod Wire
 pub mod Moves
+pub mod OneCube
 pub mod OneLink
 pub mod Standing
 pub mod WireStep
@@ -14,16 +15,18 @@ pub mod Sound
 pub mod Arrived
 pub mod Tokens
 pub mod Phases
-pub mod RoomsAndWires
+pub mod QueuesAndWires
 pub mod TagWork
 pub mod TagStep
 pub mod Tags
-pub mod Housed
-pub mod RoomToRoom
+pub mod QueueInvariant
+pub mod QueueToQueue
 pub mod Units
 pub mod Ends
 pub mod OtherHosts
-pub mod Carrying
+pub mod Returning
+pub mod Delivering
 pub mod DrainedTest
-pub mod Telling
+pub mod Guaranteeing
 mod Worked
+mod Edges

@@ -1,5 +1,7 @@
 -- How one entry changes what left a room and what entered it.
 use Rattle.std.proofs.Common.{◌≡◌, ◌≤◌, ◌<◌, ◌+◌, ◌&&◌, ◌∙◌, ◌==◌, ℕ, zero, suc, Bool, true, false, Option, Some, None, List, [], ◌∷◌, ◌++◌, length, take, drop, get_or, slice_index_or, refl, sym, ap, ap₂, subst, arith, eqb-true, eq-eqb, append-nil, length-append, length-drop, zero-add, take-append-drop}
+use Rattle.hmc_journal.specs.Choice.{append_if}
+use Rattle.std.specs.Prelude.{option_map}
 use Rattle.std.proofs.lemmas.List.{take-append-le, drop_more, take_more}
 use Rattle.hmc_codes.specs.declared.lift.Lift.{Lift}
 use Rattle.hmc_codes.specs.declared.lift.Lift.TheVariants as lifts
@@ -10,10 +12,10 @@ use Rattle.hmc_journal.specs.declared.outcome.Outcome.TheVariants as outcomes
 use Rattle.hmc_journal.specs.declared.entry.Entry.{Entry}
 use Rattle.hmc_journal.specs.declared.entry.Entry.TheVariants.{Sent, Shifted, Dropped, Spread, Executed, Lifted, Took, Discarded}
 use Rattle.hmc_journal.specs.Setup.{Setup, Topology}
-use Rattle.hmc_journal.specs.Wires.{unsent, with_more}
-use Rattle.hmc_journal.specs.Rooms.{taken_in, Room, same_lift, same_room, is_at, leaves, enters, begins, moved, front_of, one_if, packet_if, left, entered, contents}
-use Rattle.hmc_journal.specs.Rooms.Room.{Output, Port, Host, Vault, Bank, Registers, Answers}
-use Rattle.hmc_journal.proofs.Right.{Right, HasFront, IsNext}
+use Rattle.hmc_journal.specs.Wires.{unsent}
+use Rattle.hmc_journal.specs.Queues.{taken_in, QueueId, same_lift, same_queue, is_at, leaves, enters, begins, Arrival, arrival_in, arrived, front_of, one_if, packet_if, left, entered, contents}
+use Rattle.hmc_journal.specs.Queues.QueueId.{Output, Port, Host, Vault, Bank, Registers, Answers}
+use Rattle.hmc_journal.proofs.EntryRule.{EntryRule, HasFront, IsNext}
 
 -- two rooms with one name are one
 both_true : (a b : Bool) → (a && b) ≡ true → (a ≡ true) × (b ≡ true)
@@ -29,48 +31,52 @@ lift_is lifts.Registers lifts.Registers is = refl
 lift_is (lifts.Vault v) lifts.Registers is = cc
 lift_is lifts.Registers (lifts.Vault w) is = cc
 
-pub room_is : (here there : Room) → same_room here there ≡ true → here ≡ there
-room_is (Output d) (Output e) is = ap Output (eqb-true d e is)
-room_is (Port c p) (Port d q) is = let both = two_equal c d p q is in ap₂ Port both.0 both.1
-room_is (Host h) (Host k) is = ap Host (eqb-true h k is)
-room_is (Vault c v) (Vault d w) is = let both = two_equal c d v w is in ap₂ Vault both.0 both.1
-room_is (Bank c v b) (Bank d w a) is =
+pub same_queue_is : (here there : QueueId) → same_queue here there ≡ true → here ≡ there
+same_queue_is (Output d) (Output e) is = ap Output (eqb-true d e is)
+same_queue_is (Port c p) (Port d q) is = let both = two_equal c d p q is in ap₂ Port both.0 both.1
+same_queue_is (Host h) (Host k) is = ap Host (eqb-true h k is)
+same_queue_is (Vault c v) (Vault d w) is = let both = two_equal c d v w is in ap₂ Vault both.0 both.1
+same_queue_is (Bank c v b) (Bank d w a) is =
     let both = both_true (c == d) ((v == w) && (b == a)) is in
     let cube : c ≡ d = eqb-true c d both.0 in
     let rest = two_equal v w b a both.1 in
     let vault : v ≡ w = rest.0 in
     let bank : b ≡ a = rest.1 in cc
-room_is (Registers c) (Registers d) is = ap Registers (eqb-true c d is)
-room_is (Answers c from) (Answers d to) is =
+same_queue_is (Registers c) (Registers d) is = ap Registers (eqb-true c d is)
+same_queue_is (Answers c from) (Answers d to) is =
     let both = both_true (c == d) (same_lift from to) is in ap₂ Answers (eqb-true c d both.0) (lift_is from to both.1)
-room_is _ _ is = cc
+same_queue_is _ _ is = cc
 
 lift_same : (from : Lift) → same_lift from from ≡ true
 lift_same (lifts.Vault v) = eq-eqb v v refl
 lift_same lifts.Registers = refl
 
-pub room_same : (here : Room) → same_room here here ≡ true
-room_same (Output d) = eq-eqb d d refl
-room_same (Port c p) = rw (eq-eqb c c refl) (eq-eqb p p refl)
-room_same (Host h) = eq-eqb h h refl
-room_same (Vault c v) = rw (eq-eqb c c refl) (eq-eqb v v refl)
-room_same (Bank c v b) = rw (eq-eqb c c refl, eq-eqb v v refl) (eq-eqb b b refl)
-room_same (Registers c) = eq-eqb c c refl
-room_same (Answers c from) = rw (eq-eqb c c refl) (lift_same from)
+pub same_queue_refl : (here : QueueId) → same_queue here here ≡ true
+same_queue_refl (Output d) = eq-eqb d d refl
+same_queue_refl (Port c p) = rw (eq-eqb c c refl) (eq-eqb p p refl)
+same_queue_refl (Host h) = eq-eqb h h refl
+same_queue_refl (Vault c v) = rw (eq-eqb c c refl) (eq-eqb v v refl)
+same_queue_refl (Bank c v b) = rw (eq-eqb c c refl, eq-eqb v v refl) (eq-eqb b b refl)
+same_queue_refl (Registers c) = eq-eqb c c refl
+same_queue_refl (Answers c from) = rw (eq-eqb c c refl) (lift_same from)
 
 -- what is begun, or taken, elsewhere isn't so here
-pub begins_off : (count direction : ℕ) (room : Room) → same_room (Output direction) room ≡ false → is_at (begins count direction) room ≡ false
+pub begins_off : (count direction : ℕ) (room : QueueId) → same_queue (Output direction) room ≡ false → is_at (begins count direction) room ≡ false
 begins_off zero direction room off = off
 begins_off (suc count) direction room off = refl
 
-pub taken_off : (outcome : Outcome) (there room : Room) → same_room there room ≡ false → is_at (taken_in outcome there) room ≡ false
+pub output_off : (direction : Option ℕ) (room : QueueId) → ((d : ℕ) → same_queue (Output d) room ≡ false) → is_at (option_map Output direction) room ≡ false
+output_off None room off = refl
+output_off (Some d) room off = off d
+
+pub taken_off : (outcome : Outcome) (there room : QueueId) → same_queue there room ≡ false → is_at (taken_in outcome there) room ≡ false
 taken_off outcomes.Accepted there room off = off
 taken_off outcomes.Poisoned there room off = off
 taken_off _ there room off = refl
 
-pub with_more-append : {X : Type 0} (here : Bool) (more list : List X) → with_more here more list ≡ list ++ with_more here more []
-with_more-append true more list = refl
-with_more-append false more list = sym (append-nil list)
+pub append_if-append : {X : Type 0} (here : Bool) (more list : List X) → append_if here more list ≡ list ++ append_if here more []
+append_if-append true more list = refl
+append_if-append false more list = sym (append-nil list)
 
 -- the front of a list, where something leaves it
 pub gone_plain : (leaving : Bool) (n : ℕ) (xs more : List PacketFields) → n ≤ length xs → (leaving ≡ true → n < length xs)
@@ -89,26 +95,37 @@ within_plain false n xs more within some = omega (arith, length-append xs more)
 within_plain true n xs more within some = let inside : n < length xs = some refl in omega (arith, length-append xs more)
 
 -- what has left a room
-unfoldable pub gone : Topology → List Entry → Room → List PacketFields
+unfoldable pub gone : Topology → List Entry → QueueId → List PacketFields
 gone topology past room = take (left past room) (entered topology past room)
 
-pub gone-contents : (topology : Topology) (past : List Entry) (room : Room) → entered topology past room ≡ gone topology past room ++ contents topology past room
+pub gone-contents : (topology : Topology) (past : List Entry) (room : QueueId) → entered topology past room ≡ gone topology past room ++ contents topology past room
 unfolding gone contents
 gone-contents topology past room = sym (take-append-drop (left past room) (entered topology past room))
 
 -- the packet that an entry takes out of a room, and the one that it puts in
-unfoldable pub leaving : Topology → List Entry → Entry → Room → List PacketFields
+unfoldable pub leaving : Topology → List Entry → Entry → QueueId → List PacketFields
 leaving topology past entry room = packet_if (is_at (leaves past entry) room) (λ _. front_of (contents topology past room))
 
-unfoldable pub entering : Topology → List Entry → Entry → Room → List PacketFields
-entering topology past entry room = packet_if (is_at (enters topology entry) room) (λ _. moved (contents topology past) past entry)
+abbrev pub arrives : Topology → List Entry → Entry → Option Arrival
+arrives topology past entry = enters topology (contents topology past) past entry
 
-pub entered-more : (topology : Topology) (entry : Entry) (past : List Entry) (room : Room) → entered topology (entry ∷ past) room ≡ entered topology past room ++ entering topology past entry room
+unfoldable pub entering : Topology → List Entry → Entry → QueueId → List PacketFields
+entering topology past entry room = arrived room (arrives topology past entry)
+
+-- what arrives in a queue that is, or isn't, this one
+pub arrived_is : (there : Option QueueId) (packet : Unit {0} → PacketFields) (room : QueueId) → arrived room (arrival_in there packet) ≡ packet_if (is_at there room) packet
+arrived_is None packet room = refl
+arrived_is (Some queue) packet room = refl
+
+pub arrived_off : (there : Option QueueId) (packet : Unit {0} → PacketFields) (room : QueueId) → is_at there room ≡ false → arrived room (arrival_in there packet) ≡ []
+arrived_off there packet room off = arrived_is there packet room ∙ ap (λ (b : Bool). packet_if b packet) off
+
+pub entered-more : (topology : Topology) (entry : Entry) (past : List Entry) (room : QueueId) → entered topology (entry ∷ past) room ≡ entered topology past room ++ entering topology past entry room
 unfolding entered entering contents
 entered-more topology entry past room = refl
 
 -- a room from which something leaves has a front
-abbrev HasLeaving : Setup → List Entry → Option Room → Type 0
+abbrev HasLeaving : Setup → List Entry → Option QueueId → Type 0
 HasLeaving setup past None = Unit {0}
 HasLeaving setup past (Some room) = HasFront setup past room
 
@@ -116,7 +133,7 @@ has_begun : (setup : Setup) (past : List Entry) (direction count : ℕ) (flit : 
 has_begun setup past direction zero flit is = is.at
 has_begun setup past direction (suc count) flit is = tt
 
-has_leaving : (setup : Setup) (past : List Entry) (entry : Entry) → Right setup past entry → HasLeaving setup past (leaves past entry)
+has_leaving : (setup : Setup) (past : List Entry) (entry : Entry) → EntryRule setup past entry → HasLeaving setup past (leaves past entry)
 unfolding leaves
 has_leaving setup past (Sent direction New flit) right = has_begun setup past direction (unsent direction past) flit right.sent
 has_leaving setup past (Shifted cube port goal) right = right.at
@@ -128,29 +145,29 @@ has_leaving setup past (Took host tag answer) right = right.at
 has_leaving setup past (Discarded host) right = right.at
 has_leaving setup past _ right = tt
 
-pub front_inside : (setup : Setup) (past : List Entry) (room : Room) → HasFront setup past room → left past room < length (entered setup.topology past room)
+pub front_inside : (setup : Setup) (past : List Entry) (room : QueueId) → HasFront setup past room → left past room < length (entered setup.topology past room)
 unfolding contents
 front_inside setup past room at =
     let long : length (drop (left past room) (entered setup.topology past room)) ≡ suc (length at.rest) = ap length at.is in
     omega (arith, length-drop (left past room) (entered setup.topology past room))
 
-leaving_inside : (setup : Setup) (past : List Entry) (room : Room) (from : Option Room) → HasLeaving setup past from → is_at from room ≡ true → left past room < length (entered setup.topology past room)
+leaving_inside : (setup : Setup) (past : List Entry) (room : QueueId) (from : Option QueueId) → HasLeaving setup past from → is_at from room ≡ true → left past room < length (entered setup.topology past room)
 leaving_inside setup past room None has is = cc
-leaving_inside setup past room (Some here) has is = front_inside setup past room (subst (HasFront setup past) (room_is here room is) has)
+leaving_inside setup past room (Some here) has is = front_inside setup past room (subst (HasFront setup past) (same_queue_is here room is) has)
 
-pub front_is : (setup : Setup) (past : List Entry) (room : Room) (at : HasFront setup past room) → front_of (contents setup.topology past room) ≡ at.front
+pub front_is : (setup : Setup) (past : List Entry) (room : QueueId) (at : HasFront setup past room) → front_of (contents setup.topology past room) ≡ at.front
 front_is setup past room at = ap front_of at.is
 
 -- no more left a room than entered it
-pub within-more : (setup : Setup) (entry : Entry) (past : List Entry) → Right setup past entry → ((room : Room) → left past room ≤ length (entered setup.topology past room))
-    → (room : Room) → left (entry ∷ past) room ≤ length (entered setup.topology (entry ∷ past) room)
+pub within-more : (setup : Setup) (entry : Entry) (past : List Entry) → EntryRule setup past entry → ((room : QueueId) → left past room ≤ length (entered setup.topology past room))
+    → (room : QueueId) → left (entry ∷ past) room ≤ length (entered setup.topology (entry ∷ past) room)
 unfolding left entered
 within-more setup entry past right within room =
     within_plain (is_at (leaves past entry) room) (left past room) (entered setup.topology past room) _ (within room)
     (leaving_inside setup past room (leaves past entry) (has_leaving setup past entry right))
 
-pub gone-more : (setup : Setup) (entry : Entry) (past : List Entry) → Right setup past entry → ((room : Room) → left past room ≤ length (entered setup.topology past room))
-    → (room : Room) → gone setup.topology (entry ∷ past) room ≡ gone setup.topology past room ++ leaving setup.topology past entry room
+pub gone-more : (setup : Setup) (entry : Entry) (past : List Entry) → EntryRule setup past entry → ((room : QueueId) → left past room ≤ length (entered setup.topology past room))
+    → (room : QueueId) → gone setup.topology (entry ∷ past) room ≡ gone setup.topology past room ++ leaving setup.topology past entry room
 unfolding gone left entered leaving contents
 gone-more setup entry past right within room =
     gone_plain (is_at (leaves past entry) room) (left past room) (entered setup.topology past room) _ (within room)

@@ -34,7 +34,7 @@ same_entry setup past entry i (Some step) at follows =
     ap (journal_behind setup past) (rest-from setup.schedule i step at) ∙ ap (λ (e : Entry). journal_behind setup (e ∷ past) (drop (suc i) setup.schedule)) (sym follows)
 same_entry setup past entry i None at follows = absurd follows
 
--- what is behind a lawful journal is what is behind the empty one
+-- what is after a lawful journal is what is after the empty one
 behind : (setup : Setup) (past : List Entry) → Lawful setup past → journal_behind setup [] setup.schedule ≡ journal_behind setup past (drop (length past) setup.schedule)
 unfolding Lawful
 behind setup [] lawful = refl

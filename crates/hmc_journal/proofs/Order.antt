@@ -1,5 +1,6 @@
 -- What hosts give is what the script says, and what lands is what was sent, each in order.
 use Rattle.std.proofs.Common.{◌≡◌, ◌+◌, ◌∙◌, ◌==◌, ℕ, suc, Bool, true, false, Option, Some, List, [], ◌∷◌, ◌++◌, length, map, take, drop, refl, sym, ap, subst, arith, eqb-true, append_assoc, take-append-drop}
+use Rattle.hmc_journal.specs.Choice.{append_if}
 use Rattle.std.specs.List.{slice_get}
 use Rattle.std.proofs.Math.Seq.{take-suc, drop-append_seam}
 use Rattle.std.proofs.lemmas.List.{map-append}
@@ -10,34 +11,34 @@ use Rattle.hmc_script.specs.Items.{ItemFields}
 use Rattle.hmc_journal.specs.declared.outcome.Outcome.{Outcome}
 use Rattle.hmc_journal.specs.declared.entry.Entry.{Entry}
 use Rattle.hmc_journal.specs.declared.entry.Entry.TheVariants.{Gave, Sent, Landed, Shifted, Dropped, Spread, Executed, Lifted, Took, Discarded, Idle}
-use Rattle.hmc_journal.specs.Carried.{IsPrefix, IsScripted, said}
+use Rattle.hmc_journal.specs.Delivered.{IsPrefix, IsScripted, said}
 use Rattle.hmc_journal.specs.Filters.{ScriptRequest, given_by}
 use Rattle.hmc_journal.specs.Hosts.{count_if, given_count, host_of}
 use Rattle.hmc_journal.specs.Lawful.{Lawful}
 use Rattle.hmc_journal.specs.Setup.{Setup}
-use Rattle.hmc_journal.specs.Wires.{with_more, sent_flits, landed_flits, line_flits}
-use Rattle.hmc_journal.proofs.Right.{Right, HasGiven, HasLanded, right_entry, lawful_past}
+use Rattle.hmc_journal.specs.Wires.{sent_flits, landed_flits, line_flits}
+use Rattle.hmc_journal.proofs.EntryRule.{EntryRule, HasGiven, HasLanded, entry_rule, lawful_past}
 
 -- a prefix stays one of a list that grows
-prefix_of_more : {X : Type 0} (test : Bool) (more front whole : List X) → IsPrefix front whole → IsPrefix front (with_more test more whole)
+prefix_of_more : {X : Type 0} (test : Bool) (more front whole : List X) → IsPrefix front whole → IsPrefix front (append_if test more whole)
 prefix_of_more true more front whole is = (is.0 ++ more, ap (λ l. l ++ more) is.1 ∙ append_assoc front is.0 more)
 prefix_of_more false more front whole is = is
 
--- a prefix grows by what stands behind it
+-- a prefix grows by what stands after it
 prefix_and_next : (front whole rest : List (List ℕ)) (flit : List ℕ) → drop (length front) whole ≡ flit ∷ rest → IsPrefix front whole → IsPrefix (front ++ flit ∷ []) whole
 prefix_and_next front whole rest flit line is =
     let behind : is.0 ≡ flit ∷ rest = sym (drop-append_seam front is.0) ∙ ap (drop (length front)) (sym is.1) ∙ line in
     (rest, is.1 ∙ ap (λ l. front ++ l) behind ∙ sym (append_assoc front (flit ∷ []) rest))
 
 landing : (test : Bool) (direction d : ℕ) (past : List Entry) (flit : List ℕ) (outcome : Outcome) → (direction == d) ≡ test → HasLanded past direction flit outcome
-    → IsPrefix (landed_flits d past) (sent_flits d past) → IsPrefix (with_more test (flit ∷ []) (landed_flits d past)) (sent_flits d past)
+    → IsPrefix (landed_flits d past) (sent_flits d past) → IsPrefix (append_if test (flit ∷ []) (landed_flits d past)) (sent_flits d past)
 unfolding line_flits
 landing false direction d past flit outcome test right is = is
 landing true direction d past flit outcome test right is =
     prefix_and_next (landed_flits d past) (sent_flits d past) right.rest flit
     (subst (λ (n : ℕ). drop (length (landed_flits n past)) (sent_flits n past) ≡ flit ∷ right.rest) (eqb-true direction d test) right.line) is
 
-one_entry : (setup : Setup) (d : ℕ) (entry : Entry) (past : List Entry) → Right setup past entry → IsPrefix (landed_flits d past) (sent_flits d past)
+one_entry : (setup : Setup) (d : ℕ) (entry : Entry) (past : List Entry) → EntryRule setup past entry → IsPrefix (landed_flits d past) (sent_flits d past)
     → IsPrefix (landed_flits d (entry ∷ past)) (sent_flits d (entry ∷ past))
 unfolding landed_flits sent_flits
 one_entry setup d (Sent direction what flit) past right is = prefix_of_more (direction == d) (flit ∷ []) (landed_flits d past) (sent_flits d past) is
@@ -56,7 +57,7 @@ one_entry setup d (Idle step cause) past right is = is
 pub wire_order : (setup : Setup) (d : ℕ) (past : List Entry) → Lawful setup past → IsPrefix (landed_flits d past) (sent_flits d past)
 unfolding landed_flits sent_flits
 wire_order setup d [] lawful = ([], refl)
-wire_order setup d (entry ∷ past) lawful = one_entry setup d entry past (right_entry setup entry past lawful) (wire_order setup d past (lawful_past setup entry past lawful))
+wire_order setup d (entry ∷ past) lawful = one_entry setup d entry past (entry_rule setup entry past lawful) (wire_order setup d past (lawful_past setup entry past lawful))
 
 -- the requests of a script that a host gives first
 abbrev first_of : Setup → (host count : ℕ) → List ScriptRequest
@@ -71,7 +72,7 @@ one_more items count item at =
 
 giving : (setup : Setup) (test : Bool) (host h : ℕ) (past : List Entry) (tag : Option ℕ) (poisoned : Bool) (request : RequestFields) → (host == h) ≡ test → HasGiven setup past host tag poisoned request
     → given_by h past ≡ first_of setup h (given_count h past)
-    → with_more test (record { poisoned = poisoned; request = request } ∷ []) (given_by h past) ≡ first_of setup h (count_if test (given_count h past))
+    → append_if test (record { poisoned = poisoned; request = request } ∷ []) (given_by h past) ≡ first_of setup h (count_if test (given_count h past))
 unfolding host_of
 giving setup false host h past tag poisoned request test right is = is
 giving setup true host h past tag poisoned request test right is =
@@ -83,7 +84,7 @@ giving setup true host h past tag poisoned request test right is =
     ∙ ap (λ (s : ScriptRequest). first_of setup h (given_count h past) ++ s ∷ []) one
     ∙ sym (one_more (items_of h setup.script) (given_count h past) right.item at)
 
-one_given : (setup : Setup) (h : ℕ) (entry : Entry) (past : List Entry) → Right setup past entry → given_by h past ≡ first_of setup h (given_count h past)
+one_given : (setup : Setup) (h : ℕ) (entry : Entry) (past : List Entry) → EntryRule setup past entry → given_by h past ≡ first_of setup h (given_count h past)
     → given_by h (entry ∷ past) ≡ first_of setup h (given_count h (entry ∷ past))
 unfolding given_by given_count
 one_given setup h (Gave host tag poisoned request) past right is = giving setup (host == h) host h past tag poisoned request refl right is
@@ -102,7 +103,7 @@ one_given setup h (Idle step cause) past right is = is
 first_given : (setup : Setup) (h : ℕ) (past : List Entry) → Lawful setup past → given_by h past ≡ first_of setup h (given_count h past)
 unfolding given_by given_count
 first_given setup h [] lawful = refl
-first_given setup h (entry ∷ past) lawful = one_given setup h entry past (right_entry setup entry past lawful) (first_given setup h past (lawful_past setup entry past lawful))
+first_given setup h (entry ∷ past) lawful = one_given setup h entry past (entry_rule setup entry past lawful) (first_given setup h past (lawful_past setup entry past lawful))
 
 pub is_scripted : (setup : Setup) (past : List Entry) → Lawful setup past → IsScripted setup.script past
 is_scripted setup past lawful = record {

@@ -1,5 +1,6 @@
 -- Other hosts and other cubes have no part in a journal of one cube and one link.
 use Rattle.std.proofs.Common.{◌≡◌, ◌∙◌, ◌==◌, ◌&&◌, ℕ, zero, suc, Bool, true, false, not, if◌then◌else◌, Option, List, [], ◌∷◌, ◌++◌, All, take, refl, sym, ap, ap₂, arith, ne_eqb}
+use Rattle.hmc_journal.specs.Choice.{append_if}
 use Rattle.std.proofs.lemmas.List.Elements.{All-head, All-tail}
 use Rattle.hmc_codes.specs.Commands.{is_posted}
 use Rattle.hmc_codes.specs.Request.{RequestFields}
@@ -9,21 +10,21 @@ use Rattle.hmc_codes.specs.declared.unit.Unit.TheVariants as units
 use Rattle.hmc_packet.specs.Packet.{PacketFields}
 use Rattle.hmc_journal.specs.declared.entry.Entry.{Entry}
 use Rattle.hmc_journal.specs.declared.entry.Entry.TheVariants.{Gave, Executed, Took}
-use Rattle.hmc_journal.specs.Setup.{Setup, Topology, unit_of, is_for_registers}
-use Rattle.hmc_journal.specs.Wires.{with_more}
-use Rattle.hmc_journal.specs.Rooms.{left, entered, queue_of}
-use Rattle.hmc_journal.specs.Rooms.Room.{Host}
-use Rattle.hmc_journal.specs.Filters.{Asking, same_unit, same_tag, given_to, executed_by, asked_under, replies_under, answers_under, taken_by}
+use Rattle.hmc_serial.specs.Unit.{is_for_registers}
+use Rattle.hmc_journal.specs.Setup.{Setup, Topology, unit_in}
+use Rattle.hmc_journal.specs.Queues.{left, entered, queue_of}
+use Rattle.hmc_journal.specs.Queues.QueueId.{Host}
+use Rattle.hmc_journal.specs.Filters.{TaggedRequest, same_unit, same_tag, given_to, executed_by, asked_under, replies_under, answers_under, taken_by}
 use Rattle.hmc_journal.specs.Lawful.{Lawful}
-use Rattle.hmc_journal.specs.Housed.{IsOneCube}
+use Rattle.hmc_journal.proofs.OneCube.{OneCube}
 use Rattle.hmc_journal.specs.Next.{tag_of}
-use Rattle.hmc_journal.specs.Carried.{asking_in, asks_in}
-use Rattle.hmc_journal.proofs.Right.{Right, right_entry, lawful_past}
+use Rattle.hmc_journal.specs.Delivered.{tagged_request, tagged_requests}
+use Rattle.hmc_journal.proofs.EntryRule.{EntryRule, entry_rule, lawful_past}
 use Rattle.hmc_journal.proofs.Moves.{gone}
 use Rattle.hmc_journal.proofs.Standing.{IsAsking, Stands}
 use Rattle.hmc_journal.proofs.Entering.{Kept, front_stands, own_item, asking_at}
 use Rattle.hmc_journal.proofs.Sound.{kept}
-use Rattle.hmc_journal.proofs.RoomToRoom.{asks_gathered, asks_of, unit_is}
+use Rattle.hmc_journal.proofs.QueueToQueue.{asks_gathered, asks_of, unit_is}
 use Rattle.hmc_journal.proofs.Units.{unit_executed}
 
 -- another host
@@ -38,20 +39,20 @@ pub record IsStranger (topology : Topology) (past : List Entry) (host : ℕ) : T
 not_first : (n : ℕ) → (0 == suc n) ≡ false
 not_first n = ne_eqb 0 (suc n) (λ e. omega arith)
 
-other_host : (host h : ℕ) → host ≡ 0 → (host == suc h) ≡ false
+pub other_host : (host h : ℕ) → host ≡ 0 → (host == suc h) ≡ false
 other_host host h zeroth = ap (λ (n : ℕ). n == suc h) zeroth ∙ not_first h
 
-none_more : {X : Type 0} (first second : Bool) (more list : List X) → first ≡ false → list ≡ [] → with_more (first && second) more list ≡ []
-none_more first second more list is none = ap₂ (λ (b : Bool) l. with_more (b && second) more l) is none
+none_more : {X : Type 0} (first second : Bool) (more list : List X) → first ≡ false → list ≡ [] → append_if (first && second) more list ≡ []
+none_more first second more list is none = ap₂ (λ (b : Bool) l. append_if (b && second) more l) is none
 
-one_more_none : {X : Type 0} (first : Bool) (more list : List X) → first ≡ false → list ≡ [] → with_more first more list ≡ []
-one_more_none first more list is none = ap₂ (λ (b : Bool) l. with_more b more l) is none
+one_more_none : {X : Type 0} (first : Bool) (more list : List X) → first ≡ false → list ≡ [] → append_if first more list ≡ []
+one_more_none first more list is none = ap₂ (λ (b : Bool) l. append_if b more l) is none
 
 gave_stranger : (topology : Topology) (past : List Entry) (h host : ℕ) (tag : Option ℕ) (poisoned : Bool) (request : RequestFields) → host ≡ 0 → IsStranger topology past (suc h) → IsStranger topology (Gave host tag poisoned request ∷ past) (suc h)
 unfolding given_to executed_by asked_under replies_under answers_under taken_by
 gave_stranger topology past h host tag poisoned request zeroth before =
     let other = other_host host h zeroth in record {
-      given = λ unit. none_more (host == suc h) (not poisoned && same_unit (unit_of topology request) unit) (record { tag = tag; request = request } ∷ []) (given_to topology (suc h) unit past) other (before.given unit);
+      given = λ unit. none_more (host == suc h) (not poisoned && same_unit (unit_in topology request) unit) (record { tag = tag; request = request } ∷ []) (given_to topology (suc h) unit past) other (before.given unit);
       executed = before.executed;
       asked = λ t. none_more (host == suc h) (same_tag tag t) (request ∷ []) (asked_under (suc h) t past) other (before.asked t);
       replies = before.replies;
@@ -84,11 +85,11 @@ took_stranger topology past h host tag answer zeroth before =
       taken = one_more_none (host == suc h) (record { tag = tag; answer = answer } ∷ []) (taken_by (suc h) past) other before.taken;
     }
 
-host_is : (setup : Setup) (port host : ℕ) (packet : PacketFields) → Stands setup.topology port (Host host) packet → host ≡ 0
+pub host_is : (setup : Setup) (port host : ℕ) (packet : PacketFields) → Stands setup.topology port (Host host) packet → host ≡ 0
 host_is setup port zero packet is = refl
 host_is setup port (suc host) packet is = absurd is
 
-stranger-more : (setup : Setup) (one : IsOneCube setup) (h : ℕ) (entry : Entry) (past : List Entry) → Right setup past entry → Kept setup one.port past → IsStranger setup.topology past (suc h) → IsStranger setup.topology (entry ∷ past) (suc h)
+stranger-more : (setup : Setup) (one : OneCube setup) (h : ℕ) (entry : Entry) (past : List Entry) → EntryRule setup past entry → Kept setup one.port past → IsStranger setup.topology past (suc h) → IsStranger setup.topology (entry ∷ past) (suc h)
 unfolding given_to executed_by asked_under replies_under answers_under taken_by
 stranger-more setup one h (Gave host tag poisoned request) past right keeps before =
     let own = own_item setup past host right.item one right.is_next in gave_stranger setup.topology past h host tag poisoned request (sym own.0 ∙ own.1.host) before
@@ -99,27 +100,27 @@ stranger-more setup one h (Took host tag answer) past right keeps before =
 stranger-more setup one h _ past right keeps before =
     record { given = before.given; executed = before.executed; asked = before.asked; replies = before.replies; answers = before.answers; taken = before.taken }
 
-pub stranger : (setup : Setup) (one : IsOneCube setup) (h : ℕ) (past : List Entry) → Lawful setup past → IsStranger setup.topology past (suc h)
+pub stranger : (setup : Setup) (one : OneCube setup) (h : ℕ) (past : List Entry) → Lawful setup past → IsStranger setup.topology past (suc h)
 unfolding given_to executed_by asked_under replies_under answers_under taken_by
 stranger setup one h [] lawful = record { given = λ u. refl; executed = λ u. refl; asked = λ t. refl; replies = λ t. refl; answers = λ t. refl; taken = refl }
 stranger setup one h (entry ∷ past) lawful =
     let before = lawful_past setup entry past lawful in
-    stranger-more setup one h entry past (right_entry setup entry past lawful) (kept setup past one before) (stranger setup one h past before)
+    stranger-more setup one h entry past (entry_rule setup entry past lawful) (kept setup past one before) (stranger setup one h past before)
 
 -- packets that ask nothing
-asks_nothing : (topology : Topology) (host : ℕ) (unit : RequestUnit) → ((packet : PacketFields) → IsAsking packet → asks_in topology host unit (packet ∷ []) ≡ []) → (packets : List PacketFields) → All IsAsking packets → asks_in topology host unit packets ≡ []
+asks_nothing : (topology : Topology) (host : ℕ) (unit : RequestUnit) → ((packet : PacketFields) → IsAsking packet → tagged_requests topology host unit (packet ∷ []) ≡ []) → (packets : List PacketFields) → All IsAsking packets → tagged_requests topology host unit packets ≡ []
 asks_nothing topology host unit nothing [] all = (asks_gathered topology host unit).none
 asks_nothing topology host unit nothing (packet ∷ packets) all =
     (asks_gathered topology host unit).append (packet ∷ []) packets
-    ∙ ap₂ (λ (a b : List Asking). a ++ b) (nothing packet (All-head IsAsking packet packets all)) (asks_nothing topology host unit nothing packets (All-tail IsAsking packet packets all))
+    ∙ ap₂ (λ (a b : List TaggedRequest). a ++ b) (nothing packet (All-head IsAsking packet packets all)) (asks_nothing topology host unit nothing packets (All-tail IsAsking packet packets all))
 
-no_ask : (topology : Topology) (h : ℕ) (unit : RequestUnit) (packet : PacketFields) → IsAsking packet → asks_in topology (suc h) unit (packet ∷ []) ≡ []
-unfolding asks_in
+no_ask : (topology : Topology) (h : ℕ) (unit : RequestUnit) (packet : PacketFields) → IsAsking packet → tagged_requests topology (suc h) unit (packet ∷ []) ≡ []
+unfolding tagged_requests
 no_ask topology h unit packet is =
-    ap (λ (r : Option RequestFields). asking_in topology (suc h) unit packet r ++ []) is.found
-    ∙ ap (λ (b : Bool). (if b && (not packet.poisoned && same_unit (unit_of topology is.request) unit) then record { tag = tag_of (is_posted is.request.command) packet.tag; request = is.request } ∷ [] else []) ++ []) (other_host packet.slid h is.slid)
+    ap (λ (r : Option RequestFields). tagged_request topology (suc h) unit packet r ++ []) is.found
+    ∙ ap (λ (b : Bool). (if b && (not packet.poisoned && same_unit (unit_in topology is.request) unit) then record { tag = tag_of (is_posted is.request.command) packet.tag; request = is.request } ∷ [] else []) ++ []) (other_host packet.slid h is.slid)
 
-pub asks_no_stranger : (topology : Topology) (h : ℕ) (unit : RequestUnit) (packets : List PacketFields) → All IsAsking packets → asks_in topology (suc h) unit packets ≡ []
+pub asks_no_stranger : (topology : Topology) (h : ℕ) (unit : RequestUnit) (packets : List PacketFields) → All IsAsking packets → tagged_requests topology (suc h) unit packets ≡ []
 asks_no_stranger topology h unit packets all = asks_nothing topology (suc h) unit (no_ask topology h unit) packets all
 
 -- another cube
@@ -137,15 +138,15 @@ foreign_unit (units.Registers zero) registers v b foreign = absurd foreign
 foreign_unit (units.Registers (suc cube)) true v b foreign = not_first cube
 foreign_unit (units.Registers (suc cube)) false v b foreign = refl
 
-no_list : (poisoned same : Bool) (more : List Asking) → same ≡ false → with_more (not poisoned && same) more [] ≡ []
+no_list : (poisoned same : Bool) (more : List TaggedRequest) → same ≡ false → append_if (not poisoned && same) more [] ≡ []
 no_list true same more is = refl
-no_list false same more is = ap (λ (b : Bool). with_more b more []) is
+no_list false same more is = ap (λ (b : Bool). append_if b more []) is
 
-pub asks_no_foreign : (topology : Topology) (unit : RequestUnit) (packets : List PacketFields) → IsForeign unit → All IsAsking packets → asks_in topology 0 unit packets ≡ []
+pub asks_no_foreign : (topology : Topology) (unit : RequestUnit) (packets : List PacketFields) → IsForeign unit → All IsAsking packets → tagged_requests topology 0 unit packets ≡ []
 asks_no_foreign topology unit packets foreign all =
     asks_nothing topology 0 unit (λ packet is.
     asks_of topology unit packet is
-    ∙ no_list packet.poisoned (same_unit (unit_of topology is.request) unit) _ (ap (λ (u : RequestUnit). same_unit u unit) (unit_is topology packet is) ∙ foreign_unit unit (is_for_registers packet.command) _ _ foreign)) packets all
+    ∙ no_list packet.poisoned (same_unit (unit_in topology is.request) unit) _ (ap (λ (u : RequestUnit). same_unit u unit) (unit_is topology packet is) ∙ foreign_unit unit (is_for_registers packet.command) _ _ foreign)) packets all
 
 -- nothing stands in its queue
 nothing_stands : (P : PacketFields → Type 0) (packets : List PacketFields) → ((packet : PacketFields) → P packet → ⊥) → All P packets → packets ≡ []
@@ -162,10 +163,10 @@ taken_of_none : (n : ℕ) (packets : List PacketFields) → packets ≡ [] → t
 taken_of_none zero packets none = refl
 taken_of_none (suc n) packets none = ap (take (suc n)) none
 
-pub foreign_executed : (setup : Setup) (one : IsOneCube setup) (unit : RequestUnit) (past : List Entry) → Lawful setup past → IsForeign unit → executed_by 0 unit past ≡ []
+pub foreign_executed : (setup : Setup) (one : OneCube setup) (unit : RequestUnit) (past : List Entry) → Lawful setup past → IsForeign unit → executed_by 0 unit past ≡ []
 unfolding gone
 foreign_executed setup one unit past lawful foreign =
     let keeps = kept setup past one lawful in
     let none : entered setup.topology past (queue_of unit) ≡ [] =
     nothing_stands (Stands setup.topology one.port (queue_of unit)) (entered setup.topology past (queue_of unit)) (λ packet is. foreign_stands setup.topology one.port unit packet foreign is) (keeps.stands (queue_of unit)) in
-    sym (unit_executed setup one unit past lawful) ∙ ap (asks_in setup.topology 0 unit) (taken_of_none (left past (queue_of unit)) _ none) ∙ (asks_gathered setup.topology 0 unit).none
+    sym (unit_executed setup one unit past lawful) ∙ ap (tagged_requests setup.topology 0 unit) (taken_of_none (left past (queue_of unit)) _ none) ∙ (asks_gathered setup.topology 0 unit).none

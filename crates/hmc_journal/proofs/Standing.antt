@@ -1,5 +1,6 @@
 -- Which packets stand in which room.
 use Rattle.std.proofs.Common.{◌≡◌, ◌<◌, ◌^◌, ◌∙◌, ℕ, zero, suc, Bool, true, false, if◌then◌else◌, Some, None, is_some, List, [], ◌∷◌, ◌++◌, All, length, slice_get, refl, sym, ap, subst, arith}
+use Rattle.hmc_journal.proofs.EntryRule.{goal_of}
 use Rattle.std.proofs.lemmas.List.{take_at, drop_at}
 use Rattle.std.proofs.lemmas.List.Elements.{All-take, All-drop, All-head, All-cons, All-nil, All-same}
 use Rattle.std.proofs.lemmas.Option.{slice_get_within, get_or_from_slice_get}
@@ -14,14 +15,14 @@ use Rattle.hmc_codes.specs.declared.family.Family.TheVariants as families
 use Rattle.hmc_codes.specs.declared.layout.Layout.{Layout}
 use Rattle.hmc_codes.specs.declared.layout.Layout.TheVariants as layouts
 use Rattle.hmc_packet.specs.Packet.{PacketFields}
-use Rattle.hmc_packet.specs.Transactions.{asked, replied, request_in, answer_by, answer_in, CanReply, IsAnswer, payload_of}
-use Rattle.hmc_packet.proofs.TransactionLemmas.{asks-layout, IsPacket-asked, request_in-asked, IsPacket-replied, answer_in-replied, answer_in-replies}
+use Rattle.hmc_codes.specs.Answer.{CanReply, IsAnswer}
+use Rattle.hmc_packet.specs.Transactions.{request_packet, reply_packet, request_in, answer_by, answer_in, payload_of}
+use Rattle.hmc_packet.proofs.TransactionLemmas.{asks-layout, IsPacket-request_packet, request_in-request_packet, IsPacket-reply_packet, answer_in-reply_packet, answer_in-replies}
 use Rattle.hmc_journal.specs.declared.outcome.Goal.{Goal}
 use Rattle.hmc_journal.specs.declared.outcome.Goal.TheVariants as goals
 use Rattle.hmc_journal.specs.Setup.{Topology, shape_of}
-use Rattle.hmc_journal.specs.Rooms.{Room}
-use Rattle.hmc_journal.specs.Rooms.Room.{Output, Port, Host, Vault, Bank, Registers, Answers}
-use Rattle.hmc_journal.specs.Next.{goal_of}
+use Rattle.hmc_journal.specs.Queues.{QueueId}
+use Rattle.hmc_journal.specs.Queues.QueueId.{Output, Port, Host, Vault, Bank, Registers, Answers}
 use Rattle.hmc_journal.proofs.Wire.{IsCounted, IsCounted-behind, behind, numbering_from}
 
 -- a request of host 0 to cube 0
@@ -38,6 +39,7 @@ pub record IsAsking (packet : PacketFields) : Type 0 where
 pub record IsReplying (packet : PacketFields) : Type 0 where
   pub counted : IsCounted packet
   pub replies : family_of packet.command ≡ families.Reply
+  pub cube : packet.cube ≡ 0
   pub slid : packet.slid ≡ 0
   pub unpoisoned : packet.poisoned ≡ false
   pub answer : Answer
@@ -58,7 +60,7 @@ pub record IsAtPort (port here : ℕ) (packet : PacketFields) : Type 0 where
   pub is_port : here ≡ port
 
 -- what stands in a room
-abbrev pub Stands : Topology → (port : ℕ) → Room → PacketFields → Type 0
+abbrev pub Stands : Topology → (port : ℕ) → QueueId → PacketFields → Type 0
 Stands topology port (Output zero) packet = IsAsking packet
 Stands topology port (Output (suc zero)) packet = IsReplying packet
 Stands topology port (Port zero here) packet = IsAtPort port here packet
@@ -104,6 +106,7 @@ unfolding behind
 IsReplying-behind before packet is = record {
   counted = IsCounted-behind before packet is.counted;
   replies = is.replies;
+  cube = is.cube;
   slid = is.slid;
   unpoisoned = is.unpoisoned;
   answer = is.answer;
@@ -163,16 +166,16 @@ request_of_packet packet request is = request_by (is_ask (layout_of packet.comma
 flow_of : (layout : Layout) → layout ≡ layouts.Ask → is_flow layout ≡ false
 flow_of layout is = ap is_flow is
 
-pub IsAsking-asked : (request : RequestFields) (tag host : ℕ) (poisoned : Bool) → IsRequest request → request.cube ≡ 0 → tag < 2 ^ 11 → host ≡ 0 → IsAsking (asked request tag host poisoned)
-unfolding asked
-IsAsking-asked request tag host poisoned is cube few none = record {
-  counted = record { is_packet = IsPacket-asked request tag host poisoned is few (omega arith); layout = flow_of (layout_of request.command) (asks-layout (layout_of request.command) is.asks) };
+pub IsAsking-request_packet : (request : RequestFields) (tag host : ℕ) (poisoned : Bool) → IsRequest request → request.cube ≡ 0 → tag < 2 ^ 11 → host ≡ 0 → IsAsking (request_packet request tag host poisoned)
+unfolding request_packet
+IsAsking-request_packet request tag host poisoned is cube few none = record {
+  counted = record { is_packet = IsPacket-request_packet request tag host poisoned is few (omega arith); layout = flow_of (layout_of request.command) (asks-layout (layout_of request.command) is.asks) };
   asks = is.asks;
   cube = cube;
   slid = none;
   request = request;
   is_request = is;
-  found = request_in-asked request tag host poisoned is;
+  found = request_in-request_packet request tag host poisoned is;
 }
 
 -- an answer that is sent
@@ -181,8 +184,8 @@ reply_layout layouts.Reply is = refl
 reply_layout layouts.Ask is = refl
 reply_layout _ is = absurd (cc)
 
-clean_reply : (answer : Answer) (tag host cube : ℕ) → (replied answer tag host cube).poisoned ≡ false
-unfolding replied
+clean_reply : (answer : Answer) (tag host cube : ℕ) → (reply_packet answer tag host cube).poisoned ≡ false
+unfolding reply_packet
 clean_reply Silent tag host cube = refl
 clean_reply (Done flag) tag host cube = refl
 clean_reply (Read flag payload) tag host cube = refl
@@ -190,8 +193,8 @@ clean_reply (Register value) tag host cube = refl
 clean_reply Stored tag host cube = refl
 clean_reply (Refused errstat) tag host cube = refl
 
-replied_slid : (answer : Answer) (tag host cube : ℕ) → CanReply answer → (replied answer tag host cube).slid ≡ host
-unfolding replied
+replied_slid : (answer : Answer) (tag host cube : ℕ) → CanReply answer → (reply_packet answer tag host cube).slid ≡ host
+unfolding reply_packet
 replied_slid Silent tag host cube can = absurd can
 replied_slid (Done flag) tag host cube can = refl
 replied_slid (Read flag payload) tag host cube can = refl
@@ -199,8 +202,17 @@ replied_slid (Register value) tag host cube can = refl
 replied_slid Stored tag host cube can = refl
 replied_slid (Refused errstat) tag host cube can = refl
 
-pub replied_tag : (answer : Answer) (tag host cube : ℕ) → CanReply answer → (replied answer tag host cube).tag ≡ tag
-unfolding replied
+replied_cube : (answer : Answer) (tag host cube : ℕ) → CanReply answer → (reply_packet answer tag host cube).cube ≡ cube
+unfolding reply_packet
+replied_cube Silent tag host cube can = absurd can
+replied_cube (Done flag) tag host cube can = refl
+replied_cube (Read flag payload) tag host cube can = refl
+replied_cube (Register value) tag host cube can = refl
+replied_cube Stored tag host cube can = refl
+replied_cube (Refused errstat) tag host cube can = refl
+
+pub replied_tag : (answer : Answer) (tag host cube : ℕ) → CanReply answer → (reply_packet answer tag host cube).tag ≡ tag
+unfolding reply_packet
 replied_tag Silent tag host cube can = absurd can
 replied_tag (Done flag) tag host cube can = refl
 replied_tag (Read flag payload) tag host cube can = refl
@@ -208,12 +220,13 @@ replied_tag (Register value) tag host cube can = refl
 replied_tag Stored tag host cube can = refl
 replied_tag (Refused errstat) tag host cube can = refl
 
-pub IsReplying-replied : (answer : Answer) (tag host cube : ℕ) → CanReply answer → IsAnswer answer → tag < 2 ^ 11 → host ≡ 0 → cube ≡ 0 → IsReplying (replied answer tag host cube)
-IsReplying-replied answer tag host cube can fits few none own =
-    let found = answer_in-replied answer tag host cube can fits in
-    let replies = (answer_in-replies (replied answer tag host cube)).0 (ap is_some found) in record {
-      counted = record { is_packet = IsPacket-replied answer tag host cube can fits few (omega arith) (omega arith); layout = reply_layout _ replies };
+pub IsReplying-reply_packet : (answer : Answer) (tag host cube : ℕ) → CanReply answer → IsAnswer answer → tag < 2 ^ 11 → host ≡ 0 → cube ≡ 0 → IsReplying (reply_packet answer tag host cube)
+IsReplying-reply_packet answer tag host cube can fits few none own =
+    let found = answer_in-reply_packet answer tag host cube can fits in
+    let replies = (answer_in-replies (reply_packet answer tag host cube)).0 (ap is_some found) in record {
+      counted = record { is_packet = IsPacket-reply_packet answer tag host cube can fits few (omega arith) (omega arith); layout = reply_layout _ replies };
       replies = replies;
+      cube = replied_cube answer tag host cube can ∙ own;
       slid = replied_slid answer tag host cube can ∙ none;
       unpoisoned = clean_reply answer tag host cube;
       answer = answer;

@@ -16,18 +16,18 @@ use Rattle.hmc_journal.specs.declared.outcome.Outcome.{Outcome}
 use Rattle.hmc_journal.specs.declared.entry.Entry.{Entry}
 use Rattle.hmc_journal.specs.Setup.{Setup, Topology}
 use Rattle.hmc_journal.specs.Wires.{pending, accepted, landed_packet, packets_by}
-use Rattle.hmc_journal.specs.Rooms.{Room, is_at, enters, moved, front_of, one_if, packet_if, entered, contents, begun}
-use Rattle.hmc_journal.specs.Rooms.Room.{Output}
+use Rattle.hmc_journal.specs.Queues.{QueueId, is_at, front_of, one_if, packet_if, entered, begun, Arrival, arrival_in, arrived}
+use Rattle.hmc_journal.specs.Queues.QueueId.{Output}
 use Rattle.hmc_journal.specs.Next.{outcome_of}
-use Rattle.hmc_journal.proofs.Right.{HasLanded}
+use Rattle.hmc_journal.proofs.EntryRule.{HasLanded}
 use Rattle.hmc_journal.proofs.Wire.{behind, numbering}
-use Rattle.hmc_journal.proofs.Moves.{entering, entered-more, room_is}
+use Rattle.hmc_journal.proofs.Moves.{entering, entered-more, same_queue_is, arrives, arrived_is}
 use Rattle.hmc_journal.proofs.Standing.{IsAsking, IsReplying, request_in-numbered, answer_in-numbered}
 use Rattle.hmc_journal.proofs.Entering.{Kept}
 use Rattle.hmc_journal.proofs.Tokens.{lands_front}
 use Rattle.hmc_journal.proofs.Phases.{Errand, Moves, errands_if}
 use Rattle.hmc_journal.proofs.Phases.Errand.{Asks, Tells}
-use Rattle.hmc_journal.proofs.RoomsAndWires.{passed, stretch, passes, passed-more, HasPassing, passing_inside, IsBlind, output_view}
+use Rattle.hmc_journal.proofs.QueuesAndWires.{forwarded, stretch, forwards, forwarded-more, HasPassing, passing_inside, IsBlind, output_view}
 
 abbrev pub asking_by : (posted same : Bool) → RequestFields → Option Errand
 asking_by true same request = None
@@ -93,7 +93,7 @@ has_landing_by topology past d tag landed (front ∷ rest) more is are = record 
 
 pub has_landing : (setup : Setup) (port : ℕ) (past : List Entry) (d tag : ℕ) (flit : List ℕ) (outcome : Outcome) → HasLanded past d flit outcome → Kept setup port past
     → packets_by outcome (landed_packet d flit past) ≡ landed_packet d flit past ∷ [] → HasLanding setup.topology past d tag (landed_packet d flit past)
-unfolding stretch passed
+unfolding stretch forwarded
 has_landing setup port past d tag flit outcome has kept taken =
     let landed = landed_packet d flit past in
     let front = lands_front setup port past d flit has.rest kept has.line in
@@ -104,54 +104,54 @@ has_landing setup port past d tag flit outcome has kept taken =
     (output_view (errand tag) (errand_blind tag) setup past d (accepted d past) (landed ∷ front.0) are)
 
 -- a stretch before and after an entry
-abbrev pub HasFrom : Topology → List Entry → Option Room → Type 0
+abbrev pub HasFrom : Topology → List Entry → Option QueueId → Type 0
 HasFrom topology past None = Unit {0}
-HasFrom topology past (Some room) = HasPassing topology past room
+HasFrom topology past (Some queue) = HasPassing topology past queue
 
-abbrev pub leaving_errands : Topology → List Entry → (tag : ℕ) → Option Room → List Errand
+abbrev pub leaving_errands : Topology → List Entry → (tag : ℕ) → Option QueueId → List Errand
 leaving_errands topology past tag None = []
-leaving_errands topology past tag (Some room) = errand_list tag (front_of (stretch topology past room))
+leaving_errands topology past tag (Some queue) = errand_list tag (front_of (stretch topology past queue))
 
-front_errand : (topology : Topology) (past : List Entry) (tag : ℕ) (from : Option Room) (room : Room) (here : Bool) → HasFrom topology past from → is_at from room ≡ here → passed past room ≤ length (entered topology past room)
-    → errands tag (stretch topology past room) ≡ errands_if here (leaving_errands topology past tag from) ++ errands tag (drop (one_if here + passed past room) (entered topology past room))
+front_errand : (topology : Topology) (past : List Entry) (tag : ℕ) (from : Option QueueId) (queue : QueueId) (here : Bool) → HasFrom topology past from → is_at from queue ≡ here → forwarded past queue ≤ length (entered topology past queue)
+    → errands tag (stretch topology past queue) ≡ errands_if here (leaving_errands topology past tag from) ++ errands tag (drop (one_if here + forwarded past queue) (entered topology past queue))
 unfolding errands stretch
-front_errand topology past tag from room false has is within = ap (λ (n : ℕ). flat_map (errand_list tag) (drop n (entered topology past room))) (sym (zero-add (passed past room)))
-front_errand topology past tag None room true has is within = cc
-front_errand topology past tag (Some there) room true has is within =
-    let same : there ≡ room = room_is there room is in
-    let inside : passed past room < length (entered topology past room) = subst (λ (r : Room). passed past r < length (entered topology past r)) same (passing_inside topology past there has) in
-    let next : passed past room + 1 ≡ 1 + passed past room = omega arith in
-    let split : drop (passed past room) (entered topology past room) ≡ get_or (entered topology past room) (passed past room) null_packet ∷ drop (passed past room + 1) (entered topology past room) = drop_more (entered topology past room) (passed past room) null_packet inside in
-    let front : front_of (drop (passed past there) (entered topology past there)) ≡ get_or (entered topology past room) (passed past room) null_packet =
-    ap (λ (r : Room). front_of (drop (passed past r) (entered topology past r))) same ∙ ap front_of split in
+front_errand topology past tag from queue false has is within = ap (λ (n : ℕ). flat_map (errand_list tag) (drop n (entered topology past queue))) (sym (zero-add (forwarded past queue)))
+front_errand topology past tag None queue true has is within = cc
+front_errand topology past tag (Some there) queue true has is within =
+    let same : there ≡ queue = same_queue_is there queue is in
+    let inside : forwarded past queue < length (entered topology past queue) = subst (λ (r : QueueId). forwarded past r < length (entered topology past r)) same (passing_inside topology past there has) in
+    let next : forwarded past queue + 1 ≡ 1 + forwarded past queue = omega arith in
+    let split : drop (forwarded past queue) (entered topology past queue) ≡ get_or (entered topology past queue) (forwarded past queue) null_packet ∷ drop (forwarded past queue + 1) (entered topology past queue) = drop_more (entered topology past queue) (forwarded past queue) null_packet inside in
+    let front : front_of (drop (forwarded past there) (entered topology past there)) ≡ get_or (entered topology past queue) (forwarded past queue) null_packet =
+    ap (λ (r : QueueId). front_of (drop (forwarded past r) (entered topology past r))) same ∙ ap front_of split in
     ap (flat_map (errand_list tag)) split
-    ∙ ap₂ (λ (p : PacketFields) (n : ℕ). errand_list tag p ++ flat_map (errand_list tag) (drop n (entered topology past room))) (sym front) next
+    ∙ ap₂ (λ (p : PacketFields) (n : ℕ). errand_list tag p ++ flat_map (errand_list tag) (drop n (entered topology past queue))) (sym front) next
 
-entering_errand : (tag : ℕ) (here : Bool) (packet : PacketFields) → errands tag (packet_if here (λ _. packet)) ≡ errands_if here (errand_list tag packet)
+entering_errand : (tag : ℕ) (here : Bool) (packet : Unit {0} → PacketFields) → errands tag (packet_if here packet) ≡ errands_if here (errand_list tag (packet tt))
 unfolding errands
-entering_errand tag true packet = append-nil (errand_list tag packet)
+entering_errand tag true packet = append-nil (errand_list tag (packet tt))
 entering_errand tag false packet = refl
 
 within_one : (here : Bool) (n m : ℕ) → n ≤ m → (here ≡ true → n < m) → one_if here + n ≤ m
 within_one true n m few some = let inside : n < m = some refl in omega arith
 within_one false n m few some = omega arith
 
-from_inside : (topology : Topology) (past : List Entry) (from : Option Room) (room : Room) → HasFrom topology past from → is_at from room ≡ true → passed past room < length (entered topology past room)
-from_inside topology past None room has is = cc
-from_inside topology past (Some there) room has is = subst (λ (r : Room). passed past r < length (entered topology past r)) (room_is there room is) (passing_inside topology past there has)
+from_inside : (topology : Topology) (past : List Entry) (from : Option QueueId) (queue : QueueId) → HasFrom topology past from → is_at from queue ≡ true → forwarded past queue < length (entered topology past queue)
+from_inside topology past None queue has is = cc
+from_inside topology past (Some there) queue has is = subst (λ (r : QueueId). forwarded past r < length (entered topology past r)) (same_queue_is there queue is) (passing_inside topology past there has)
 
-pub entry_moves : (topology : Topology) (entry : Entry) (past : List Entry) (tag : ℕ) → ((room : Room) → passed past room ≤ length (entered topology past room)) → HasFrom topology past (passes past entry)
-    → Moves (λ room. errands tag (stretch topology past room)) (λ room. errands tag (stretch topology (entry ∷ past) room)) (passes past entry) (enters topology entry)
-    (leaving_errands topology past tag (passes past entry)) (errand_list tag (moved (contents topology past) past entry))
+pub entry_moves : (topology : Topology) (entry : Entry) (past : List Entry) (tag : ℕ) (there : Option QueueId) (coming : Unit {0} → PacketFields) → arrives topology past entry ≡ arrival_in there coming → ((queue : QueueId) → forwarded past queue ≤ length (entered topology past queue)) → HasFrom topology past (forwards past entry)
+    → Moves (λ queue. errands tag (stretch topology past queue)) (λ queue. errands tag (stretch topology (entry ∷ past) queue)) (forwards past entry) there
+    (leaving_errands topology past tag (forwards past entry)) (errand_list tag (coming tt))
 unfolding stretch errands entering
-entry_moves topology entry past tag within has = record {
-  rest = λ room. errands tag (drop (one_if (is_at (passes past entry) room) + passed past room) (entered topology past room));
-  out = λ room. front_errand topology past tag (passes past entry) room (is_at (passes past entry) room) has refl (within room);
-  into = λ room.
-      ap₂ (λ (n : ℕ) (l : List PacketFields). flat_map (errand_list tag) (drop n l)) (passed-more entry past room) (entered-more topology entry past room)
-      ∙ ap (flat_map (errand_list tag)) (drop-append-le (one_if (is_at (passes past entry) room) + passed past room) (entered topology past room) (entering topology past entry room)
-      (within_one (is_at (passes past entry) room) (passed past room) (length (entered topology past room)) (within room) (from_inside topology past (passes past entry) room has)))
-      ∙ flat_map-append (errand_list tag) (drop (one_if (is_at (passes past entry) room) + passed past room) (entered topology past room)) (entering topology past entry room)
-      ∙ ap (λ (l : List Errand). flat_map (errand_list tag) (drop (one_if (is_at (passes past entry) room) + passed past room) (entered topology past room)) ++ l)
-      (entering_errand tag (is_at (enters topology entry) room) (moved (contents topology past) past entry));
+entry_moves topology entry past tag there coming is within has = record {
+  rest = λ queue. errands tag (drop (one_if (is_at (forwards past entry) queue) + forwarded past queue) (entered topology past queue));
+  out = λ queue. front_errand topology past tag (forwards past entry) queue (is_at (forwards past entry) queue) has refl (within queue);
+  into = λ queue.
+      ap₂ (λ (n : ℕ) (l : List PacketFields). flat_map (errand_list tag) (drop n l)) (forwarded-more entry past queue) (entered-more topology entry past queue)
+      ∙ ap (flat_map (errand_list tag)) (drop-append-le (one_if (is_at (forwards past entry) queue) + forwarded past queue) (entered topology past queue) (entering topology past entry queue)
+      (within_one (is_at (forwards past entry) queue) (forwarded past queue) (length (entered topology past queue)) (within queue) (from_inside topology past (forwards past entry) queue has)))
+      ∙ flat_map-append (errand_list tag) (drop (one_if (is_at (forwards past entry) queue) + forwarded past queue) (entered topology past queue)) (entering topology past entry queue)
+      ∙ ap (λ (l : List Errand). flat_map (errand_list tag) (drop (one_if (is_at (forwards past entry) queue) + forwarded past queue) (entered topology past queue)) ++ l)
+      (ap (λ (a : Option Arrival). errands tag (arrived queue a)) is ∙ ap (errands tag) (arrived_is there coming queue) ∙ entering_errand tag (is_at there queue) coming);
 }

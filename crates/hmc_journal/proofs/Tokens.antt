@@ -10,19 +10,19 @@ use Rattle.hmc_journal.specs.declared.entry.Entry.{Entry}
 use Rattle.hmc_journal.specs.declared.entry.Entry.TheVariants.{Sent, Executed}
 use Rattle.hmc_journal.specs.Setup.{Setup, Topology, link_of}
 use Rattle.hmc_journal.specs.Wires.{line_flits, unsent, pending, accepted, landed_packet, packets_by, flits_in}
-use Rattle.hmc_journal.specs.Rooms.{is_at, arrival, begins, leaves, front_of, one_if, packet_if, left, entered, contents, begun}
-use Rattle.hmc_journal.specs.Rooms.Room.{Output}
-use Rattle.hmc_journal.specs.Sight.{way_of}
+use Rattle.hmc_journal.specs.Queues.{is_at, landing_buffer, begins, leaves, front_of, one_if, packet_if, left, entered, contents, begun}
+use Rattle.hmc_journal.specs.Queues.QueueId.{Output}
+use Rattle.hmc_journal.specs.StepView.{direction_view}
 use Rattle.hmc_journal.specs.Next.{outcome_of}
 use Rattle.hmc_journal.specs.Lawful.{Lawful}
-use Rattle.hmc_journal.specs.Housed.{IsOneCube}
-use Rattle.hmc_journal.proofs.Right.{Right, HasFront, Begins, IsNext, right_entry, lawful_past}
+use Rattle.hmc_journal.proofs.OneCube.{OneCube}
+use Rattle.hmc_journal.proofs.EntryRule.{EntryRule, HasFront, Begins, IsNext, entry_rule, lawful_past}
 use Rattle.hmc_journal.proofs.Wire.{behind, numbering, numbering_from, arriving, gathering, taken_from, gathered_from, done_front}
 use Rattle.hmc_journal.proofs.Moves.{leaving, front_is}
 use Rattle.hmc_journal.proofs.WireStep.{AreWithin, values_of, line_of, done_of, begun-more}
 use Rattle.hmc_journal.proofs.Entering.{Kept}
 use Rattle.hmc_journal.proofs.Sound.{kept}
-use Rattle.hmc_journal.proofs.Arrived.{line_is_real, arrived}
+use Rattle.hmc_journal.proofs.Arrived.{line_is_real, all_arrived}
 
 -- numbers change no length
 map-numbering : (before packets : List PacketFields) → map flits_of (numbering_from before packets) ≡ map flits_of packets
@@ -63,7 +63,7 @@ accepted_few setup port past d kept =
 
 -- the flits that were begun and haven't left their buffer
 unfoldable away_of : Topology → List Entry → ℕ → ℕ
-away_of topology past d = flits_in (drop (left past (arrival topology d)) (begun topology past d))
+away_of topology past d = flits_in (drop (left past (landing_buffer topology d)) (begun topology past d))
 
 -- with what is begun now
 none_begun : (setup : Setup) (past : List Entry) (entry : Entry) (d : ℕ) (tokens : ℕ) → away_of setup.topology past d ≤ tokens → is_at (leaves past entry) (Output d) ≡ false
@@ -81,7 +81,7 @@ one_begun setup past d direction flit at is same here =
     ∙ ap (λ (n : ℕ). front_of (contents setup.topology past (Output n)) ∷ []) (sym here) ∙ ap (λ (p : PacketFields). p ∷ []) (front_is setup past (Output direction) at)
 
 tokens_there : (setup : Setup) (past : List Entry) (direction : ℕ) (flit : List ℕ) → (begins : Begins setup past direction flit) → away_of setup.topology past direction + flits_of begins.at.front ≤ (link_of setup.topology direction).setup.tokens
-unfolding away_of way_of
+unfolding away_of direction_view
 tokens_there setup past direction flit begins = begins.tokens
 
 new_begun : (setup : Setup) (past : List Entry) (d direction count : ℕ) (here : Bool) (flit : List ℕ) → IsNext setup past direction count flit → unsent direction past ≡ count → (direction == d) ≡ here
@@ -100,7 +100,7 @@ new_begun setup past d direction zero true flit next is same fits =
     let flits : flits_in (leaving setup.topology past (Sent direction New flit) (Output d)) ≡ 0 + flits_of next.at.front = ap flits_in one in
     omega (arith, fits_here)
 
-begun_fits : (setup : Setup) (entry : Entry) (past : List Entry) (d : ℕ) → Right setup past entry → away_of setup.topology past d ≤ (link_of setup.topology d).setup.tokens
+begun_fits : (setup : Setup) (entry : Entry) (past : List Entry) (d : ℕ) → EntryRule setup past entry → away_of setup.topology past d ≤ (link_of setup.topology d).setup.tokens
     → away_of setup.topology past d + flits_in (leaving setup.topology past entry (Output d)) ≤ (link_of setup.topology d).setup.tokens
 unfolding leaves
 begun_fits setup (Sent direction New flit) past d right fits = new_begun setup past d direction (unsent direction past) (direction == d) flit right.sent refl refl fits
@@ -108,33 +108,33 @@ begun_fits setup (Executed (units.Bank cube vault bank) host tag request answer)
 begun_fits setup (Executed (units.Registers cube) host tag request answer) past d right fits = none_begun setup past (Executed (units.Registers cube) host tag request answer) d _ fits refl
 begun_fits setup entry past d right fits = none_begun setup past entry d _ fits refl
 
-away-more : (setup : Setup) (entry : Entry) (past : List Entry) (d : ℕ) → Right setup past entry → AreWithin setup past → left past (arrival setup.topology d) ≤ length (begun setup.topology past d)
+away-more : (setup : Setup) (entry : Entry) (past : List Entry) (d : ℕ) → EntryRule setup past entry → AreWithin setup past → left past (landing_buffer setup.topology d) ≤ length (begun setup.topology past d)
     → away_of setup.topology past d ≤ (link_of setup.topology d).setup.tokens → away_of setup.topology (entry ∷ past) d ≤ (link_of setup.topology d).setup.tokens
 unfolding away_of left
 away-more setup entry past d right within few fits =
     let more = leaving setup.topology past entry (Output d) in
-    let n = left past (arrival setup.topology d) in
+    let n = left past (landing_buffer setup.topology d) in
     let total : flits_in (drop n (begun setup.topology past d ++ more)) ≡ flits_in (drop n (begun setup.topology past d)) + flits_in more =
     ap flits_in (drop-append-le n (begun setup.topology past d) more few) ∙ sum_by-append flits_of (drop n (begun setup.topology past d)) more in
     let tokens = begun_fits setup entry past d right fits in
-    let less = flits-drop (is_at (leaves past entry) (arrival setup.topology d)) n (begun setup.topology past d ++ more) in
-    let is : flits_in (drop (one_if (is_at (leaves past entry) (arrival setup.topology d)) + n) (begun setup.topology (entry ∷ past) d)) ≡ flits_in (drop (one_if (is_at (leaves past entry) (arrival setup.topology d)) + n) (begun setup.topology past d ++ more)) =
-    ap (λ (l : List PacketFields). flits_in (drop (one_if (is_at (leaves past entry) (arrival setup.topology d)) + n) l)) (begun-more setup entry past d right within) in
+    let less = flits-drop (is_at (leaves past entry) (landing_buffer setup.topology d)) n (begun setup.topology past d ++ more) in
+    let is : flits_in (drop (one_if (is_at (leaves past entry) (landing_buffer setup.topology d)) + n) (begun setup.topology (entry ∷ past) d)) ≡ flits_in (drop (one_if (is_at (leaves past entry) (landing_buffer setup.topology d)) + n) (begun setup.topology past d ++ more)) =
+    ap (λ (l : List PacketFields). flits_in (drop (one_if (is_at (leaves past entry) (landing_buffer setup.topology d)) + n) l)) (begun-more setup entry past d right within) in
     omega arith
 
-left_few : (setup : Setup) (past : List Entry) (d : ℕ) → IsOneCube setup → (d ≡ 0) ⊎ (d ≡ 1) → Lawful setup past → left past (arrival setup.topology d) ≤ length (accepted d past)
+left_few : (setup : Setup) (past : List Entry) (d : ℕ) → OneCube setup → (d ≡ 0) ⊎ (d ≡ 1) → Lawful setup past → left past (landing_buffer setup.topology d) ≤ length (accepted d past)
 left_few setup past d one d_is lawful =
-    let all : length (entered setup.topology past (arrival setup.topology d)) ≡ length (accepted d past) = ap length (arrived setup past d one d_is lawful) in
-    omega (arith, (kept setup past one lawful).within (arrival setup.topology d))
+    let all : length (entered setup.topology past (landing_buffer setup.topology d)) ≡ length (accepted d past) = ap length (all_arrived setup past d one d_is lawful) in
+    omega (arith, (kept setup past one lawful).within (landing_buffer setup.topology d))
 
-away_fits : (setup : Setup) (past : List Entry) (d : ℕ) → IsOneCube setup → (d ≡ 0) ⊎ (d ≡ 1) → Lawful setup past → away_of setup.topology past d ≤ (link_of setup.topology d).setup.tokens
+away_fits : (setup : Setup) (past : List Entry) (d : ℕ) → OneCube setup → (d ≡ 0) ⊎ (d ≡ 1) → Lawful setup past → away_of setup.topology past d ≤ (link_of setup.topology d).setup.tokens
 unfolding away_of left begun entered
 away_fits setup [] d one d_is lawful = omega arith
 away_fits setup (entry ∷ past) d one d_is lawful =
     let before = lawful_past setup entry past lawful in
     let keeps = kept setup past one before in
     let few = left_few setup past d one d_is before in
-    away-more setup entry past d (right_entry setup entry past lawful) keeps.within (omega (arith, accepted_few setup one.port past d keeps)) (away_fits setup past d one d_is before)
+    away-more setup entry past d (entry_rule setup entry past lawful) keeps.within (omega (arith, accepted_few setup one.port past d keeps)) (away_fits setup past d one d_is before)
 
 -- what has landed and what lands is a front of what was begun
 pub lands_front : (setup : Setup) (port : ℕ) (past : List Entry) (d : ℕ) (flit : List ℕ) (rest : List (List ℕ)) → Kept setup port past → line_flits d past ≡ flit ∷ rest
@@ -150,37 +150,37 @@ lands_front setup port past d flit rest kept line =
           ∙ append_assoc (v.accepted ++ arriving v.pending flit) later front.0,
     )
 
-pub lands_within : (setup : Setup) (past : List Entry) (d : ℕ) (flit : List ℕ) (rest : List (List ℕ)) → IsOneCube setup → Lawful setup past → line_flits d past ≡ flit ∷ rest
-    → flits_in (contents setup.topology past (arrival setup.topology d) ++ packets_by (outcome_of (pending d past) flit) (landed_packet d flit past)) ≤ (link_of setup.topology d).setup.tokens
+pub lands_within : (setup : Setup) (past : List Entry) (d : ℕ) (flit : List ℕ) (rest : List (List ℕ)) → OneCube setup → Lawful setup past → line_flits d past ≡ flit ∷ rest
+    → flits_in (contents setup.topology past (landing_buffer setup.topology d) ++ packets_by (outcome_of (pending d past) flit) (landed_packet d flit past)) ≤ (link_of setup.topology d).setup.tokens
 unfolding contents
 lands_within setup past d flit rest one lawful line =
     let d_is = line_is_real setup past d flit rest one lawful line in
     let keeps = kept setup past one lawful in
     let here = packets_by (outcome_of (pending d past) flit) (landed_packet d flit past) in
-    let n = left past (arrival setup.topology d) in
+    let n = left past (landing_buffer setup.topology d) in
     let few = left_few setup past d one d_is lawful in
     let front = lands_front setup one.port past d flit rest keeps line in
-    let inside : drop n (entered setup.topology past (arrival setup.topology d)) ++ here ≡ drop n (accepted d past ++ here) =
-    ap (λ (l : List PacketFields). drop n l ++ here) (arrived setup past d one d_is lawful) ∙ sym (drop-append-le n (accepted d past) here few) in
+    let inside : drop n (entered setup.topology past (landing_buffer setup.topology d)) ++ here ≡ drop n (accepted d past ++ here) =
+    ap (λ (l : List PacketFields). drop n l ++ here) (all_arrived setup past d one d_is lawful) ∙ sym (drop-append-le n (accepted d past) here few) in
     let whole : flits_in (drop n (begun setup.topology past d)) ≡ flits_in (drop n (accepted d past ++ here)) + flits_in front.0 =
     sym (flits-numbering n (begun setup.topology past d)) ∙ ap (λ (l : List PacketFields). flits_in (drop n l)) front.1
     ∙ ap flits_in (drop-append-le n (accepted d past ++ here) front.0 (omega (arith, length-append (accepted d past) here)))
     ∙ sum_by-append flits_of (drop n (accepted d past ++ here)) front.0 in
     let tokens : flits_in (drop n (begun setup.topology past d)) ≤ (link_of setup.topology d).setup.tokens = unfold away_of in (away_fits setup past d one d_is lawful) in
-    let same : flits_in (drop n (entered setup.topology past (arrival setup.topology d)) ++ here) ≡ flits_in (drop n (accepted d past ++ here)) = ap flits_in inside in
+    let same : flits_in (drop n (entered setup.topology past (landing_buffer setup.topology d)) ++ here) ≡ flits_in (drop n (accepted d past ++ here)) = ap flits_in inside in
     omega arith
 
 -- what stands in a buffer is the first of what was begun and hasn't left it, by its flits
-pub stands_first : (setup : Setup) (past : List Entry) (d : ℕ) → IsOneCube setup → (d ≡ 0) ⊎ (d ≡ 1) → Lawful setup past
-    → (rest : List ℕ) × (map flits_of (drop (left past (arrival setup.topology d)) (begun setup.topology past d)) ≡ map flits_of (contents setup.topology past (arrival setup.topology d)) ++ rest)
+pub stands_first : (setup : Setup) (past : List Entry) (d : ℕ) → OneCube setup → (d ≡ 0) ⊎ (d ≡ 1) → Lawful setup past
+    → (rest : List ℕ) × (map flits_of (drop (left past (landing_buffer setup.topology d)) (begun setup.topology past d)) ≡ map flits_of (contents setup.topology past (landing_buffer setup.topology d)) ++ rest)
 unfolding contents
 stands_first setup past d one d_is lawful =
-    let n = left past (arrival setup.topology d) in
+    let n = left past (landing_buffer setup.topology d) in
     let front = accepted_front setup one.port past d (kept setup past one lawful) in
     let few : n ≤ length (map flits_of (accepted d past)) = omega (arith, left_few setup past d one d_is lawful, length-map (accepted d past) flits_of) in (
       map flits_of front.0,
       sym (drop-map flits_of n (begun setup.topology past d))
           ∙ ap (drop n) (sym (map-numbering [] (begun setup.topology past d)) ∙ ap (map flits_of) front.1 ∙ map-append flits_of (accepted d past) front.0)
           ∙ drop-append-le n (map flits_of (accepted d past)) (map flits_of front.0) few
-          ∙ ap (λ (l : List ℕ). l ++ map flits_of front.0) (drop-map flits_of n (accepted d past) ∙ ap (λ (l : List PacketFields). map flits_of (drop n l)) (sym (arrived setup past d one d_is lawful))),
+          ∙ ap (λ (l : List ℕ). l ++ map flits_of front.0) (drop-map flits_of n (accepted d past) ∙ ap (λ (l : List PacketFields). map flits_of (drop n l)) (sym (all_arrived setup past d one d_is lawful))),
     )

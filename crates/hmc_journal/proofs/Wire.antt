@@ -1,26 +1,29 @@
--- What is sent on a direction is what lands, so what the receiver makes of all flits on the line is known.
+-- What is sent on a direction is what lands, so what the receiver makes of all flits on the line is
+-- known.
 use Rattle.std.proofs.Common.{◌≡◌, ◌≢◌, ◌≤◌, ◌<◌, ◌+◌, ◌-◌, ◌%◌, ◌∙◌, ℕ, zero, suc, Bool, true, false, if◌then◌else◌, List, [], ◌∷◌, ◌++◌, length, take, slice_index_or, Ok, refl, sym, ap, ap₂, subst, arith, append_assoc, append-nil, lt-ltb, le-ltb, le-leb, length-append}
 use Rattle.std.proofs.lemmas.List.{take_more, take_all, take-take, length-take-le, take_at, get_or_push}
-use Rattle.hmc_codes.specs.Table.{line_of}
+use Rattle.hmc_codes.specs.Table.{table_line}
 use Rattle.hmc_codes.specs.Commands.{layout_of, is_flow}
 use Rattle.hmc_codes.specs.declared.command.Command.TheVariants.{Null}
 use Rattle.hmc_packet.specs.Laws.{IsSentAs}
 use Rattle.hmc_packet.specs.Packet.{PacketFields, flits_of, IsPacket, null_packet}
 use Rattle.hmc_packet.specs.Parts.{lng_of}
 use Rattle.hmc_packet.specs.Reading.{read_of, is_null}
-use Rattle.hmc_packet.specs.Spelling.{spelling, null_flit, HasPointer}
-use Rattle.hmc_packet.specs.Tail.{pointers}
+use Rattle.hmc_packet.specs.Spelling.{spelling, FitsProfile}
+use Rattle.hmc_codes.specs.Flit.{zero_flit}
+use Rattle.hmc_journal.specs.Wires.{pointers}
 use Rattle.hmc_packet.proofs.PacketLemmas.{flits_of-few, IsPacket-numbered}
 use Rattle.hmc_packet.proofs.LinkLemmas.{length-spelling}
 use Rattle.hmc_packet.proofs.LawLemmas.{sent-lng, sent-some}
 use Rattle.hmc_packet.proofs.FrontLemmas.{front-same, SameHead-refl}
 use Rattle.hmc_packet.proofs.ReadOf.{is_null-is, is_null-null, read_of-spelling}
+use Rattle.hmc_case.specs.Setup.{only_profile}
 use Rattle.hmc_journal.specs.declared.outcome.Outcome.{Outcome}
 use Rattle.hmc_journal.specs.declared.outcome.Outcome.TheVariants.{Quiet, Gathered, Accepted, Poisoned}
 use Rattle.hmc_journal.specs.Wires.{gathered_by, packet_in, packets_by, flits_in}
-use Rattle.hmc_journal.specs.Sight.{numbered, last_numbered}
-unfoldable pub use Rattle.hmc_journal.specs.Sight.{behind, numbering_from, numbering}
-use Rattle.hmc_journal.specs.Next.{judged, outcome_with, outcome_of}
+use Rattle.hmc_journal.specs.StepView.{numbered, last_numbered}
+unfoldable pub use Rattle.hmc_journal.specs.StepView.{behind, numbering_from, numbering}
+use Rattle.hmc_journal.specs.Next.{outcome_read, outcome_with, outcome_of}
 
 -- a packet of a transaction, which counts on a wire
 pub record IsCounted (packet : PacketFields) : Type 0 where
@@ -28,7 +31,7 @@ pub record IsCounted (packet : PacketFields) : Type 0 where
   pub layout : is_flow (layout_of packet.command) ≡ false
 
 pub not_null : (packet : PacketFields) → IsCounted packet → packet.command ≢ Null
-unfolding line_of
+unfolding table_line
 not_null packet is null = let e : is_flow (layout_of packet.command) ≡ true = ap (λ c. is_flow (layout_of c)) null in absurd (cc (e, is.layout))
 
 flits_of-behind : (before : List PacketFields) (packet : PacketFields) → flits_of (behind before packet) ≡ flits_of packet
@@ -61,7 +64,7 @@ numbering-push packets packet = numbering_from-push [] packets packet
 
 -- what is gathered, and which packets are taken, once a whole line has landed
 abbrev pub arriving : List (List ℕ) → List ℕ → List PacketFields
-arriving pending flit = packets_by (outcome_of pending flit) (packet_in (read_of (pending ++ flit ∷ [])))
+arriving pending flit = packets_by (outcome_of pending flit) (packet_in (read_of only_profile (pending ++ flit ∷ [])))
 
 abbrev pub gathering : List (List ℕ) → List ℕ → List (List ℕ)
 gathering pending flit = gathered_by (outcome_of pending flit) flit pending
@@ -90,17 +93,17 @@ taken_from-push pending (first ∷ line) flit =
 outcome_with-more : (flits : List (List ℕ)) (lng : ℕ) → length flits < lng → lng ≤ 17 → outcome_with flits lng ≡ Gathered
 outcome_with-more flits lng more few = rw (lt-ltb (length flits) lng more, le-leb lng 17 few) refl
 
-outcome_with-whole : (flits : List (List ℕ)) (lng : ℕ) → lng ≤ length flits → outcome_with flits lng ≡ judged (read_of flits)
+outcome_with-whole : (flits : List (List ℕ)) (lng : ℕ) → lng ≤ length flits → outcome_with flits lng ≡ outcome_read (read_of only_profile flits)
 outcome_with-whole flits lng whole = rw (le-ltb (length flits) lng whole) refl
 
-not_null_flit : (flit : List ℕ) (is : Bool) → is_null flit ≡ is → flit ≢ null_flit → is ≡ false
+not_null_flit : (flit : List ℕ) (is : Bool) → is_null flit ≡ is → flit ≢ zero_flit → is ≡ false
 not_null_flit flit true is other = absurd (other (is_null-is flit is))
 not_null_flit flit false is other = refl
 
-outcome_at : (pending : List (List ℕ)) (flit first : List ℕ) (more : List (List ℕ)) → pending ++ flit ∷ [] ≡ first ∷ more → first ≢ null_flit → outcome_of pending flit ≡ outcome_with (pending ++ flit ∷ []) (lng_of first)
+outcome_at : (pending : List (List ℕ)) (flit first : List ℕ) (more : List (List ℕ)) → pending ++ flit ∷ [] ≡ first ∷ more → first ≢ zero_flit → outcome_of pending flit ≡ outcome_with (pending ++ flit ∷ []) (lng_of first)
 outcome_at [] flit first more is other =
     let same : flit ≡ first = cc in
-    let some : is_null flit ≡ false = not_null_flit flit (is_null flit) refl (subst (λ (f : List ℕ). f ≢ null_flit) (sym same) other) in
+    let some : is_null flit ≡ false = not_null_flit flit (is_null flit) refl (subst (λ (f : List ℕ). f ≢ zero_flit) (sym same) other) in
     rw some (ap (λ (f : List ℕ). outcome_with (flit ∷ []) (lng_of f)) same)
 outcome_at (f ∷ pending) flit first more is other =
     let same : f ≡ first = cc in ap (λ (g : List ℕ). outcome_with (f ∷ pending ++ flit ∷ []) (lng_of g)) same
@@ -109,9 +112,10 @@ outcome_at (f ∷ pending) flit first more is other =
 pub record AreFirstFlits (packet : PacketFields) (rrp at : ℕ) (flits : List (List ℕ)) : Type 0 where
   pub counted : IsCounted packet
   pub pointer : rrp < pointers
+  pub forward : packet.frp < pointers
   pub some : 1 ≤ at
   pub few : at ≤ flits_of packet
-  pub are : flits ≡ take at (spelling packet rrp)
+  pub are : flits ≡ take at (spelling only_profile packet rrp)
 
 -- the first of them
 record HasFirst (packet : PacketFields) (flits : List (List ℕ)) : Type 0 where
@@ -119,31 +123,31 @@ record HasFirst (packet : PacketFields) (flits : List (List ℕ)) : Type 0 where
   more : List (List ℕ)
   is : flits ≡ first ∷ more
   lng : lng_of first ≡ flits_of packet
-  other : first ≢ null_flit
+  other : first ≢ zero_flit
 
-HasPointer-of : (packet : PacketFields) (rrp : ℕ) → IsCounted packet → rrp < pointers → HasPointer packet rrp
-HasPointer-of packet rrp is below = record { below = below; null = λ e. absurd (not_null packet is e) }
+fits_of : (packet : PacketFields) (rrp : ℕ) → IsCounted packet → packet.frp < pointers → rrp < pointers → FitsProfile only_profile packet rrp
+fits_of packet rrp is forward below = record { below = below; forward = forward; errstat = is.is_packet.ranges.errstat; null = λ e. absurd (not_null packet is e) }
 
-first_in : (packet : PacketFields) (rrp at : ℕ) (flits spelled : List (List ℕ)) → AreFirstFlits packet rrp (suc at) flits → spelling packet rrp ≡ spelled → HasFirst packet flits
+first_in : (packet : PacketFields) (rrp at : ℕ) (flits spelled : List (List ℕ)) → AreFirstFlits packet rrp (suc at) flits → spelling only_profile packet rrp ≡ spelled → HasFirst packet flits
 first_in packet rrp at flits [] is spelled =
-    let long = length-spelling packet rrp is.counted.is_packet in
-    let none : length (spelling packet rrp) ≡ 0 = ap length spelled in absurd (omega (arith, is.few))
+    let long = length-spelling only_profile packet rrp is.counted.is_packet in
+    let none : length (spelling only_profile packet rrp) ≡ 0 = ap length spelled in absurd (omega (arith, is.few))
 first_in packet rrp at flits (first ∷ rest) is spelled =
-    let sent : IsSentAs packet rrp first rest = record { packet = is.counted.is_packet; pointer = HasPointer-of packet rrp is.counted is.pointer; flits = spelled } in record {
+    let sent : IsSentAs only_profile packet rrp first rest = record { packet = is.counted.is_packet; pointer = fits_of packet rrp is.counted is.forward is.pointer; flits = spelled } in record {
       first = first;
       more = take at rest;
       is = is.are ∙ ap (take (suc at)) spelled;
-      lng = sent-lng packet rrp first rest sent (not_null packet is.counted);
-      other = sent-some packet rrp first rest sent (not_null packet is.counted);
+      lng = sent-lng only_profile packet rrp first rest sent (not_null packet is.counted);
+      other = sent-some only_profile packet rrp first rest sent (not_null packet is.counted);
     }
 
 has_first : (packet : PacketFields) (rrp at : ℕ) (flits : List (List ℕ)) → AreFirstFlits packet rrp at flits → HasFirst packet flits
 has_first packet rrp zero flits is = absurd (omega (arith, is.some))
-has_first packet rrp (suc at) flits is = first_in packet rrp at flits (spelling packet rrp) is refl
+has_first packet rrp (suc at) flits is = first_in packet rrp at flits (spelling only_profile packet rrp) is refl
 
 length-front : (packet : PacketFields) (rrp at : ℕ) (flits : List (List ℕ)) → AreFirstFlits packet rrp at flits → length flits ≡ at
 length-front packet rrp at flits is =
-    ap length is.are ∙ length-take-le at (spelling packet rrp) (omega (arith, is.few, length-spelling packet rrp is.counted.is_packet))
+    ap length is.are ∙ length-take-le at (spelling only_profile packet rrp) (omega (arith, is.few, length-spelling only_profile packet rrp is.counted.is_packet))
 
 -- the outcome at a flit of a packet is that at so many flits
 outcome-front : (packet : PacketFields) (rrp at : ℕ) (pending : List (List ℕ)) (flit : List ℕ) → AreFirstFlits packet rrp at (pending ++ flit ∷ []) → outcome_of pending flit ≡ outcome_with (pending ++ flit ∷ []) (flits_of packet)
@@ -157,15 +161,15 @@ gathers packet rrp at pending flit is more =
     let few = (flits_of-few packet is.counted.is_packet).1 in
     outcome-front packet rrp at pending flit is ∙ outcome_with-more (pending ++ flit ∷ []) (flits_of packet) (omega arith) few
 
-pub reads : (packet : PacketFields) (rrp at : ℕ) (pending : List (List ℕ)) (flit : List ℕ) → AreFirstFlits packet rrp at (pending ++ flit ∷ []) → flits_of packet ≤ at → read_of (pending ++ flit ∷ []) ≡ Ok (record { packet = packet; rrp = rrp })
+pub reads : (packet : PacketFields) (rrp at : ℕ) (pending : List (List ℕ)) (flit : List ℕ) → AreFirstFlits packet rrp at (pending ++ flit ∷ []) → flits_of packet ≤ at → read_of only_profile (pending ++ flit ∷ []) ≡ Ok (record { packet = packet; rrp = rrp })
 reads packet rrp at pending flit is whole =
-    let all : take at (spelling packet rrp) ≡ spelling packet rrp = take_all at (spelling packet rrp) (omega (arith, length-spelling packet rrp is.counted.is_packet)) in
-    ap read_of (is.are ∙ all) ∙ read_of-spelling packet rrp is.counted.is_packet (HasPointer-of packet rrp is.counted is.pointer)
+    let all : take at (spelling only_profile packet rrp) ≡ spelling only_profile packet rrp = take_all at (spelling only_profile packet rrp) (omega (arith, length-spelling only_profile packet rrp is.counted.is_packet)) in
+    ap (read_of only_profile) (is.are ∙ all) ∙ read_of-spelling only_profile packet rrp is.counted.is_packet (fits_of packet rrp is.counted is.forward is.pointer)
 
-pub arrives : (packet : PacketFields) (rrp at : ℕ) (pending : List (List ℕ)) (flit : List ℕ) → AreFirstFlits packet rrp at (pending ++ flit ∷ []) → flits_of packet ≤ at → outcome_of pending flit ≡ judged (Ok (record { packet = packet; rrp = rrp }))
+pub arrives : (packet : PacketFields) (rrp at : ℕ) (pending : List (List ℕ)) (flit : List ℕ) → AreFirstFlits packet rrp at (pending ++ flit ∷ []) → flits_of packet ≤ at → outcome_of pending flit ≡ outcome_read (Ok (record { packet = packet; rrp = rrp }))
 arrives packet rrp at pending flit is whole =
     let long = length-front packet rrp at (pending ++ flit ∷ []) is in
-    outcome-front packet rrp at pending flit is ∙ outcome_with-whole (pending ++ flit ∷ []) (flits_of packet) (omega arith) ∙ ap judged (reads packet rrp at pending flit is whole)
+    outcome-front packet rrp at pending flit is ∙ outcome_with-whole (pending ++ flit ∷ []) (flits_of packet) (omega arith) ∙ ap outcome_read (reads packet rrp at pending flit is whole)
 
 taken_whole : (poisoned : Bool) (packet : PacketFields) → packets_by (if poisoned then Poisoned else Accepted) packet ≡ packet ∷ []
 taken_whole true packet = refl
@@ -175,7 +179,8 @@ gathered_whole : (poisoned : Bool) (flit : List ℕ) (pending : List (List ℕ))
 gathered_whole true flit pending = refl
 gathered_whole false flit pending = refl
 
--- what is sent: between packets, or within the one that was begun last, of which so many flits weren't sent yet
+-- what is sent: between packets, or within the one that was begun last, of which so many flits
+-- weren't sent yet
 pub record IsBetween (begun done : List PacketFields) (gathered : List (List ℕ)) : Type 0 where
   pub done_are : done ≡ numbering begun
   pub none : gathered ≡ []
@@ -216,7 +221,7 @@ sends_more before last rrp at left gathered flit is count =
       before = before;
       last = last;
       begun_are = refl;
-      done_are = ap (λ (o : Outcome). numbering before ++ packets_by o (packet_in (read_of (gathered ++ flit ∷ [])))) outcome ∙ append-nil (numbering before);
+      done_are = ap (λ (o : Outcome). numbering before ++ packets_by o (packet_in (read_of only_profile (gathered ++ flit ∷ [])))) outcome ∙ append-nil (numbering before);
       rrp = rrp;
       at = at;
       count = count;
@@ -229,20 +234,26 @@ sends_flit before last rrp at zero gathered flit is count = sends_last before la
 sends_flit before last rrp at (suc left) gathered flit is count = sends_more before last rrp at left gathered flit is count
 
 -- the flits before the last don't depend on the pointer
-front_more : (packet : PacketFields) (old rrp at : ℕ) (gathered : List (List ℕ)) (flit : List ℕ) → IsCounted packet → rrp < pointers → gathered ≡ take at (spelling packet old) → at < flits_of packet
-    → flit ≡ slice_index_or (spelling packet rrp) at [] → AreFirstFlits packet rrp (at + 1) (gathered ++ flit ∷ [])
-front_more packet old rrp at gathered flit counted below are more is =
-    let long = length-spelling packet rrp counted.is_packet in
-    let same : take at (spelling packet old) ≡ take at (spelling packet rrp) =
-    sym (take-take at (flits_of packet - 1) (spelling packet old) (omega arith))
-    ∙ ap (take at) (front-same packet packet old rrp counted.is_packet counted.is_packet (SameHead-refl packet))
-    ∙ take-take at (flits_of packet - 1) (spelling packet rrp) (omega arith) in record {
+front_more : (packet : PacketFields) (old rrp at : ℕ) (gathered : List (List ℕ)) (flit : List ℕ) → IsCounted packet → packet.frp < pointers → rrp < pointers → gathered ≡ take at (spelling only_profile packet old) → at < flits_of packet
+    → flit ≡ slice_index_or (spelling only_profile packet rrp) at [] → AreFirstFlits packet rrp (at + 1) (gathered ++ flit ∷ [])
+front_more packet old rrp at gathered flit counted forward below are more is =
+    let long = length-spelling only_profile packet rrp counted.is_packet in
+    let same : take at (spelling only_profile packet old) ≡ take at (spelling only_profile packet rrp) =
+    sym (take-take at (flits_of packet - 1) (spelling only_profile packet old) (omega arith))
+    ∙ ap (take at) (front-same only_profile packet packet old rrp counted.is_packet counted.is_packet (SameHead-refl packet))
+    ∙ take-take at (flits_of packet - 1) (spelling only_profile packet rrp) (omega arith) in record {
       counted = counted;
       pointer = below;
+      forward = forward;
       some = omega arith;
       few = omega arith;
-      are = ap₂ (λ (g : List (List ℕ)) (f : List ℕ). g ++ f ∷ []) (are ∙ same) is ∙ sym (take_more (spelling packet rrp) at [] (omega arith));
+      are = ap₂ (λ (g : List (List ℕ)) (f : List ℕ). g ++ f ∷ []) (are ∙ same) is ∙ sym (take_more (spelling only_profile packet rrp) at [] (omega arith));
     }
+
+-- its pointer is one of a link
+forward_behind : (before : List PacketFields) (packet : PacketFields) → (behind before packet).frp < pointers
+unfolding behind
+forward_behind before packet = omega arith
 
 numbered_behind : (before : List PacketFields) (packet : PacketFields) → numbered (flits_in before % pointers) (length before % 8) packet ≡ behind before packet
 unfolding behind
@@ -261,42 +272,42 @@ last_behind before last =
     ap₂ (λ (b : List PacketFields) (p : PacketFields). numbered (flits_in b) (length b) p) front end
 
 -- the first flit of a packet
-begins_packet : (before : List PacketFields) (front : PacketFields) (rrp : ℕ) (flit : List ℕ) → IsCounted front → rrp < pointers → flit ≡ slice_index_or (spelling (behind before front) rrp) 0 []
+begins_packet : (before : List PacketFields) (front : PacketFields) (rrp : ℕ) (flit : List ℕ) → IsCounted front → rrp < pointers → flit ≡ slice_index_or (spelling only_profile (behind before front) rrp) 0 []
     → Sending (lng_of flit - 1) (before ++ front ∷ []) (numbering before ++ arriving [] flit) (gathering [] flit)
 begins_packet before front rrp flit counted below is =
     let few = flits_of-few (behind before front) (IsCounted-behind before front counted).is_packet in
-    let one : AreFirstFlits (behind before front) rrp (0 + 1) (flit ∷ []) = front_more (behind before front) rrp rrp 0 [] flit (IsCounted-behind before front counted) below refl (omega arith) is in
+    let one : AreFirstFlits (behind before front) rrp (0 + 1) (flit ∷ []) = front_more (behind before front) rrp rrp 0 [] flit (IsCounted-behind before front counted) (forward_behind before front) below refl (omega arith) is in
     let has = has_first (behind before front) rrp (0 + 1) (flit ∷ []) one in
     let same : flit ≡ has.first = cc (has.is) in
     let lng : lng_of flit ≡ flits_of (behind before front) = ap lng_of same ∙ has.lng in
     sends_flit before front rrp (0 + 1) (lng_of flit - 1) [] flit one (omega (arith, flits_of-behind before front))
 
 pub begins_between : (begun done : List PacketFields) (gathered : List (List ℕ)) (front : PacketFields) (rrp : ℕ) (flit : List ℕ) → IsBetween begun done gathered → IsCounted front → rrp < pointers
-    → flit ≡ slice_index_or (spelling (numbered (flits_in begun % pointers) (length begun % 8) front) rrp) 0 []
+    → flit ≡ slice_index_or (spelling only_profile (numbered (flits_in begun % pointers) (length begun % 8) front) rrp) 0 []
     → Sending (lng_of flit - 1) (begun ++ front ∷ []) (done ++ arriving gathered flit) (gathering gathered flit)
 begins_between begun done gathered front rrp flit between counted below is =
-    rw (between.done_are, between.none) (begins_packet begun front rrp flit counted below (is ∙ ap (λ (p : PacketFields). slice_index_or (spelling p rrp) 0 []) (numbered_behind begun front)))
+    rw (between.done_are, between.none) (begins_packet begun front rrp flit counted below (is ∙ ap (λ (p : PacketFields). slice_index_or (spelling only_profile p rrp) 0 []) (numbered_behind begun front)))
 
 -- a further one
 pub goes_on : (left : ℕ) (begun done : List PacketFields) (gathered : List (List ℕ)) (rrp : ℕ) (flit : List ℕ) → IsWithin (suc left) begun done gathered → rrp < pointers
-    → flit ≡ slice_index_or (spelling (last_numbered begun) rrp) (flits_of (last_numbered begun) - suc left) []
+    → flit ≡ slice_index_or (spelling only_profile (last_numbered begun) rrp) (flits_of (last_numbered begun) - suc left) []
     → Sending left begun (done ++ arriving gathered flit) (gathering gathered flit)
 goes_on left begun done gathered rrp flit within below is =
     let sending : last_numbered begun ≡ behind within.before within.last = ap last_numbered within.begun_are ∙ last_behind within.before within.last in
     let place : flits_of (behind within.before within.last) - suc left ≡ within.at = omega (arith, within.count, flits_of-behind within.before within.last) in
-    let here : flit ≡ slice_index_or (spelling (behind within.before within.last) rrp) within.at [] =
-    is ∙ ap (λ (p : PacketFields). slice_index_or (spelling p rrp) (flits_of p - suc left) []) sending
-    ∙ ap (λ (n : ℕ). slice_index_or (spelling (behind within.before within.last) rrp) n []) place in
+    let here : flit ≡ slice_index_or (spelling only_profile (behind within.before within.last) rrp) within.at [] =
+    is ∙ ap (λ (p : PacketFields). slice_index_or (spelling only_profile p rrp) (flits_of p - suc left) []) sending
+    ∙ ap (λ (n : ℕ). slice_index_or (spelling only_profile (behind within.before within.last) rrp) n []) place in
     let more : within.at < flits_of (behind within.before within.last) = omega (arith, within.count, flits_of-behind within.before within.last) in
-    let front = front_more (behind within.before within.last) within.rrp rrp within.at gathered flit within.front.counted below within.front.are more here in
+    let front = front_more (behind within.before within.last) within.rrp rrp within.at gathered flit within.front.counted within.front.forward below within.front.are more here in
     rw (within.begun_are, within.done_are) (sends_flit within.before within.last rrp (within.at + 1) left gathered flit front (omega (arith, within.count)))
 
 -- a NULL
-pub sends_null : (begun done : List PacketFields) (gathered : List (List ℕ)) → IsBetween begun done gathered → IsBetween begun (done ++ arriving gathered null_flit) (gathering gathered null_flit)
+pub sends_null : (begun done : List PacketFields) (gathered : List (List ℕ)) → IsBetween begun done gathered → IsBetween begun (done ++ arriving gathered zero_flit) (gathering gathered zero_flit)
 sends_null begun done gathered between =
-    let quiet : outcome_of gathered null_flit ≡ Quiet = ap (λ (g : List (List ℕ)). outcome_of g null_flit) between.none ∙ rw is_null-null refl in record {
-      done_are = ap (λ (o : Outcome). done ++ packets_by o (packet_in (read_of (gathered ++ null_flit ∷ [])))) quiet ∙ append-nil done ∙ between.done_are;
-      none = ap (λ (o : Outcome). gathered_by o null_flit gathered) quiet;
+    let quiet : outcome_of gathered zero_flit ≡ Quiet = ap (λ (g : List (List ℕ)). outcome_of g zero_flit) between.none ∙ rw is_null-null refl in record {
+      done_are = ap (λ (o : Outcome). done ++ packets_by o (packet_in (read_of only_profile (gathered ++ zero_flit ∷ [])))) quiet ∙ append-nil done ∙ between.done_are;
+      none = ap (λ (o : Outcome). gathered_by o zero_flit gathered) quiet;
     }
 
 -- what is done is a front of what was begun

@@ -1,9 +1,11 @@
--- Definitions computed at one cube of two vaults of two banks, whose port 0 is joined to host 0. Each queue has room for one packet.
-use Rattle.std.proofs.Common.{◌≡◌, ℕ, Bool, List, [], ◌∷◌, ◌++◌, Some, None, true, false, refl}
+-- Definitions computed at one cube of two vaults of two banks, whose port 0 is joined to host 0.
+-- Each queue has room for one packet.
+use Rattle.hmc_codes.specs.declared.profile.Profile.TheVariants.{One}
+use Rattle.std.proofs.Common.{◌≡◌, ℕ, Bool, List, [], ◌∷◌, Some, None, true, false, refl}
 use Rattle.std.specs.Prelude.{map, replicate}
 use mathlib.Core.Bool.{xor}
 use Rattle.hmc_codes.specs.Request.{RequestFields}
-use Rattle.hmc_codes.specs.Table.{line_of}
+use Rattle.hmc_codes.specs.Table.{table_line}
 use Rattle.hmc_codes.specs.declared.answer.Answer.TheVariants.{Done, Read, Stored, Silent}
 use Rattle.hmc_codes.specs.declared.command.Command.TheVariants.{Rd16, Pinc8, Mdrd}
 use Rattle.hmc_codes.specs.declared.lift.Lift.TheVariants as lifts
@@ -15,13 +17,14 @@ use Rattle.hmc_packet.specs.declared.what.What.TheVariants.{New, Null}
 use Rattle.hmc_packet.specs.Packet.{null_packet}
 use Rattle.hmc_crc.specs.Bits.{bits_below, bits_of, number_of}
 use Rattle.hmc_crc.specs.Remainder.{coefficients, divisor, zeros, plus, divide, remainder, crc_of}
-use Rattle.hmc_codes.specs.Codes.{commands, command_of}
+use Rattle.hmc_codes.specs.Codes.{all_commands, command_of}
 use Rattle.hmc_packet.specs.Header.{header_word, header_of, header_is_clean}
 use Rattle.hmc_packet.specs.Tail.{tail_word, tail_of, tail_is_clean}
-use Rattle.hmc_packet.specs.Spelling.{word_bytes, half_bytes, covered, check_of, bytes_of, cut, null_flit, flits_with, spelling}
+use Rattle.hmc_packet.specs.Spelling.{word_bytes, half_bytes, covered, check_of, bytes_of, cut, flits_with, spelling}
+use Rattle.hmc_codes.specs.Flit.{zero_flit}
 use Rattle.hmc_packet.specs.Parts.{word_of, half_of, lng_of}
-use Rattle.hmc_packet.specs.Reading.{is_null, is_null_alone, has_length, fitting, command_in, is_clean, poison_in, packet_from, seen_in, judged, bytes_read, read_of}
-use Rattle.hmc_packet.specs.Transactions.{asked, replied, payload_of, request_in, answer_by, answer_in}
+use Rattle.hmc_packet.specs.Reading.{is_null, is_null_alone, has_length, fitting, command_in, is_clean, poison_in, packet_from, seen_in, judgement_of, bytes_read, read_of}
+use Rattle.hmc_packet.specs.Transactions.{request_packet, reply_packet, payload_of, request_in, answer_by, answer_in}
 use Rattle.hmc_registers.specs.Registers.{opening_registers}
 use Rattle.hmc_atomics.specs.Operations.{atomic_of}
 use Rattle.hmc_atomics.specs.Act.{acted_of}
@@ -37,28 +40,29 @@ use Rattle.hmc_journal.specs.declared.outcome.Goal.TheVariants.{Vault}
 use Rattle.hmc_journal.specs.declared.outcome.Outcome.TheVariants.{Quiet, Gathered, Accepted, Poisoned}
 use Rattle.hmc_journal.specs.declared.entry.Entry.{Entry}
 use Rattle.hmc_journal.specs.declared.entry.Entry.TheVariants.{Gave, Sent, Landed, Shifted, Dropped, Spread, Executed, Lifted, Took, Discarded, Idle}
-use Rattle.hmc_journal.specs.Setup.{Topology, Setup, other, start_of, end_of, shapes_of, direction_from, direction_among, port_towards, unit_of}
-use Rattle.hmc_journal.specs.Wires.{sent_flits, landed_flits, line_flits, unsent, pending, landed_packet, accepted, returned}
-use Rattle.hmc_journal.specs.Rooms.{contents, entered, left, leaves, enters, moved, begun}
-use Rattle.hmc_journal.specs.Rooms.Room.{Output, Answers}
+use Rattle.hmc_serial.specs.Unit.{unit_of}
+use Rattle.hmc_journal.specs.Setup.{Topology, Setup, other, start_of, end_of, shapes_of, direction_from, direction_among, port_towards, unit_in}
+use Rattle.hmc_journal.specs.Wires.{sent_flits, landed_flits, line_flits, unsent, pending, landed_packet, accepted, return_pointer}
+use Rattle.hmc_journal.specs.Queues.{contents, entered, left, leaves, enters, begun}
+use Rattle.hmc_journal.specs.Queues.QueueId.{Output, Answers}
 use Rattle.hmc_journal.specs.Hosts.{given_count, tags_out, host_of}
-use Rattle.hmc_journal.specs.Sight.{sight_of, way_of, state_of, numbered, numbering, numbering_from, behind}
+use Rattle.hmc_journal.specs.StepView.{view_of, direction_view, state_of, numbered, numbering, numbering_from, behind}
 use Rattle.hmc_journal.specs.Serial.{state_after, IsSerial}
 use Rattle.hmc_journal.specs.Next.{next, choice, outcome_of}
 use Rattle.hmc_journal.specs.Drained.{is_drained}
 use Rattle.hmc_journal.specs.Lawful.{journal_of, journal_behind}
 use Rattle.hmc_journal.specs.Lines.{line_of as entry_line}
-use Rattle.hmc_journal.specs.Text.{text_of}
+use Rattle.hmc_journal.specs.Text.{lines_of}
 use Rattle.hmc_journal.specs.Counts.{taken_count, executed_count, dropped_count, host_counts, cube_counts}
 use Rattle.hmc_journal.specs.Filters.{given_by, given_to, executed_by, asked_under, replies_under, answers_under, answered_into, taken_by}
-use Rattle.hmc_journal.specs.Carried.{asks_in, takings_in}
+use Rattle.hmc_journal.specs.Delivered.{tagged_requests, tagged_answers}
 
 abbrev one_cube : Topology
 one_cube = record {
-  cubes = record { shape = record { vault_bits = 1; bank_bits = 1; rows = 1 }; queue = 1 } ∷ [];
+  cubes = record { shape = record { vault_bits = 1; bank_bits = 1; rows = 1; block = 256 }; queue = 1 } ∷ [];
   links = record {
     join = record { a = places.Host 0; b = places.Port 0 0 };
-    setup = record { line = 1; tokens = 17; retry = 17; output = 2 };
+    setup = record { line = 1; tokens = 17; retry = 17; output = 2; profile = One };
   } ∷ [];
 }
 
@@ -68,7 +72,7 @@ read_at address = record { command = Rd16; cube = 0; address = address; payload 
 abbrev item_of : (fenced poisoned : Bool) → RequestFields → ItemFields
 item_of fenced poisoned request = record { host = 0; fenced = fenced; poisoned = poisoned; request = request }
 
--- a read, a poisoned one, a third one, and one behind a fence
+-- a read, a poisoned one, a third one, and one after a fence
 abbrev four_reads : Setup
 four_reads = record {
   topology = one_cube;
@@ -134,36 +138,36 @@ unfolding tags_out none_out
 number_out-taken = refl
 
 -- the first flit of a packet takes it out of the output queue
-contents-begun : contents one_cube (Sent 0 New first_flit ∷ gave_poisoned ∷ gave_first ∷ []) (Output 0) ≡ asked (read_at 0x80) 0 0 true ∷ []
-unfolding contents entered left leaves enters moved unsent direction_from direction_among
+contents-begun : contents one_cube (Sent 0 New first_flit ∷ gave_poisoned ∷ gave_first ∷ []) (Output 0) ≡ request_packet (read_at 0x80) 0 0 true ∷ []
+unfolding contents entered left leaves enters unsent direction_from direction_among
 contents-begun = refl
 
-begun-first : begun one_cube (Sent 0 New first_flit ∷ gave_poisoned ∷ gave_first ∷ []) 0 ≡ asked (read_at 0x40) 0 0 false ∷ []
-unfolding begun contents entered left leaves enters moved unsent direction_from direction_among
+begun-first : begun one_cube (Sent 0 New first_flit ∷ gave_poisoned ∷ gave_first ∷ []) 0 ≡ request_packet (read_at 0x40) 0 0 false ∷ []
+unfolding begun contents entered left leaves enters unsent direction_from direction_among
 begun-first = refl
 
 -- requests come in the order of the script, a poisoned one without a tag
 next-first : next four_reads [] (steps.Give 0) ≡ gave_first
-unfolding next choice sight_of host_of given_count tags_out none_out give_says contents entered left direction_from direction_among line_of
+unfolding next choice view_of host_of given_count tags_out none_out give_says contents entered left direction_from direction_among table_line
 next-first = refl
 
 next-poisoned : next four_reads (gave_first ∷ []) (steps.Give 0) ≡ gave_poisoned
-unfolding next choice sight_of host_of given_count tags_out none_out give_says contents entered left leaves enters moved direction_from direction_among line_of
+unfolding next choice view_of host_of given_count tags_out none_out give_says contents entered left leaves enters direction_from direction_among table_line
 next-poisoned = refl
 
 -- two packets fill the output queue
 next-full : next four_reads (gave_poisoned ∷ gave_first ∷ []) (steps.Give 0) ≡ Idle (steps.Give 0) Full
-unfolding next choice sight_of host_of given_count tags_out none_out give_says contents entered left leaves enters moved direction_from direction_among line_of
+unfolding next choice view_of host_of given_count tags_out none_out give_says contents entered left leaves enters direction_from direction_among table_line
 next-full = refl
 
 -- a fence counts before a full queue
 next-fence : next four_reads (gave_third ∷ gave_poisoned ∷ gave_first ∷ []) (steps.Give 0) ≡ Idle (steps.Give 0) Fence
-unfolding next choice sight_of host_of given_count tags_out none_out give_says contents entered left leaves enters moved direction_from direction_among line_of
+unfolding next choice view_of host_of given_count tags_out none_out give_says contents entered left leaves enters direction_from direction_among table_line
 next-fence = refl
 
 -- nothing is on its way at first, and a request that was given is
 is_drained-first : map (is_drained one_cube) ([] ∷ (gave_first ∷ []) ∷ []) ≡ true ∷ false ∷ []
-unfolding is_drained contents entered left leaves enters moved begun accepted direction_from direction_among
+unfolding is_drained contents entered left leaves enters begun accepted direction_from direction_among
 is_drained-first = refl
 
 -- a packet of one flit that came to a bank
@@ -176,20 +180,20 @@ answered_once = Executed (units.Bank 0 0 0) 0 (Some 0) (read_at 0x40) (Read fals
 
 -- a poisoned packet is dropped, and another waits where the vault's queue is full
 next-dropped : next four_reads (Landed 0 poisoned_flit Poisoned ∷ Shifted 0 0 (Vault 0) ∷ Landed 0 first_flit Accepted ∷ []) (steps.Shift 0 0) ≡ Dropped 0 0
-unfolding next choice sight_of contents entered left leaves enters moved unsent landed_packet pending direction_from direction_among read_of is_null_alone is_null null_flit has_length lng_of word_of half_of bytes_read judged command_in fitting commands command_of line_of is_clean header_is_clean tail_is_clean header_of tail_of poison_in packet_from seen_in crc_of remainder divide plus zeros divisor coefficients bits_below bits_of number_of xor
+unfolding next choice view_of contents entered left leaves enters unsent landed_packet pending direction_from direction_among read_of is_null_alone is_null zero_flit has_length lng_of word_of half_of bytes_read judgement_of command_in fitting all_commands command_of table_line is_clean header_is_clean tail_is_clean tail_word header_of tail_of poison_in packet_from seen_in crc_of remainder divide plus zeros divisor coefficients bits_below bits_of number_of xor
 next-dropped = refl
 
 next-waits : next four_reads (Landed 0 first_flit Accepted ∷ Shifted 0 0 (Vault 0) ∷ Landed 0 first_flit Accepted ∷ []) (steps.Shift 0 0) ≡ Idle (steps.Shift 0 0) Full
-unfolding next choice sight_of contents entered left leaves enters moved unsent landed_packet pending direction_from direction_among read_of is_null_alone is_null null_flit has_length lng_of word_of half_of bytes_read judged command_in fitting commands command_of line_of is_clean header_is_clean tail_is_clean header_of tail_of poison_in packet_from seen_in crc_of remainder divide plus zeros divisor coefficients bits_below bits_of number_of xor
+unfolding next choice view_of contents entered left leaves enters unsent landed_packet pending direction_from direction_among read_of is_null_alone is_null zero_flit has_length lng_of word_of half_of bytes_read judgement_of command_in fitting all_commands command_of table_line is_clean header_is_clean tail_is_clean tail_word header_of tail_of poison_in packet_from seen_in crc_of remainder divide plus zeros divisor coefficients bits_below bits_of number_of xor
 next-waits = refl
 
 -- where the answers are full a posted request is executed, and another waits
 next-posted : next four_reads (at_bank posted_flit answered_once) (steps.Bank 0 0 0) ≡ Executed (units.Bank 0 0 0) 0 None posted Silent
-unfolding next choice sight_of contents entered left leaves enters moved unsent landed_packet pending direction_from direction_among read_of is_null_alone is_null null_flit has_length lng_of word_of half_of bytes_read judged command_in fitting commands command_of line_of is_clean header_is_clean tail_is_clean header_of tail_of poison_in packet_from seen_in crc_of remainder divide plus zeros divisor coefficients bits_below bits_of number_of xor request_in payload_of state_of state_after opening_state opening opening_registers apply answer_to perform_on action_of atomic_of memory_error acted_of
+unfolding next choice view_of contents entered left leaves enters unsent landed_packet pending direction_from direction_among read_of is_null_alone is_null zero_flit has_length lng_of word_of half_of bytes_read judgement_of command_in fitting all_commands command_of table_line is_clean header_is_clean tail_is_clean tail_word header_of tail_of poison_in packet_from seen_in crc_of remainder divide plus zeros divisor coefficients bits_below bits_of number_of xor request_in payload_of state_of state_after opening_state opening opening_registers apply answer_to perform_on action_of atomic_of memory_error acted_of
 next-posted = refl
 
 next-answers_full : next four_reads (at_bank first_flit answered_once) (steps.Bank 0 0 0) ≡ Idle (steps.Bank 0 0 0) Full
-unfolding next choice sight_of contents entered left leaves enters moved unsent landed_packet pending direction_from direction_among read_of is_null_alone is_null null_flit has_length lng_of word_of half_of bytes_read judged command_in fitting commands command_of line_of is_clean header_is_clean tail_is_clean header_of tail_of poison_in packet_from seen_in crc_of remainder divide plus zeros divisor coefficients bits_below bits_of number_of xor request_in payload_of state_of state_after opening_state opening opening_registers apply answer_to perform_on action_of atomic_of memory_error acted_of
+unfolding next choice view_of contents entered left leaves enters unsent landed_packet pending direction_from direction_among read_of is_null_alone is_null zero_flit has_length lng_of word_of half_of bytes_read judgement_of command_in fitting all_commands command_of table_line is_clean header_is_clean tail_is_clean tail_word header_of tail_of poison_in packet_from seen_in crc_of remainder divide plus zeros divisor coefficients bits_below bits_of number_of xor request_in payload_of state_of state_after opening_state opening opening_registers apply answer_to perform_on action_of atomic_of memory_error acted_of
 next-answers_full = refl
 
 -- a read, from its giving to the taking of its answer
@@ -198,17 +202,17 @@ journal_of-read : journal_of one_read ≡
     Landed 1 head_flit Gathered ∷ Sent 1 New head_flit ∷ Lifted 0 (lifts.Vault 0) 0 ∷
     Executed (units.Bank 0 0 0) 0 (Some 0) (read_at 0x40) (Read false (replicate 16 0)) ∷ Spread 0 0 0 ∷ Shifted 0 0 (Vault 0) ∷
     Landed 0 first_flit Accepted ∷ Sent 0 New first_flit ∷ gave_first ∷ []
-unfolding journal_of journal_behind next choice sight_of host_of given_count tags_out none_out give_says direction_from direction_among contents entered left leaves enters moved unsent landed_packet pending begun way_of line_flits sent_flits landed_flits accepted returned port_towards unit_of
-    spelling flits_with cut bytes_of covered check_of word_bytes half_bytes header_word tail_word asked replied answer_in answer_by request_in payload_of state_of state_after opening_state opening opening_registers apply answer_to perform_on action_of atomic_of memory_error
-    read_of is_null_alone is_null null_flit has_length lng_of word_of half_of bytes_read judged command_in fitting commands command_of line_of is_clean header_is_clean tail_is_clean header_of tail_of poison_in packet_from seen_in crc_of remainder divide plus zeros divisor coefficients bits_below bits_of number_of xor
+unfolding journal_of journal_behind next choice view_of host_of given_count tags_out none_out give_says direction_from direction_among contents entered left leaves enters unsent landed_packet pending begun direction_view line_flits sent_flits landed_flits accepted return_pointer port_towards unit_of
+    spelling flits_with cut bytes_of covered check_of word_bytes half_bytes header_word tail_word request_packet reply_packet answer_in answer_by request_in payload_of state_of state_after opening_state opening opening_registers apply answer_to perform_on action_of atomic_of memory_error
+    read_of is_null_alone is_null zero_flit has_length lng_of word_of half_of bytes_read judgement_of command_in fitting all_commands command_of table_line is_clean header_is_clean tail_is_clean header_of tail_of poison_in packet_from seen_in crc_of remainder divide plus zeros divisor coefficients bits_below bits_of number_of xor
 journal_of-read = refl
 
 -- Of two links the first joins host 0 to port 0, and the second port 1 to host 1.
 abbrev two_links : Topology
 two_links = record one_cube {
   links =
-      record { join = record { a = places.Host 0; b = places.Port 0 0 }; setup = record { line = 1; tokens = 17; retry = 17; output = 2 } } ∷
-      record { join = record { a = places.Port 0 1; b = places.Host 1 }; setup = record { line = 2; tokens = 18; retry = 19; output = 3 } } ∷ [];
+      record { join = record { a = places.Host 0; b = places.Port 0 0 }; setup = record { line = 1; tokens = 17; retry = 17; output = 2; profile = One } } ∷
+      record { join = record { a = places.Port 0 1; b = places.Host 1 }; setup = record { line = 2; tokens = 18; retry = 19; output = 3; profile = One } } ∷ [];
 }
 
 other-each : map other (0 ∷ 1 ∷ 2 ∷ 3 ∷ []) ≡ 1 ∷ 0 ∷ 3 ∷ 2 ∷ []
@@ -220,11 +224,11 @@ start_of-each = refl
 end_of-each : map (end_of two_links) (0 ∷ 1 ∷ 2 ∷ 3 ∷ []) ≡ places.Port 0 0 ∷ places.Host 0 ∷ places.Host 1 ∷ places.Port 0 1 ∷ []
 end_of-each = refl
 
-direction_from-each : map (direction_from two_links) (places.Host 0 ∷ places.Port 0 0 ∷ places.Port 0 1 ∷ places.Host 1 ∷ []) ≡ 0 ∷ 1 ∷ 2 ∷ 3 ∷ []
+direction_from-each : map (direction_from two_links) (places.Host 0 ∷ places.Port 0 0 ∷ places.Port 0 1 ∷ places.Host 1 ∷ places.Host 2 ∷ places.Port 1 0 ∷ []) ≡ Some 0 ∷ Some 1 ∷ Some 2 ∷ Some 3 ∷ None ∷ None ∷ []
 unfolding direction_from direction_among
 direction_from-each = refl
 
-port_towards-each : map (port_towards two_links 0) (0 ∷ 1 ∷ []) ≡ 0 ∷ 1 ∷ []
+port_towards-each : map (port_towards two_links 0) (0 ∷ 1 ∷ 2 ∷ []) ≡ Some 0 ∷ Some 1 ∷ None ∷ []
 unfolding port_towards direction_from direction_among
 port_towards-each = refl
 
@@ -232,33 +236,34 @@ port_towards-each = refl
 abbrev load : RequestFields
 load = record { command = Mdrd; cube = 0; address = 7; payload = [] }
 
-unit_of-each : map (unit_of one_cube) (read_at 0x40 ∷ read_at 0x140 ∷ read_at 0x240 ∷ read_at 0x740 ∷ load ∷ [])
+unit_of-each : map (unit_in one_cube) (read_at 0x40 ∷ read_at 0x140 ∷ read_at 0x240 ∷ read_at 0x740 ∷ load ∷ [])
     ≡ units.Bank 0 0 0 ∷ units.Bank 0 1 0 ∷ units.Bank 0 0 1 ∷ units.Bank 0 1 1 ∷ units.Registers 0 ∷ []
 unfolding unit_of
 unit_of-each = refl
 
--- FRP counts flits and SEQ packets, from zero again behind 511 and 7
-numbered-next : numbered 3 2 (asked (read_at 0x40) 9 0 false) ≡ record (asked (read_at 0x40) 9 0 false) { frp = 4; seq = 3 }
-unfolding asked
+-- FRP counts flits and SEQ packets, from zero again after 511 and 7
+numbered-next : numbered 3 2 (request_packet (read_at 0x40) 9 0 false) ≡ record (request_packet (read_at 0x40) 9 0 false) { frp = 4; seq = 3 }
+unfolding request_packet
 numbered-next = refl
 
-numbered-again : numbered 511 7 (asked (read_at 0x40) 9 0 false) ≡ asked (read_at 0x40) 9 0 false
-unfolding asked
+numbered-again : numbered 511 7 (request_packet (read_at 0x40) 9 0 false) ≡ request_packet (read_at 0x40) 9 0 false
+unfolding request_packet
 numbered-again = refl
 
-numbering-three : map (λ packet. packet.frp ∷ packet.seq ∷ []) (numbering (asked (read_at 0x40) 0 0 false ∷ replied (Read false (replicate 16 0)) 0 0 0 ∷ asked posted 0 0 false ∷ [])) ≡ (1 ∷ 1 ∷ []) ∷ (3 ∷ 2 ∷ []) ∷ (4 ∷ 3 ∷ []) ∷ []
-unfolding numbering_from behind asked replied
+numbering-three : map (λ packet. packet.frp ∷ packet.seq ∷ []) (numbering (request_packet (read_at 0x40) 0 0 false ∷ reply_packet (Read false (replicate 16 0)) 0 0 0 ∷ request_packet posted 0 0 false ∷ [])) ≡ (1 ∷ 1 ∷ []) ∷ (3 ∷ 2 ∷ []) ∷ (4 ∷ 3 ∷ []) ∷ []
+unfolding numbering_from behind request_packet reply_packet
 numbering-three = refl
 
 -- zeros between packets are a NULL; within a packet of 17 flits they are gathered
 abbrev long_head : List ℕ
 long_head = 0xcf ∷ 0x08 ∷ replicate 14 0
 
-outcome_of-zeros : outcome_of [] null_flit ∷ outcome_of (long_head ∷ []) null_flit ∷ outcome_of (long_head ∷ replicate 14 null_flit) null_flit ∷ [] ≡ Quiet ∷ Gathered ∷ Gathered ∷ []
-unfolding is_null null_flit lng_of word_of
+outcome_of-zeros : outcome_of [] zero_flit ∷ outcome_of (long_head ∷ []) zero_flit ∷ outcome_of (long_head ∷ replicate 14 zero_flit) zero_flit ∷ [] ≡ Quiet ∷ Gathered ∷ Gathered ∷ []
+unfolding is_null zero_flit lng_of word_of
 outcome_of-zeros = refl
 
--- Host 0 asks four times, one of these poisoned and one posted, and host 1 once; three are executed, and one answer is taken.
+-- Host 0 asks four times, one of these poisoned and one posted, and host 1 once; three are
+-- executed, and one answer is taken.
 abbrev mixed : List Entry
 mixed =
     Took 0 0 (Read false (replicate 16 0)) ∷ Executed (units.Bank 0 0 0) 0 None posted Silent ∷
@@ -297,7 +302,7 @@ unfolding answers_under
 answers_under-mixed = refl
 
 answered_into-mixed : answered_into (Answers 0 (lifts.Vault 0)) mixed ≡ record { tag = 0; answer = Read false (replicate 16 0) } ∷ record { tag = 0; answer = Done true } ∷ []
-unfolding answered_into line_of
+unfolding answered_into table_line
 answered_into-mixed = refl
 
 taken_by-mixed : map (λ host. taken_by host mixed) (0 ∷ 1 ∷ []) ≡ (record { tag = 0; answer = Read false (replicate 16 0) } ∷ []) ∷ [] ∷ []
@@ -314,46 +319,46 @@ unfolding cube_counts executed_count dropped_count
 cube_counts-mixed = refl
 
 -- a packet carries its host's request to its unit, unless it is poisoned
-asks_in-each : asks_in one_cube 0 (units.Bank 0 0 0)
-    (asked (read_at 0x40) 3 0 false ∷ asked (read_at 0x40) 0 0 true ∷ asked (read_at 0x40) 4 1 false ∷ asked (read_at 0x140) 5 0 false ∷ asked posted 6 0 false ∷ [])
+tagged_requests-each : tagged_requests one_cube 0 (units.Bank 0 0 0)
+    (request_packet (read_at 0x40) 3 0 false ∷ request_packet (read_at 0x40) 0 0 true ∷ request_packet (read_at 0x40) 4 1 false ∷ request_packet (read_at 0x140) 5 0 false ∷ request_packet posted 6 0 false ∷ [])
     ≡ record { tag = Some 3; request = read_at 0x40 } ∷ record { tag = None; request = posted } ∷ []
-unfolding asks_in asked request_in payload_of unit_of line_of
-asks_in-each = refl
+unfolding tagged_requests request_packet request_in payload_of unit_of table_line
+tagged_requests-each = refl
 
-takings_in-each : takings_in (replied (Done true) 5 0 0 ∷ record (replied Stored 6 0 0) { poisoned = true } ∷ null_packet ∷ replied Stored 7 0 0 ∷ [])
+tagged_answers-each : tagged_answers (reply_packet (Done true) 5 0 0 ∷ record (reply_packet Stored 6 0 0) { poisoned = true } ∷ null_packet ∷ reply_packet Stored 7 0 0 ∷ [])
     ≡ record { tag = 5; answer = Done true } ∷ record { tag = 7; answer = Stored } ∷ []
-unfolding takings_in replied answer_in answer_by
-takings_in-each = refl
+unfolding tagged_answers reply_packet answer_in answer_by
+tagged_answers-each = refl
 
 -- the executions run on a plain machine
 serial-read : IsSerial (opening_state (shapes_of one_cube)) answered_once
-unfolding IsSerial state_after opening_state opening opening_registers answer_to perform_on action_of memory_error line_of
+unfolding IsSerial state_after opening_state opening opening_registers answer_to perform_on action_of memory_error table_line
 serial-read = (refl, tt)
 
 -- the oldest entry's line comes first
-text_of-order : text_of (Discarded 1 ∷ Dropped 0 2 ∷ []) ≡ entry_line (Dropped 0 2) ++ entry_line (Discarded 1)
-unfolding text_of
-text_of-order = refl
+lines_of-order : lines_of (Discarded 1 ∷ Dropped 0 2 ∷ []) ≡ entry_line (Dropped 0 2) ∷ entry_line (Discarded 1) ∷ []
+unfolding lines_of
+lines_of-order = refl
 
 -- where each room is empty but a packet is on the line, something is on its way
 is_drained-line : is_drained one_cube (Sent 0 New first_flit ∷ gave_first ∷ []) ≡ false
-unfolding is_drained contents entered left leaves enters moved unsent begun accepted direction_from direction_among
+unfolding is_drained contents entered left leaves enters unsent begun accepted direction_from direction_among
 is_drained-line = refl
 
 -- a full line takes no flit, and an empty one gives none
 next-line_full : next one_read (Sent 0 New first_flit ∷ gave_first ∷ []) (steps.Send 0) ≡ Idle (steps.Send 0) Full
-unfolding next choice sight_of way_of line_flits sent_flits landed_flits
+unfolding next choice view_of direction_view line_flits sent_flits landed_flits
 next-line_full = refl
 
-next-line_empty : next one_read [] (steps.Land 0 (replicate 16 0)) ≡ Idle (steps.Land 0 (replicate 16 0)) Empty
-unfolding next choice sight_of way_of line_flits sent_flits landed_flits
+next-line_empty : next one_read [] (steps.Land 0 (replicate 16 1)) ≡ Idle (steps.Land 0 zero_flit) Empty
+unfolding next choice view_of direction_view line_flits sent_flits landed_flits
 next-line_empty = refl
 
 -- with one token a packet waits until the one before has left the receiving buffer
 abbrev one_token : Setup
 one_token = record four_reads {
   topology = record one_cube {
-    links = record { join = record { a = places.Host 0; b = places.Port 0 0 }; setup = record { line = 2; tokens = 1; retry = 17; output = 2 } } ∷ [];
+    links = record { join = record { a = places.Host 0; b = places.Port 0 0 }; setup = record { line = 2; tokens = 1; retry = 17; output = 2; profile = One } } ∷ [];
   };
 }
 
@@ -364,24 +369,24 @@ begun_once = Landed 0 first_flit Accepted ∷ Sent 0 New first_flit ∷ gave_thi
 abbrev second_flit : List ℕ
 second_flit = 0xb0 ∷ 0x10 ∷ 0 ∷ 0xc0 ∷ 0 ∷ 0 ∷ 0 ∷ 0 ∷ 0 ∷ 0x04 ∷ 0x08 ∷ 0 ∷ 0xa9 ∷ 0x91 ∷ 0x4a ∷ 0xd1 ∷ []
 
-next-no_token : next one_token begun_once (steps.Send 0) ≡ Sent 0 Null null_flit
-unfolding next choice sight_of way_of line_flits sent_flits landed_flits contents entered left leaves enters moved unsent begun accepted returned landed_packet pending direction_from direction_among read_of is_null_alone is_null null_flit has_length lng_of word_of half_of bytes_read judged command_in fitting commands command_of line_of is_clean header_is_clean tail_is_clean header_of tail_of poison_in packet_from seen_in crc_of remainder divide plus zeros divisor coefficients bits_below bits_of number_of xor asked
+next-no_token : next one_token begun_once (steps.Send 0) ≡ Sent 0 Null zero_flit
+unfolding next choice view_of direction_view line_flits sent_flits landed_flits contents entered left leaves enters unsent begun accepted return_pointer landed_packet pending direction_from direction_among read_of is_null_alone is_null zero_flit has_length lng_of word_of half_of bytes_read judgement_of command_in fitting all_commands command_of table_line is_clean header_is_clean tail_is_clean tail_word header_of tail_of poison_in packet_from seen_in crc_of remainder divide plus zeros divisor coefficients bits_below bits_of number_of xor request_packet
 next-no_token = refl
 
 next-token : next one_token (Shifted 0 0 (Vault 0) ∷ begun_once) (steps.Send 0) ≡ Sent 0 New second_flit
-unfolding next choice sight_of way_of line_flits sent_flits landed_flits contents entered left leaves enters moved unsent begun accepted returned landed_packet pending direction_from direction_among read_of is_null_alone is_null null_flit has_length lng_of word_of half_of bytes_read judged command_in fitting commands command_of line_of is_clean header_is_clean tail_is_clean header_of tail_of poison_in packet_from seen_in crc_of remainder divide plus zeros divisor coefficients bits_below bits_of number_of xor spelling flits_with cut bytes_of covered check_of word_bytes half_bytes header_word tail_word asked replied
+unfolding next choice view_of direction_view line_flits sent_flits landed_flits contents entered left leaves enters unsent begun accepted return_pointer landed_packet pending direction_from direction_among read_of is_null_alone is_null zero_flit has_length lng_of word_of half_of bytes_read judgement_of command_in fitting all_commands command_of table_line is_clean header_is_clean tail_is_clean header_of tail_of poison_in packet_from seen_in crc_of remainder divide plus zeros divisor coefficients bits_below bits_of number_of xor spelling flits_with cut bytes_of covered check_of word_bytes half_bytes header_word tail_word request_packet reply_packet
 next-token = refl
 
 -- a bank's queue, and an output queue, that are full
 next-bank_full : next four_reads (Shifted 0 0 (Vault 0) ∷ Landed 0 first_flit Accepted ∷ at_bank first_flit []) (steps.Spread 0 0) ≡ Idle (steps.Spread 0 0) Full
-unfolding next choice sight_of contents entered left leaves enters moved unsent landed_packet pending direction_from direction_among read_of is_null_alone is_null null_flit has_length lng_of word_of half_of bytes_read judged command_in fitting commands command_of line_of is_clean header_is_clean tail_is_clean header_of tail_of poison_in packet_from seen_in crc_of remainder divide plus zeros divisor coefficients bits_below bits_of number_of xor
+unfolding next choice view_of contents entered left leaves enters unsent landed_packet pending direction_from direction_among read_of is_null_alone is_null zero_flit has_length lng_of word_of half_of bytes_read judgement_of command_in fitting all_commands command_of table_line is_clean header_is_clean tail_is_clean tail_word header_of tail_of poison_in packet_from seen_in crc_of remainder divide plus zeros divisor coefficients bits_below bits_of number_of xor
 next-bank_full = refl
 
 next-output_full : next four_reads (Lifted 0 lifts.Registers 0 ∷ Lifted 0 lifts.Registers 0 ∷ answered_once) (steps.Lift 0 (lifts.Vault 0)) ≡ Idle (steps.Lift 0 (lifts.Vault 0)) Full
-unfolding next choice sight_of contents entered left leaves enters moved unsent landed_packet pending direction_from direction_among read_of is_null_alone is_null null_flit has_length lng_of word_of half_of bytes_read judged command_in fitting commands command_of line_of is_clean header_is_clean tail_is_clean header_of tail_of poison_in packet_from seen_in crc_of remainder divide plus zeros divisor coefficients bits_below bits_of number_of xor port_towards replied
+unfolding next choice view_of contents entered left leaves enters unsent landed_packet pending direction_from direction_among read_of is_null_alone is_null zero_flit has_length lng_of word_of half_of bytes_read judgement_of command_in fitting all_commands command_of table_line is_clean header_is_clean tail_is_clean tail_word header_of tail_of poison_in packet_from seen_in crc_of remainder divide plus zeros divisor coefficients bits_below bits_of number_of xor port_towards reply_packet
 next-output_full = refl
 
 -- a host drops a poisoned packet
 next-discarded : next four_reads (Landed 1 poisoned_flit Poisoned ∷ []) (steps.Take 0) ≡ Discarded 0
-unfolding next choice sight_of contents entered left leaves enters moved unsent landed_packet pending direction_from direction_among read_of is_null_alone is_null null_flit has_length lng_of word_of half_of bytes_read judged command_in fitting commands command_of line_of is_clean header_is_clean tail_is_clean header_of tail_of poison_in packet_from seen_in crc_of remainder divide plus zeros divisor coefficients bits_below bits_of number_of xor
+unfolding next choice view_of contents entered left leaves enters unsent landed_packet pending direction_from direction_among read_of is_null_alone is_null zero_flit has_length lng_of word_of half_of bytes_read judgement_of command_in fitting all_commands command_of table_line is_clean header_is_clean tail_is_clean tail_word header_of tail_of poison_in packet_from seen_in crc_of remainder divide plus zeros divisor coefficients bits_below bits_of number_of xor
 next-discarded = refl

@@ -1,4 +1,4 @@
--- What the definitions of rooms are made of.
+-- Small words of the definitions of queues.
 use Rattle.std.specs.Prelude.{ℕ, Bool, true, false, ◌==◌, List, [], ◌∷◌, slice_index_or, Option, Some, None}
 use Rattle.hmc_codes.specs.declared.lift.Lift.{Lift}
 use Rattle.hmc_codes.specs.declared.lift.Lift.TheVariants as lifts
@@ -24,7 +24,7 @@ abbrev pub one_if : Bool → ℕ
 one_if true = 1
 one_if false = 0
 
--- a packet that isn't computed where nothing enters
+-- the packet where a test holds; it is computed only there
 abbrev pub packet_if : Bool → (Unit {0} → PacketFields) → List PacketFields
 packet_if true packet = packet tt ∷ []
 packet_if false packet = []

@@ -1,47 +1,51 @@
--- A journal behind which nothing is on its way.
+-- A journal after which no packet is on its way.
 use Rattle.std.specs.Prelude.{◌≡◌, ℕ, ◌*◌, ◌^◌, Bool, ◌==◌, ◌&&◌, List, [], ◌∷◌, ◌++◌, length, map, flat_map}
-use Rattle.std.specs.List.{list_all, range_with_len}
+use Rattle.std.specs.List.{list_all}
+use Rattle.hmc_codes.specs.Numbers.{upto}
 use Rattle.hmc_codes.specs.declared.lift.Lift.TheVariants as lifts
 use Rattle.hmc_journal.specs.declared.entry.Entry.{Entry}
 use Rattle.hmc_journal.specs.Setup.{Topology, shape_of}
 use Rattle.hmc_journal.specs.Wires.{accepted}
-use Rattle.hmc_journal.specs.Rooms.{Room, arrival, contents, begun}
-use Rattle.hmc_journal.specs.Rooms.Room.{Output, Vault, Bank, Registers, Answers}
+use Rattle.hmc_journal.specs.Queues.{QueueId, landing_buffer, contents, begun}
+use Rattle.hmc_journal.specs.Queues.QueueId.{Output, Vault, Bank, Registers, Answers}
 
--- no room holds a packet, and each packet that was begun on a direction was accepted
+-- no queue holds a packet, and each packet that was begun on a direction was accepted
 pub record IsDrained (topology : Topology) (past : List Entry) : Type 0 where
-  pub rooms : (room : Room) → contents topology past room ≡ []
-  pub wires : (direction : ℕ) → length (begun topology past direction) ≡ length (accepted direction past)
+  pub queues : (queue : QueueId) → contents topology past queue ≡ []
+  pub wires : (direction : ℕ) →
+      length (begun topology past direction) ≡ length (accepted direction past)
 
--- the numbers below n
-abbrev pub upto : ℕ → List ℕ
-upto n = range_with_len 0 n
+-- the queues of a vault: its own, those of its banks, and that of its answers
+abbrev pub vault_queues : Topology → (cube vault : ℕ) → List QueueId
+vault_queues topology cube vault =
+    Vault cube vault ∷
+    map (Bank cube vault) (upto (2 ^ (shape_of topology cube).bank_bits))
+    ++ Answers cube (lifts.Vault vault) ∷ []
 
--- the rooms of a vault: its queue, those of its banks, and its answers
-abbrev pub vault_rooms : Topology → (cube vault : ℕ) → List Room
-vault_rooms topology cube vault =
-    Vault cube vault ∷ map (Bank cube vault) (upto (2 ^ (shape_of topology cube).bank_bits)) ++ Answers cube (lifts.Vault vault) ∷ []
-
--- the rooms of a cube, but for its ports
-abbrev pub cube_rooms : Topology → (cube : ℕ) → List Room
-cube_rooms topology cube =
-    Registers cube ∷ Answers cube lifts.Registers ∷ flat_map (vault_rooms topology cube) (upto (2 ^ (shape_of topology cube).vault_bits))
+-- the queues of a cube, except those of its ports
+abbrev pub cube_queues : Topology → (cube : ℕ) → List QueueId
+cube_queues topology cube =
+    Registers cube ∷ Answers cube lifts.Registers ∷
+    flat_map (vault_queues topology cube) (upto (2 ^ (shape_of topology cube).vault_bits))
 
 -- the output queue where a direction starts, and the buffer where it ends
-abbrev pub direction_rooms : Topology → (direction : ℕ) → List Room
-direction_rooms topology direction = Output direction ∷ arrival topology direction ∷ []
+abbrev pub direction_queues : Topology → (direction : ℕ) → List QueueId
+direction_queues topology direction = Output direction ∷ landing_buffer topology direction ∷ []
 
 -- two for each link
 abbrev pub directions_of : Topology → List ℕ
 directions_of topology = upto (2 * length topology.links)
 
--- all rooms that there are
-abbrev pub rooms_of : Topology → List Room
-rooms_of topology =
-    flat_map (direction_rooms topology) (directions_of topology) ++ flat_map (cube_rooms topology) (upto (length topology.cubes))
+-- all queues that there are
+abbrev pub queues_of : Topology → List QueueId
+queues_of topology =
+    flat_map (direction_queues topology) (directions_of topology)
+    ++ flat_map (cube_queues topology) (upto (length topology.cubes))
 
--- the same as a test of the rooms and the directions that there are
+-- the same as a test of the queues and the directions that there are
 unfoldable pub is_drained : Topology → List Entry → Bool
 is_drained topology past =
-    list_all (λ room. length (contents topology past room) == 0) (rooms_of topology) &&
-    list_all (λ direction. length (begun topology past direction) == length (accepted direction past)) (directions_of topology)
+    list_all (λ queue. length (contents topology past queue) == 0) (queues_of topology) &&
+    list_all (λ direction.
+    length (begun topology past direction) == length (accepted direction past))
+    (directions_of topology)

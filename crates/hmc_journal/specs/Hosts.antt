@@ -1,5 +1,6 @@
--- What the journal tells of a host: how many requests it gave, and which of its tags are out.
+-- What a journal says of a host: how many requests it gave, and which of its tags are out.
 use Rattle.std.specs.Prelude.{ℕ, ◌+◌, Bool, true, false, ◌==◌, List, [], ◌∷◌, slice_set}
+use Rattle.hmc_journal.specs.Choice.{choose}
 use Rattle.hmc_host.specs.Host.{HostFields, items_of}
 use Rattle.hmc_host.specs.Tags.{none_out, with_out}
 use Rattle.hmc_journal.specs.declared.entry.Entry.{Entry}
@@ -17,18 +18,22 @@ given_count h [] = 0
 given_count h (Gave host tag poisoned request ∷ past) = count_if (host == h) (given_count h past)
 given_count h (_ ∷ past) = given_count h past
 
--- tags that change where a test holds
-abbrev pub tags_if : Bool → (changed same : List Bool) → List Bool
-tags_if true changed same = changed
-tags_if false changed same = same
-
--- which tags of a host are out: a tag from the giving of a request under it to the taking of the answer
+-- which tags of a host are out: a tag is out from the giving of a request under it to the taking of
+-- its answer
 unfoldable pub tags_out : ℕ → List Entry → List Bool
 tags_out h [] = none_out
-tags_out h (Gave host tag poisoned request ∷ past) = tags_if (host == h) (with_out tag (tags_out h past)) (tags_out h past)
-tags_out h (Took host tag answer ∷ past) = tags_if (host == h) (slice_set (tags_out h past) tag false) (tags_out h past)
+tags_out h (Gave host tag poisoned request ∷ past) =
+    choose (host == h) (with_out tag (tags_out h past)) (tags_out h past)
+tags_out h (Took host tag answer ∷ past) =
+    choose (host == h) (slice_set (tags_out h past) tag false) (tags_out h past)
 tags_out h (_ ∷ past) = tags_out h past
 
 -- the host with a number
 unfoldable pub host_of : Setup → List Entry → ℕ → HostFields
-host_of setup past host = record { number = host; items = items_of host setup.script; given = given_count host past; tags = tags_out host past }
+host_of setup past host =
+    record {
+      number = host;
+      items = items_of host setup.script;
+      given = given_count host past;
+      tags = tags_out host past;
+    }

@@ -1,8 +1,8 @@
--- A journal with its room.
+-- A journal in memory.
 use Rattle.std.specs.Prelude.{◌≤◌, ◌<◌, ◌^◌, ℕ, List}
 use Rattle.hmc_journal.specs.declared.entry.Entry.{Entry}
 
--- the entries, the newest first, and for how many there is room
+-- the entries, the newest first, and how many it has room for
 pub record JournalFields : Type 0 where
   pub past : List Entry
   pub most : ℕ

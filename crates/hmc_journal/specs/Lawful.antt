@@ -1,4 +1,4 @@
--- Lawful journals: each entry is the one that its step gives behind the entries before it.
+-- Lawful journals: each entry is the one that its step gives after the entries before it.
 use Rattle.std.specs.Prelude.{◌≡◌, List, [], ◌∷◌, length, slice_get, Option, Some, None}
 use Rattle.hmc_schedule.specs.declared.step.Step.{Step}
 use Rattle.hmc_journal.specs.declared.entry.Entry.{Entry}
@@ -10,10 +10,11 @@ abbrev pub Follows : Setup → List Entry → Option Step → Entry → Type 0
 Follows setup past None entry = ⊥
 Follows setup past (Some step) entry = entry ≡ next setup past step
 
--- an entry for each step of a front of the schedule
+-- an entry for each step of a prefix of the schedule
 unfoldable pub Lawful : Setup → List Entry → Type 0
 Lawful setup [] = Unit {0}
-Lawful setup (entry ∷ past) = Follows setup past (slice_get setup.schedule (length past)) entry × Lawful setup past
+Lawful setup (entry ∷ past) =
+    Follows setup past (slice_get setup.schedule (length past)) entry × Lawful setup past
 
 -- an entry for each step of the schedule
 pub record IsWhole (setup : Setup) (journal : List Entry) : Type 0 where

@@ -3,7 +3,7 @@ use Rattle.std.specs.Prelude.{ℕ, Bool, true, false, List, [], ◌∷◌, ◌++
 use Rattle.std.specs.Fmt.{decimal}
 use Rattle.hex.specs.Hex.{encode_lower}
 use Rattle.hmc_codes.specs.Request.{RequestFields}
-use Rattle.hmc_codes.specs.Text.{spaced, line, request_text, answer_text}
+use Rattle.hmc_codes.specs.Text.{spaced_words, line, request_text, answer_text}
 use Rattle.hmc_codes.specs.declared.lift.Lift.{Lift}
 use Rattle.hmc_codes.specs.declared.lift.Lift.TheVariants as lifts
 use Rattle.hmc_codes.specs.declared.unit.Unit.{Unit}
@@ -28,10 +28,10 @@ tag_text (Some tag) = decimal tag
 
 -- a bank by cube, vault and bank; the registers of a cube
 abbrev pub unit_text : Unit → List ℕ
-unit_text (Bank cube vault bank) = spaced (decimal cube ∷ decimal vault ∷ decimal bank ∷ [])
-unit_text (Registers cube) = spaced (decimal cube ∷ codes "r" ∷ [])
+unit_text (Bank cube vault bank) = spaced_words (decimal cube ∷ decimal vault ∷ decimal bank ∷ [])
+unit_text (Registers cube) = spaced_words (decimal cube ∷ codes "r" ∷ [])
 
--- a request, with a word before it where it was poisoned
+-- a request; a poisoned one has a word before it
 abbrev pub request_words : Bool → RequestFields → List (List ℕ)
 request_words true request = codes "poison" ∷ request_text request ∷ []
 request_words false request = request_text request ∷ []
@@ -47,7 +47,7 @@ what_text Tret = codes "tret"
 what_text New = codes "new"
 what_text Again = codes "again"
 
--- what a landing gave
+-- the outcome of a landing
 abbrev pub outcome_text : Outcome → List ℕ
 outcome_text Quiet = codes "quiet"
 outcome_text Gathered = codes "gathered"
@@ -80,7 +80,8 @@ step_words (steps.Send direction) = codes "send" ∷ decimal direction ∷ []
 step_words (steps.Land direction mask) = codes "land" ∷ decimal direction ∷ []
 step_words (steps.Shift cube port) = codes "shift" ∷ decimal cube ∷ decimal port ∷ []
 step_words (steps.Spread cube vault) = codes "spread" ∷ decimal cube ∷ decimal vault ∷ []
-step_words (steps.Bank cube vault bank) = codes "bank" ∷ decimal cube ∷ decimal vault ∷ decimal bank ∷ []
+step_words (steps.Bank cube vault bank) =
+    codes "bank" ∷ decimal cube ∷ decimal vault ∷ decimal bank ∷ []
 step_words (steps.Registers cube) = codes "registers" ∷ decimal cube ∷ []
 step_words (steps.Lift cube from) = codes "lift" ∷ decimal cube ∷ lift_text from ∷ []
 step_words (steps.Take host) = codes "take" ∷ decimal host ∷ []
@@ -90,14 +91,24 @@ step_words (steps.Retire slot) = codes "retire" ∷ decimal slot ∷ []
 
 -- words with one space between, and a line feed
 unfoldable pub line_of : Entry → List ℕ
-line_of (Gave host tag poisoned request) = line (codes "gave" ∷ decimal host ∷ tag_text tag ∷ request_words poisoned request)
-line_of (Sent direction what flit) = line (codes "sent" ∷ decimal direction ∷ what_text what ∷ encode_lower flit ∷ [])
-line_of (Landed direction flit outcome) = line (codes "landed" ∷ decimal direction ∷ encode_lower flit ∷ outcome_text outcome ∷ [])
-line_of (Shifted cube port goal) = line (codes "shifted" ∷ decimal cube ∷ decimal port ∷ goal_text goal ∷ [])
+line_of (Gave host tag poisoned request) =
+    line (codes "gave" ∷ decimal host ∷ tag_text tag ∷ request_words poisoned request)
+line_of (Sent direction what flit) =
+    line (codes "sent" ∷ decimal direction ∷ what_text what ∷ encode_lower flit ∷ [])
+line_of (Landed direction flit outcome) =
+    line (codes "landed" ∷ decimal direction ∷ encode_lower flit ∷ outcome_text outcome ∷ [])
+line_of (Shifted cube port goal) =
+    line (codes "shifted" ∷ decimal cube ∷ decimal port ∷ goal_text goal ∷ [])
 line_of (Dropped cube port) = line (codes "dropped" ∷ decimal cube ∷ decimal port ∷ [])
-line_of (Spread cube vault bank) = line (codes "spread" ∷ decimal cube ∷ decimal vault ∷ decimal bank ∷ [])
-line_of (Executed unit host tag request answer) = line (codes "executed" ∷ unit_text unit ∷ decimal host ∷ tag_text tag ∷ request_text request ∷ answer_text answer ∷ [])
-line_of (Lifted cube from port) = line (codes "lifted" ∷ decimal cube ∷ lift_text from ∷ (codes "p" ++ decimal port) ∷ [])
-line_of (Took host tag answer) = line (codes "took" ∷ decimal host ∷ decimal tag ∷ answer_text answer ∷ [])
+line_of (Spread cube vault bank) =
+    line (codes "spread" ∷ decimal cube ∷ decimal vault ∷ decimal bank ∷ [])
+line_of (Executed unit host tag request answer) =
+    line (codes "executed" ∷ unit_text unit ∷ decimal host ∷ tag_text tag ∷ request_text request ∷
+    answer_text answer ∷ [])
+line_of (Lifted cube from port) =
+    line (codes "lifted" ∷ decimal cube ∷ lift_text from ∷ (codes "p" ++ decimal port) ∷ [])
+line_of (Took host tag answer) =
+    line (codes "took" ∷ decimal host ∷ decimal tag ∷ answer_text answer ∷ [])
 line_of (Discarded host) = line (codes "discarded" ∷ decimal host ∷ [])
-line_of (Idle step cause) = line (codes "idle" ∷ spaced (step_words step) ∷ cause_text cause ∷ [])
+line_of (Idle step cause) =
+    line (codes "idle" ∷ spaced_words (step_words step) ∷ cause_text cause ∷ [])

@@ -1,5 +1,5 @@
--- The table of steps: the entry of a step, by what it sees. What an entry does is said in LinkSteps (gave, sent, landed, took) and in
--- CubeSteps (shifted, spread_to, executed, lifted_to); `with_front` and `unless_full` give the causes of idle steps.
+-- The table of steps: the entry of a step, by what it sees. LinkSteps and CubeSteps say what the
+-- steps do; `with_front` and `unless_full` give the causes of idle steps.
 use Rattle.std.specs.Prelude.{not, List}
 use Rattle.hmc_codes.specs.Shape.{bank_of}
 use Rattle.hmc_codes.specs.declared.place.Place.TheVariants as places
@@ -12,30 +12,45 @@ use Rattle.hmc_journal.specs.declared.outcome.Cause.TheVariants as causes
 use Rattle.hmc_journal.specs.declared.entry.Entry.{Entry}
 use Rattle.hmc_journal.specs.declared.entry.Entry.TheVariants.{Idle}
 use Rattle.hmc_journal.specs.Setup.{Topology, Setup, shape_of, link_of, port_towards}
-use Rattle.hmc_journal.specs.Rooms.{output_from}
-use Rattle.hmc_journal.specs.Rooms.Room.{Output, Port, Host, Vault, Answers}
-use Rattle.hmc_journal.specs.Sight.{Sight, sight_of}
-pub use Rattle.hmc_journal.specs.Waiting.{size_of, is_full, with_front, unless_full}
-pub use Rattle.hmc_journal.specs.LinkSteps.{gave, flit_of, begun_with, sent_flit, sent, judged, outcome_with, outcome_of, landed, took}
-pub use Rattle.hmc_journal.specs.CubeSteps.{goal_by, goal_of, shifted_to, shifted, spread_to, tag_of, executed_by, executed, lifted_to}
+use Rattle.hmc_journal.specs.Queues.{output_from}
+use Rattle.hmc_journal.specs.Queues.QueueId.{Output, Port, Host, Vault, Answers}
+use Rattle.hmc_journal.specs.StepView.{StepView, view_of}
+pub use Rattle.hmc_journal.specs.Waiting.{size_of, queue_size, is_full, lacks_room, with_front, unless_full}
+pub use Rattle.hmc_journal.specs.Answers.{gave_entry, took_entry, spread_entry, tag_of, ran_entry}
+pub use Rattle.hmc_journal.specs.LinkSteps.{flit_of, begun_with, sent_flit, sent_entry, outcome_read, outcome_with, outcome_of, landed_entry}
+pub use Rattle.hmc_journal.specs.CubeSteps.{goal_at, shifted_entry, shift_entry, spread_to_bank, execution_entry, executed_entry, lifted_entry}
 
 -- the entry of a step by what it sees; the last three steps are in no schedule yet
-unfoldable pub choice : Topology → Sight → Step → Entry
-choice topology sight (steps.Give host) =
-    gave host (give_says (sight.host host) (not (is_full topology sight (output_from topology (places.Host host)))))
-choice topology sight (steps.Send direction) =
-    sent (link_of topology direction).setup direction (sight.way direction) (sight.inside (Output direction))
-choice topology sight (steps.Land direction mask) = landed direction mask (sight.way direction).line (sight.way direction).pending
-choice topology sight (steps.Shift cube port) = with_front (steps.Shift cube port) (sight.inside (Port cube port)) (shifted topology sight cube port)
-choice topology sight (steps.Spread cube vault) = with_front (steps.Spread cube vault) (sight.inside (Vault cube vault))
-    (λ front. spread_to topology sight cube vault (bank_of (shape_of topology cube) front.address))
-choice topology sight (steps.Bank cube vault bank) = executed topology sight (units.Bank cube vault bank) (steps.Bank cube vault bank)
-choice topology sight (steps.Registers cube) = executed topology sight (units.Registers cube) (steps.Registers cube)
-choice topology sight (steps.Lift cube from) = with_front (steps.Lift cube from) (sight.inside (Answers cube from))
-    (λ front. lifted_to topology sight cube from (port_towards topology cube front.slid))
-choice topology sight (steps.Take host) = with_front (steps.Take host) (sight.inside (Host host)) (λ front. took host (settle_says front))
-choice topology sight step = Idle step causes.Empty
+unfoldable pub choice : Topology → StepView → Step → Entry
+choice topology view (steps.Give host) =
+    gave_entry host
+    (give_says (view.host host)
+    (not (lacks_room topology view (output_from topology (places.Host host)))))
+choice topology view (steps.Send direction) =
+    sent_entry (link_of topology direction).setup direction (view.direction_at direction)
+    (view.inside (Output direction))
+choice topology view (steps.Land direction mask) =
+    landed_entry direction mask (view.direction_at direction).line
+    (view.direction_at direction).pending
+choice topology view (steps.Shift cube port) =
+    with_front (steps.Shift cube port) (view.inside (Port cube port))
+    (shift_entry topology view cube port)
+choice topology view (steps.Spread cube vault) =
+    with_front (steps.Spread cube vault) (view.inside (Vault cube vault))
+    (λ front. spread_to_bank topology view cube vault
+    (bank_of (shape_of topology cube) front.address))
+choice topology view (steps.Bank cube vault bank) =
+    executed_entry topology view (units.Bank cube vault bank) (steps.Bank cube vault bank)
+choice topology view (steps.Registers cube) =
+    executed_entry topology view (units.Registers cube) (steps.Registers cube)
+choice topology view (steps.Lift cube from) =
+    with_front (steps.Lift cube from) (view.inside (Answers cube from))
+    (λ front. lifted_entry topology view cube from (port_towards topology cube front.slid))
+choice topology view (steps.Take host) =
+    with_front (steps.Take host) (view.inside (Host host))
+    (λ front. took_entry host (settle_says front))
+choice topology view step = Idle step causes.Empty
 
--- the entry of a step behind a journal
+-- the entry of a step after a journal
 unfoldable pub next : Setup → List Entry → Step → Entry
-next setup past step = choice setup.topology (sight_of setup past) step
+next setup past step = choice setup.topology (view_of setup past) step

@@ -21,7 +21,7 @@ pub enum Entry {
         what: What,
         flit: Flit,
     },
-    /// A flit came to the other end.
+    /// A flit landed at the other end.
     Landed {
         direction: u8,
         flit: Flit,
@@ -44,7 +44,7 @@ pub enum Entry {
         vault: u8,
         bank: u8,
     },
-    /// A unit carried out the request at the front of its queue.
+    /// A unit executed the request at the front of its queue.
     Executed {
         unit: Unit,
         host: u8,

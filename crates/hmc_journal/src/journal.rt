@@ -1,6 +1,6 @@
 //! The journal.
 
-ghost use Rattle.std.specs.Prelude.{◌≡◌, ◌<◌, ◌+◌, [], ◌∷◌, ◌++◌, reverse, length, IfOk};
+ghost use Rattle.std.specs.Prelude.{◌≡◌, ◌<◌, ◌+◌, ◌^◌, [], ◌∷◌, ◌++◌, reverse, length, IfOk};
 ghost use Rattle.std.specs.Vec.{vec_capacity};
 
 use crate::Entry;
@@ -8,8 +8,8 @@ use hmc_codes::Memory;
 use std::alloc::Global;
 use std::marker::Model;
 
-/// The entries of a run so far, and room for those of the steps to come. Contracts see a list with the newest entry first,
-/// and for how many entries there is room in all.
+/// The entries of a run so far, with room reserved for those to come. Contracts see a list with the
+/// newest entry first, and the number of entries that there is room for.
 #[derive(Drop)]
 pub struct Journal {
     entries: Vec<Entry>,
@@ -28,7 +28,7 @@ impl Model for Journal {
     ghost invariant = { λ j. IsJournal (length j.entries.items) j.most (vec_capacity j.entries) };
 }
 
-// Generic, since the checker stops at a push of an entry.
+// Generic: the checker stops at a push of an entry.
 fn append<T: Copy>(items: &mut Vec<T>, item: T)
     requires { length items.old.items < vec_capacity items.old }
     ensures items { items.new.items ≡ items.old.items ++ item ∷ [] }
@@ -48,7 +48,7 @@ impl Journal {
         Ok(Journal { entries, most })
     }
 
-    /// Notes what happened last.
+    /// Appends the entry of the latest step.
     pub fn note(&mut self, entry: Entry)
         requires { length self.old.past < self.old.most }
         ensures past { self.new.past ≡ entry ∷ self.old.past }
@@ -66,7 +66,8 @@ impl Journal {
 
     /// The entries in the order in which they came.
     pub fn entries(&self) -> &[Entry]
-        ensures { reverse result.now ≡ self.now.past }
+        ensures entries { reverse result.now ≡ self.now.past }
+        ensures few { length result.now < 2 ^ 32 }
     {
         &self.entries
     }

@@ -1,7 +1,8 @@
-//! The journal of a run: one entry for each step, and the line that tells it.
+//! The journal of a run: one entry for each step, and the line of each entry.
 //!
-//! Definitions see a journal as a list with the newest entry first, so that each of them is a recursion on what came
-//! before. What they gather from it, such as the requests that were given, has the oldest first.
+//! Definitions see a journal as a list with the newest entry first, so that each of them is a
+//! recursion on what came before. The lists that they make of it, such as the requests given, have
+//! the oldest first.
 #![tactic(auto)]
 
 mod entry;
@@ -13,7 +14,7 @@ mod outcome;
 pub use entry::Entry;
 pub use journal::Journal;
 pub use laws::{
-    journal_is_told, lawful_is_carried, lawful_is_housed, lawful_is_scripted, lawful_is_serial,
-    one_journal, text_is_in_order,
+    journal_guarantees, lawful_delivers, lawful_is_scripted, lawful_is_serial, lawful_keeps_queues,
+    lines_are_in_order, one_journal,
 };
 pub use outcome::{Cause, Goal, Outcome};

@@ -3,7 +3,7 @@
 ghost use Rattle.std.specs.Prelude.{◌≡◌, ◌∷◌, [], ◌++◌, codes, IfOk, OnOk, OnErr, string_bytes};
 ghost use Rattle.std.specs.Fmt.{decimal};
 ghost use Rattle.hex.specs.Hex.{encode_lower};
-ghost use Rattle.hmc_codes.specs.Text.{line, spaced, request_text, answer_text};
+ghost use Rattle.hmc_codes.specs.Text.{line, spaced_words, request_text, answer_text};
 ghost use Rattle.hmc_journal.specs.Lines.{line_of, tag_text, request_words, unit_text, what_text, outcome_text, goal_text, lift_text, cause_text, step_words};
 
 use crate::{Cause, Entry, Goal, Outcome};
@@ -89,7 +89,7 @@ fn cause_word(cause: Cause) -> &'static str
 
 // The words of a step, without a mask.
 fn step_words(alloc: Global, step: &Step) -> Result<String, Memory>
-    ensures { IfOk result (λ text. string_bytes text ≡ spaced (step_words step.now)) }
+    ensures { IfOk result (λ text. string_bytes text ≡ spaced_words (step_words step.now)) }
 {
     match step {
         Step::Give(host) => Ok(format!(in alloc; "give {host}")?),
@@ -117,7 +117,9 @@ fn gave_line(
     poisoned: bool,
     request: &Request,
 ) -> Result<String, Memory>
-    ensures { IfOk result (λ text. string_bytes text ≡ line (codes "gave" ∷ decimal host ∷ tag_text tag ∷ request_words poisoned request.now)) }
+    ensures { IfOk result
+        (λ text. string_bytes text
+        ≡ line (codes "gave" ∷ decimal host ∷ tag_text tag ∷ request_words poisoned request.now)) }
 {
     let tag = tag_word(alloc, tag)?;
     let request = request.text(alloc)?;
@@ -129,7 +131,9 @@ fn gave_line(
 }
 
 fn sent_line(alloc: Global, direction: u8, what: What, flit: &Flit) -> Result<String, Memory>
-    ensures { IfOk result (λ text. string_bytes text ≡ line (codes "sent" ∷ decimal direction ∷ what_text what ∷ encode_lower flit.now ∷ [])) }
+    ensures { IfOk result
+        (λ text. string_bytes text
+        ≡ line (codes "sent" ∷ decimal direction ∷ what_text what ∷ encode_lower flit.now ∷ [])) }
 {
     let what = what_word(what);
     let flit = hex::encode(alloc, flit.as_slice())?;
@@ -142,7 +146,10 @@ fn landed_line(
     flit: &Flit,
     outcome: Outcome,
 ) -> Result<String, Memory>
-    ensures { IfOk result (λ text. string_bytes text ≡ line (codes "landed" ∷ decimal direction ∷ encode_lower flit.now ∷ outcome_text outcome ∷ [])) }
+    ensures { IfOk result
+        (λ text. string_bytes text
+        ≡ line (codes "landed" ∷ decimal direction ∷ encode_lower flit.now ∷ outcome_text outcome ∷
+        [])) }
 {
     let flit = hex::encode(alloc, flit.as_slice())?;
     let outcome = outcome_word(outcome);
@@ -150,7 +157,9 @@ fn landed_line(
 }
 
 fn shifted_line(alloc: Global, cube: u8, port: u8, goal: Goal) -> Result<String, Memory>
-    ensures { IfOk result (λ text. string_bytes text ≡ line (codes "shifted" ∷ decimal cube ∷ decimal port ∷ goal_text goal ∷ [])) }
+    ensures { IfOk result
+        (λ text. string_bytes text
+        ≡ line (codes "shifted" ∷ decimal cube ∷ decimal port ∷ goal_text goal ∷ [])) }
 {
     let goal = goal_word(alloc, goal)?;
     Ok(format!(in alloc; "shifted {cube} {port} {goal}\n")?)
@@ -164,7 +173,10 @@ fn executed_line(
     request: &Request,
     answer: &Answer,
 ) -> Result<String, Memory>
-    ensures { IfOk result (λ text. string_bytes text ≡ line (codes "executed" ∷ unit_text unit ∷ decimal host ∷ tag_text tag ∷ request_text request.now ∷ answer_text answer.now ∷ [])) }
+    ensures { IfOk result
+        (λ text. string_bytes text
+        ≡ line (codes "executed" ∷ unit_text unit ∷ decimal host ∷ tag_text tag ∷
+        request_text request.now ∷ answer_text answer.now ∷ [])) }
 {
     let unit = unit_words(alloc, unit)?;
     let tag = tag_word(alloc, tag)?;
@@ -174,21 +186,28 @@ fn executed_line(
 }
 
 fn lifted_line(alloc: Global, cube: u8, from: Lift, port: u8) -> Result<String, Memory>
-    ensures { IfOk result (λ text. string_bytes text ≡ line (codes "lifted" ∷ decimal cube ∷ lift_text from ∷ (codes "p" ++ decimal port) ∷ [])) }
+    ensures { IfOk result
+        (λ text. string_bytes text
+        ≡ line (codes "lifted" ∷ decimal cube ∷ lift_text from ∷ (codes "p" ++ decimal port) ∷
+        [])) }
 {
     let from = lift_word(alloc, from)?;
     Ok(format!(in alloc; "lifted {cube} {from} p{port}\n")?)
 }
 
 fn took_line(alloc: Global, host: u8, tag: u16, answer: &Answer) -> Result<String, Memory>
-    ensures { IfOk result (λ text. string_bytes text ≡ line (codes "took" ∷ decimal host ∷ decimal tag ∷ answer_text answer.now ∷ [])) }
+    ensures { IfOk result
+        (λ text. string_bytes text
+        ≡ line (codes "took" ∷ decimal host ∷ decimal tag ∷ answer_text answer.now ∷ [])) }
 {
     let answer = answer.text(alloc)?;
     Ok(format!(in alloc; "took {host} {tag} {answer}\n")?)
 }
 
 fn idle_line(alloc: Global, step: &Step, cause: Cause) -> Result<String, Memory>
-    ensures { IfOk result (λ text. string_bytes text ≡ line (codes "idle" ∷ spaced (step_words step.now) ∷ cause_text cause ∷ [])) }
+    ensures { IfOk result
+        (λ text. string_bytes text
+        ≡ line (codes "idle" ∷ spaced_words (step_words step.now) ∷ cause_text cause ∷ [])) }
 {
     let step = step_words(alloc, step)?;
     let cause = cause_word(cause);
@@ -196,7 +215,7 @@ fn idle_line(alloc: Global, step: &Step, cause: Cause) -> Result<String, Memory>
 }
 
 impl Entry {
-    /// The line that tells the entry, a line feed at its end.
+    /// The line of the entry, with a line feed at its end.
     #[tactic(auto, unfolding(crate::specs::Lines::line_of))]
     pub fn line(&self, alloc: Global) -> Result<String, Memory>
         ensures { IfOk result (λ text. string_bytes text ≡ line_of self.now) }
@@ -239,7 +258,8 @@ impl Entry {
 
     /// Appends the line, or nothing.
     pub fn print(&self, alloc: Global, into: &mut String) -> Result<(), Memory>
-        ensures printed { OnOk result (string_bytes into.new ≡ string_bytes into.old ++ line_of self.now) }
+        ensures printed { OnOk result
+            (string_bytes into.new ≡ string_bytes into.old ++ line_of self.now) }
         ensures unchanged { OnErr result (string_bytes into.new ≡ string_bytes into.old) }
     {
         let line = self.line(alloc)?;

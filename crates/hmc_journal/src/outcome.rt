@@ -1,15 +1,15 @@
-//! What a landing gave, where a packet went, and why nothing happened.
+//! The outcome of a landing, where a packet went, and why nothing happened.
 
 /// What a receiver made of a flit.
 #[derive(Clone, Copy, Debug, PartialEq, Eq)]
 pub enum Outcome {
-    /// A flit between packets that is none of a packet that counts.
+    /// A flit that is part of no packet.
     Quiet,
     /// The packet isn't whole yet.
     Gathered,
-    /// With this flit a packet was accepted.
+    /// The flit completed a packet, which was accepted.
     Accepted,
-    /// With this flit a packet was accepted that is poisoned.
+    /// The flit completed a poisoned packet, which was accepted.
     Poisoned,
 }
 
@@ -29,7 +29,7 @@ pub enum Goal {
 pub enum Cause {
     /// The script has no further request of the host.
     Ended,
-    /// The host's next request waits behind a fence until no tag of the host is out.
+    /// The host's next request waits after a fence until no tag of the host is out.
     Fence,
     /// The host's next request needs a tag, and all are out.
     Tags,

@@ -6,75 +6,79 @@ use Rattle.std.proofs.lemmas.Nat.{pow_pos}
 use Rattle.std.proofs.lemmas.List.{length-take, length-drop, length-set, length-replicate, get_or-replicate, get_or-take, get_or-drop, get_or_past, get_or_read, get_or-set_same, get_or-set_other, ext_get_or}
 use Rattle.std.proofs.lemmas.List.FromFn.{length-map-range_with_len, get_or-map-range_with_len, fill_by_all}
 use Rattle.hmc_codes.specs.Bytes.{IsBytes}
-use Rattle.hmc_codes.specs.Shape.{ShapeFields, capacity_of}
-use Rattle.hmc_memory.specs.Banks.{IsBanks, written}
-use Rattle.hmc_memory.specs.Kept.{slot_of, place_of, byte_of, bytes_of, AreBanks, IsKept}
+use Rattle.hmc_codes.specs.Shape.{ShapeFields, IsShape, capacity_of}
+use Rattle.hmc_codes.proofs.Blocks.{block_least, same_block_near, next_offset, blocks_fit, row_fits, same_row, block_distance}
+use Rattle.hmc_memory.specs.Banks.{IsBanks, written_bytes}
+use Rattle.hmc_memory.specs.Kept.{slot_of, bank_place, byte_of, memory_bytes, AreBanks, IsMemoryOfBanks}
 use Rattle.hmc_memory.proofs.Address.{slot_below, row_below, same_block}
 use Rattle.hmc_memory.proofs.WrittenLemmas.{length-written, get_or-written_below, get_or-written_inside, get_or-written_above, IsBytes-written}
 
-pub length-bytes_of : (shape : ShapeFields) (banks : List (List ℕ)) → length (bytes_of shape banks) ≡ capacity_of shape
-unfolding bytes_of
+pub length-bytes_of : (shape : ShapeFields) (banks : List (List ℕ)) → length (memory_bytes shape banks) ≡ capacity_of shape
+unfolding memory_bytes
 length-bytes_of shape banks = length-map-range_with_len (byte_of shape banks) 0 (capacity_of shape)
 
-pub get_or-bytes_of : (shape : ShapeFields) (banks : List (List ℕ)) (k : ℕ) → k < capacity_of shape → slice_index (bytes_of shape banks) k ≡ byte_of shape banks k
-unfolding bytes_of
+pub get_or-bytes_of : (shape : ShapeFields) (banks : List (List ℕ)) (k : ℕ) → k < capacity_of shape → slice_index (memory_bytes shape banks) k ≡ byte_of shape banks k
+unfolding memory_bytes
 get_or-bytes_of shape banks k inside = get_or-map-range_with_len (byte_of shape banks) 0 (capacity_of shape) k k 0 inside (omega arith)
 
-pub IsBytes-bytes_of : (shape : ShapeFields) (banks : List (List ℕ)) → AreBanks shape banks → IsBytes (bytes_of shape banks)
+pub IsBytes-bytes_of : (shape : ShapeFields) (banks : List (List ℕ)) → AreBanks shape banks → IsBytes (memory_bytes shape banks)
 unfolding byte_of
 IsBytes-bytes_of shape banks are k = elim (cases_lt k (capacity_of shape)) [
-  | inl inside ↦ subst (λ n. n < 256) (sym (get_or-bytes_of shape banks k inside)) (are.bytes (slot_of shape k) (place_of shape k))
-  | inr past ↦ subst (λ n. n < 256) (sym (get_or_past (bytes_of shape banks) k 0 (omega (arith, length-bytes_of shape banks)))) (lit< tt)
+  | inl inside ↦ subst (λ n. n < 256) (sym (get_or-bytes_of shape banks k inside)) (are.bytes (slot_of shape k) (bank_place shape k))
+  | inr past ↦ subst (λ n. n < 256) (sym (get_or_past (memory_bytes shape banks) k 0 (omega (arith, length-bytes_of shape banks)))) (lit< tt)
 ]
 
 -- what a memory keeps, as the contracts see it
-pub IsBanks-kept : (shape : ShapeFields) (banks : List (List ℕ)) → IsKept shape banks → IsBanks (record { shape = shape; bytes = bytes_of shape banks })
+pub IsBanks-kept : (shape : ShapeFields) (banks : List (List ℕ)) → IsMemoryOfBanks shape banks → IsBanks (record { shape = shape; bytes = memory_bytes shape banks })
 IsBanks-kept shape banks kept =
     record { shape = kept.is_shape; capacity = length-bytes_of shape banks; bytes = IsBytes-bytes_of shape banks kept.are_banks }
 
 -- a bank's place, and a block's place in it, are inside
 pub slot_inside : (shape : ShapeFields) (banks : List (List ℕ)) (a : ℕ) → AreBanks shape banks → slot_of shape a < length banks
 slot_inside shape banks a are =
-    omega (arith, slot_below a (2 ^ shape.vault_bits) (2 ^ shape.bank_bits) (pow_pos shape.vault_bits) (pow_pos shape.bank_bits), are.count)
+    omega (arith, slot_below shape.block a (2 ^ shape.vault_bits) (2 ^ shape.bank_bits) (pow_pos shape.vault_bits) (pow_pos shape.bank_bits), are.count)
 
-pub place_inside : (shape : ShapeFields) (a : ℕ) → a % 16 ≡ 0 → a < capacity_of shape → place_of shape a + 16 ≤ shape.rows * 256
-place_inside shape a aligned inside =
-    omega (arith, row_below a (2 ^ shape.vault_bits) (2 ^ shape.bank_bits) shape.rows (pow_pos shape.vault_bits) (pow_pos shape.bank_bits) inside)
+-- a block has some bytes
+some_bytes : (shape : ShapeFields) → IsShape shape → 0 < shape.block
+some_bytes shape is = omega (arith, block_least shape.block is.block)
 
-pub block_inside : (shape : ShapeFields) (banks : List (List ℕ)) (a : ℕ) → AreBanks shape banks → a % 16 ≡ 0 → a < capacity_of shape → place_of shape a + 16 ≤ length (slice_index_or banks (slot_of shape a) [])
-block_inside shape banks a are aligned inside =
-    omega (arith, are.rows (slot_of shape a) (slot_inside shape banks a are), place_inside shape a aligned inside)
+pub place_inside : (shape : ShapeFields) (a : ℕ) → IsShape shape → a % 16 ≡ 0 → a < capacity_of shape → bank_place shape a + 16 ≤ shape.rows * shape.block
+place_inside shape a is aligned inside =
+    row_fits shape.block _ shape.rows a is.block aligned
+    (row_below shape.block a (2 ^ shape.vault_bits) (2 ^ shape.bank_bits) shape.rows (some_bytes shape is) (pow_pos shape.vault_bits) (pow_pos shape.bank_bits) inside)
+
+pub block_inside : (shape : ShapeFields) (banks : List (List ℕ)) (a : ℕ) → IsMemoryOfBanks shape banks → a % 16 ≡ 0 → a < capacity_of shape → bank_place shape a + 16 ≤ length (slice_index_or banks (slot_of shape a) [])
+block_inside shape banks a kept aligned inside =
+    omega (arith, kept.are_banks.rows (slot_of shape a) (slot_inside shape banks a kept.are_banks), place_inside shape a kept.is_shape aligned inside)
 
 -- the capacity is whole blocks
-whole_blocks : (c a n : ℕ) → c ≡ 256 * n → a % 16 ≡ 0 → a < c → a + 16 ≤ c
-whole_blocks c a n is aligned inside = omega arith
-
-pub block_below : (shape : ShapeFields) (a : ℕ) → a % 16 ≡ 0 → a < capacity_of shape → a + 16 ≤ capacity_of shape
-block_below shape a aligned inside =
-    whole_blocks (capacity_of shape) a (2 ^ shape.vault_bits * 2 ^ shape.bank_bits * shape.rows) (omega arith) aligned inside
+pub block_below : (shape : ShapeFields) (a : ℕ) → IsShape shape → a % 16 ≡ 0 → a < capacity_of shape → a + 16 ≤ capacity_of shape
+block_below shape a is aligned inside =
+    let whole : capacity_of shape ≡ shape.block * (2 ^ shape.vault_bits * 2 ^ shape.bank_bits * shape.rows) = grind arith in
+    let fits = blocks_fit shape.block (2 ^ shape.vault_bits * 2 ^ shape.bank_bits * shape.rows) a is.block aligned (subst (λ n. a < n) whole inside) in
+    subst (λ n. a + 16 ≤ n) (sym whole) fits
 
 -- the bank that is found at an address's slot
 pub found_bank : (shape : ShapeFields) (banks : List (List ℕ)) (a slot : ℕ) (bank : List ℕ) → AreBanks shape banks → slot ≡ slot_of shape a → bank ≡ slice_index_or banks slot bank → bank ≡ slice_index_or banks (slot_of shape a) []
 found_bank shape banks a slot bank are slot_is read =
     get_or_read banks slot bank (omega (arith, slot_inside shape banks a are)) read [] ∙ ap (λ s. slice_index_or banks s []) slot_is
 
--- the 16 bytes from a multiple of 16 on stand in one bank, one after the other
-pub same_bank : (shape : ShapeFields) (a k : ℕ) → a % 16 ≡ 0 → k < 16 → slot_of shape (a + k) ≡ slot_of shape a
-same_bank shape a k aligned near =
-    let block : (a + k) / 256 ≡ a / 256 = omega arith in
-    ap (λ n. n % 2 ^ shape.vault_bits * 2 ^ shape.bank_bits + n / 2 ^ shape.vault_bits % 2 ^ shape.bank_bits) block
+-- the 16 bytes from a multiple of 16 on are in one bank, one after the other
+pub same_bank : (shape : ShapeFields) (a k : ℕ) → IsShape shape → a % 16 ≡ 0 → k < 16 → slot_of shape (a + k) ≡ slot_of shape a
+same_bank shape a k is aligned near =
+    ap (λ n. n % 2 ^ shape.vault_bits * 2 ^ shape.bank_bits + n / 2 ^ shape.vault_bits % 2 ^ shape.bank_bits) (same_block_near shape.block a k is.block aligned near)
 
-pub next_place : (shape : ShapeFields) (a k : ℕ) → a % 16 ≡ 0 → k < 16 → place_of shape (a + k) ≡ place_of shape a + k
-next_place shape a k aligned near =
-    let block : (a + k) / 256 ≡ a / 256 = omega arith in
-    let row : (a + k) / 256 / 2 ^ shape.vault_bits / 2 ^ shape.bank_bits ≡ a / 256 / 2 ^ shape.vault_bits / 2 ^ shape.bank_bits = ap (λ n. n / 2 ^ shape.vault_bits / 2 ^ shape.bank_bits) block in
-    omega (arith, row)
+pub next_place : (shape : ShapeFields) (a k : ℕ) → IsShape shape → a % 16 ≡ 0 → k < 16 → bank_place shape (a + k) ≡ bank_place shape a + k
+next_place shape a k is aligned near =
+    ap (λ n. n / 2 ^ shape.vault_bits / 2 ^ shape.bank_bits * shape.block + (a + k) % shape.block) (same_block_near shape.block a k is.block aligned near)
+    ∙ ap (λ n. a / shape.block / 2 ^ shape.vault_bits / 2 ^ shape.bank_bits * shape.block + n) (next_offset shape.block a k is.block aligned near)
+    ∙ omega arith
 
-pub byte_of-add : (shape : ShapeFields) (banks : List (List ℕ)) (a k : ℕ) → a % 16 ≡ 0 → k < 16 → byte_of shape banks (a + k) ≡ slice_index (slice_index_or banks (slot_of shape a) []) (place_of shape a + k)
+pub byte_of-add : (shape : ShapeFields) (banks : List (List ℕ)) (a k : ℕ) → IsShape shape → a % 16 ≡ 0 → k < 16 → byte_of shape banks (a + k) ≡ slice_index (slice_index_or banks (slot_of shape a) []) (bank_place shape a + k)
 unfolding byte_of
-byte_of-add shape banks a k aligned near =
-    ap (λ s. slice_index (slice_index_or banks s []) (place_of shape (a + k))) (same_bank shape a k aligned near)
-    ∙ ap (slice_index (slice_index_or banks (slot_of shape a) [])) (next_place shape a k aligned near)
+byte_of-add shape banks a k is aligned near =
+    ap (λ s. slice_index (slice_index_or banks s []) (bank_place shape (a + k))) (same_bank shape a k is aligned near)
+    ∙ ap (slice_index (slice_index_or banks (slot_of shape a) [])) (next_place shape a k is aligned near)
 
 -- two ranges of 16 whose bytes are the same
 same_ranges : (xs ys : List ℕ) (i j : ℕ) → i + 16 ≤ length xs → j + 16 ≤ length ys → ((k : ℕ) → k < 16 → slice_index xs (i + k) ≡ slice_index ys (j + k)) → slice_range xs i (i + 16) ≡ slice_range ys j (j + 16)
@@ -85,99 +89,106 @@ same_ranges xs ys i j in_xs in_ys same =
     (λ k within. get_or-take (i + 16 - i) (drop i xs) k 0 (omega arith) ∙ get_or-drop i xs k 0 ∙ same k (omega arith) ∙ sym (get_or-drop j ys k 0) ∙ sym (get_or-take (j + 16 - j) (drop j ys) k 0 (omega arith)))
 
 -- a block of a bank is a block of the memory
-pub block_read : (shape : ShapeFields) (banks : List (List ℕ)) (a : ℕ) → AreBanks shape banks → a % 16 ≡ 0 → a < capacity_of shape →
-    slice_range (slice_index_or banks (slot_of shape a) []) (place_of shape a) (place_of shape a + 16) ≡ slice_range (bytes_of shape banks) a (a + 16)
-block_read shape banks a are aligned inside =
+pub block_read : (shape : ShapeFields) (banks : List (List ℕ)) (a : ℕ) → IsMemoryOfBanks shape banks → a % 16 ≡ 0 → a < capacity_of shape →
+    slice_range (slice_index_or banks (slot_of shape a) []) (bank_place shape a) (bank_place shape a + 16) ≡ slice_range (memory_bytes shape banks) a (a + 16)
+block_read shape banks a kept aligned inside =
     let bank : List ℕ = slice_index_or banks (slot_of shape a) [] in
-    let bytes : List ℕ = bytes_of shape banks in
-    let place : ℕ = place_of shape a in
-    same_ranges bank bytes place a (block_inside shape banks a are aligned inside)
-    (omega (arith, length-bytes_of shape banks, block_below shape a aligned inside))
-    (λ k near. sym (byte_of-add shape banks a k aligned near) ∙ sym (get_or-bytes_of shape banks (a + k) (omega (arith, block_below shape a aligned inside))))
+    let bytes : List ℕ = memory_bytes shape banks in
+    let place : ℕ = bank_place shape a in
+    same_ranges bank bytes place a (block_inside shape banks a kept aligned inside)
+    (omega (arith, length-bytes_of shape banks, block_below shape a kept.is_shape aligned inside))
+    (λ k near. sym (byte_of-add shape banks a k kept.is_shape aligned near) ∙ sym (get_or-bytes_of shape banks (a + k) (omega (arith, block_below shape a kept.is_shape aligned inside))))
+
+-- offsets in one row are as near as their places
+near_offsets : (other row a c : ℕ) → other ≡ row → row + a ≤ other + c → other + c < row + a + 16 → (a ≤ c) × (c < a + 16)
+near_offsets other row a c is above below = (omega arith, omega arith)
 
 -- bytes of an address's bank that lie in the place of its block have addresses in its block
-pub near_address : (shape : ShapeFields) (a c : ℕ) → a % 16 ≡ 0 → slot_of shape c ≡ slot_of shape a → place_of shape a ≤ place_of shape c → place_of shape c < place_of shape a + 16 → (a ≤ c) × (c < a + 16)
-near_address shape a c aligned slot above below =
-    let row : c / 256 / 2 ^ shape.vault_bits / 2 ^ shape.bank_bits ≡ a / 256 / 2 ^ shape.vault_bits / 2 ^ shape.bank_bits = omega arith in
-    let block : c / 256 ≡ a / 256 = same_block c a (2 ^ shape.vault_bits) (2 ^ shape.bank_bits) (pow_pos shape.vault_bits) (pow_pos shape.bank_bits) slot row in
-    (omega arith, omega arith)
+pub near_address : (shape : ShapeFields) (a c : ℕ) → IsShape shape → a % 16 ≡ 0 → slot_of shape c ≡ slot_of shape a → bank_place shape a ≤ bank_place shape c → bank_place shape c < bank_place shape a + 16 → (a ≤ c) × (c < a + 16)
+near_address shape a c is aligned slot above below =
+    let row = same_row shape.block _ _ a c is.block aligned above below in
+    let block = same_block shape.block c a (2 ^ shape.vault_bits) (2 ^ shape.bank_bits) (pow_pos shape.vault_bits) (pow_pos shape.bank_bits) slot row in
+    let near : (a % shape.block ≤ c % shape.block) × (c % shape.block < a % shape.block + 16) =
+    near_offsets (c / shape.block / 2 ^ shape.vault_bits / 2 ^ shape.bank_bits * shape.block) _ (a % shape.block) (c % shape.block) (ap (λ n. n * shape.block) row) above below in
+    let apart = block_distance shape.block c a is.block block in
+    (omega (arith, near.0, apart), omega (arith, near.1, apart))
 
 -- the banks with a block in the place of an address
 pub with_block : ShapeFields → List (List ℕ) → ℕ → List ℕ → List (List ℕ)
-with_block shape banks a block = set banks (slot_of shape a) (written (slice_index_or banks (slot_of shape a) []) (place_of shape a) block)
+with_block shape banks a block = set banks (slot_of shape a) (written_bytes (slice_index_or banks (slot_of shape a) []) (bank_place shape a) block)
 
-pub with_block_is : (shape : ShapeFields) (banks : List (List ℕ)) (a : ℕ) (block bank : List ℕ) (slot place : ℕ) → AreBanks shape banks → slot ≡ slot_of shape a → place ≡ place_of shape a → bank ≡ slice_index_or banks slot bank →
-    set banks slot (written bank place block) ≡ with_block shape banks a block
+pub with_block_is : (shape : ShapeFields) (banks : List (List ℕ)) (a : ℕ) (block bank : List ℕ) (slot place : ℕ) → AreBanks shape banks → slot ≡ slot_of shape a → place ≡ bank_place shape a → bank ≡ slice_index_or banks slot bank →
+    set banks slot (written_bytes bank place block) ≡ with_block shape banks a block
 unfolding with_block
 with_block_is shape banks a block bank slot place are slot_is place_is read =
-    ap (λ s. set banks s (written bank place block)) slot_is
-    ∙ ap (λ p. set banks (slot_of shape a) (written bank p block)) place_is
-    ∙ ap (λ b. set banks (slot_of shape a) (written b (place_of shape a) block)) (found_bank shape banks a slot bank are slot_is read)
+    ap (λ s. set banks s (written_bytes bank place block)) slot_is
+    ∙ ap (λ p. set banks (slot_of shape a) (written_bytes bank p block)) place_is
+    ∙ ap (λ b. set banks (slot_of shape a) (written_bytes b (bank_place shape a) block)) (found_bank shape banks a slot bank are slot_is read)
 
 -- bytes of other blocks stay
-byte_elsewhere : (shape : ShapeFields) (banks : List (List ℕ)) (a k : ℕ) (block : List ℕ) → AreBanks shape banks → length block ≡ 16 → a % 16 ≡ 0 → a < capacity_of shape → (k < a) ⊎ (a + 16 ≤ k) →
+byte_elsewhere : (shape : ShapeFields) (banks : List (List ℕ)) (a k : ℕ) (block : List ℕ) → IsMemoryOfBanks shape banks → length block ≡ 16 → a % 16 ≡ 0 → a < capacity_of shape → (k < a) ⊎ (a + 16 ≤ k) →
     byte_of shape (with_block shape banks a block) k ≡ byte_of shape banks k
 unfolding byte_of with_block
-byte_elsewhere shape banks a k block are sixteen aligned inside apart =
+byte_elsewhere shape banks a k block kept sixteen aligned inside apart =
     let bank : List ℕ = slice_index_or banks (slot_of shape a) [] in
-    let fits : place_of shape a + 16 ≤ length bank = block_inside shape banks a are aligned inside in
+    let fits : bank_place shape a + 16 ≤ length bank = block_inside shape banks a kept aligned inside in
     elim (cases_eq (slot_of shape k) (slot_of shape a)) [
-      | inr other ↦ ap (λ l. slice_index l (place_of shape k)) (get_or-set_other banks (slot_of shape a) (slot_of shape k) (written bank (place_of shape a) block) [] other)
+      | inr other ↦ ap (λ l. slice_index l (bank_place shape k)) (get_or-set_other banks (slot_of shape a) (slot_of shape k) (written_bytes bank (bank_place shape a) block) [] other)
       | inl same ↦
-          ap (λ s. slice_index (slice_index_or (set banks (slot_of shape a) (written bank (place_of shape a) block)) s []) (place_of shape k)) same
-          ∙ ap (λ l. slice_index l (place_of shape k)) (get_or-set_same banks (slot_of shape a) (written bank (place_of shape a) block) [] (slot_inside shape banks a are))
-          ∙ (elim (cases_lt (place_of shape k) (place_of shape a)) [
-            | inl below ↦ get_or-written_below bank (place_of shape a) block (place_of shape k) (omega arith) below
-            | inr not_below ↦ elim (cases_lt (place_of shape k) (place_of shape a + 16)) [
-              | inr above ↦ get_or-written_above bank (place_of shape a) block (place_of shape k) (omega arith) (omega arith)
-              | inl in_block ↦ let near = near_address shape a k aligned same not_below in_block in absurd (elim apart [ inl before ↦ omega arith | inr after ↦ omega arith ])
+          ap (λ s. slice_index (slice_index_or (set banks (slot_of shape a) (written_bytes bank (bank_place shape a) block)) s []) (bank_place shape k)) same
+          ∙ ap (λ l. slice_index l (bank_place shape k)) (get_or-set_same banks (slot_of shape a) (written_bytes bank (bank_place shape a) block) [] (slot_inside shape banks a kept.are_banks))
+          ∙ (elim (cases_lt (bank_place shape k) (bank_place shape a)) [
+            | inl below ↦ get_or-written_below bank (bank_place shape a) block (bank_place shape k) (omega arith) below
+            | inr not_below ↦ elim (cases_lt (bank_place shape k) (bank_place shape a + 16)) [
+              | inr above ↦ get_or-written_above bank (bank_place shape a) block (bank_place shape k) (omega arith) (omega arith)
+              | inl in_block ↦ let near = near_address shape a k kept.is_shape aligned same not_below in_block in absurd (elim apart [ inl before ↦ omega arith | inr after ↦ omega arith ])
             ]
           ])
-          ∙ ap (λ s. slice_index (slice_index_or banks s []) (place_of shape k)) (sym same)
+          ∙ ap (λ s. slice_index (slice_index_or banks s []) (bank_place shape k)) (sym same)
     ]
 
 -- bytes of the block are the new ones
-byte_in_block : (shape : ShapeFields) (banks : List (List ℕ)) (a k : ℕ) (block : List ℕ) → AreBanks shape banks → length block ≡ 16 → a % 16 ≡ 0 → a < capacity_of shape → k < 16 →
+byte_in_block : (shape : ShapeFields) (banks : List (List ℕ)) (a k : ℕ) (block : List ℕ) → IsMemoryOfBanks shape banks → length block ≡ 16 → a % 16 ≡ 0 → a < capacity_of shape → k < 16 →
     byte_of shape (with_block shape banks a block) (a + k) ≡ slice_index block k
 unfolding with_block
-byte_in_block shape banks a k block are sixteen aligned inside near =
+byte_in_block shape banks a k block kept sixteen aligned inside near =
     let bank : List ℕ = slice_index_or banks (slot_of shape a) [] in
-    let fits : place_of shape a + 16 ≤ length bank = block_inside shape banks a are aligned inside in
-    byte_of-add shape (set banks (slot_of shape a) (written bank (place_of shape a) block)) a k aligned near
-    ∙ ap (λ l. slice_index l (place_of shape a + k)) (get_or-set_same banks (slot_of shape a) (written bank (place_of shape a) block) [] (slot_inside shape banks a are))
-    ∙ get_or-written_inside bank (place_of shape a) block k (place_of shape a + k) (omega arith) (omega arith) refl
+    let fits : bank_place shape a + 16 ≤ length bank = block_inside shape banks a kept aligned inside in
+    byte_of-add shape (set banks (slot_of shape a) (written_bytes bank (bank_place shape a) block)) a k kept.is_shape aligned near
+    ∙ ap (λ l. slice_index l (bank_place shape a + k)) (get_or-set_same banks (slot_of shape a) (written_bytes bank (bank_place shape a) block) [] (slot_inside shape banks a kept.are_banks))
+    ∙ get_or-written_inside bank (bank_place shape a) block k (bank_place shape a + k) (omega arith) (omega arith) refl
 
 -- a block that is replaced in a bank is replaced in the memory
-pub block_written : (shape : ShapeFields) (banks : List (List ℕ)) (a : ℕ) (block : List ℕ) → AreBanks shape banks → length block ≡ 16 → a % 16 ≡ 0 → a < capacity_of shape →
-    bytes_of shape (with_block shape banks a block) ≡ written (bytes_of shape banks) a block
-unfolding bytes_of
-block_written shape banks a block are sixteen aligned inside =
-    let bytes : List ℕ = bytes_of shape banks in
+pub block_written : (shape : ShapeFields) (banks : List (List ℕ)) (a : ℕ) (block : List ℕ) → IsMemoryOfBanks shape banks → length block ≡ 16 → a % 16 ≡ 0 → a < capacity_of shape →
+    memory_bytes shape (with_block shape banks a block) ≡ written_bytes (memory_bytes shape banks) a block
+unfolding memory_bytes
+block_written shape banks a block kept sixteen aligned inside =
+    let bytes : List ℕ = memory_bytes shape banks in
     let whole : length bytes ≡ capacity_of shape = length-bytes_of shape banks in
-    let fits : a + length block ≤ length bytes = omega (arith, block_below shape a aligned inside) in
-    sym (fill_by_all (byte_of shape (with_block shape banks a block)) (written bytes a block) (capacity_of shape) 0 (length-written bytes a block fits ∙ whole) (λ k within.
+    let fits : a + length block ≤ length bytes = omega (arith, block_below shape a kept.is_shape aligned inside) in
+    sym (fill_by_all (byte_of shape (with_block shape banks a block)) (written_bytes bytes a block) (capacity_of shape) 0 (length-written bytes a block fits ∙ whole) (λ k within.
     elim (cases_lt k a) [
       | inl below ↦
           get_or-written_below bytes a block k fits below ∙ get_or-bytes_of shape banks k within
-          ∙ sym (byte_elsewhere shape banks a k block are sixteen aligned inside (inl below))
+          ∙ sym (byte_elsewhere shape banks a k block kept sixteen aligned inside (inl below))
       | inr from ↦ elim (cases_lt k (a + 16)) [
         | inl near ↦
             (let is : a + (k - a) ≡ k = omega arith in
             get_or-written_inside bytes a block (k - a) k fits (omega arith) is
-            ∙ sym (byte_in_block shape banks a (k - a) block are sixteen aligned inside (omega arith))
+            ∙ sym (byte_in_block shape banks a (k - a) block kept sixteen aligned inside (omega arith))
             ∙ ap (byte_of shape (with_block shape banks a block)) is)
         | inr above ↦
             get_or-written_above bytes a block k fits (omega arith) ∙ get_or-bytes_of shape banks k within
-            ∙ sym (byte_elsewhere shape banks a k block are sixteen aligned inside (inr above))
+            ∙ sym (byte_elsewhere shape banks a k block kept sixteen aligned inside (inr above))
       ]
     ]))
 
 -- what a bank keeps, its banks keep where one is written
 pub AreBanks-set : (shape : ShapeFields) (banks : List (List ℕ)) (k place : ℕ) (block : List ℕ) → AreBanks shape banks → IsBytes block → k < length banks → place + length block ≤ length (slice_index_or banks k []) →
-    AreBanks shape (set banks k (written (slice_index_or banks k []) place block))
+    AreBanks shape (set banks k (written_bytes (slice_index_or banks k []) place block))
 AreBanks-set shape banks k place block are bytes inside fits =
     let bank : List ℕ = slice_index_or banks k [] in
-    let new : List ℕ = written bank place block in
+    let new : List ℕ = written_bytes bank place block in
     record {
       count = length-set banks k new ∙ are.count;
       rows = λ j within. elim (cases_eq j k) [
@@ -191,14 +202,14 @@ AreBanks-set shape banks k place block are bytes inside fits =
       ];
     }
 
-pub IsKept-with_block : (shape : ShapeFields) (banks : List (List ℕ)) (a : ℕ) (block : List ℕ) → IsKept shape banks → IsBytes block → length block ≡ 16 → a % 16 ≡ 0 → a < capacity_of shape → IsKept shape (with_block shape banks a block)
+pub IsKept-with_block : (shape : ShapeFields) (banks : List (List ℕ)) (a : ℕ) (block : List ℕ) → IsMemoryOfBanks shape banks → IsBytes block → length block ≡ 16 → a % 16 ≡ 0 → a < capacity_of shape → IsMemoryOfBanks shape (with_block shape banks a block)
 unfolding with_block
 IsKept-with_block shape banks a block kept bytes sixteen aligned inside =
     record {
       is_shape = kept.is_shape;
       are_banks =
-          AreBanks-set shape banks (slot_of shape a) (place_of shape a) block kept.are_banks bytes (slot_inside shape banks a kept.are_banks)
-          (omega (arith, block_inside shape banks a kept.are_banks aligned inside));
+          AreBanks-set shape banks (slot_of shape a) (bank_place shape a) block kept.are_banks bytes (slot_inside shape banks a kept.are_banks)
+          (omega (arith, block_inside shape banks a kept aligned inside));
     }
 
 -- banks of zeros
@@ -212,14 +223,14 @@ zeros_in zero m i j = refl
 zeros_in (suc n) m zero j = zeros_at m j
 zeros_in (suc n) m (suc i) j = zeros_in n m i j
 
-pub bytes_of-zeros : (shape : ShapeFields) (n m : ℕ) → bytes_of shape (replicate n (replicate m 0)) ≡ replicate (capacity_of shape) 0
-unfolding bytes_of byte_of
+pub bytes_of-zeros : (shape : ShapeFields) (n m : ℕ) → memory_bytes shape (replicate n (replicate m 0)) ≡ replicate (capacity_of shape) 0
+unfolding memory_bytes byte_of
 bytes_of-zeros shape n m =
     let banks : List (List ℕ) = replicate n (replicate m 0) in
     sym (fill_by_all (byte_of shape banks) (replicate (capacity_of shape) 0) (capacity_of shape) 0 (length-replicate (capacity_of shape) 0)
-    (λ k within. zeros_at (capacity_of shape) k ∙ sym (zeros_in n m (slot_of shape k) (place_of shape k))))
+    (λ k within. zeros_at (capacity_of shape) k ∙ sym (zeros_in n m (slot_of shape k) (bank_place shape k))))
 
-pub AreBanks-zeros : (shape : ShapeFields) (n m : ℕ) → n ≡ 2 ^ shape.vault_bits * 2 ^ shape.bank_bits → m ≡ shape.rows * 256 → AreBanks shape (replicate n (replicate m 0))
+pub AreBanks-zeros : (shape : ShapeFields) (n m : ℕ) → n ≡ 2 ^ shape.vault_bits * 2 ^ shape.bank_bits → m ≡ shape.rows * shape.block → AreBanks shape (replicate n (replicate m 0))
 AreBanks-zeros shape n m count rows =
     record {
       count = length-replicate n (replicate m 0) ∙ count;

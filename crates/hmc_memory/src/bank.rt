@@ -2,7 +2,7 @@
 
 ghost use Rattle.std.specs.Prelude.{◌≡◌, ◌≤◌, ◌<◌, ◌+◌, ℕ, IfOk, length, replicate, slice_range};
 ghost use Rattle.hmc_codes.specs.Bytes.{IsBytes};
-ghost use Rattle.hmc_memory.specs.Banks.{written};
+ghost use Rattle.hmc_memory.specs.Banks.{written_bytes};
 
 use hmc_codes::Memory;
 use std::alloc::Global;
@@ -23,7 +23,7 @@ impl Model for Bank {
 }
 
 impl Bank {
-    /// This many zeros.
+    /// A bank of this number of zeros.
     pub fn new(alloc: Global, len: usize) -> Result<Self, Memory>
         ensures { IfOk result (λ bank. bank ≡ replicate len 0) }
     {
@@ -45,7 +45,7 @@ impl Bank {
     /// Replaces the 16 bytes at a place.
     pub fn put16(&mut self, place: usize, block: [u8; 16])
         requires { place + 16 ≤ length self.old }
-        ensures { self.new ≡ written self.old place block }
+        ensures { self.new ≡ written_bytes self.old place block }
     {
         self.bytes[place..place + 16].copy_from_slice(&block);
     }

@@ -2,37 +2,34 @@
 
 ghost use Rattle.std.specs.Prelude.{◌≡◌, ◌<◌, ◌+◌, ◌%◌, ◌*◌, IfOk, length, replicate, slice_range};
 ghost use Rattle.hmc_codes.specs.Shape.{capacity_of, IsShape};
-ghost use Rattle.hmc_memory.specs.Banks.{IsBanks, written};
-ghost use Rattle.hmc_memory.specs.Kept.{slot_of, place_of};
+ghost use Rattle.hmc_memory.specs.Banks.{IsBanks, written_bytes};
+ghost use Rattle.hmc_memory.specs.Kept.{slot_of, bank_place};
 
 use crate::bank::Bank;
 use hmc_codes::{Memory, Shape, Spot};
 use std::alloc::Global;
 use std::marker::Model;
 
-/// The bytes of a row.
-const ROW: usize = 256;
-
 /// The memory of a cube. Contracts see its shape and the list of its bytes in address order.
 #[derive(Drop)]
 pub struct Banks {
     shape: Shape,
-    // The banks of one vault stand together.
+    // The banks of one vault are neighbours.
     banks: Vec<Bank>,
 }
 
 impl Model for Banks {
     ghost use Rattle.hmc_memory.specs.Banks.{BanksFields};
-    ghost use Rattle.hmc_memory.specs.Kept.{bytes_of, IsKept};
+    ghost use Rattle.hmc_memory.specs.Kept.{memory_bytes, IsMemoryOfBanks};
 
     ghost Value = { BanksFields };
 
-    ghost view = { λ b. record { shape = b.shape; bytes = bytes_of b.shape b.banks.items } };
+    ghost view = { λ b. record { shape = b.shape; bytes = memory_bytes b.shape b.banks.items } };
 
-    ghost invariant = { λ b. IsKept b.shape b.banks.items };
+    ghost invariant = { λ b. IsMemoryOfBanks b.shape b.banks.items };
 }
 
-// Where a byte is kept.
+// The place of a byte.
 #[derive(Clone, Copy)]
 struct Slot {
     // The bank's place among the banks.
@@ -45,7 +42,7 @@ impl Slot {
     fn of(shape: &Shape, address: u64) -> Self
         requires { address < capacity_of shape.now }
         ensures bank { result.bank ≡ slot_of shape.now address }
-        ensures place { result.place ≡ place_of shape.now address }
+        ensures place { result.place ≡ bank_place shape.now address }
     {
         let Spot {
             offset,
@@ -55,31 +52,31 @@ impl Slot {
         } = shape.spot(address);
         Slot {
             bank: usize::from(vault) * (1 << shape.bank_bits) + usize::from(bank),
-            place: row as usize * ROW + usize::from(offset),
+            place: row as usize * usize::from(shape.block) + usize::from(offset),
         }
     }
 }
 
 impl Banks {
-    /// A memory of this shape. All its bytes are zero.
+    /// A memory of this shape. All its bytes are zero. `Memory` if out of memory.
     pub fn new(alloc: Global, shape: Shape) -> Result<Self, Memory>
         ensures shape { IfOk result (λ banks. banks.shape ≡ shape) }
         ensures zeros { IfOk result (λ banks. banks.bytes ≡ replicate (capacity_of shape) 0) }
     {
-        let rows = usize::from(shape.rows);
+        let len = usize::from(shape.rows) * usize::from(shape.block);
         let count = (1usize << shape.vault_bits) * (1 << shape.bank_bits);
-        let banks = zeros(alloc, count, rows * ROW)?;
+        let banks = zeros(alloc, count, len)?;
         Ok(Banks { shape, banks })
     }
 
-    /// Nothing is done: what each memory keeps is the contract.
-    pub fn keeps(&self)
+    /// Does nothing. Its contract is what every memory keeps.
+    pub fn invariant(&self)
         ensures { IsBanks self.now }
     {
         let _ = &self.shape;
     }
 
-    /// The shape that the memory was made of.
+    /// The shape that `new` was given.
     pub fn shape(&self) -> Shape
         ensures { result ≡ self.now.shape }
     {
@@ -101,14 +98,14 @@ impl Banks {
         requires multiple { place % 16 ≡ 0 }
         requires inside { place < capacity_of self.old.shape }
         ensures shape { self.new.shape ≡ self.old.shape }
-        ensures bytes { self.new.bytes ≡ written self.old.bytes place block }
+        ensures bytes { self.new.bytes ≡ written_bytes self.old.bytes place block }
     {
         let slot = Slot::of(&self.shape, place);
         self.banks[slot.bank].put16(slot.place, block);
     }
 }
 
-// This many banks, of this many zeros each.
+// This number of banks, each of this number of zeros.
 fn zeros(alloc: Global, count: usize, len: usize) -> Result<Vec<Bank>, Memory>
     ensures { IfOk result (λ banks. banks.items ≡ replicate count (replicate len 0)) }
 {

@@ -1,7 +1,7 @@
 //! The memory of a cube, kept by banks.
 //!
-//! A memory is its shape and one list of bytes in address order. The layer above reads and replaces blocks of 16 bytes at
-//! multiples of 16, and nothing else changes. How the banks keep the bytes isn't seen.
+//! A memory is its shape and one list of bytes in address order. The layers above read and replace
+//! blocks of 16 bytes at multiples of 16. How the banks keep the bytes isn't visible.
 #![tactic(auto)]
 
 mod bank;

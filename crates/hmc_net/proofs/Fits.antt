@@ -1,9 +1,13 @@
 -- What an entry is that a step gives: a part that is there, and a front where one leaves.
-use Rattle.std.proofs.Common.{◌≡◌, ◌≤◌, ◌<◌, ◌+◌, ◌%◌, ◌^◌, ◌&&◌, ◌∙◌, ℕ, zero, suc, Bool, true, false, not, nat_le, if◌then◌else◌, Option, Some, None, List, [], ◌∷◌, length, refl, sym, ap, subst, arith}
+use Rattle.std.proofs.Common.{◌≡◌, ◌≤◌, ◌<◌, ◌+◌, ◌%◌, ◌^◌, ◌∙◌, ℕ, zero, suc, Bool, true, false, nat_le, if◌then◌else◌, Option, Some, None, List, [], ◌∷◌, length, refl, sym, ap, subst, arith}
+use Rattle.hmc_codes.specs.declared.answer.Answer.{Answer}
+use Rattle.hmc_vault.specs.Execute.{must_wait}
+use Rattle.hmc_vault.specs.declared.execute.Executed.TheVariants as executions
+use Rattle.hmc_crossbar.specs.To.{where_to}
 use Rattle.std.specs.List.{All}
 use Rattle.std.proofs.lemmas.List.Elements.{All-head}
 use Rattle.std.proofs.Math.Nat.{pow-le-pow_right}
-use Rattle.hmc_codes.specs.Commands.{layout_of, is_ask, is_posted}
+use Rattle.hmc_codes.specs.Commands.{layout_of, is_ask}
 use Rattle.hmc_codes.specs.Request.{RequestFields}
 use Rattle.hmc_codes.specs.Shape.{vault_of, bank_of}
 use Rattle.hmc_codes.specs.declared.lift.Lift.{Lift}
@@ -13,7 +17,7 @@ use Rattle.hmc_codes.specs.declared.unit.Unit.TheVariants as units
 use Rattle.hmc_packet.specs.declared.what.What.{What}
 use Rattle.hmc_packet.specs.declared.what.What.TheVariants.{New, Null}
 use Rattle.hmc_packet.specs.Packet.{PacketFields, flits_of}
-use Rattle.hmc_packet.specs.Spelling.{null_flit}
+use Rattle.hmc_codes.specs.Flit.{zero_flit}
 use Rattle.hmc_packet.specs.Transactions.{request_in}
 use Rattle.hmc_schedule.specs.declared.step.Step.{Step}
 use Rattle.hmc_schedule.specs.declared.step.Step.TheVariants as steps
@@ -27,15 +31,17 @@ use Rattle.hmc_journal.specs.declared.outcome.Goal.TheVariants as goals
 use Rattle.hmc_journal.specs.declared.outcome.Outcome.{Outcome}
 use Rattle.hmc_journal.specs.declared.entry.Entry.{Entry}
 use Rattle.hmc_journal.specs.declared.entry.Entry.TheVariants.{Gave, Sent, Landed, Shifted, Dropped, Spread, Executed, Lifted, Took, Discarded, Idle}
-use Rattle.hmc_journal.specs.Housed.{IsAsk, IsReply}
-use Rattle.hmc_journal.specs.Setup.{is_for_registers, port_towards, direction_from, direction_among}
-use Rattle.hmc_journal.specs.Rooms.{queue_of, goal_room}
-use Rattle.hmc_journal.specs.Rooms.Room.{Port, Host, Vault, Answers}
-use Rattle.hmc_journal.specs.Sight.{Sending, Way}
-use Rattle.hmc_journal.specs.Next.{choice, is_full, with_front, unless_full, gave, begun_with, sent_flit, landed, outcome_of, goal_of, executed_by, took}
-use Rattle.hmc_net.specs.Held.{NetFields, topology_of, vault_in, inside, sight_by, way_at}
+use Rattle.hmc_journal.specs.QueueInvariant.{IsCubeRequest, IsHostAnswer}
+use Rattle.hmc_serial.specs.Unit.{is_for_registers}
+use Rattle.hmc_journal.specs.Setup.{port_towards, direction_from, direction_among}
+use Rattle.hmc_journal.specs.Queues.{queue_of}
+use Rattle.hmc_journal.specs.Queues.QueueId.{Port, Host, Vault, Answers}
+use Rattle.hmc_journal.specs.StepView.{Sending, DirectionView}
+use Rattle.hmc_journal.specs.Next.{choice, with_front, unless_full, gave_entry, took_entry, begun_with, sent_flit, landed_entry, outcome_of, goal_at, shifted_entry, ran_entry, execution_entry, lifted_entry}
+use Rattle.hmc_journal.proofs.EntryRule.{goal_of, where_goal}
+use Rattle.hmc_net.specs.NetState.{NetState, topology_of, vault_in, inside, net_view, net_direction}
 use Rattle.hmc_net.specs.Ready.{IsReady, IsStepFor}
-use Rattle.hmc_net.specs.Wire.{WireFields}
+use Rattle.hmc_net.specs.Wire.{DirectionState}
 
 pub record HasFront (packets : List PacketFields) : Type 0 where
   pub front : PacketFields
@@ -43,11 +49,11 @@ pub record HasFront (packets : List PacketFields) : Type 0 where
   pub is : packets ≡ front ∷ rest
 
 -- as many vaults and banks as the shape says
-pub record IsShaped (net : NetFields) : Type 0 where
+pub record IsShaped (net : NetState) : Type 0 where
   pub vaults : length net.cube.vaults ≡ 2 ^ net.setup.shape.vault_bits
   pub banks : (vault : ℕ) → vault < length net.cube.vaults → length (vault_in net.cube.vaults vault).banks ≡ 2 ^ net.setup.shape.bank_bits
 
-abbrev pub wire_of : NetFields → ℕ → WireFields
+abbrev pub wire_of : NetState → ℕ → DirectionState
 wire_of net zero = net.forth
 wire_of net (suc direction) = net.back
 
@@ -55,34 +61,34 @@ abbrev pub IsNewOf : List PacketFields → Option Sending → Type 0
 IsNewOf output None = HasFront output
 IsNewOf output (Some sending) = Unit {0}
 
-abbrev pub IsSentOf : WireFields → What → Type 0
+abbrev pub IsSentOf : DirectionState → What → Type 0
 IsSentOf wire New = IsNewOf wire.output wire.sending
 IsSentOf wire Null = wire.sending ≡ None
 IsSentOf wire _ = ⊥
 
-pub record HasFlit (wire : WireFields) (flit : List ℕ) (outcome : Outcome) : Type 0 where
+pub record HasFlit (wire : DirectionState) (flit : List ℕ) (outcome : Outcome) : Type 0 where
   pub rest : List (List ℕ)
   pub is : wire.line ≡ flit ∷ rest
   pub is_outcome : outcome ≡ outcome_of wire.pending flit
 
-abbrev pub IsGoalIn : NetFields → Goal → Type 0
+abbrev pub IsGoalIn : NetState → Goal → Type 0
 IsGoalIn net (goals.Vault vault) = vault < length net.cube.vaults
 IsGoalIn net goals.Registers = Unit {0}
 IsGoalIn net (goals.Port port) = ⊥
 
-abbrev pub IsVaultIn : NetFields → (cube vault : ℕ) → Type 0
+abbrev pub IsVaultIn : NetState → (cube vault : ℕ) → Type 0
 IsVaultIn net cube vault = (cube ≡ 0) × (vault < length net.cube.vaults)
 
-abbrev pub IsUnitIn : NetFields → RequestUnit → Type 0
+abbrev pub IsUnitIn : NetState → RequestUnit → Type 0
 IsUnitIn net (units.Bank cube vault bank) = (cube ≡ 0) × (vault < length net.cube.vaults) × (bank < length (vault_in net.cube.vaults vault).banks)
 IsUnitIn net (units.Registers cube) = cube ≡ 0
 
-abbrev pub IsLiftIn : NetFields → (cube : ℕ) → Lift → Type 0
+abbrev pub IsLiftIn : NetState → (cube : ℕ) → Lift → Type 0
 IsLiftIn net cube (lifts.Vault vault) = IsVaultIn net cube vault
 IsLiftIn net cube lifts.Registers = cube ≡ 0
 
 -- an entry of parts that are there
-abbrev pub IsEntryOf : NetFields → Entry → Type 0
+abbrev pub IsEntryOf : NetState → Entry → Type 0
 IsEntryOf net (Gave host tag poisoned request) = host ≡ 0
 IsEntryOf net (Sent direction what flit) = (direction < 2) × IsSentOf (wire_of net direction) what
 IsEntryOf net (Landed direction flit outcome) = (direction < 2) × HasFlit (wire_of net direction) flit outcome
@@ -95,16 +101,16 @@ IsEntryOf net (Took host tag answer) = (host ≡ 0) × HasFront (inside net (Hos
 IsEntryOf net (Discarded host) = (host ≡ 0) × HasFront (inside net (Host host))
 IsEntryOf net (Idle step cause) = Unit {0}
 
-unless : (net : NetFields) (step : Step) (full : Bool) (entry : Entry) → IsEntryOf net entry → IsEntryOf net (unless_full step full entry)
+unless : (net : NetState) (step : Step) (full : Bool) (entry : Entry) → IsEntryOf net entry → IsEntryOf net (unless_full step full entry)
 unless net step true entry is = tt
 unless net step false entry is = is
 
-fronted : (net : NetFields) (step : Step) (packets : List PacketFields) (does : PacketFields → Entry) → ((at : HasFront packets) → IsEntryOf net (does at.front)) → IsEntryOf net (with_front step packets does)
+fronted : (net : NetState) (step : Step) (packets : List PacketFields) (does : PacketFields → Entry) → ((at : HasFront packets) → IsEntryOf net (does at.front)) → IsEntryOf net (with_front step packets does)
 fronted net step [] does is = tt
 fronted net step (front ∷ rest) does is = is (record { front = front; rest = rest; is = refl })
 
 -- give
-give : (net : NetFields) (given : Given) → IsEntryOf net (gave 0 given)
+give : (net : NetState) (given : Given) → IsEntryOf net (gave_entry 0 given)
 give net givens.Ended = tt
 give net givens.Fence = tt
 give net givens.Tags = tt
@@ -112,23 +118,23 @@ give net givens.Full = tt
 give net (givens.Gave packet request tag poisoned) = refl
 
 -- send
-begin_front : (net : NetFields) (direction : ℕ) (flit : List ℕ) (fits : Bool) → direction < 2 → IsSentOf (wire_of net direction) Null → IsSentOf (wire_of net direction) New
-    → IsEntryOf net (if fits then Sent direction New flit else Sent direction Null null_flit)
+begin_front : (net : NetState) (direction : ℕ) (flit : List ℕ) (fits : Bool) → direction < 2 → IsSentOf (wire_of net direction) Null → IsSentOf (wire_of net direction) New
+    → IsEntryOf net (if fits then Sent direction New flit else Sent direction Null zero_flit)
 begin_front net direction flit true there null new = (there, new)
 begin_front net direction flit false there null new = (there, null)
 
-begin : (net : NetFields) (direction tokens : ℕ) (way : Way) (queue : List PacketFields) → direction < 2 → IsSentOf (wire_of net direction) Null → (HasFront queue → IsSentOf (wire_of net direction) New) → IsEntryOf net (begun_with direction tokens way queue)
-begin net direction tokens way [] there null new = (there, null)
-begin net direction tokens way (front ∷ rest) there null new =
-    begin_front net direction _ (nat_le (way.away + flits_of front) tokens) there null (new (record { front = front; rest = rest; is = refl }))
+begin : (net : NetState) (direction tokens : ℕ) (view : DirectionView) (queue : List PacketFields) → direction < 2 → IsSentOf (wire_of net direction) Null → (HasFront queue → IsSentOf (wire_of net direction) New) → IsEntryOf net (begun_with direction tokens view queue)
+begin net direction tokens view [] there null new = (there, null)
+begin net direction tokens view (front ∷ rest) there null new =
+    begin_front net direction _ (nat_le (view.in_flight_flits + flits_of front) tokens) there null (new (record { front = front; rest = rest; is = refl }))
 
-send_flit : (net : NetFields) (direction tokens : ℕ) (way : Way) (queue : List PacketFields) (sending : Option Sending) → direction < 2 → (sending ≡ None → IsSentOf (wire_of net direction) Null) → (IsNewOf queue sending → IsSentOf (wire_of net direction) New) → IsEntryOf net (sent_flit direction tokens way queue sending)
-send_flit net direction tokens way queue None there null new = begin net direction tokens way queue there (null refl) new
-send_flit net direction tokens way queue (Some sending) there null new = (there, new tt)
+send_flit : (net : NetState) (direction tokens : ℕ) (view : DirectionView) (queue : List PacketFields) (sending : Option Sending) → direction < 2 → (sending ≡ None → IsSentOf (wire_of net direction) Null) → (IsNewOf queue sending → IsSentOf (wire_of net direction) New) → IsEntryOf net (sent_flit direction tokens view queue sending)
+send_flit net direction tokens view queue None there null new = begin net direction tokens view queue there (null refl) new
+send_flit net direction tokens view queue (Some sending) there null new = (there, new tt)
 
 -- land
-land : (net : NetFields) (direction : ℕ) (mask : List ℕ) (line pending : List (List ℕ)) → direction < 2
-    → ((flit : List ℕ) (rest : List (List ℕ)) → line ≡ flit ∷ rest → HasFlit (wire_of net direction) flit (outcome_of pending flit)) → IsEntryOf net (landed direction mask line pending)
+land : (net : NetState) (direction : ℕ) (mask : List ℕ) (line pending : List (List ℕ)) → direction < 2
+    → ((flit : List ℕ) (rest : List (List ℕ)) → line ≡ flit ∷ rest → HasFlit (wire_of net direction) flit (outcome_of pending flit)) → IsEntryOf net (landed_entry direction mask line pending)
 land net direction mask [] pending there has = tt
 land net direction mask (flit ∷ rest) pending there has = (there, has flit rest refl)
 
@@ -137,15 +143,23 @@ below_power : (n bits : ℕ) → n % 2 ^ bits < 2 ^ bits
 below_power n bits =
     let some : 2 ^ 0 ≤ 2 ^ bits = pow-le-pow_right {n = 2} (omega arith) {i = 0} {j = bits} (omega arith) in omega arith
 
-goal_by : (net : NetFields) (packet : PacketFields) (registers : Bool) → IsShaped net → IsGoalIn net (if registers then goals.Registers else goals.Vault (vault_of net.setup.shape packet.address))
-goal_by net packet true shaped = tt
-goal_by net packet false shaped = subst (λ n. vault_of net.setup.shape packet.address < n) (sym shaped.vaults) (below_power _ _)
+goal_in : (net : NetState) (packet : PacketFields) (registers : Bool) → IsShaped net → IsGoalIn net (if registers then goals.Registers else goals.Vault (vault_of net.setup.shape packet.address))
+goal_in net packet true shaped = tt
+goal_in net packet false shaped = subst (λ n. vault_of net.setup.shape packet.address < n) (sym shaped.vaults) (below_power _ _)
 
-shift : (net : NetFields) (port : ℕ) (at : HasFront (inside net (Port 0 port))) (poisoned : Bool) (full : Goal → Bool) → port ≡ net.port → IsShaped net
-    → IsEntryOf net (if poisoned then Dropped 0 port else unless_full (steps.Shift 0 port) (full (goal_of (topology_of net) 0 at.front)) (Shifted 0 port (goal_of (topology_of net) 0 at.front)))
-shift net port at true full same shaped = (refl, same, at)
-shift net port at false full same shaped =
-    unless net (steps.Shift 0 port) (full (goal_of (topology_of net) 0 at.front)) (Shifted 0 port (goal_of (topology_of net) 0 at.front)) (refl, same, at, goal_by net at.front (is_for_registers at.front.command) shaped)
+shift_by : (net : NetState) (port : ℕ) (at : HasFront (inside net (Port 0 port))) (poisoned : Bool) → port ≡ net.port → IsShaped net
+    → IsEntryOf net (shifted_entry (topology_of net) (net_view net) 0 port (if poisoned then None else Some (goal_of (topology_of net) 0 at.front)))
+shift_by net port at true same shaped = (refl, same, at)
+shift_by net port at false same shaped =
+    unless net (steps.Shift 0 port) _ (Shifted 0 port (goal_of (topology_of net) 0 at.front)) (refl, same, at, goal_in net at.front (is_for_registers at.front.command) shaped)
+
+shift : (net : NetState) (port : ℕ) (at : HasFront (inside net (Port 0 port))) → port ≡ net.port → IsShaped net
+    → IsEntryOf net (shifted_entry (topology_of net) (net_view net) 0 port (goal_at (where_to net.setup.shape at.front)))
+shift net port at same shaped =
+    subst (λ g. IsEntryOf net (shifted_entry (topology_of net) (net_view net) 0 port g)) (sym (where_goal net.setup.shape at.front at.front.poisoned refl)) (shift_by net port at at.front.poisoned same shaped)
+
+port_is : (net : NetState) (port : ℕ) → Some net.port ≡ Some port → port ≡ net.port
+port_is net port is = cc
 
 -- execute
 asked_of : (ask : Bool) (request found : RequestFields) → (if ask then Some found else None) ≡ Some request → found ≡ request
@@ -156,44 +170,55 @@ pub own_cube : (packet : PacketFields) (request : RequestFields) → request_in 
 unfolding request_in
 own_cube packet request is own = sym (ap (λ (r : RequestFields). r.cube) (asked_of (is_ask (layout_of packet.command)) request _ is)) ∙ own
 
-execute : (net : NetFields) (unit : RequestUnit) (step : Step) (full : Bool) (at : HasFront (inside net (queue_of unit))) (found : Option RequestFields) → request_in at.front ≡ found → IsUnitIn net unit → IsAsk at.front
-    → IsEntryOf net (executed_by unit step at.front full (sight_by net).state found)
-execute net unit step full at None is there asks = tt
-execute net unit step full at (Some request) is there asks =
-    unless net step (not (is_posted request.command) && full) _ (there, at, own_cube at.front request is asks.cube)
+run : (net : NetState) (unit : RequestUnit) (step : Step) (at : HasFront (inside net (queue_of unit))) (request : RequestFields) (answer : Answer) (waits : Bool) → request_in at.front ≡ Some request → IsUnitIn net unit → IsCubeRequest at.front
+    → IsEntryOf net (ran_entry unit step (if waits then executions.Full else executions.Ran at.front.slid at.front.tag request answer))
+run net unit step at request answer true is there asks = tt
+run net unit step at request answer false is there asks = (there, at, own_cube at.front request is asks.cube)
 
-execute_front : (net : NetFields) (unit : RequestUnit) (step : Step) (full : Bool) → IsUnitIn net unit → All IsAsk (inside net (queue_of unit))
-    → IsEntryOf net (with_front step (inside net (queue_of unit)) (λ front. executed_by unit step front full (sight_by net).state (request_in front)))
-execute_front net unit step full there asks =
-    fronted net step (inside net (queue_of unit)) _ (λ at. execute net unit step full at (request_in at.front) refl there (All-head IsAsk at.front at.rest (subst (All IsAsk) at.is asks)))
+execute : (net : NetState) (unit : RequestUnit) (step : Step) (answers : List PacketFields) (size : ℕ) (at : HasFront (inside net (queue_of unit))) (found : Option RequestFields) → request_in at.front ≡ found → IsUnitIn net unit → IsCubeRequest at.front
+    → IsEntryOf net (execution_entry unit step at.front answers size (net_view net).state found)
+execute net unit step answers size at None is there asks = tt
+execute net unit step answers size at (Some request) is there asks = run net unit step at request _ (must_wait request answers size) is there asks
+
+execute_front : (net : NetState) (unit : RequestUnit) (step : Step) (answers : List PacketFields) (size : ℕ) → IsUnitIn net unit → All IsCubeRequest (inside net (queue_of unit))
+    → IsEntryOf net (with_front step (inside net (queue_of unit)) (λ front. execution_entry unit step front answers size (net_view net).state (request_in front)))
+execute_front net unit step answers size there asks =
+    fronted net step (inside net (queue_of unit)) _ (λ at. execute net unit step answers size at (request_in at.front) refl there (All-head IsCubeRequest at.front at.rest (subst (All IsCubeRequest) at.is asks)))
 
 -- lift
-pub port_back : (net : NetFields) (slid : ℕ) → slid ≡ 0 → port_towards (topology_of net) 0 slid ≡ net.port
+pub port_back : (net : NetState) (slid : ℕ) → slid ≡ 0 → port_towards (topology_of net) 0 slid ≡ Some net.port
 unfolding port_towards direction_from direction_among
 port_back net slid is = ap (λ n. port_towards (topology_of net) 0 n) is ∙ refl
 
+lift : (net : NetState) (from : Lift) (at : HasFront (inside net (Answers 0 from))) (port : Option ℕ) → port_towards (topology_of net) 0 at.front.slid ≡ port → at.front.slid ≡ 0 → IsLiftIn net 0 from
+    → IsEntryOf net (lifted_entry (topology_of net) (net_view net) 0 from port)
+lift net from at None is slid there = tt
+lift net from at (Some port) is slid there =
+    let same : port ≡ net.port = (let found : Some port ≡ Some net.port = sym is ∙ port_back net at.front.slid slid in cc) in
+    unless net (steps.Lift 0 from) _ (Lifted 0 from port) (there, same, at)
+
 -- take
-take_answer : (net : NetFields) (settled : Settled) → HasFront (inside net (Host 0)) → IsEntryOf net (took 0 settled)
+take_answer : (net : NetState) (settled : Settled) → HasFront (inside net (Host 0)) → IsEntryOf net (took_entry 0 settled)
 take_answer net settles.Discarded at = (refl, at)
 take_answer net (settles.Took tag answer) at = (refl, at)
 
-bank_there : (net : NetFields) (vault address : ℕ) → IsShaped net → vault < length net.cube.vaults → bank_of net.setup.shape address < length (vault_in net.cube.vaults vault).banks
+bank_there : (net : NetState) (vault address : ℕ) → IsShaped net → vault < length net.cube.vaults → bank_of net.setup.shape address < length (vault_in net.cube.vaults vault).banks
 bank_there net vault address shaped there = subst (λ n. bank_of net.setup.shape address < n) (sym (shaped.banks vault there)) (below_power _ _)
 
-pub choice_is : (net : NetFields) (step : Step) → IsStepFor (topology_of net) step → IsShaped net → IsReady net → IsEntryOf net (choice (topology_of net) (sight_by net) step)
+pub choice_is : (net : NetState) (step : Step) → IsStepFor (topology_of net) step → IsShaped net → IsReady net → IsEntryOf net (choice (topology_of net) (net_view net) step)
 unfolding choice
 choice_is net (steps.Give zero) there shaped ready = give net _
 choice_is net (steps.Give (suc host)) there shaped ready = absurd (omega arith)
 choice_is net (steps.Send zero) there shaped ready =
-    unless net (steps.Send 0) _ _ (send_flit net 0 _ (way_at net 0) net.forth.output net.forth.sending (omega arith) (λ none. none) (λ new. new))
+    unless net (steps.Send 0) _ _ (send_flit net 0 _ (net_direction net 0) net.forth.output net.forth.sending (omega arith) (λ none. none) (λ new. new))
 choice_is net (steps.Send (suc zero)) there shaped ready =
-    unless net (steps.Send 1) _ _ (send_flit net 1 _ (way_at net 1) net.back.output net.back.sending (omega arith) (λ none. none) (λ new. new))
+    unless net (steps.Send 1) _ _ (send_flit net 1 _ (net_direction net 1) net.back.output net.back.sending (omega arith) (λ none. none) (λ new. new))
 choice_is net (steps.Send (suc (suc direction))) there shaped ready = absurd (omega arith)
 choice_is net (steps.Land zero mask) there shaped ready = land net 0 mask net.forth.line net.forth.pending (omega arith) (λ flit rest is. record { rest = rest; is = is; is_outcome = refl })
 choice_is net (steps.Land (suc zero) mask) there shaped ready = land net 1 mask net.back.line net.back.pending (omega arith) (λ flit rest is. record { rest = rest; is = is; is_outcome = refl })
 choice_is net (steps.Land (suc (suc direction)) mask) there shaped ready = absurd (omega arith)
 choice_is net (steps.Shift zero port) there shaped ready =
-    fronted net (steps.Shift 0 port) (inside net (Port 0 port)) _ (λ at. shift net port at at.front.poisoned (λ goal. is_full (topology_of net) (sight_by net) (goal_room (topology_of net) 0 goal)) there.1 shaped)
+    fronted net (steps.Shift 0 port) (inside net (Port 0 port)) _ (λ at. shift net port at (port_is net port there.1) shaped)
 choice_is net (steps.Shift (suc cube) port) there shaped ready = absurd (omega (arith, there.0))
 choice_is net (steps.Spread zero vault) there shaped ready =
     let is : vault < length net.cube.vaults = omega (arith, there.1, shaped.vaults) in
@@ -202,15 +227,15 @@ choice_is net (steps.Spread (suc cube) vault) there shaped ready = absurd (omega
 choice_is net (steps.Bank zero vault bank) there shaped ready =
     let is : vault < length net.cube.vaults = omega (arith, there.1, shaped.vaults) in
     let bank_is : bank < length (vault_in net.cube.vaults vault).banks = omega (arith, there.2, shaped.banks vault is) in
-    execute_front net (units.Bank 0 vault bank) (steps.Bank 0 vault bank) _ (refl, is, bank_is) (ready.banks vault bank)
+    execute_front net (units.Bank 0 vault bank) (steps.Bank 0 vault bank) _ _ (refl, is, bank_is) (ready.banks vault bank)
 choice_is net (steps.Bank (suc cube) vault bank) there shaped ready = absurd (omega (arith, there.0))
-choice_is net (steps.Registers zero) there shaped ready = execute_front net (units.Registers 0) (steps.Registers 0) _ refl ready.registers
+choice_is net (steps.Registers zero) there shaped ready = execute_front net (units.Registers 0) (steps.Registers 0) _ _ refl ready.registers
 choice_is net (steps.Registers (suc cube)) there shaped ready = absurd (omega arith)
 choice_is net (steps.Lift zero (lifts.Vault vault)) there shaped ready =
     let is : vault < length net.cube.vaults = omega (arith, there.1, shaped.vaults) in
-    fronted net (steps.Lift 0 (lifts.Vault vault)) (inside net (Answers 0 (lifts.Vault vault))) _ (λ at. unless net (steps.Lift 0 (lifts.Vault vault)) _ (Lifted 0 (lifts.Vault vault) (port_towards (topology_of net) 0 at.front.slid)) ((refl, is), port_back net at.front.slid (All-head IsReply at.front at.rest (subst (All IsReply) at.is (ready.answers (lifts.Vault vault)))).host, at))
+    fronted net (steps.Lift 0 (lifts.Vault vault)) (inside net (Answers 0 (lifts.Vault vault))) _ (λ at. lift net (lifts.Vault vault) at _ refl (All-head IsHostAnswer at.front at.rest (subst (All IsHostAnswer) at.is (ready.answers (lifts.Vault vault)))).host (refl, is))
 choice_is net (steps.Lift zero lifts.Registers) there shaped ready =
-    fronted net (steps.Lift 0 lifts.Registers) (inside net (Answers 0 lifts.Registers)) _ (λ at. unless net (steps.Lift 0 lifts.Registers) _ (Lifted 0 lifts.Registers (port_towards (topology_of net) 0 at.front.slid)) (refl, port_back net at.front.slid (All-head IsReply at.front at.rest (subst (All IsReply) at.is (ready.answers lifts.Registers))).host, at))
+    fronted net (steps.Lift 0 lifts.Registers) (inside net (Answers 0 lifts.Registers)) _ (λ at. lift net lifts.Registers at _ refl (All-head IsHostAnswer at.front at.rest (subst (All IsHostAnswer) at.is (ready.answers lifts.Registers))).host refl)
 choice_is net (steps.Lift (suc cube) (lifts.Vault vault)) there shaped ready = absurd (omega (arith, there.0))
 choice_is net (steps.Lift (suc cube) lifts.Registers) there shaped ready = absurd (omega arith)
 choice_is net (steps.Take zero) there shaped ready = fronted net (steps.Take 0) (inside net (Host 0)) _ (λ at. take_answer net (settle_says at.front) at)

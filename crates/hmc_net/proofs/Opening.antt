@@ -1,5 +1,6 @@
 -- A new network stands for its case and the empty journal.
-use Rattle.std.proofs.Common.{◌≡◌, ◌≤◌, ◌+◌, ◌^◌, ◌∙◌, ℕ, zero, suc, Bool, true, false, Result, Ok, Err, IfOk, List, [], ◌∷◌, length, refl, sym, ap, ap₂, subst, arith}
+use Rattle.std.proofs.Common.{◌≡◌, ◌≤◌, ◌+◌, ◌^◌, ◌∙◌, ℕ, zero, suc, Bool, true, false, Result, Ok, Err, IfOk, List, [], ◌∷◌, length, refl, sym, ap, ap₂, subst, arith, Some}
+use Rattle.hmc_journal.proofs.OneCube.{OneCube}
 use Rattle.std.specs.Prelude.{replicate, slice_index_or}
 use Rattle.std.specs.List.{All}
 use Rattle.hmc_codes.specs.Link.{LinkFields}
@@ -15,18 +16,19 @@ use Rattle.hmc_serial.specs.Machine.{opening_state}
 use Rattle.hmc_case.specs.declared.setup.CubeSetup.{CubeSetup}
 use Rattle.hmc_case.specs.declared.setup.LinkRow.{LinkRow}
 use Rattle.hmc_journal.specs.Hosts.{host_of, given_count, tags_out}
-use Rattle.hmc_journal.specs.Housed.{IsOneCube}
+use Rattle.hmc_journal.specs.Network.{IsOneCube}
 use Rattle.hmc_journal.specs.Lawful.{Lawful}
-use Rattle.hmc_journal.specs.Rooms.{Room, left, entered, contents, begun}
-use Rattle.hmc_journal.specs.Rooms.Room.{Output, Port, Host, Vault, Bank, Registers, Answers}
+use Rattle.hmc_journal.specs.Queues.{QueueId, left, entered, contents, begun}
+use Rattle.hmc_journal.specs.Queues.QueueId.{Output, Port, Host, Vault, Bank, Registers, Answers}
 use Rattle.hmc_journal.specs.Serial.{state_after}
-use Rattle.hmc_journal.specs.Setup.{Topology, Setup, port_at}
-use Rattle.hmc_journal.specs.Sight.{state_of}
+use Rattle.hmc_codes.specs.Places.{port_number}
+use Rattle.hmc_journal.specs.Setup.{Topology, Setup}
+use Rattle.hmc_journal.specs.StepView.{state_of}
 use Rattle.hmc_journal.specs.Wires.{sent_flits, landed_flits, line_flits, unsent, pending, accepted}
-use Rattle.hmc_net.specs.Held.{topology_of, vault_in, packets_if, only, first_or_second, inside}
+use Rattle.hmc_net.specs.NetState.{topology_of, vault_in, packets_if, only, first_or_second, inside, machine_of}
 use Rattle.hmc_net.specs.Opening.{opening_net}
 use Rattle.hmc_net.specs.Ready.{IsStepFor}
-use Rattle.hmc_net.specs.Stands.{IsWay, StandsFor}
+use Rattle.hmc_net.specs.Stands.{IsDirection, StandsFor}
 use Rattle.hmc_net.specs.Wire.{opening_wire}
 
 -- each of some equal elements, or none
@@ -50,13 +52,13 @@ no_first (suc (suc direction)) = refl
 
 -- a vault in which nothing waits
 abbrev IsNew : VaultFields → Type 0
-IsNew vault = (vault.entering ≡ []) × ((bank : ℕ) → bank_at vault bank ≡ []) × (vault.answers ≡ [])
+IsNew vault = (vault.vault_queue ≡ []) × ((bank : ℕ) → bank_at vault bank ≡ []) × (vault.answers ≡ [])
 
 new_vault : (n bank_bits size at : ℕ) → IsNew (vault_in (replicate n (opening_vault bank_bits size)) at)
 new_vault n bank_bits size at = replicate_at IsNew n at (opening_vault bank_bits size) no_vault
     (refl, (λ bank. replicate_at (λ (l : List PacketFields). l ≡ []) (2 ^ bank_bits) bank [] [] refl refl), refl) (refl, (λ bank. refl), refl)
 
-nothing_inside : (setup : CubeSetup) (sizes : LinkFields) (port : ℕ) (script : List ItemFields) (steps : ℕ) (room : Room) → inside (opening_net setup sizes port script steps) room ≡ []
+nothing_inside : (setup : CubeSetup) (sizes : LinkFields) (port : ℕ) (script : List ItemFields) (steps : ℕ) (room : QueueId) → inside (opening_net setup sizes port script steps) room ≡ []
 nothing_inside setup sizes port script steps (Output direction) = no_first direction
 nothing_inside setup sizes port script steps (Port cube other) = if_none _
 nothing_inside setup sizes port script steps (Host host) = only_none host [] refl
@@ -66,19 +68,19 @@ nothing_inside setup sizes port script steps (Registers cube) = only_none cube [
 nothing_inside setup sizes port script steps (Answers cube (lifts.Vault vault)) = only_none cube _ (new_vault (2 ^ setup.shape.vault_bits) setup.shape.bank_bits setup.queue vault).2
 nothing_inside setup sizes port script steps (Answers cube lifts.Registers) = only_none cube [] refl
 
-nothing_in : (topology : Topology) (room : Room) → contents topology [] room ≡ []
+nothing_in : (topology : Topology) (room : QueueId) → contents topology [] room ≡ []
 unfolding contents left entered
 nothing_in topology room = refl
 
-opening_way : (topology : Topology) (direction : ℕ) (sizes : LinkFields) → IsWay topology [] direction (opening_wire sizes)
+opening_way : (topology : Topology) (direction : ℕ) (sizes : LinkFields) → IsDirection topology [] direction (opening_wire sizes)
 unfolding line_flits sent_flits landed_flits unsent pending accepted begun left entered
-opening_way topology direction sizes = record { line = refl; landed = omega arith; sending = refl; frp = refl; seq = refl; accepted_flits = refl; passed = omega arith; away = refl; gathered = refl }
+opening_way topology direction sizes = record { line = refl; landed = omega arith; sending = refl; frp = refl; seq = refl; accepted_flits = refl; forwarded = omega arith; in_flight_flits = refl; gathered = refl }
 
 lawful_nothing : (setup : Setup) → Lawful setup []
 unfolding Lawful
 lawful_nothing setup = tt
 
-within_nothing : (topology : Topology) (room : Room) → left [] room ≤ length (entered topology [] room)
+within_nothing : (topology : Topology) (room : QueueId) → left [] room ≤ length (entered topology [] room)
 unfolding left entered
 within_nothing topology room = omega arith
 
@@ -90,7 +92,7 @@ opening_host_is : (setup : Setup) (cube : CubeSetup) (sizes : LinkFields) (port 
 unfolding host_of given_count tags_out
 opening_host_is setup cube sizes port steps = refl
 
-opening_state_is : (cube : CubeSetup) (sizes : LinkFields) (port : ℕ) (script : List ItemFields) (steps : ℕ) → (opening_net cube sizes port script steps).cube.state ∷ [] ≡ state_of (topology_of (opening_net cube sizes port script steps)) []
+opening_state_is : (cube : CubeSetup) (sizes : LinkFields) (port : ℕ) (script : List ItemFields) (steps : ℕ) → machine_of (opening_net cube sizes port script steps) ≡ state_of (topology_of (opening_net cube sizes port script steps)) []
 unfolding state_of state_after opening_state
 opening_state_is cube sizes port script steps = refl
 
@@ -101,7 +103,7 @@ opening_stands setup cube sizes port steps one steps_there topology most = recor
   steps = steps_there;
   topology = topology;
   lawful = lawful_nothing setup;
-  rooms = λ room. nothing_inside cube sizes port setup.script steps room ∙ sym (nothing_in _ room);
+  queues = λ room. nothing_inside cube sizes port setup.script steps room ∙ sym (nothing_in _ room);
   moves = λ room. within_nothing _ room;
   forth = opening_way _ 0 sizes;
   back = opening_way _ 1 sizes;
@@ -112,12 +114,12 @@ opening_stands setup cube sizes port steps one steps_there topology most = recor
 }
 
 -- the topology of one cube and one link is that of the network built from them
-one_link_row : (setup : Setup) (one : IsOneCube setup) (link : LinkRow) → link ≡ one.link → one.link ≡ record { join = record { a = places.Host 0; b = places.Port 0 one.port }; setup = link.setup }
+one_link_row : (setup : Setup) (one : OneCube setup) (link : LinkRow) → link ≡ one.link → one.link ≡ record { join = record { a = places.Host 0; b = places.Port 0 one.port }; setup = link.setup }
 one_link_row setup one link link_is =
     ap₂ (λ (a b : Place). record { join = record { a = a; b = b }; setup = one.link.setup }) one.host_end one.cube_end ∙
     ap (λ (r : LinkRow). record { join = record { a = places.Host 0; b = places.Port 0 one.port }; setup = r.setup }) (sym link_is)
 
-pub one_topology : (setup : Setup) (one : IsOneCube setup) (cube : CubeSetup) (link : LinkRow) (port steps : ℕ) → cube ≡ one.cube → link ≡ one.link → port ≡ one.port
+pub one_topology : (setup : Setup) (one : OneCube setup) (cube : CubeSetup) (link : LinkRow) (port steps : ℕ) → cube ≡ one.cube → link ≡ one.link → port ≡ one.port
     → setup.topology ≡ topology_of (opening_net cube link.setup port setup.script steps)
 one_topology setup one cube link port steps cube_is link_is port_is =
     ap₂ (λ (cubes : List CubeSetup) (links : List LinkRow). record { cubes = cubes; links = links }) (one.cubes ∙ ap (λ (c : CubeSetup). c ∷ []) (sym cube_is)) (one.links ∙ ap (λ (r : LinkRow). r ∷ []) (one_link_row setup one link link_is)) ∙
@@ -128,12 +130,13 @@ pub ok_then : {A E : Type 0} (P Q : A → Type 0) (result : Result A E) → ((x 
 ok_then P Q (Ok x) more is = more x is
 ok_then P Q (Err e) more is = tt
 
-pub built_stands : (setup : Setup) (one : IsOneCube setup) (cube : CubeSetup) (link : LinkRow) (port steps : ℕ) (script : List ItemFields) → All (IsStepFor setup.topology) setup.schedule → cube ≡ one.cube → link ≡ one.link → port ≡ port_at link.join.b
+pub built_stands : (setup : Setup) (one : IsOneCube setup) (parts : OneCube setup) (cube : CubeSetup) (link : LinkRow) (port steps : ℕ) (script : List ItemFields) → All (IsStepFor setup.topology) setup.schedule → cube ≡ parts.cube → link ≡ parts.link → port_number link.join.b ≡ Some port
     → script ≡ setup.script → steps ≡ length setup.schedule → StandsFor (opening_net cube link.setup port script steps) setup
-built_stands setup one cube link port steps script steps_there cube_is link_is port_is script_is steps_is =
-    let port_one : port ≡ one.port = port_is ∙ ap (λ (r : LinkRow). port_at r.join.b) link_is ∙ ap port_at one.cube_end in
+built_stands setup one parts cube link port steps script steps_there cube_is link_is port_is script_is steps_is =
+    let found : Some port ≡ Some parts.port = sym port_is ∙ ap (λ (r : LinkRow). port_number r.join.b) link_is ∙ ap port_number parts.cube_end in
+    let port_one : port ≡ parts.port = cc in
     subst (λ s. StandsFor (opening_net cube link.setup port s steps) setup) (sym script_is)
-    (opening_stands setup cube link.setup port steps one steps_there (one_topology setup one cube link port steps cube_is link_is port_one) (omega (arith, steps_is)))
+    (opening_stands setup cube link.setup port steps one steps_there (one_topology setup parts cube link port steps cube_is link_is port_one) (omega (arith, steps_is)))
 
 -- the only element
 pub only_at : {X : Type 0} (xs ys : List X) (x one : X) → xs ≡ ys → ys ≡ one ∷ [] → x ≡ slice_index_or xs 0 x → x ≡ one

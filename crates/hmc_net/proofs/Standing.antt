@@ -1,5 +1,6 @@
 -- A network that stands for a journal stands for it with one more entry.
 use Rattle.std.proofs.Common.{◌≡◌, ◌≤◌, ◌<◌, ◌+◌, ◌==◌, ◌∙◌, ℕ, zero, suc, false, Option, List, [], ◌∷◌, length, refl, sym, ap, subst, arith}
+use Rattle.hmc_journal.proofs.Moves.{arrives}
 use Rattle.std.specs.Prelude.{slice_set}
 use Rattle.std.proofs.lemmas.Bool.Decides.{nat_tests}
 use Rattle.hmc_codes.specs.Request.{RequestFields}
@@ -9,7 +10,7 @@ use Rattle.hmc_packet.specs.declared.what.What.TheVariants.{New}
 use Rattle.hmc_host.specs.Host.{HostFields}
 use Rattle.hmc_host.specs.Tags.{with_out}
 use Rattle.hmc_serial.specs.Cube.{CubeState}
-use Rattle.hmc_serial.specs.Machine.{State, apply, cube_at}
+use Rattle.hmc_serial.specs.Machine.{State, apply, cube_state_at}
 use Rattle.hmc_serial.specs.Perform.{perform_on}
 use Rattle.hmc_schedule.specs.declared.step.Step.{Step}
 use Rattle.hmc_journal.specs.declared.outcome.Goal.TheVariants as goals
@@ -18,26 +19,26 @@ use Rattle.hmc_journal.specs.declared.entry.Entry.TheVariants.{Gave, Sent, Lande
 use Rattle.hmc_journal.specs.Hosts.{host_of, given_count, tags_out}
 use Rattle.hmc_journal.specs.Lawful.{Follows, Lawful}
 use Rattle.hmc_journal.specs.Next.{next}
-use Rattle.hmc_journal.specs.Rooms.{Room, is_at, leaves, begins, enters, left, entered, contents, begun}
-use Rattle.hmc_journal.specs.Rooms.Room.{Output}
+use Rattle.hmc_journal.specs.Queues.{QueueId, is_at, leaves, begins, left, entered, contents, begun}
+use Rattle.hmc_journal.specs.Queues.QueueId.{Output}
 use Rattle.hmc_journal.specs.Serial.{state_after}
 use Rattle.hmc_journal.specs.Setup.{Topology, Setup}
-use Rattle.hmc_journal.specs.Sight.{last_numbered, state_of}
+use Rattle.hmc_journal.specs.StepView.{last_numbered, state_of}
 use Rattle.hmc_journal.specs.Wires.{unsent}
-use Rattle.hmc_net.specs.Held.{NetFields, topology_of, held, holding_of, inside}
-use Rattle.hmc_net.specs.After.{after, noted}
-use Rattle.hmc_net.specs.Stands.{IsWay, StandsFor, IsNext}
-use Rattle.hmc_net.proofs.Moves.{IsLeft, IsThere, without, with_packet, entering_packet, within_step, rooms_step}
+use Rattle.hmc_net.specs.NetState.{NetState, topology_of, packets_at, queues_in, inside, machine_of}
+use Rattle.hmc_net.specs.Apply.{after, with_entry}
+use Rattle.hmc_net.specs.Stands.{IsDirection, StandsFor, IsNext}
+use Rattle.hmc_net.proofs.Moves.{IsLeft, IsThere, without, within_step, queues_step, IsGoing, with_arrival}
 use Rattle.hmc_net.proofs.Fits.{IsEntryOf}
-use Rattle.hmc_net.proofs.Rooms.{AreTold, IsMove}
-use Rattle.hmc_net.proofs.CubeRooms.{moves_of}
-use Rattle.hmc_net.proofs.Ways.{begun_same}
-use Rattle.hmc_net.proofs.WaysAfter.{AreFirst, AreWays, IsLast}
-use Rattle.hmc_net.proofs.WaysOf.{ways_of}
+use Rattle.hmc_net.proofs.Queues.{AreTold, IsMove}
+use Rattle.hmc_net.proofs.CubeQueues.{moves_of}
+use Rattle.hmc_net.proofs.Directions.{begun_same}
+use Rattle.hmc_net.proofs.DirectionsAfter.{AreFirst, AreDirections, IsLast}
+use Rattle.hmc_net.proofs.DirectionsOf.{ways_of}
 
-pub told_of : (net : NetFields) (setup : Setup) → StandsFor net setup → AreTold net
+pub told_of : (net : NetState) (setup : Setup) → StandsFor net setup → AreTold net
 told_of net setup stands = record {
-  rooms = stands.rooms;
+  queues = stands.queues;
   forth_sending = (last_numbered (begun (topology_of net) net.journal.past 0), stands.forth.sending);
   back_sending = (last_numbered (begun (topology_of net) net.journal.past 1), stands.back.sending);
   forth_pending = stands.forth.gathered;
@@ -45,7 +46,7 @@ told_of net setup stands = record {
 }
 
 -- an entry changes no setup
-topology_after : (net : NetFields) (entry : Entry) → topology_of (after entry net) ≡ topology_of net
+topology_after : (net : NetState) (entry : Entry) → topology_of (after entry net) ≡ topology_of net
 topology_after net (Sent zero what flit) = refl
 topology_after net (Sent (suc direction) what flit) = refl
 topology_after net (Landed zero flit outcome) = refl
@@ -53,7 +54,7 @@ topology_after net (Landed (suc direction) flit outcome) = refl
 topology_after net _ = refl
 
 -- the host gives the next request under its tag, and takes an answer
-host_after : (net : NetFields) (setup : Setup) (past : List Entry) (entry : Entry) → IsEntryOf net entry → net.host ≡ host_of setup past 0 → (after entry net).host ≡ host_of setup (entry ∷ past) 0
+host_after : (net : NetState) (setup : Setup) (past : List Entry) (entry : Entry) → IsEntryOf net entry → net.host ≡ host_of setup past 0 → (after entry net).host ≡ host_of setup (entry ∷ past) 0
 unfolding host_of given_count tags_out
 host_after net setup past (Gave zero tag poisoned request) is same = ap (λ (h : HostFields). record h { given = h.given + 1; tags = with_out tag h.tags }) same
 host_after net setup past (Gave (suc host) tag poisoned request) is same = absurd (omega arith)
@@ -66,11 +67,13 @@ host_after net setup past (Landed (suc direction) flit outcome) is same = same
 host_after net setup past _ is same = same
 
 -- an execution leaves of the machine what it leaves of its cube
-executed_state : (state : State) (cube : CubeState) (request : RequestFields) (number : ℕ) → cube ∷ [] ≡ state → number ≡ 0 → (perform_on cube request).cube ∷ [] ≡ slice_set state number (perform_on (cube_at state number) request).cube
+executed_state : (state : State) (cube : CubeState) (request : RequestFields) (number : ℕ) → ◌≡◌ {A = State} (record { cubes = cube ∷ [] }) state → number ≡ 0
+    → ◌≡◌ {A = State} (record { cubes = (perform_on cube request).cube ∷ [] }) (record { cubes = slice_set state.cubes number (perform_on (cube_state_at state number) request).cube })
 executed_state state cube request number is zero_is =
-    ap (λ (s : State). slice_set s 0 (perform_on (cube_at s 0) request).cube) is ∙ ap (λ n. slice_set state n (perform_on (cube_at state n) request).cube) (sym zero_is)
+    ap {B = State} (λ (s : State). record { cubes = slice_set s.cubes 0 (perform_on (cube_state_at s 0) request).cube }) is
+    ∙ ap {B = State} (λ (n : ℕ). record { cubes = slice_set state.cubes n (perform_on (cube_state_at state n) request).cube }) (sym zero_is)
 
-state_then : (net : NetFields) (topology : Topology) (past : List Entry) (entry : Entry) → IsEntryOf net entry → net.cube.state ∷ [] ≡ state_of topology past → (after entry net).cube.state ∷ [] ≡ state_of topology (entry ∷ past)
+state_then : (net : NetState) (topology : Topology) (past : List Entry) (entry : Entry) → IsEntryOf net entry → machine_of net ≡ state_of topology past → machine_of (after entry net) ≡ state_of topology (entry ∷ past)
 unfolding state_of state_after apply
 state_then net topology past (Executed (units.Bank cube vault bank) host tag request answer) is same = executed_state _ net.cube.state request request.cube same is.2
 state_then net topology past (Executed (units.Registers cube) host tag request answer) is same = executed_state _ net.cube.state request request.cube same is.2
@@ -86,24 +89,24 @@ state_then net topology past (Lifted cube lifts.Registers port) is same = same
 state_then net topology past _ is same = same
 
 -- what an entry needs to leave a network that stands for the journal with it
-pub record IsRight (net : NetFields) (setup : Setup) (step : Step) (entry : Entry) : Type 0 where
+pub record IsRight (net : NetState) (setup : Setup) (step : Step) (entry : Entry) : Type 0 where
   pub next_is : entry ≡ next setup net.journal.past step
   pub parts : IsEntryOf net entry
   pub first : AreFirst net
 
-lawful_then : (net : NetFields) (setup : Setup) (step : Step) (entry : Entry) → IsNext net setup step → entry ≡ next setup net.journal.past step → Lawful setup (entry ∷ net.journal.past)
+lawful_then : (net : NetState) (setup : Setup) (step : Step) (entry : Entry) → IsNext net setup step → entry ≡ next setup net.journal.past step → Lawful setup (entry ∷ net.journal.past)
 unfolding Lawful
 lawful_then net setup step entry is next_is = (subst (λ s. Follows setup net.journal.past s entry) (sym is.step_is) next_is, is.stands.lawful)
 
-rooms_then : (net : NetFields) (entry : Entry) (leaving : Option Room) → AreTold net → ((room : Room) → left net.journal.past room ≤ length (entered (topology_of net) net.journal.past room)) → IsMove net entry leaving
-    → (room : Room) → inside (after entry net) room ≡ contents (topology_of net) (entry ∷ net.journal.past) room
-rooms_then net entry leaving told within move room =
+queues_then : (net : NetState) (entry : Entry) (leaving : Option QueueId) → AreTold net → ((queue : QueueId) → left net.journal.past queue ≤ length (entered (topology_of net) net.journal.past queue)) → IsMove net entry leaving
+    → (queue : QueueId) → inside (after entry net) queue ≡ contents (topology_of net) (entry ∷ net.journal.past) queue
+queues_then net entry leaving told within move queue =
     let here : IsLeft (topology_of net) net.journal.past (leaves net.journal.past entry) = subst (IsLeft (topology_of net) net.journal.past) (sym move.leaves_is) move.left_is in
-    let there : IsThere (holding_of net) (leaves net.journal.past entry) = subst (IsThere (holding_of net)) (sym move.leaves_is) move.leaves_there in
-    let into : IsThere (without (holding_of net) (leaves net.journal.past entry)) (enters (topology_of net) entry) =
-    subst (λ o. IsThere (without (holding_of net) o) (enters (topology_of net) entry)) (sym move.leaves_is) move.enters_there in
-    ap (λ h. held h room) (move.holding ∙ ap (λ o. with_packet (without (holding_of net) o) (enters (topology_of net) entry) (entering_packet (topology_of net) net.journal.past entry)) (sym move.leaves_is)) ∙
-    rooms_step (topology_of net) net.journal.past entry (holding_of net) here there into room (within room) (told.rooms room)
+    let there : IsThere (queues_in net) (leaves net.journal.past entry) = subst (IsThere (queues_in net)) (sym move.leaves_is) move.leaves_there in
+    let into : IsGoing (without (queues_in net) (leaves net.journal.past entry)) (arrives (topology_of net) net.journal.past entry) =
+    subst (λ o. IsGoing (without (queues_in net) o) (arrives (topology_of net) net.journal.past entry)) (sym move.leaves_is) move.enters_there in
+    ap (λ h. packets_at h queue) (move.holding ∙ ap (λ o. with_arrival (without (queues_in net) o) (arrives (topology_of net) net.journal.past entry)) (sym move.leaves_is)) ∙
+    queues_step (topology_of net) net.journal.past entry (queues_in net) here there into queue (within queue) (told.queues queue)
 
 -- no packet leaves the output queue of another direction
 apart_from : (direction number : ℕ) → direction < 2 → (direction == 2 + number) ≡ false
@@ -113,31 +116,31 @@ begins_apart : (count direction number : ℕ) → direction < 2 → is_at (begin
 begins_apart zero direction number few = apart_from direction number few
 begins_apart (suc count) direction number few = refl
 
-leaves_apart : (net : NetFields) (entry : Entry) (number : ℕ) → IsEntryOf net entry → is_at (leaves net.journal.past entry) (Output (2 + number)) ≡ false
+leaves_apart : (net : NetState) (entry : Entry) (number : ℕ) → IsEntryOf net entry → is_at (leaves net.journal.past entry) (Output (2 + number)) ≡ false
 unfolding leaves
 leaves_apart net (Sent direction New flit) number is = begins_apart (unsent direction net.journal.past) direction number is.0
 leaves_apart net (Executed (units.Bank cube vault bank) host tag request answer) number is = refl
 leaves_apart net (Executed (units.Registers cube) host tag request answer) number is = refl
 leaves_apart net _ number is = refl
 
-pub stands_after : (net : NetFields) (setup : Setup) (step : Step) (entry : Entry) → IsNext net setup step → IsRight net setup step entry → StandsFor (noted entry net) setup
+pub stands_after : (net : NetState) (setup : Setup) (step : Step) (entry : Entry) → IsNext net setup step → IsRight net setup step entry → StandsFor (with_entry entry net) setup
 stands_after net setup step entry is right =
     let stands = is.stands in
     let told : AreTold net = told_of net setup stands in
     let moves = moves_of net entry told right.parts in
     let here : IsLeft (topology_of net) net.journal.past (leaves net.journal.past entry) = subst (IsLeft (topology_of net) net.journal.past) (sym moves.1.leaves_is) moves.1.left_is in
     let last : IsLast net entry = record { leaves_is = refl; left_is = here; within = stands.moves } in
-    let ways : AreWays net (after entry net) (entry ∷ net.journal.past) = ways_of net entry told right.first last right.parts (record { forth = stands.forth; back = stands.back }) in
-    let same : topology_of net ≡ topology_of (noted entry net) = sym (topology_after net entry) in
+    let ways : AreDirections net (after entry net) (entry ∷ net.journal.past) = ways_of net entry told right.first last right.parts (record { forth = stands.forth; back = stands.back }) in
+    let same : topology_of net ≡ topology_of (with_entry entry net) = sym (topology_after net entry) in
     record {
       one_cube = stands.one_cube;
       steps = stands.steps;
       topology = stands.topology ∙ same;
       lawful = lawful_then net setup step entry is right.next_is;
-      rooms = λ room. rooms_then net entry moves.0 told stands.moves moves.1 room ∙ ap (λ t. contents t (entry ∷ net.journal.past) room) same;
-      moves = λ room. subst (λ t. left (entry ∷ net.journal.past) room ≤ length (entered t (entry ∷ net.journal.past) room)) same (within_step (topology_of net) net.journal.past entry room here (stands.moves room));
-      forth = subst (λ t. IsWay t (entry ∷ net.journal.past) 0 (after entry net).forth) same ways.forth;
-      back = subst (λ t. IsWay t (entry ∷ net.journal.past) 1 (after entry net).back) same ways.back;
+      queues = λ queue. queues_then net entry moves.0 told stands.moves moves.1 queue ∙ ap (λ t. contents t (entry ∷ net.journal.past) queue) same;
+      moves = λ queue. subst (λ t. left (entry ∷ net.journal.past) queue ≤ length (entered t (entry ∷ net.journal.past) queue)) same (within_step (topology_of net) net.journal.past entry queue here (stands.moves queue));
+      forth = subst (λ t. IsDirection t (entry ∷ net.journal.past) 0 (after entry net).forth) same ways.forth;
+      back = subst (λ t. IsDirection t (entry ∷ net.journal.past) 1 (after entry net).back) same ways.back;
       others = λ number. ap (λ t. begun t (entry ∷ net.journal.past) (2 + number)) (sym same) ∙ begun_same (topology_of net) net.journal.past entry (leaves net.journal.past entry) (2 + number) last (leaves_apart net entry number right.parts) ∙ stands.others number;
       host = host_after net setup net.journal.past entry right.parts stands.host;
       state = state_then net (topology_of net) net.journal.past entry right.parts stands.state ∙ ap (λ t. state_of t (entry ∷ net.journal.past)) same;

@@ -1,5 +1,6 @@
 -- A network holds no packet exactly where its journal is drained.
 use Rattle.std.proofs.Common.{◌≡◌, ◌≤◌, ◌+◌, ◌⊎◌, ◌↔◌, inl, inr, ◌∙◌, ℕ, zero, suc, Bool, true, false, List, [], ◌∷◌, length, drop, sum_by, refl, sym, ap, subst, arith, length-drop}
+use Rattle.hmc_journal.proofs.OneCube.{parts_of}
 use Rattle.std.specs.Prelude.{slice_index_or, IsTrue}
 use Rattle.std.proofs.lemmas.List.Sums.{sum_by-cons}
 use Rattle.std.proofs.lemmas.List.{drop_all}
@@ -9,19 +10,19 @@ use Rattle.hmc_vault.specs.Vault.{VaultFields, bank_at, held_by}
 use Rattle.hmc_cube.specs.Cube.{no_vault, held_in_cube}
 use Rattle.hmc_journal.specs.declared.entry.Entry.{Entry}
 use Rattle.hmc_journal.specs.Drained.{IsDrained, is_drained}
-use Rattle.hmc_journal.specs.Rooms.{Room, arrival, left, entered, contents, begun}
-use Rattle.hmc_journal.specs.Rooms.Room.{Output, Port, Host, Vault, Bank, Registers, Answers}
+use Rattle.hmc_journal.specs.Queues.{QueueId, landing_buffer, left, entered, contents, begun}
+use Rattle.hmc_journal.specs.Queues.QueueId.{Output, Port, Host, Vault, Bank, Registers, Answers}
 use Rattle.hmc_journal.specs.Setup.{Topology, Setup}
 use Rattle.hmc_journal.specs.Wires.{accepted, flits_in}
-use Rattle.hmc_journal.proofs.Arrived.{arrived}
+use Rattle.hmc_journal.proofs.Arrived.{all_arrived}
 use Rattle.hmc_journal.proofs.Sound.{kept}
 use Rattle.hmc_journal.proofs.Tokens.{accepted_few}
-use Rattle.hmc_net.specs.Held.{NetFields, topology_of, vault_in, packets_if, only, inside}
-use Rattle.hmc_net.specs.Stands.{IsWay, StandsFor}
-use Rattle.hmc_net.specs.Still.{IsStill}
-use Rattle.hmc_net.specs.Wire.{WireFields}
+use Rattle.hmc_net.specs.NetState.{NetState, topology_of, vault_in, packets_if, only, inside}
+use Rattle.hmc_net.specs.Stands.{IsDirection, StandsFor}
+use Rattle.hmc_net.specs.Quiescent.{IsQuiescent}
+use Rattle.hmc_net.specs.Wire.{DirectionState}
 use Rattle.hmc_journal.proofs.DrainedTest.{drained_by_test, test_by_drained}
-use Rattle.hmc_net.proofs.Rooms.{buffer_is}
+use Rattle.hmc_net.proofs.Queues.{buffer_is}
 
 -- ---- sums that are nothing
 
@@ -44,16 +45,16 @@ flits_none (packet ∷ rest) none = absurd (omega (arith, sum_by-cons flits_of p
 
 -- ---- a cube
 
-vault_still : (vault : VaultFields) → held_by vault ≡ 0 → (vault.entering ≡ []) × ((bank : ℕ) → bank_at vault bank ≡ []) × (vault.answers ≡ [])
+vault_still : (vault : VaultFields) → held_by vault ≡ 0 → (vault.vault_queue ≡ []) × ((bank : ℕ) → bank_at vault bank ≡ []) × (vault.answers ≡ [])
 vault_still vault none =
     let banks : sum_by length vault.banks ≡ 0 = omega arith in
-    (length_none vault.entering (omega arith), (λ bank. length_none (bank_at vault bank) (zero_sum length [] vault.banks bank refl banks)), length_none vault.answers (omega arith))
+    (length_none vault.vault_queue (omega arith), (λ bank. length_none (bank_at vault bank) (zero_sum length [] vault.banks bank refl banks)), length_none vault.answers (omega arith))
 
-still_vault : (vault : VaultFields) → vault.entering ≡ [] → ((bank : ℕ) → bank_at vault bank ≡ []) → vault.answers ≡ [] → held_by vault ≡ 0
+still_vault : (vault : VaultFields) → vault.vault_queue ≡ [] → ((bank : ℕ) → bank_at vault bank ≡ []) → vault.answers ≡ [] → held_by vault ≡ 0
 still_vault vault entering banks answers =
     omega (arith, ap length entering, ap length answers, sum_zero length [] vault.banks (λ i. ap length (banks i)))
 
-vaults_still : (net : NetFields) (vault : ℕ) → held_in_cube net.cube ≡ 0 → held_by (vault_in net.cube.vaults vault) ≡ 0
+vaults_still : (net : NetState) (vault : ℕ) → held_in_cube net.cube ≡ 0 → held_by (vault_in net.cube.vaults vault) ≡ 0
 vaults_still net vault none = zero_sum held_by no_vault net.cube.vaults vault refl (omega arith)
 
 -- ---- rooms
@@ -66,62 +67,62 @@ if_none : (test : Bool) (packets : List PacketFields) → packets ≡ [] → pac
 if_none true packets none = none
 if_none false packets none = refl
 
-still_inside : (net : NetFields) (room : Room) → IsStill net → inside net room ≡ []
+still_inside : (net : NetState) (queue : QueueId) → IsQuiescent net → inside net queue ≡ []
 still_inside net (Output zero) still = still.forth.output
 still_inside net (Output (suc zero)) still = still.back.output
 still_inside net (Output (suc (suc direction))) still = refl
-still_inside net (Port cube port) still = if_none _ net.buffer still.buffer
+still_inside net (Port cube port) still = if_none _ net.port_buffer still.port_buffer
 still_inside net (Host host) still = only_none host net.host_buffer still.host_buffer
 still_inside net (Vault cube vault) still = only_none cube _ (vault_still (vault_in net.cube.vaults vault) (vaults_still net vault still.cube)).0
 still_inside net (Bank cube vault bank) still = only_none cube _ ((vault_still (vault_in net.cube.vaults vault) (vaults_still net vault still.cube)).1 bank)
-still_inside net (Registers cube) still = let none = still.cube in only_none cube net.cube.waiting (length_none net.cube.waiting (omega arith))
+still_inside net (Registers cube) still = let none = still.cube in only_none cube net.cube.register_queue (length_none net.cube.register_queue (omega arith))
 still_inside net (Answers cube (lifts.Vault vault)) still = only_none cube _ (vault_still (vault_in net.cube.vaults vault) (vaults_still net vault still.cube)).2
 still_inside net (Answers cube lifts.Registers) still = let none = still.cube in only_none cube net.cube.answers (length_none net.cube.answers (omega arith))
 
 -- ---- directions
 
 -- what a direction needs to be told: how many packets came, how many left the buffer
-begun_accepted : (topology : Topology) (past : List Entry) (direction : ℕ) (wire : WireFields) → IsWay topology past direction wire → left past (arrival topology direction) ≤ length (entered topology past (arrival topology direction))
-    → length (entered topology past (arrival topology direction)) ≡ length (accepted direction past) → wire.away ≡ 0 → contents topology past (arrival topology direction) ≡ [] → length (begun topology past direction) ≡ length (accepted direction past)
+begun_accepted : (topology : Topology) (past : List Entry) (direction : ℕ) (wire : DirectionState) → IsDirection topology past direction wire → left past (landing_buffer topology direction) ≤ length (entered topology past (landing_buffer topology direction))
+    → length (entered topology past (landing_buffer topology direction)) ≡ length (accepted direction past) → wire.in_flight_flits ≡ 0 → contents topology past (landing_buffer topology direction) ≡ [] → length (begun topology past direction) ≡ length (accepted direction past)
 unfolding contents
 begun_accepted topology past direction wire way within came none empty =
-    let gone : drop (left past (arrival topology direction)) (begun topology past direction) ≡ [] = flits_none _ (sym way.away ∙ none) in
-    omega (arith, way.passed, within, came, ap length gone, ap length empty, length-drop (left past (arrival topology direction)) (begun topology past direction), length-drop (left past (arrival topology direction)) (entered topology past (arrival topology direction)))
+    let gone : drop (left past (landing_buffer topology direction)) (begun topology past direction) ≡ [] = flits_none _ (sym way.in_flight_flits ∙ none) in
+    omega (arith, way.forwarded, within, came, ap length gone, ap length empty, length-drop (left past (landing_buffer topology direction)) (begun topology past direction), length-drop (left past (landing_buffer topology direction)) (entered topology past (landing_buffer topology direction)))
 
-accepted_begun : (topology : Topology) (past : List Entry) (direction : ℕ) (wire : WireFields) → IsWay topology past direction wire
-    → length (entered topology past (arrival topology direction)) ≡ length (accepted direction past) → length (begun topology past direction) ≡ length (accepted direction past) → contents topology past (arrival topology direction) ≡ [] → wire.away ≡ 0
+accepted_begun : (topology : Topology) (past : List Entry) (direction : ℕ) (wire : DirectionState) → IsDirection topology past direction wire
+    → length (entered topology past (landing_buffer topology direction)) ≡ length (accepted direction past) → length (begun topology past direction) ≡ length (accepted direction past) → contents topology past (landing_buffer topology direction) ≡ [] → wire.in_flight_flits ≡ 0
 unfolding contents
 accepted_begun topology past direction wire way came same empty =
-    let most : length (begun topology past direction) ≤ left past (arrival topology direction) =
-    omega (arith, came, same, ap length empty, length-drop (left past (arrival topology direction)) (entered topology past (arrival topology direction))) in
-    way.away ∙ ap flits_in (drop_all (left past (arrival topology direction)) (begun topology past direction) most)
+    let most : length (begun topology past direction) ≤ left past (landing_buffer topology direction) =
+    omega (arith, came, same, ap length empty, length-drop (left past (landing_buffer topology direction)) (entered topology past (landing_buffer topology direction))) in
+    way.in_flight_flits ∙ ap flits_in (drop_all (left past (landing_buffer topology direction)) (begun topology past direction) most)
 
-came : (net : NetFields) (setup : Setup) (direction : ℕ) → StandsFor net setup → (direction ≡ 0) ⊎ (direction ≡ 1)
-    → length (entered (topology_of net) net.journal.past (arrival (topology_of net) direction)) ≡ length (accepted direction net.journal.past)
+came : (net : NetState) (setup : Setup) (direction : ℕ) → StandsFor net setup → (direction ≡ 0) ⊎ (direction ≡ 1)
+    → length (entered (topology_of net) net.journal.past (landing_buffer (topology_of net) direction)) ≡ length (accepted direction net.journal.past)
 came net setup direction stands real =
-    ap (λ t. length (entered t net.journal.past (arrival t direction))) (sym stands.topology) ∙ ap length (arrived setup net.journal.past direction stands.one_cube real stands.lawful)
+    ap (λ t. length (entered t net.journal.past (landing_buffer t direction))) (sym stands.topology) ∙ ap length (all_arrived setup net.journal.past direction (parts_of setup stands.one_cube) real stands.lawful)
 
-accepted_nothing : (net : NetFields) (setup : Setup) (direction : ℕ) → StandsFor net setup → length (begun (topology_of net) net.journal.past (2 + direction)) ≡ length (accepted (2 + direction) net.journal.past)
+accepted_nothing : (net : NetState) (setup : Setup) (direction : ℕ) → StandsFor net setup → length (begun (topology_of net) net.journal.past (2 + direction)) ≡ length (accepted (2 + direction) net.journal.past)
 accepted_nothing net setup direction stands =
-    let few : length (accepted (2 + direction) net.journal.past) ≤ length (begun setup.topology net.journal.past (2 + direction)) = accepted_few setup stands.one_cube.port net.journal.past (2 + direction) (kept setup net.journal.past stands.one_cube stands.lawful) in
+    let few : length (accepted (2 + direction) net.journal.past) ≤ length (begun setup.topology net.journal.past (2 + direction)) = accepted_few setup (parts_of setup stands.one_cube).port net.journal.past (2 + direction) (kept setup net.journal.past (parts_of setup stands.one_cube) stands.lawful) in
     omega (arith, ap length (stands.others direction), ap (λ t. length (begun t net.journal.past (2 + direction))) stands.topology)
 
-still_wires : (net : NetFields) (setup : Setup) (direction : ℕ) → StandsFor net setup → IsStill net → length (begun (topology_of net) net.journal.past direction) ≡ length (accepted direction net.journal.past)
+still_wires : (net : NetState) (setup : Setup) (direction : ℕ) → StandsFor net setup → IsQuiescent net → length (begun (topology_of net) net.journal.past direction) ≡ length (accepted direction net.journal.past)
 still_wires net setup zero stands still =
-    begun_accepted (topology_of net) net.journal.past 0 net.forth stands.forth (stands.moves (Port 0 net.port)) (came net setup 0 stands (inl refl)) still.forth.away (sym (stands.rooms (Port 0 net.port)) ∙ still_inside net (Port 0 net.port) still)
+    begun_accepted (topology_of net) net.journal.past 0 net.forth stands.forth (stands.moves (Port 0 net.port)) (came net setup 0 stands (inl refl)) still.forth.in_flight_flits (sym (stands.queues (Port 0 net.port)) ∙ still_inside net (Port 0 net.port) still)
 still_wires net setup (suc zero) stands still =
-    begun_accepted (topology_of net) net.journal.past 1 net.back stands.back (stands.moves (Host 0)) (came net setup 1 stands (inr refl)) still.back.away (sym (stands.rooms (Host 0)) ∙ still_inside net (Host 0) still)
+    begun_accepted (topology_of net) net.journal.past 1 net.back stands.back (stands.moves (Host 0)) (came net setup 1 stands (inr refl)) still.back.in_flight_flits (sym (stands.queues (Host 0)) ∙ still_inside net (Host 0) still)
 still_wires net setup (suc (suc direction)) stands still =
     let e : 2 + direction ≡ suc (suc direction) = omega arith in
     subst (λ d. length (begun (topology_of net) net.journal.past d) ≡ length (accepted d net.journal.past)) e (accepted_nothing net setup direction stands)
 
-pub still_drained : (net : NetFields) (setup : Setup) → StandsFor net setup → IsStill net → IsDrained setup.topology net.journal.past
+pub still_drained : (net : NetState) (setup : Setup) → StandsFor net setup → IsQuiescent net → IsDrained setup.topology net.journal.past
 still_drained net setup stands still = subst (λ t. IsDrained t net.journal.past) (sym stands.topology) (record {
-  rooms = λ room. sym (stands.rooms room) ∙ still_inside net room still;
+  queues = λ queue. sym (stands.queues queue) ∙ still_inside net queue still;
   wires = λ direction. still_wires net setup direction stands still;
 })
 
-drained_cube : (net : NetFields) → ((room : Room) → inside net room ≡ []) → held_in_cube net.cube ≡ 0
+drained_cube : (net : NetState) → ((queue : QueueId) → inside net queue ≡ []) → held_in_cube net.cube ≡ 0
 drained_cube net none =
     omega (
       arith,
@@ -130,18 +131,18 @@ drained_cube net none =
       sum_zero held_by no_vault net.cube.vaults (λ i. still_vault (vault_in net.cube.vaults i) (none (Vault 0 i)) (λ bank. none (Bank 0 i bank)) (none (Answers 0 (lifts.Vault i)))),
     )
 
-drained_net : (net : NetFields) (setup : Setup) → StandsFor net setup → IsDrained (topology_of net) net.journal.past → IsStill net
+drained_net : (net : NetState) (setup : Setup) → StandsFor net setup → IsDrained (topology_of net) net.journal.past → IsQuiescent net
 drained_net net setup stands drained =
-    let none : (room : Room) → inside net room ≡ [] = λ room. stands.rooms room ∙ drained.rooms room in
+    let none : (queue : QueueId) → inside net queue ≡ [] = λ queue. stands.queues queue ∙ drained.queues queue in
     record {
-      forth = record { output = none (Output 0); away = accepted_begun (topology_of net) net.journal.past 0 net.forth stands.forth (came net setup 0 stands (inl refl)) (drained.wires 0) (drained.rooms (Port 0 net.port)) };
-      back = record { output = none (Output 1); away = accepted_begun (topology_of net) net.journal.past 1 net.back stands.back (came net setup 1 stands (inr refl)) (drained.wires 1) (drained.rooms (Host 0)) };
-      buffer = sym (buffer_is net net.port refl) ∙ none (Port 0 net.port);
+      forth = record { output = none (Output 0); in_flight_flits = accepted_begun (topology_of net) net.journal.past 0 net.forth stands.forth (came net setup 0 stands (inl refl)) (drained.wires 0) (drained.queues (Port 0 net.port)) };
+      back = record { output = none (Output 1); in_flight_flits = accepted_begun (topology_of net) net.journal.past 1 net.back stands.back (came net setup 1 stands (inr refl)) (drained.wires 1) (drained.queues (Host 0)) };
+      port_buffer = sym (buffer_is net net.port refl) ∙ none (Port 0 net.port);
       host_buffer = none (Host 0);
       cube = drained_cube net none;
     }
 
-pub drained_still : (net : NetFields) (setup : Setup) → StandsFor net setup → IsDrained setup.topology net.journal.past → IsStill net
+pub drained_still : (net : NetState) (setup : Setup) → StandsFor net setup → IsDrained setup.topology net.journal.past → IsQuiescent net
 drained_still net setup stands drained = drained_net net setup stands (subst (λ t. IsDrained t net.journal.past) stands.topology drained)
 
 same_test : (result test : Bool) → (IsTrue result → test ≡ true) → (test ≡ true → IsTrue result) → result ≡ test
@@ -150,8 +151,8 @@ same_test false false forth back = refl
 same_test false true forth back = back refl
 
 -- so it is what the test of all rooms says
-pub drained_test : (net : NetFields) (setup : Setup) (result : Bool) → StandsFor net setup → IsTrue result ↔ IsStill net → result ≡ is_drained setup.topology net.journal.past
+pub drained_test : (net : NetState) (setup : Setup) (result : Bool) → StandsFor net setup → IsTrue result ↔ IsQuiescent net → result ≡ is_drained setup.topology net.journal.past
 drained_test net setup result stands is =
     same_test result (is_drained setup.topology net.journal.past)
     (λ yes. test_by_drained setup.topology net.journal.past (still_drained net setup stands (is.0 yes)))
-    (λ yes. is.1 (drained_still net setup stands (drained_by_test setup net.journal.past stands.one_cube stands.lawful yes)))
+    (λ yes. is.1 (drained_still net setup stands (drained_by_test setup net.journal.past (parts_of setup stands.one_cube) stands.lawful yes)))

@@ -1,10 +1,10 @@
 pub mod Wire
 pub mod WireKept
-pub mod Held
-pub mod After
+pub mod NetState
+pub mod Apply
 pub mod Ready
 pub mod Stands
 pub mod Opening
-pub mod Still
+pub mod Quiescent
 pub mod Went
-pub mod Acts
+pub mod Gives

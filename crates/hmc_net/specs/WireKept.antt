@@ -2,27 +2,29 @@
 use Rattle.std.specs.Prelude.{◌≡◌, ◌≤◌, ◌<◌, ℕ, List, All, length}
 use Rattle.hmc_packet.specs.Packet.{IsPacket, flits_of}
 use Rattle.hmc_packet.specs.Spelling.{spelling}
-use Rattle.hmc_packet.specs.Tail.{pointers}
-use Rattle.hmc_journal.specs.Sight.{Sending}
-use Rattle.hmc_net.specs.Wire.{WireFields, IsTransaction}
+use Rattle.hmc_case.specs.Setup.{only_profile}
+use Rattle.hmc_journal.specs.Wires.{pointers}
+use Rattle.hmc_journal.specs.StepView.{Sending}
+use Rattle.hmc_net.specs.Wire.{DirectionState, IsTransaction}
 
 -- a packet of which some flits were sent and some are left, and its spelling with some pointer
 pub record IsBegun (sending : Sending) (flits : List (List ℕ)) : Type 0 where
   pub packet : IsPacket sending.packet
   pub transaction : IsTransaction sending.packet
+  pub forward : sending.packet.frp < pointers
   pub pointer : ℕ
   pub below : pointer < pointers
-  pub spelled : flits ≡ spelling sending.packet pointer
+  pub spelled : flits ≡ spelling only_profile sending.packet pointer
   pub some_left : 1 ≤ sending.left
   pub some_sent : sending.left < flits_of sending.packet
 
--- counters below their moduli, no more flits under way than there are tokens, transactions in an output queue of its size, a line of its
--- size, and less than a whole packet gathered
-pub record IsWire (wire : WireFields) (output line : ℕ) : Type 0 where
+-- counters below their moduli, no more flits under way than there are tokens, transactions in an
+-- output queue of its size, a line of its size, and less than a whole packet gathered
+pub record IsWire (wire : DirectionState) (output line : ℕ) : Type 0 where
   pub frp : wire.frp < pointers
   pub seq : wire.seq < 8
   pub accepted : wire.accepted < pointers
-  pub away : wire.away ≤ wire.sizes.tokens
+  pub in_flight_flits : wire.in_flight_flits ≤ wire.sizes.tokens
   pub transactions : All IsTransaction wire.output
   pub output_size : output ≡ wire.sizes.output
   pub line_size : line ≡ wire.sizes.line

@@ -1,25 +1,28 @@
 //! The network: its host, its link and its cube, one step at a time.
 //!
-//! Until there are chains and several hosts it is one cube and one link, which joins host 0 to a port of the cube and lands
-//! each flit as it was sent.
+//! Until there are chains and several hosts it is one cube and one link, which joins host 0 to a
+//! port of the cube and lands each flit as it was sent.
 //!
-//! The model: a network is the record of its parts as their own layers see them, and its journal (`NetFields`). That it
-//! stands for a case (`StandsFor`) says that the journal is lawful and that each part is as the journal tells: the packets in
-//! every room, the flits and pointers of both directions, the host, and the memory and registers. So what a step sees of the
-//! parts (`sight_by`) is what it sees of the journal, and the entry that it makes is the one that the journal's definition
-//! gives.
+//! The model: a network is the record of its parts as their own layers see them, and its journal
+//! (`NetState`). That it stands for a case (`StandsFor`) says that the journal is lawful and that
+//! each part is as the journal says: the packets in every queue, the flits and pointers of both
+//! directions, the host, and the memory and registers. So what a step sees of the parts
+//! (`net_view`) is what it sees of the journal, and the entry that it makes is the one that the
+//! journal's definition gives.
 //!
-//! - [`Net::build`] gives a network that stands for its case and the empty journal. It reserves all memory that the steps
-//!   need.
-//! - [`Net::step`] takes the next step of the schedule: it leaves a network that stands for the case with one more entry, and
-//!   answers [`Went`]. A step that is idle changes nothing but the journal.
+//! - [`Net::build`] gives a network that stands for its case and the empty journal. It reserves all
+//!   memory that the steps need.
+//! - [`Net::step`] takes the next step of the schedule: it leaves a network that stands for the
+//!   case with one more entry, and answers [`Went`]. A step that is idle changes nothing but the
+//!   journal.
 //!
-//! The layer above rests on `StandsFor` and on the laws of lawful journals alone. A `Wire` is one direction of the link: the
-//! output queue, the line, and what the sender and the receiver know.
+//! The layer above rests on `StandsFor` and on the laws of lawful journals alone. A `Wire` is one
+//! direction of the link: the output queue, the line, and what the sender and the receiver know.
 //!
-//! In `specs/`, `Stands` has that relation, over the parts in `Held` and the wires in `Wire`, and `Opening` the network of a
-//! case. The others are steps of the proof: what the parts' words are as entries (`Acts`), what an entry leaves (`After`), what
-//! parts keep and a step relies on (`WireKept`, `Ready`), when nothing is on its way (`Still`), and `Went`.
+//! In `specs/`, `Stands` has that relation, over the parts in `NetState` and the wires in `Wire`,
+//! and `Opening` has the network of a case. The others are steps of the proof: what a give hands to
+//! a wire (`Gives`), what an entry leaves (`Apply`), what the parts keep and a step relies on
+//! (`WireKept`, `Ready`), when no packet is on its way (`Quiescent`), and `Went`.
 #![tactic(auto)]
 
 mod net;

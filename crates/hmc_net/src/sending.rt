@@ -4,27 +4,29 @@ ghost use Rattle.std.specs.Prelude.{◌≡◌, ◌<◌, ◌-◌, ℕ};
 ghost use Rattle.hmc_packet.specs.Packet.{flits_of};
 ghost use Rattle.hmc_packet.specs.Parts.{lng_of};
 ghost use Rattle.hmc_packet.specs.Spelling.{spelling};
-ghost use Rattle.hmc_packet.specs.Tail.{pointers};
+ghost use Rattle.hmc_case.specs.Setup.{only_profile};
+ghost use Rattle.hmc_journal.specs.Wires.{pointers};
 ghost use Rattle.hmc_journal.specs.Next.{flit_of};
-ghost use Rattle.hmc_journal.specs.Sight.{numbered, sending_with};
+ghost use Rattle.hmc_journal.specs.StepView.{numbered, sending_with};
 ghost use Rattle.hmc_net.specs.Wire.{IsTransaction};
 
 use arrayvec::ArrayVec;
-use hmc_codes::Flit;
+use hmc_codes::{Flit, Profile};
 use hmc_packet::{Packet, spell};
 use std::marker::Model;
 
-/// A packet of which some flits were sent and some are left. Contracts see the packet and how many are left.
+/// A packet of which some flits were sent and some are left. Contracts see the packet and the
+/// number of flits left.
 #[derive(Drop)]
 pub struct Sending {
     packet: Packet,
     left: u8,
-    // Its flits, which but for the last are those with any return pointer.
+    // Its flits. Except the last, they don't depend on the return pointer.
     flits: ArrayVec<Flit, 17>,
 }
 
 impl Model for Sending {
-    ghost use Rattle.hmc_journal.specs.Sight.{Sending as Sent};
+    ghost use Rattle.hmc_journal.specs.StepView.{Sending as Sent};
     ghost use Rattle.hmc_net.specs.WireKept.{IsBegun};
 
     ghost Value = { Sent };
@@ -43,13 +45,14 @@ pub struct Begun {
 
 impl Sending {
     /// The next flit, which is sent with this return pointer if it is the last.
-    pub fn flit(&self, returned: u16) -> Flit
-        requires { returned < pointers }
-        ensures { result ≡ flit_of self.now.packet returned (flits_of self.now.packet - self.now.left) }
+    pub fn flit(&self, return_pointer: u16) -> Flit
+        requires { return_pointer < pointers }
+        ensures { result
+            ≡ flit_of self.now.packet return_pointer (flits_of self.now.packet - self.now.left) }
     {
         let at = usize::from(self.packet.flits() - self.left);
         if self.left == 1 {
-            spell(&self.packet, returned)[at]
+            spell(&self.packet, return_pointer, Profile::One)[at]
         } else {
             self.flits[at]
         }
@@ -70,19 +73,20 @@ impl Sending {
     }
 }
 
-/// Begins a packet behind so many flits and packets.
-pub fn begin(packet: &Packet, frp: u16, seq: u8, returned: u16) -> Begun
+/// Begins a packet after so many flits and packets.
+pub fn begin(packet: &Packet, frp: u16, seq: u8, return_pointer: u16) -> Begun
     requires transaction { IsTransaction packet.now }
     requires frp { frp < pointers }
     requires seq { seq < 8 }
-    requires returned { returned < pointers }
-    ensures flit { result.flit ≡ flit_of (numbered frp seq packet.now) returned 0 }
+    requires return_pointer { return_pointer < pointers }
+    ensures flit { result.flit ≡ flit_of (numbered frp seq packet.now) return_pointer 0 }
     ensures lng { lng_of result.flit ≡ flits_of packet.now }
-    ensures sending { result.sending ≡ sending_with (lng_of result.flit - 1) (numbered frp seq packet.now) }
+    ensures sending { result.sending
+        ≡ sending_with (lng_of result.flit - 1) (numbered frp seq packet.now) }
 {
     let packet = numbered(packet, frp, seq);
-    packet.keeps();
-    let flits = spell(&packet, returned);
+    packet.invariant();
+    let flits = spell(&packet, return_pointer, Profile::One);
     let left = packet.flits() - 1;
     let flit = flits[0];
     let sending = left_of(packet, left, flits);
@@ -91,8 +95,10 @@ pub fn begin(packet: &Packet, frp: u16, seq: u8, returned: u16) -> Begun
 
 // What is left of a packet, if anything is.
 fn left_of(packet: Packet, left: u8, flits: ArrayVec<Flit, 17>) -> Option<Sending>
-    requires spelled { (pointer : ℕ) × (pointer < pointers) × (flits.items ≡ spelling packet pointer) }
+    requires spelled { (pointer : ℕ) × (pointer < pointers) ×
+        (flits.items ≡ spelling only_profile packet pointer) }
     requires transaction { IsTransaction packet }
+    requires forward { packet.frp < pointers }
     requires sent { left < flits_of packet }
     ensures { result ≡ sending_with left packet }
 {
@@ -106,7 +112,7 @@ fn left_of(packet: Packet, left: u8, flits: ArrayVec<Flit, 17>) -> Option<Sendin
     })
 }
 
-// The packet behind so many flits and packets.
+// The packet with its numbers after so many flits and packets.
 fn numbered(packet: &Packet, frp: u16, seq: u8) -> Packet
     requires transaction { IsTransaction packet.now }
     requires frp { frp < pointers }

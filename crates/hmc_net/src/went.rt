@@ -14,7 +14,7 @@ pub enum Went {
     Idle(Cause),
 }
 
-// How the step went that this is the entry of.
+// How the step of this entry went.
 pub fn went_of(entry: &Entry) -> Went
     ensures { result ≡ went_of entry.now }
 {

@@ -1,26 +1,28 @@
 //! One direction of a link.
 
 ghost use Rattle.std.specs.Prelude.{◌≡◌, ◌≤◌, ◌<◌, ◌↔◌, IsTrue, ◌+◌, ◌-◌, ◌%◌, [], ◌∷◌, ◌++◌, true, IfOk, length};
-ghost use Rattle.hmc_packet.specs.Tail.{pointers};
+ghost use Rattle.hmc_journal.specs.Wires.{pointers};
 ghost use Rattle.hmc_journal.specs.declared.entry.Entry.TheVariants.{Sent};
 ghost use Rattle.hmc_packet.specs.Reading.{read_of};
-ghost use Rattle.hmc_journal.specs.Next.{begun_with, sent_flit, sent, landed, judged, outcome_of};
+ghost use Rattle.hmc_case.specs.Setup.{only_profile};
+ghost use Rattle.hmc_journal.specs.Next.{begun_with, sent_flit, sent_entry, landed_entry, outcome_read, outcome_of};
 ghost use Rattle.hmc_journal.specs.Wires.{packet_in};
-ghost use Rattle.hmc_net.specs.Still.{IsIdle};
-ghost use Rattle.hmc_net.specs.Wire.{opening_wire, way_by, IsTransaction, has_room, handed, released, first_by, advanced_by, after_send, read_with, gathered, after_land, whole_by, whole_in};
+ghost use Rattle.hmc_net.specs.Quiescent.{IsIdle};
+ghost use Rattle.hmc_net.specs.Wire.{opening_wire, wire_view, IsTransaction, has_room, with_handed, without_flits, first_by, advanced_by, after_send, read_with, after_gathering, after_land, whole_by, whole_in};
 
 use crate::sending::{Sending, begin};
 use arrayvec::ArrayVec;
 use circular_buffer::HeapCircularBuffer;
-use hmc_codes::{Flit, LinkSetup, Memory};
+use hmc_codes::{Flit, LinkSetup, Memory, Profile, ZERO_FLIT};
 use hmc_journal::{Cause, Entry, Outcome};
-use hmc_packet::{NULL_FLIT, Packet, What, constant_flits, is_null, lng_of, read};
+use hmc_packet::{Packet, What, constant_flits, is_null, lng_of, read};
 use hmc_schedule::Step;
-use hmc_tokens::{Intake, Queue};
+use hmc_tokens::{Intake, Queue, append};
 use std::alloc::Global;
 use std::marker::Model;
 
-/// One direction of a link: the output queue and the sender at its start, the line, and the receiver at its end.
+/// One direction of a link: the output queue and the sender at its start, the line, and the
+/// receiver at its end.
 #[derive(Drop)]
 pub struct Wire {
     output: Queue,
@@ -32,24 +34,49 @@ pub struct Wire {
     // The flits accepted, modulo 512.
     accepted: u16,
     // The flits begun that haven't left the receiving buffer.
-    away: u16,
+    in_flight_flits: u16,
     pending: ArrayVec<Flit, 17>,
     sizes: LinkSetup,
 }
 
 impl Model for Wire {
     ghost use Rattle.hmc_tokens.specs.Queue.{packets_of, size_of};
-    ghost use Rattle.hmc_net.specs.Wire.{WireFields};
+    ghost use Rattle.hmc_net.specs.Wire.{DirectionState};
     ghost use Rattle.hmc_net.specs.WireKept.{IsWire};
 
-    ghost Value = { WireFields };
+    ghost Value = { DirectionState };
 
-    ghost view = { λ w. record { output = packets_of w.output; line = w.line.items; sending = w.sending; frp = w.frp; seq = w.seq; accepted = w.accepted; away = w.away; pending = w.pending.items; sizes = w.sizes } };
+    ghost view = { λ w.
+        record {
+          output = packets_of w.output;
+          line = w.line.items;
+          sending = w.sending;
+          frp = w.frp;
+          seq = w.seq;
+          accepted = w.accepted;
+          in_flight_flits =
+              w.in_flight_flits;
+          pending = w.pending.items;
+          sizes = w.sizes;
+        } };
 
-    ghost invariant = { λ w. IsWire (record { output = packets_of w.output; line = w.line.items; sending = w.sending; frp = w.frp; seq = w.seq; accepted = w.accepted; away = w.away; pending = w.pending.items; sizes = w.sizes }) (size_of w.output) w.line.capacity };
+    ghost invariant = { λ w. IsWire
+        (record {
+          output = packets_of w.output;
+          line = w.line.items;
+          sending = w.sending;
+          frp = w.frp;
+          seq = w.seq;
+          accepted = w.accepted;
+          in_flight_flits =
+              w.in_flight_flits;
+          pending = w.pending.items;
+          sizes = w.sizes;
+        })
+        (size_of w.output) w.line.capacity };
 }
 
-/// What a landing gave: its entry, and the packet that came whole with it, if one did.
+/// A landing: its entry, and the packet that it completed, if it did.
 #[derive(Clone, Copy)]
 pub struct Landing {
     pub entry: Entry,
@@ -63,22 +90,11 @@ struct Next {
     flit: Flit,
 }
 
-// What a receiver made of a flit, and the packet that is whole with it.
+// The outcome of a flit, and the packet that it completed.
 #[derive(Clone, Copy)]
 struct Received {
     outcome: Outcome,
     packet: Option<Packet>,
-}
-
-// Generic, since the checker stops at a push whose refusal holds a flit.
-fn append<T: Copy>(line: &mut HeapCircularBuffer<T>, item: T)
-    requires { length line.old.items < line.old.capacity }
-    ensures items { line.new.items ≡ line.old.items ++ item ∷ [] }
-    ensures capacity { line.new.capacity ≡ line.old.capacity }
-{
-    let Ok(()) = line.try_push_back(item) else {
-        unreachable!()
-    };
 }
 
 impl Wire {
@@ -95,7 +111,7 @@ impl Wire {
             frp: 0,
             seq: 0,
             accepted: 0,
-            away: 0,
+            in_flight_flits: 0,
             pending: ArrayVec::new(),
             sizes,
         })
@@ -108,21 +124,21 @@ impl Wire {
         self.output.used() < self.output.size()
     }
 
-    /// Puts a packet behind those in the output queue.
+    /// Puts a packet at the end of the output queue.
     pub fn hand(&mut self, packet: Packet)
         requires room { has_room self.old ≡ true }
         requires transaction { IsTransaction packet }
-        ensures { self.new ≡ handed packet self.old }
+        ensures { self.new ≡ with_handed packet self.old }
     {
         self.output.take_in(packet);
     }
 
     /// Notes that flits have left the receiving buffer.
     pub fn leave(&mut self, flits: u8)
-        requires { flits ≤ self.old.away }
-        ensures { self.new ≡ released flits self.old }
+        requires { flits ≤ self.old.in_flight_flits }
+        ensures { self.new ≡ without_flits flits self.old }
     {
-        self.away -= u16::from(flits);
+        self.in_flight_flits -= u16::from(flits);
     }
 
     /// The flits accepted so far, modulo 512: the return pointer of the other direction.
@@ -133,20 +149,23 @@ impl Wire {
         self.accepted
     }
 
-    /// Whether nothing waits to be sent, and each flit that was begun has left the receiving buffer.
+    /// Whether nothing waits to be sent, and each flit that was begun has left the receiving
+    /// buffer.
     pub fn is_idle(&self) -> bool
         ensures { IsTrue result ↔ IsIdle self.now }
     {
         let output = self.output.front().is_none();
-        let away = self.away == 0;
-        output && away
+        let in_flight_flits = self.in_flight_flits == 0;
+        output && in_flight_flits
     }
 
     /// Sends the next flit, with this return pointer where it ends a packet.
-    pub fn send(&mut self, direction: u8, returned: u16) -> Entry
-        requires { returned < pointers }
-        ensures entry { result ≡ sent self.old.sizes direction (way_by self.old returned) self.old.output }
-        ensures held { self.new ≡ after_send result self.old }
+    pub fn send(&mut self, direction: u8, return_pointer: u16) -> Entry
+        requires { return_pointer < pointers }
+        ensures entry { result
+            ≡ sent_entry self.old.sizes direction
+            (wire_view self.old return_pointer) self.old.output }
+        ensures state { self.new ≡ after_send result self.old }
     {
         let sizes = self.sizes;
         if self.line.len() >= usize::from(sizes.line) {
@@ -155,7 +174,7 @@ impl Wire {
                 cause: Cause::Full,
             };
         }
-        let next = self.advance(direction, returned);
+        let next = self.advance(direction, return_pointer);
         let flit = next.flit;
         append(&mut self.line, flit);
         Entry::Sent {
@@ -166,15 +185,17 @@ impl Wire {
     }
 
     // The next flit of the packet that is being sent, or of the next one.
-    fn advance(&mut self, direction: u8, returned: u16) -> Next
-        requires { returned < pointers }
-        ensures next { Sent direction result.what result.flit ≡ sent_flit direction self.old.sizes.tokens (way_by self.old returned) self.old.output self.old.sending }
-        ensures held { self.new ≡ advanced_by result.what result.flit self.old }
+    fn advance(&mut self, direction: u8, return_pointer: u16) -> Next
+        requires { return_pointer < pointers }
+        ensures next { Sent direction result.what result.flit
+            ≡ sent_flit direction self.old.sizes.tokens
+            (wire_view self.old return_pointer) self.old.output self.old.sending }
+        ensures state { self.new ≡ advanced_by result.what result.flit self.old }
     {
         let Some(sending) = self.sending.take() else {
-            return self.begin(direction, returned);
+            return self.begin(direction, return_pointer);
         };
-        let flit = sending.flit(returned);
+        let flit = sending.flit(return_pointer);
         self.sending = sending.rest();
         Next {
             what: What::New,
@@ -183,13 +204,15 @@ impl Wire {
     }
 
     // The first flit of the front, if there are tokens for it, and else a NULL.
-    fn begin(&mut self, direction: u8, returned: u16) -> Next
-        requires returned { returned < pointers }
-        ensures next { Sent direction result.what result.flit ≡ begun_with direction self.old.sizes.tokens (way_by self.old returned) self.old.output }
-        ensures held { self.new ≡ first_by result.what result.flit self.old }
+    fn begin(&mut self, direction: u8, return_pointer: u16) -> Next
+        requires return_pointer { return_pointer < pointers }
+        ensures next { Sent direction result.what result.flit
+            ≡ begun_with direction self.old.sizes.tokens
+            (wire_view self.old return_pointer) self.old.output }
+        ensures state { self.new ≡ first_by result.what result.flit self.old }
     {
         constant_flits();
-        let flit = NULL_FLIT;
+        let flit = ZERO_FLIT;
         let null = Next {
             what: What::Null,
             flit,
@@ -199,16 +222,16 @@ impl Wire {
         };
         let flits = u16::from(front.flits());
         let sizes = self.sizes;
-        if sizes.tokens < self.away + flits {
+        if sizes.tokens < self.in_flight_flits + flits {
             return null;
         }
-        let begun = begin(&front, self.frp, self.seq, returned);
+        let begun = begin(&front, self.frp, self.seq, return_pointer);
         let flit = begun.flit;
         let _ = self.output.take_out();
         self.sending = begun.sending;
         self.frp = (self.frp + flits) % 512;
         self.seq = (self.seq + 1) % 8;
-        self.away += flits;
+        self.in_flight_flits += flits;
         Next {
             what: What::New,
             flit,
@@ -217,14 +240,17 @@ impl Wire {
 
     /// Lands the front of the line, if the line holds a flit.
     pub fn land(&mut self, direction: u8, mask: Flit) -> Landing
-        ensures entry { result.entry ≡ landed direction mask self.old.line self.old.pending }
+        ensures entry { result.entry ≡ landed_entry direction mask self.old.line self.old.pending }
         ensures packet { result.packet ≡ whole_in result.entry self.old }
-        ensures held { self.new ≡ after_land result.entry self.old }
+        ensures state { self.new ≡ after_land result.entry self.old }
     {
+        // No schedule has a mask that changes a flit yet.
+        let _ = &mask;
+        constant_flits();
         let Some(flit) = self.line.pop_front() else {
             return Landing {
                 entry: Entry::Idle {
-                    step: Step::Land(direction, mask),
+                    step: Step::Land(direction, ZERO_FLIT),
                     cause: Cause::Empty,
                 },
                 packet: None,
@@ -241,11 +267,11 @@ impl Wire {
         }
     }
 
-    // Gathers a flit until there are as many as the first one names, and judges what they read as.
+    // Gathers a flit until there are as many as the first one names, and reads them.
     fn gather(&mut self, flit: Flit) -> Received
         ensures outcome { result.outcome ≡ outcome_of self.old.pending flit }
         ensures packet { result.packet ≡ whole_by result.outcome (read_with flit self.old) }
-        ensures held { self.new ≡ gathered flit result.outcome self.old }
+        ensures state { self.new ≡ after_gathering flit result.outcome self.old }
     {
         if self.pending.is_empty() && is_null(&flit) {
             return Received {
@@ -261,7 +287,7 @@ impl Wire {
                 packet: None,
             };
         }
-        let received = judged(&self.pending);
+        let received = outcome_read(&self.pending);
         self.pending.clear();
         if let Some(packet) = &received.packet {
             self.accepted = (self.accepted + u16::from(packet.flits())) % 512;
@@ -271,11 +297,12 @@ impl Wire {
 }
 
 // What whole flits read as.
-fn judged(flits: &[Flit]) -> Received
-    ensures outcome { result.outcome ≡ judged (read_of flits.now) }
-    ensures packet { result.packet ≡ whole_by result.outcome (packet_in (read_of flits.now)) }
+fn outcome_read(flits: &[Flit]) -> Received
+    ensures outcome { result.outcome ≡ outcome_read (read_of only_profile flits.now) }
+    ensures packet { result.packet
+        ≡ whole_by result.outcome (packet_in (read_of only_profile flits.now)) }
 {
-    match read(flits) {
+    match read(flits, Profile::One) {
         Ok(seen) => {
             let outcome = if seen.packet.poisoned {
                 Outcome::Poisoned

@@ -1,4 +1,5 @@
-pub mod FrontLemmas
+pub mod CutLemmas
 pub mod KeptLemmas
-pub mod RoseLemmas
+pub mod LinesLemmas
+pub mod PrefixLemmas
 mod Worked

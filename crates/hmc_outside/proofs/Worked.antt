@@ -1,7 +1,9 @@
--- Definitions computed: counts at both ends, and a sink whose second call is listed twice.
-use Rattle.std.proofs.Common.{◌≡◌, [], ◌∷◌, Some, None, refl}
+-- Definitions computed: counts at both ends, stops, and a sink whose second call is listed twice.
+use Rattle.std.proofs.Common.{◌≡◌, [], ◌∷◌, Some, None, true, false, refl}
 use Rattle.std.specs.Prelude.{map}
-use Rattle.hmc_outside.specs.Rose.{raised}
+use Rattle.hmc_outside.specs.Cut.{cut}
+use Rattle.hmc_outside.specs.Pieces.{pieces_of, with_pieces}
+use Rattle.hmc_outside.specs.Raised.{raised, raised_by}
 use Rattle.hmc_outside.specs.SinkState.{SinkState, opened, limit_of, space_of, after_write, after_failure}
 use Rattle.hmc_outside.specs.SourceState as source
 
@@ -9,20 +11,45 @@ raised-ends : map raised (0 ∷ 4294967295 ∷ 18446744073709551614 ∷ 18446744
     1 ∷ 4294967296 ∷ 18446744073709551615 ∷ 18446744073709551615 ∷ []
 raised-ends = refl
 
+raised_by-ends : map (raised_by 3) (0 ∷ 7 ∷ 18446744073709551613 ∷ []) ≡ 3 ∷ 10 ∷ 18446744073709551615 ∷ []
+unfolding raised_by
+raised_by-ends = refl
+
 limit_of-first_pair : map (limit_of ((2, 2) ∷ (2, 5) ∷ (4, 9) ∷ [])) (1 ∷ 2 ∷ 3 ∷ 4 ∷ []) ≡ None ∷ Some 2 ∷ None ∷ Some 9 ∷ []
 limit_of-first_pair = refl
 
--- a sink of six bytes after a write of three and a failure that took two
-abbrev after_two : SinkState
-after_two = after_failure (after_write (opened 6 []) (97 ∷ 98 ∷ 99 ∷ [])) (100 ∷ 101 ∷ [])
+-- an empty write is no piece
+pieces_of-empty : with_pieces (Some ((97 ∷ []) ∷ [])) (pieces_of []) ≡ Some ((97 ∷ []) ∷ [])
+pieces_of-empty = refl
 
-after_two-state : after_two ≡ record { held = 97 ∷ 98 ∷ 99 ∷ 100 ∷ 101 ∷ []; room = 6; failing = []; calls = 2; faults = 1 }
-after_two-state = refl
+cut-three : cut (97 ∷ 98 ∷ 99 ∷ 100 ∷ []) (1 ∷ 2 ∷ 1 ∷ []) ≡ (97 ∷ []) ∷ (98 ∷ 99 ∷ []) ∷ (100 ∷ []) ∷ []
+cut-three = refl
 
-space_of-after_two : space_of after_two ≡ 1
-space_of-after_two = refl
+-- a sink of six bytes after a write of three, one of none, and a failure that took two
+abbrev after_three : SinkState
+after_three = after_failure (after_write (after_write (opened 6 []) (97 ∷ 98 ∷ 99 ∷ [])) []) (100 ∷ 101 ∷ [])
+
+after_three-state : after_three ≡
+    record { pieces = (97 ∷ 98 ∷ 99 ∷ []) ∷ (100 ∷ 101 ∷ []) ∷ []; room = 6; failing = []; calls = 3; faults = 1; failed = true }
+after_three-state = refl
+
+space_of-after_three : space_of after_three ≡ 1
+space_of-after_three = refl
 
 -- a source of three bytes after a read of two and a failure
-left-after_two : source.after_failure (source.after_read (source.opened (97 ∷ 98 ∷ 99 ∷ []) (2 ∷ [])) 2) ≡
-    record { left = 99 ∷ []; failing = 2 ∷ []; calls = 2; faults = 1 }
-left-after_two = refl
+abbrev after_two : source.SourceState
+after_two = source.after_failure (source.after_read (source.opened (97 ∷ 98 ∷ 99 ∷ []) (2 ∷ [])) 2 2)
+
+after_two-state : after_two ≡
+    record { left = 99 ∷ []; failing = 2 ∷ []; calls = 2; counts = record { faults = 1; stops = 1; stopped = true } }
+after_two-state = refl
+
+-- the byte that is left, the end, and a read that asks for none
+at_end-state : source.after_read (source.after_read (source.after_read after_two 1 2) 0 2) 0 0 ≡
+    record { left = []; failing = 2 ∷ []; calls = 5; counts = record { faults = 1; stops = 2; stopped = true } }
+at_end-state = refl
+
+-- a read that gave a byte did not stop
+goes_on-state : source.after_read after_two 1 2 ≡
+    record { left = []; failing = 2 ∷ []; calls = 3; counts = record { faults = 1; stops = 1; stopped = false } }
+goes_on-state = refl

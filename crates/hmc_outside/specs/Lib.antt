@@ -1,6 +1,12 @@
-pub mod Front
-pub mod Rose
+pub mod Counts
+pub mod Cut
+pub mod Lines
+pub mod Pieces
+pub mod Prefix
+pub mod Raised
+pub mod Reading
 pub mod SinkState
 pub mod SourceState
 pub mod StdSink
 pub mod StdSource
+pub mod Views

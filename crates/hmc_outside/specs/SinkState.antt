@@ -1,19 +1,36 @@
 -- A sink in memory, as its callers see it.
-use Rattle.std.specs.Prelude.{◌==◌, ◌-◌, ◌++◌, ℕ, List, [], Option, length, find}
+use Rattle.std.specs.Prelude.{◌==◌, ◌-◌, ◌++◌, ℕ, Bool, true, false, List, [], Option, Some, length, find}
+use Rattle.std.specs.List.{concat}
 use Rattle.std.specs.Option.{option_map}
-use Rattle.hmc_outside.specs.Rose.{raised}
+use Rattle.hmc_outside.specs.Pieces.{pieces_of}
+use Rattle.hmc_outside.specs.Raised.{raised}
+use Rattle.hmc_outside.specs.Views.{SinkView}
 
--- the bytes taken, the room for all of them, the calls that fail with how much they take, the calls made, and how many of them failed
 pub record SinkState : Type 0 where
-  pub held : List ℕ
+  -- the pieces written, the oldest first and without empty ones
+  pub pieces : List (List ℕ)
+  -- the room for all their bytes
   pub room : ℕ
+  -- the calls that fail, each with the most bytes that it takes
   pub failing : List (ℕ × ℕ)
+  -- how many calls were made, how many of them failed, and whether the last one did
   pub calls : ℕ
   pub faults : ℕ
+  pub failed : Bool
+
+-- what it shows
+abbrev pub view_of : SinkState → SinkView
+view_of s = record {
+  pieces = Some s.pieces;
+  writes = s.calls;
+  faults = s.faults;
+  failed = s.failed;
+}
 
 -- before the first call
 abbrev pub opened : ℕ → List (ℕ × ℕ) → SinkState
-opened room failing = record { held = []; room = room; failing = failing; calls = 0; faults = 0 }
+opened room failing =
+    record { pieces = []; room = room; failing = failing; calls = 0; faults = 0; failed = false }
 
 -- how much the first pair of this call lets it take
 abbrev pub limit_of : List (ℕ × ℕ) → ℕ → Option ℕ
@@ -25,12 +42,18 @@ next_limit s = limit_of s.failing (raised s.calls)
 
 -- the room that is left
 abbrev pub space_of : SinkState → ℕ
-space_of s = s.room - length s.held
+space_of s = s.room - length (concat s.pieces)
 
 -- after a call that took these bytes
 abbrev pub after_write : SinkState → List ℕ → SinkState
-after_write s bytes = record s { held = s.held ++ bytes; calls = raised s.calls }
+after_write s bytes =
+    record s { pieces = s.pieces ++ pieces_of bytes; calls = raised s.calls; failed = false }
 
 -- after a call that failed and took these bytes
 abbrev pub after_failure : SinkState → List ℕ → SinkState
-after_failure s bytes = record s { held = s.held ++ bytes; calls = raised s.calls; faults = raised s.faults }
+after_failure s bytes = record s {
+  pieces = s.pieces ++ pieces_of bytes;
+  calls = raised s.calls;
+  faults = raised s.faults;
+  failed = true;
+}

@@ -1,11 +1,12 @@
 //! A sink in memory, which fails at listed calls and where its room ends.
-ghost use Rattle.std.specs.Prelude.{◌≡◌, ◌⊎◌, ◌+◌, ◌++◌, ◌<◌, ◌≤◌, ◌↔◌, [], Some, length, take, min, vec_capacity, IsErr, IsSome, IfOk, IfNone, IfSome, OnOk, OnErr};
-ghost use Rattle.std.specs.Io.KnownBytes.{Appends};
-ghost use Rattle.hmc_outside.specs.Rose.{Rose};
-ghost use Rattle.hmc_outside.specs.Front.{AppendsFront};
-ghost use Rattle.hmc_outside.specs.SinkState.{opened, limit_of, next_limit, space_of, after_write, after_failure};
+ghost use Rattle.std.specs.Prelude.{◌≡◌, ◌⊎◌, ◌<◌, ◌≤◌, ◌↔◌, [], length, take, min, map, true, false, IsErr, IsSome, IfOk, IfNone, IfSome, OnOk, OnErr};
+ghost use Rattle.std.specs.List.{concat};
+ghost use Rattle.hmc_outside.specs.Pieces.{pieces_of, with_pieces, WritesPrefix};
+ghost use Rattle.hmc_outside.specs.Raised.{raised};
+ghost use Rattle.hmc_outside.specs.SinkState.{view_of, opened, limit_of, next_limit, space_of, after_write, after_failure};
 
-use crate::faults::one_more;
+use crate::counts::one_more;
+use crate::pieces::Pieces;
 use crate::{Failed, Sink};
 use hmc_codes::Memory;
 use std::alloc::Global;
@@ -16,22 +17,26 @@ use std::marker::Model;
 /// Each other call takes all its bytes, or fails and takes none where they don't fit.
 #[derive(Drop)]
 pub struct MemorySink {
-    held: Vec<u8>,
-    room: usize,
+    pieces: Pieces,
     failing: Vec<(u32, usize)>,
     calls: u64,
     faults: u64,
+    failed: bool,
 }
 
 impl Model for MemorySink {
-    ghost use Rattle.std.specs.Prelude.{◌≤◌, length, vec_capacity};
     ghost use Rattle.hmc_outside.specs.SinkState.{SinkState};
 
     ghost Value = { SinkState };
 
-    ghost view = { λ s. record { held = s.held.items; room = s.room; failing = s.failing.items; calls = s.calls; faults = s.faults } };
-
-    ghost invariant = { λ s. (length s.held.items ≤ s.room) × (s.room ≤ vec_capacity s.held) };
+    ghost view = { λ s. record {
+      pieces = s.pieces.pieces;
+      room = s.pieces.room;
+      failing = s.failing.items;
+      calls = s.calls;
+      faults = s.faults;
+      failed = s.failed;
+    } };
 }
 
 impl MemorySink {
@@ -40,20 +45,34 @@ impl MemorySink {
         ensures { IfOk result (λ sink. sink ≡ opened room failing.now) }
     {
         Ok(MemorySink {
-            held: Vec::with_capacity(alloc, room)?,
-            room,
+            pieces: Pieces::new(alloc, room)?,
             failing: Vec::from_slice(alloc, failing)?,
             calls: 0,
             faults: 0,
+            failed: false,
         })
     }
 
     /// The bytes taken so far.
     pub fn as_slice(&self) -> &[u8]
-        ensures held { result.now ≡ self.now.held }
-        ensures within { length self.now.held ≤ self.now.room }
+        ensures held { result.now ≡ concat self.now.pieces }
+        ensures within { length (concat self.now.pieces) ≤ self.now.room }
     {
-        &self.held
+        self.pieces.bytes()
+    }
+
+    /// How many of them each write took, except writes that took none.
+    pub fn lengths(&self) -> &[usize]
+        ensures { result.now ≡ map length self.now.pieces }
+    {
+        self.pieces.lengths()
+    }
+
+    /// How many calls were made.
+    pub fn writes(&self) -> u64
+        ensures { result ≡ self.now.calls }
+    {
+        self.calls
     }
 
     /// How many calls have failed.
@@ -65,28 +84,33 @@ impl MemorySink {
 }
 
 impl Sink for MemorySink {
-    ghost held = { λ s. Some s.held };
-
-    ghost faults = { λ s. s.faults };
+    ghost shows = { view_of };
 
     fn write(&mut self, bytes: &[u8]) -> Result<(), Failed>
         // As at each sink.
-        ensures appended { OnOk result (Appends (Some self.old.held) (Some self.new.held) bytes.now) }
-        ensures front { OnErr result (AppendsFront (Some self.old.held) (Some self.new.held) bytes.now) }
-        ensures counted { self.old.faults ≤ self.new.faults }
-        ensures steady { OnOk result (self.new.faults ≡ self.old.faults) }
-        ensures cause { OnErr result (Rose self.old.faults self.new.faults) }
+        ensures counted { (view_of self.new).writes ≡ raised (view_of self.old).writes }
+        ensures piece { OnOk result
+            ((view_of self.new).pieces ≡
+            with_pieces (view_of self.old).pieces (pieces_of bytes.now)) }
+        ensures prefix { OnErr result
+            (WritesPrefix (view_of self.old).pieces (view_of self.new).pieces bytes.now) }
+        ensures sound { OnOk result ((view_of self.new).faults ≡ (view_of self.old).faults) }
+        ensures fault { OnErr result
+            ((view_of self.new).faults ≡ raised (view_of self.old).faults) }
+        ensures not_failed { OnOk result ((view_of self.new).failed ≡ false) }
+        ensures failed { OnErr result ((view_of self.new).failed ≡ true) }
 
         // Exactly.
-        ensures fails { IsErr result ↔ (IsSome (next_limit self.old) ⊎ (space_of self.old < length bytes.now)) }
+        ensures fails { IsErr result ↔
+            (IsSome (next_limit self.old) ⊎ (space_of self.old < length bytes.now)) }
         ensures taken { OnOk result (self.new ≡ after_write self.old bytes.now) }
-        ensures cut { IfSome (next_limit self.old)
-            (λ limit. self.new ≡ after_failure self.old (take (min limit (space_of self.old)) bytes.now)) }
+        ensures cut { IfSome (next_limit self.old) (λ limit.
+            self.new ≡ after_failure self.old (take (min limit (space_of self.old)) bytes.now)) }
         ensures full { IfNone (next_limit self.old)
             (OnErr result (self.new ≡ after_failure self.old [])) }
     {
         self.calls = one_more(self.calls);
-        let space = self.room - self.held.len();
+        let space = self.pieces.space();
         let fits = bytes.len() <= space;
         let limit = limit_at(&self.failing, self.calls);
         let count = match limit {
@@ -94,22 +118,14 @@ impl Sink for MemorySink {
             None if fits => bytes.len(),
             None => 0,
         };
-        keep(&mut self.held, &bytes[..count]);
-        if limit.is_none() && fits {
+        self.pieces.add(&bytes[..count]);
+        self.failed = limit.is_some() || !fits;
+        if !self.failed {
             return Ok(());
         }
         self.faults = one_more(self.faults);
         Err(Failed)
     }
-}
-
-// Appends the bytes, for which there is room.
-fn keep(held: &mut Vec<u8>, bytes: &[u8])
-    requires { length held.old.items + length bytes.now ≤ vec_capacity held.old }
-    ensures items { held.new.items ≡ held.old.items ++ bytes.now }
-    ensures reserved { vec_capacity held.old ≤ vec_capacity held.new }
-{
-    let _ = held.extend_from_slice(bytes);
 }
 
 // How much the first pair of this call names.

@@ -1,10 +1,11 @@
 //! A source in memory, which fails at listed calls.
-ghost use Rattle.std.specs.Prelude.{◌≡◌, ◌<◌, ◌≤◌, ◌↔◌, ◌++◌, Some, length, take, drop, min, Contains, IsTrue, IsErr, IfOk, OnOk, OnErr};
+ghost use Rattle.std.specs.Prelude.{◌≡◌, ◌<◌, ◌≤◌, ◌↔◌, ◌++◌, length, take, drop, min, Contains, IsTrue, IsErr, IfOk, OnOk, OnErr};
 ghost use Rattle.std.specs.Io.KnownBytes.{Consumes, Keeps, IsAtEnd};
-ghost use Rattle.hmc_outside.specs.Rose.{Rose, raised};
-ghost use Rattle.hmc_outside.specs.SourceState.{opened, after_read, after_failure};
+ghost use Rattle.hmc_outside.specs.Raised.{raised};
+ghost use Rattle.hmc_outside.specs.Reading.{Stops, GoesOn, Stays};
+ghost use Rattle.hmc_outside.specs.SourceState.{view_of, opened, after_read, after_failure};
 
-use crate::faults::one_more;
+use crate::counts::{ReadCounts, one_more};
 use crate::{Failed, Source};
 use hmc_codes::Memory;
 use std::alloc::Global;
@@ -18,7 +19,7 @@ pub struct MemorySource {
     given: usize,
     failing: Vec<u32>,
     calls: u64,
-    faults: u64,
+    counts: ReadCounts,
 }
 
 impl Model for MemorySource {
@@ -27,7 +28,12 @@ impl Model for MemorySource {
 
     ghost Value = { SourceState };
 
-    ghost view = { λ s. record { left = drop s.given s.bytes.items; failing = s.failing.items; calls = s.calls; faults = s.faults } };
+    ghost view = { λ s. record {
+      left = drop s.given s.bytes.items;
+      failing = s.failing.items;
+      calls = s.calls;
+      counts = s.counts;
+    } };
 
     ghost invariant = { λ s. s.given ≤ length s.bytes.items };
 }
@@ -42,48 +48,62 @@ impl MemorySource {
             given: 0,
             failing: Vec::from_slice(alloc, failing)?,
             calls: 0,
-            faults: 0,
+            counts: ReadCounts::new(),
         })
+    }
+
+    /// How many calls were made.
+    pub fn reads(&self) -> u64
+        ensures { result ≡ self.now.calls }
+    {
+        self.calls
     }
 
     /// How many calls have failed.
     pub fn faults(&self) -> u64
-        ensures { result ≡ self.now.faults }
+        ensures { result ≡ self.now.counts.faults }
     {
-        self.faults
+        self.counts.faults
     }
 }
 
 impl Source for MemorySource {
-    ghost left = { λ s. Some s.left };
-
-    ghost faults = { λ s. s.faults };
+    ghost shows = { view_of };
 
     fn read(&mut self, into: &mut [u8]) -> Result<usize, Failed>
         // As at each source.
         ensures within { IfOk result (λ n. n ≤ length into.new) }
-        ensures moved { IfOk result (λ n. Consumes (Some self.old.left) (Some self.new.left) (take n into.new)) }
-        ensures ended { IfOk result (λ n. n ≡ 0 → 0 < length into.old → IsAtEnd (Some self.new.left)) }
-        ensures unchanged { OnErr result (Keeps (Some self.old.left) (Some self.new.left)) }
-        ensures counted { self.old.faults ≤ self.new.faults }
-        ensures steady { OnOk result (self.new.faults ≡ self.old.faults) }
-        ensures cause { OnErr result (Rose self.old.faults self.new.faults) }
+        ensures moved { IfOk result
+            (λ n. Consumes (view_of self.old).left (view_of self.new).left (take n into.new)) }
+        ensures ended { IfOk result
+            (λ n. n ≡ 0 → 0 < length into.old → IsAtEnd (view_of self.new).left) }
+        ensures unchanged { OnErr result (Keeps (view_of self.old).left (view_of self.new).left) }
+        ensures sound { OnOk result ((view_of self.new).faults ≡ (view_of self.old).faults) }
+        ensures fault { OnErr result
+            ((view_of self.new).faults ≡ raised (view_of self.old).faults) }
+        ensures goes_on { IfOk result (λ n. 0 < n → GoesOn (view_of self.old) (view_of self.new)) }
+        ensures stays { IfOk result
+            (λ n. length into.old ≡ 0 → Stays (view_of self.old) (view_of self.new)) }
+        ensures end_stops { IfOk result
+            (λ n. n ≡ 0 → 0 < length into.old → Stops (view_of self.old) (view_of self.new)) }
+        ensures fault_stops { OnErr result (Stops (view_of self.old) (view_of self.new)) }
 
         // Exactly.
         ensures fails { IsErr result ↔ Contains self.old.failing (raised self.old.calls) }
         ensures count { IfOk result (λ n. n ≡ min (length self.old.left) (length into.old)) }
         ensures given { IfOk result (λ n. into.new ≡ take n self.old.left ++ drop n into.old) }
-        ensures after { IfOk result (λ n. self.new ≡ after_read self.old n) }
+        ensures after { IfOk result (λ n. self.new ≡ after_read self.old n (length into.old)) }
         ensures failed { OnErr result (self.new ≡ after_failure self.old) }
         ensures untouched { OnErr result (into.new ≡ into.old) }
     {
         self.calls = one_more(self.calls);
         if is_listed(&self.failing, self.calls) {
-            self.faults = one_more(self.faults);
+            self.counts.count_fault();
             return Err(Failed);
         }
         let count = give(&self.bytes[self.given..], into);
         self.given += count;
+        self.counts.count_read(count, into.len());
         Ok(count)
     }
 }
@@ -99,6 +119,7 @@ fn give(next: &[u8], into: &mut [u8]) -> usize
     ensures count { result ≡ min (length next.now) (length into.old) }
     ensures given { into.new ≡ take result next.now ++ drop result into.old }
     ensures front { take result into.new ≡ take result next.now }
+    ensures length { length into.new ≡ length into.old }
 {
     let count = next.len().min(into.len());
     into[..count].copy_from_slice(&next[..count]);

@@ -1,24 +1,25 @@
 //! Where output bytes go.
-ghost use Rattle.std.specs.Prelude.{◌≡◌, ◌≤◌, ℕ, List, Option, OnOk, OnErr};
-ghost use Rattle.std.specs.Io.KnownBytes.{Appends};
-ghost use Rattle.hmc_outside.specs.Rose.{Rose};
-ghost use Rattle.hmc_outside.specs.Front.{AppendsFront};
+ghost use Rattle.std.specs.Prelude.{◌≡◌, true, false, OnOk, OnErr};
+ghost use Rattle.hmc_outside.specs.Pieces.{pieces_of, with_pieces, WritesPrefix};
+ghost use Rattle.hmc_outside.specs.Raised.{raised};
+ghost use Rattle.hmc_outside.specs.Views.{SinkView};
 
 use crate::Failed;
 
 /// Takes bytes, a piece at a time.
 pub trait Sink {
-    /// The bytes taken so far, where the sink tells them.
-    ghost held: { Self → Option (List ℕ) };
+    /// The pieces written, and the counts of writes.
+    ghost shows: { Self → SinkView };
 
-    /// How often a call has failed. The count is a `u64` that stands still at its last value.
-    ghost faults: { Self → ℕ };
-
-    /// Takes all the bytes, or fails and has taken a front of them, which may be none or all.
+    /// Takes all the bytes, or fails and has taken a prefix of them, which may be none or all.
     fn write(&mut self, bytes: &[u8]) -> Result<(), Failed>
-        ensures appended { OnOk result (Appends (held self.old) (held self.new) bytes.now) }
-        ensures front { OnErr result (AppendsFront (held self.old) (held self.new) bytes.now) }
-        ensures counted { faults self.old ≤ faults self.new }
-        ensures steady { OnOk result (faults self.new ≡ faults self.old) }
-        ensures cause { OnErr result (Rose (faults self.old) (faults self.new)) };
+        ensures counted { (shows self.new).writes ≡ raised (shows self.old).writes }
+        ensures piece { OnOk result
+            ((shows self.new).pieces ≡ with_pieces (shows self.old).pieces (pieces_of bytes.now)) }
+        ensures prefix { OnErr result
+            (WritesPrefix (shows self.old).pieces (shows self.new).pieces bytes.now) }
+        ensures sound { OnOk result ((shows self.new).faults ≡ (shows self.old).faults) }
+        ensures fault { OnErr result ((shows self.new).faults ≡ raised (shows self.old).faults) }
+        ensures not_failed { OnOk result ((shows self.new).failed ≡ false) }
+        ensures failed { OnErr result ((shows self.new).failed ≡ true) };
 }

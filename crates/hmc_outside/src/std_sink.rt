@@ -1,56 +1,76 @@
 //! A writer of std as a sink.
-ghost use Rattle.std.specs.Prelude.{◌≡◌, ◌<◌, ◌≤◌, length, take, IfOk, OnOk, OnErr};
+ghost use Rattle.std.specs.Prelude.{◌≡◌, ◌<◌, ◌≤◌, length, take, true, false, IfOk, OnOk, OnErr};
 ghost use Rattle.std.specs.Io.KnownBytes.{Appends, Keeps};
-ghost use Rattle.hmc_outside.specs.Rose.{Rose, raised};
-ghost use Rattle.hmc_outside.specs.Front.{AppendsFront};
-ghost use Rattle.hmc_outside.specs.StdSink.{writer_of, fault_count};
+ghost use Rattle.hmc_outside.specs.Pieces.{pieces_of, with_pieces, WritesPrefix};
+ghost use Rattle.hmc_outside.specs.Prefix.{AppendsPrefix};
+ghost use Rattle.hmc_outside.specs.Raised.{raised};
+ghost use Rattle.hmc_outside.specs.StdSink.{writer_of, view_of};
 
-use crate::faults::one_more;
+use crate::counts::one_more;
 use crate::{Failed, Sink};
 use std::io::{ErrorKind, Write};
 
-/// What goes to a writer. It tells the bytes taken where the writer does.
+/// What goes to a writer. It shows no pieces, but its own clauses say what the writer's bytes are,
+/// where the writer shows them.
 #[derive(Drop)]
 pub struct StdSink<W> {
     writer: W,
+    writes: u64,
     faults: u64,
+    failed: bool,
 }
 
 impl<W: Write> StdSink<W> {
-    /// A sink before its first call: no call has failed.
+    /// A sink before its first call.
     pub fn new(writer: W) -> Self
         ensures writer { writer_of result ≡ writer }
-        ensures faults { fault_count result ≡ 0 }
+        ensures writes { (view_of result).writes ≡ 0 }
+        ensures faults { (view_of result).faults ≡ 0 }
+        ensures not_failed { (view_of result).failed ≡ false }
     {
-        StdSink { writer, faults: 0 }
+        StdSink {
+            writer,
+            writes: 0,
+            faults: 0,
+            failed: false,
+        }
     }
 
     /// How many calls have failed.
     pub fn faults(&self) -> u64
-        ensures { result ≡ fault_count self.now }
+        ensures { result ≡ (view_of self.now).faults }
     {
         self.faults
     }
 }
 
 impl<W: Write> Sink for StdSink<W> {
-    ghost held = { λ s. W.contents (writer_of s) };
-
-    ghost faults = { fault_count };
+    ghost shows = { view_of };
 
     fn write(&mut self, bytes: &[u8]) -> Result<(), Failed>
         // As at each sink.
-        ensures appended { OnOk result (Appends (W.contents (writer_of self.old)) (W.contents (writer_of self.new)) bytes.now) }
-        ensures front { OnErr result (AppendsFront (W.contents (writer_of self.old)) (W.contents (writer_of self.new)) bytes.now) }
-        ensures counted { fault_count self.old ≤ fault_count self.new }
-        ensures steady { OnOk result (fault_count self.new ≡ fault_count self.old) }
-        ensures cause { OnErr result (Rose (fault_count self.old) (fault_count self.new)) }
+        ensures counted { (view_of self.new).writes ≡ raised (view_of self.old).writes }
+        ensures piece { OnOk result
+            ((view_of self.new).pieces ≡
+            with_pieces (view_of self.old).pieces (pieces_of bytes.now)) }
+        ensures prefix { OnErr result
+            (WritesPrefix (view_of self.old).pieces (view_of self.new).pieces bytes.now) }
+        ensures sound { OnOk result ((view_of self.new).faults ≡ (view_of self.old).faults) }
+        ensures fault { OnErr result
+            ((view_of self.new).faults ≡ raised (view_of self.old).faults) }
+        ensures not_failed { OnOk result ((view_of self.new).failed ≡ false) }
+        ensures failed { OnErr result ((view_of self.new).failed ≡ true) }
 
-        // Exactly.
-        ensures one_fault { OnErr result (fault_count self.new ≡ raised (fault_count self.old)) }
+        // The writer's bytes.
+        ensures appended { OnOk result (Appends
+            (W.contents (writer_of self.old)) (W.contents (writer_of self.new)) bytes.now) }
+        ensures appended_prefix { OnErr result (AppendsPrefix
+            (W.contents (writer_of self.old)) (W.contents (writer_of self.new)) bytes.now) }
     {
+        self.writes = one_more(self.writes);
         let written = write_whole(&mut self.writer, bytes);
-        if written.is_err() {
+        self.failed = written.is_err();
+        if self.failed {
             self.faults = one_more(self.faults);
         }
         written
@@ -59,8 +79,10 @@ impl<W: Write> Sink for StdSink<W> {
 
 // Writes the pieces that the writer takes, one after the other.
 fn write_whole<W: Write>(writer: &mut W, bytes: &[u8]) -> Result<(), Failed>
-    ensures appended { OnOk result (Appends (W.contents writer.old) (W.contents writer.new) bytes.now) }
-    ensures front { OnErr result (AppendsFront (W.contents writer.old) (W.contents writer.new) bytes.now) }
+    ensures appended { OnOk result
+        (Appends (W.contents writer.old) (W.contents writer.new) bytes.now) }
+    ensures prefix { OnErr result
+        (AppendsPrefix (W.contents writer.old) (W.contents writer.new) bytes.now) }
 {
     let mut sent = 0;
     'pieces: while sent < bytes.len() {
@@ -74,7 +96,8 @@ fn write_whole<W: Write>(writer: &mut W, bytes: &[u8]) -> Result<(), Failed>
 fn write_piece<W: Write>(writer: &mut W, piece: &[u8]) -> Result<usize, Failed>
     ensures some { IfOk result (λ n. 0 < n) }
     ensures within { IfOk result (λ n. n ≤ length piece.now) }
-    ensures appended { IfOk result (λ n. Appends (W.contents writer.old) (W.contents writer.new) (take n piece.now)) }
+    ensures appended { IfOk result
+        (λ n. Appends (W.contents writer.old) (W.contents writer.new) (take n piece.now)) }
     ensures unchanged { OnErr result (Keeps (W.contents writer.old) (W.contents writer.new)) }
 {
     'tries: for _ in 0..u64::MAX {

@@ -1,68 +1,91 @@
 //! A reader of std as a source.
-ghost use Rattle.std.specs.Prelude.{◌≡◌, ◌<◌, ◌≤◌, length, take, IfOk, OnOk, OnErr};
+ghost use Rattle.std.specs.Prelude.{◌≡◌, ◌<◌, ◌≤◌, length, take, false, IfOk, OnOk, OnErr};
 ghost use Rattle.std.specs.Io.KnownBytes.{Consumes, Keeps, IsAtEnd};
-ghost use Rattle.hmc_outside.specs.Rose.{Rose, raised};
-ghost use Rattle.hmc_outside.specs.StdSource.{reader_of, fault_count};
+ghost use Rattle.hmc_outside.specs.Raised.{raised};
+ghost use Rattle.hmc_outside.specs.Reading.{Stops, GoesOn, Stays};
+ghost use Rattle.hmc_outside.specs.StdSource.{reader_of, view_of};
 
-use crate::faults::one_more;
+use crate::counts::ReadCounts;
 use crate::{Failed, Source};
 use std::io::{ErrorKind, Read};
 
-/// What a reader gives. It tells the bytes still to come where the reader does.
+/// What a reader gives. It shows the bytes still to come where the reader does: standard input
+/// doesn't.
 #[derive(Drop)]
 pub struct StdSource<R> {
     reader: R,
-    faults: u64,
+    counts: ReadCounts,
 }
 
 impl<R: Read> StdSource<R> {
-    /// A source before its first call: no call has failed.
+    /// A source before its first call.
     pub fn new(reader: R) -> Self
         ensures reader { reader_of result ≡ reader }
-        ensures faults { fault_count result ≡ 0 }
+        ensures faults { (view_of R.remaining result).faults ≡ 0 }
+        ensures stops { (view_of R.remaining result).stops ≡ 0 }
+        ensures not_stopped { (view_of R.remaining result).stopped ≡ false }
     {
-        StdSource { reader, faults: 0 }
+        StdSource {
+            reader,
+            counts: ReadCounts::new(),
+        }
     }
 
     /// How many calls have failed.
     pub fn faults(&self) -> u64
-        ensures { result ≡ fault_count self.now }
+        ensures { result ≡ (view_of R.remaining self.now).faults }
     {
-        self.faults
+        self.counts.faults
     }
 }
 
 impl<R: Read> Source for StdSource<R> {
-    ghost left = { λ s. R.remaining (reader_of s) };
-
-    ghost faults = { fault_count };
+    ghost shows = { view_of R.remaining };
 
     fn read(&mut self, into: &mut [u8]) -> Result<usize, Failed>
         // As at each source.
         ensures within { IfOk result (λ n. n ≤ length into.new) }
-        ensures moved { IfOk result (λ n. Consumes (R.remaining (reader_of self.old)) (R.remaining (reader_of self.new)) (take n into.new)) }
-        ensures ended { IfOk result (λ n. n ≡ 0 → 0 < length into.old → IsAtEnd (R.remaining (reader_of self.new))) }
-        ensures unchanged { OnErr result (Keeps (R.remaining (reader_of self.old)) (R.remaining (reader_of self.new))) }
-        ensures counted { fault_count self.old ≤ fault_count self.new }
-        ensures steady { OnOk result (fault_count self.new ≡ fault_count self.old) }
-        ensures cause { OnErr result (Rose (fault_count self.old) (fault_count self.new)) }
-
-        // Exactly.
-        ensures one_fault { OnErr result (fault_count self.new ≡ raised (fault_count self.old)) }
+        ensures moved { IfOk result (λ n. Consumes
+            (view_of R.remaining self.old).left (view_of R.remaining self.new).left
+            (take n into.new)) }
+        ensures ended { IfOk result
+            (λ n. n ≡ 0 → 0 < length into.old → IsAtEnd (view_of R.remaining self.new).left) }
+        ensures unchanged { OnErr result
+            (Keeps (view_of R.remaining self.old).left (view_of R.remaining self.new).left) }
+        ensures sound { OnOk result
+            ((view_of R.remaining self.new).faults ≡ (view_of R.remaining self.old).faults) }
+        ensures fault { OnErr result
+            ((view_of R.remaining self.new).faults ≡ raised (view_of R.remaining self.old).faults) }
+        ensures goes_on { IfOk result
+            (λ n. 0 < n → GoesOn (view_of R.remaining self.old) (view_of R.remaining self.new)) }
+        ensures stays { IfOk result (λ n. length into.old ≡ 0 →
+            Stays (view_of R.remaining self.old) (view_of R.remaining self.new)) }
+        ensures end_stops { IfOk result (λ n. n ≡ 0 → 0 < length into.old →
+            Stops (view_of R.remaining self.old) (view_of R.remaining self.new)) }
+        ensures fault_stops { OnErr result
+            (Stops (view_of R.remaining self.old) (view_of R.remaining self.new)) }
     {
-        let given = read_once(&mut self.reader, into);
-        if given.is_err() {
-            self.faults = one_more(self.faults);
+        match read_once(&mut self.reader, into) {
+            Ok(count) => {
+                self.counts.count_read(count, into.len());
+                Ok(count)
+            }
+            Err(failed) => {
+                self.counts.count_fault();
+                Err(failed)
+            }
         }
-        given
     }
 }
 
 // One read, tried again where a signal interrupts it.
 fn read_once<R: Read>(reader: &mut R, into: &mut [u8]) -> Result<usize, Failed>
     ensures within { IfOk result (λ n. n ≤ length into.new) }
-    ensures moved { IfOk result (λ n. Consumes (R.remaining reader.old) (R.remaining reader.new) (take n into.new)) }
-    ensures ended { IfOk result (λ n. n ≡ 0 → 0 < length into.old → IsAtEnd (R.remaining reader.new)) }
+    ensures length { length into.new ≡ length into.old }
+    ensures moved { IfOk result
+        (λ n. Consumes (R.remaining reader.old) (R.remaining reader.new) (take n into.new)) }
+    ensures ended { IfOk result
+        (λ n. n ≡ 0 → 0 < length into.old → IsAtEnd (R.remaining reader.new)) }
     ensures unchanged { OnErr result (Keeps (R.remaining reader.old) (R.remaining reader.new)) }
 {
     'tries: for _ in 0..u64::MAX {

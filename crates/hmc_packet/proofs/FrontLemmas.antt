@@ -3,6 +3,7 @@ use Rattle.std.proofs.Common.{◌≡◌, ◌≢◌, ◌∙◌, ◌≤◌, ◌+�
 use Rattle.std.specs.Prelude.{◌&&◌, not, option_and_then}
 use Rattle.std.proofs.lemmas.Bool.{and_from}
 use Rattle.std.proofs.lemmas.List.{take-take, take-append-le, drop-take}
+use Rattle.hmc_codes.specs.declared.profile.Profile.{Profile}
 use Rattle.hmc_codes.specs.Commands.{code_of, layout_of, is_flow}
 use Rattle.hmc_codes.specs.declared.layout.Layout.{Layout}
 use Rattle.hmc_codes.specs.declared.layout.Layout.TheVariants as layouts
@@ -12,7 +13,7 @@ use Rattle.hmc_packet.specs.declared.head.Head.{Head}
 use Rattle.hmc_packet.specs.Bits.{bits_from, bit}
 use Rattle.hmc_packet.specs.Header.{header_word, header_of, header_is_clean}
 use Rattle.hmc_packet.specs.Packet.{PacketFields, IsPacket, flits_of, null_packet}
-use Rattle.hmc_packet.specs.Spelling.{HasPointer, header_fields, word_bytes, covered, bytes_of, cut, spelling}
+use Rattle.hmc_packet.specs.Spelling.{FitsProfile, header_fields, word_bytes, covered, bytes_of, cut, spelling}
 use Rattle.hmc_packet.specs.Parts.{header_in}
 use Rattle.hmc_packet.specs.Head.{head_with, head_in, head_slid, packet_head, SameHead}
 use Rattle.hmc_packet.proofs.HeaderLemmas as headers
@@ -47,9 +48,9 @@ front_bytes m a p b c le =
 before : PacketFields → List ℕ
 before p = word_bytes (header_word (layout_of p.command) (header_fields p)) ++ p.payload
 
-bytes_of-before : (p : PacketFields) (rrp m : ℕ) → m ≤ 8 + length p.payload → take m (bytes_of p rrp) ≡ take m (before p)
+bytes_of-before : (profile : Profile) → (p : PacketFields) (rrp m : ℕ) → m ≤ 8 + length p.payload → take m (bytes_of profile p rrp) ≡ take m (before p)
 unfolding bytes_of covered before
-bytes_of-before p rrp m le =
+bytes_of-before profile p rrp m le =
     front_bytes m (word_bytes (header_word (layout_of p.command) (header_fields p))) p.payload _ _
     (omega (arith, length-append (word_bytes (header_word (layout_of p.command) (header_fields p))) p.payload, length-word_bytes (header_word (layout_of p.command) (header_fields p))))
 
@@ -65,28 +66,28 @@ before-same p q same =
     header_word-same (layout_of p.command) (header_fields p) (header_fields q) (ap code_of same.command) (ap (λ (l : List ℕ). 1 + length l / 16) same.payload) same.tag same.address same.flag same.slid same.cube in
     λ i. word_bytes ((words ∙ ap (λ (c : Command). header_word (layout_of c) (header_fields q)) same.command) i) ++ same.payload i
 
-front-is : (p : PacketFields) (rrp : ℕ) → IsPacket p → layout_of p.command ≢ layouts.Null → take (flits_of p - 1) (spelling p rrp) ≡ cut (flits_of p - 1) (before p)
-front-is p rrp is other =
+front-is : (profile : Profile) → (p : PacketFields) (rrp : ℕ) → IsPacket p → layout_of p.command ≢ layouts.Null → take (flits_of p - 1) (spelling profile p rrp) ≡ cut (flits_of p - 1) (before p)
+front-is profile p rrp is other =
     let n = flits_of p in
     let k = n - 1 in
     let few = flits_of-few p is in
     let fits : 16 * k ≤ 8 + length p.payload = omega arith in
-    ap (take k) (spelling-other p rrp other) ∙ take-cut n k (bytes_of p rrp) (omega arith) ∙ sym (cut-take k (16 * k) (bytes_of p rrp) (omega arith))
-    ∙ ap (cut k) (bytes_of-before p rrp (16 * k) fits) ∙ cut-take k (16 * k) (before p) (omega arith)
+    ap (take k) (spelling-other profile p rrp other) ∙ take-cut n k (bytes_of profile p rrp) (omega arith) ∙ sym (cut-take k (16 * k) (bytes_of profile p rrp) (omega arith))
+    ∙ ap (cut k) (bytes_of-before profile p rrp (16 * k) fits) ∙ cut-take k (16 * k) (before p) (omega arith)
 
-none_before : (p : PacketFields) (rrp : ℕ) → p ≡ null_packet → take (flits_of p - 1) (spelling p rrp) ≡ []
-none_before p rrp is = ap (λ (q : PacketFields). take (flits_of q - 1) (spelling q rrp)) is
+none_before : (profile : Profile) → (p : PacketFields) (rrp : ℕ) → p ≡ null_packet → take (flits_of p - 1) (spelling profile p rrp) ≡ []
+none_before profile p rrp is = ap (λ (q : PacketFields). take (flits_of q - 1) (spelling profile q rrp)) is
 
 -- they don't depend on tail and check
-pub front-same : (p q : PacketFields) (r s : ℕ) → IsPacket p → IsPacket q → SameHead p q → take (flits_of p - 1) (spelling p r) ≡ take (flits_of q - 1) (spelling q s)
-front-same p q r s is-p is-q same =
+pub front-same : (profile : Profile) → (p q : PacketFields) (r s : ℕ) → IsPacket p → IsPacket q → SameHead p q → take (flits_of p - 1) (spelling profile p r) ≡ take (flits_of q - 1) (spelling profile q s)
+front-same profile p q r s is-p is-q same =
     let layouts-same : layout_of p.command ≡ layout_of q.command = ap layout_of same.command in
     elim (null_or_other (layout_of p.command)) [
-      | inl null ↦ none_before p r (null-null_packet p is-p null) ∙ sym (none_before q s (null-null_packet q is-q (sym layouts-same ∙ null)))
+      | inl null ↦ none_before profile p r (null-null_packet p is-p null) ∙ sym (none_before profile q s (null-null_packet q is-q (sym layouts-same ∙ null)))
       | inr other ↦
-          front-is p r is-p other
+          front-is profile p r is-p other
           ∙ (λ i. cut (1 + length (same.payload i) / 16 - 1) (before-same p q same i))
-          ∙ sym (front-is q s is-q (λ null. other (layouts-same ∙ null)))
+          ∙ sym (front-is profile q s is-q (λ null. other (layouts-same ∙ null)))
     ]
 
 pub SameHead-refl : (p : PacketFields) → SameHead p p
@@ -108,19 +109,19 @@ not_flow-other : (layout : Layout) → is_flow layout ≡ false → layout ≢ l
 not_flow-other layout no_flow null = let clash : true ≡ false = ap is_flow (sym null) ∙ no_flow in absurd cc
 
 -- a request's or response's first flit tells its head
-pub head_in-first : (p : PacketFields) (rrp : ℕ) (first : List ℕ) (rest : List (List ℕ)) → IsPacket p → HasPointer p rrp → is_flow (layout_of p.command) ≡ false → spelling p rrp ≡ first ∷ rest → head_in first ≡ Some (packet_head p)
+pub head_in-first : (profile : Profile) → (p : PacketFields) (rrp : ℕ) (first : List ℕ) (rest : List (List ℕ)) → IsPacket p → FitsProfile profile p rrp → is_flow (layout_of p.command) ≡ false → spelling profile p rrp ≡ first ∷ rest → head_in first ≡ Some (packet_head p)
 unfolding head_in head_with
-head_in-first p rrp first rest is pointer no_flow spelled =
+head_in-first profile p rrp first rest is pointer no_flow spelled =
     let layout = layout_of p.command in
     let other = not_flow-other layout no_flow in
     let fields = IsHeader-fields p is in
-    let word : header_in first ≡ header_word layout (header_fields p) = header_in-first p rrp first rest is other spelled ∙ header_in-bytes_of p rrp is in
+    let word : header_in first ≡ header_word layout (header_fields p) = header_in-first profile p rrp first rest is other spelled ∙ header_in-bytes_of profile p rrp is in
     let clean : header_is_clean layout (header_in first) ≡ true = ap (header_is_clean layout) word ∙ headers.header_is_clean-word layout (header_fields p) fields (flow_header layout p is.layout) in
     let unpacked : header_of layout (header_in first) ≡ headers.kept layout (header_fields p) = ap (header_of layout) word ∙ headers.header_of-word layout (header_fields p) fields in
     let flits : bits_from 7 5 (header_in first) ≡ flits_of p = ap (bits_from 7 5) word ∙ headers.flits-word layout (header_fields p) fields in
     let cube : (header_of layout (header_in first)).cube ≡ p.cube = ap (λ (h : Header). h.cube) unpacked ∙ kept-cube layout (header_fields p) in
     let slid : (header_of layout (header_in first)).slid ≡ head_slid layout p.slid = ap (λ (h : Header). h.slid) unpacked ∙ kept-slid layout (header_fields p) in
-    let found : head_in first ≡ head_with layout p.command (header_in first) = ap (λ (o : Option Command). option_and_then (λ command. head_with (layout_of command) command (header_in first)) o) (named_by-first p rrp first rest is pointer other spelled) in
+    let found : head_in first ≡ head_with layout p.command (header_in first) = ap (λ (o : Option Command). option_and_then (λ command. head_with (layout_of command) command (header_in first)) o) (named_by-first profile p rrp first rest is pointer other spelled) in
     let told : Option Head = Some (record { command = p.command; flits = bits_from 7 5 (header_in first); cube = (header_of layout (header_in first)).cube; slid = (header_of layout (header_in first)).slid }) in
     let tested : (not (is_flow layout) && header_is_clean layout (header_in first)) ≡ true = and_from _ _ (ap not no_flow) clean in
     found ∙ ap (λ (b : Bool). cond b told None) tested ∙ (λ i. Some (record { command = p.command; flits = flits i; cube = cube i; slid = slid i }))

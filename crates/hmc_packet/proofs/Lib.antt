@@ -5,7 +5,7 @@ pub mod TailLemmas
 pub mod FlitLemmas
 pub mod PartLemmas
 pub mod PoisonLemmas
-pub mod JudgedLemmas
+pub mod JudgementLemmas
 pub mod SpelledLemmas
 pub mod ReadLemmas
 pub mod ReadOf
@@ -14,3 +14,4 @@ pub mod LinkLemmas
 pub mod FrontLemmas
 pub mod LawLemmas
 pub mod Worked
+pub mod WorkedTwo

@@ -1,10 +1,12 @@
 -- What flits read as: a spelling as its packet, and nothing else as that packet.
-use Rattle.std.proofs.Common.{◌≡◌, ◌≢◌, ◌∙◌, ◌<◌, ◌≤◌, ◌*◌, ◌⊎◌, lit<, lit≤, inl, inr, ℕ, zero, suc, Bool, true, false, cond, Result, Ok, Err, List, [], ◌∷◌, ◌++◌, length, take, drop, refl, sym, ap, subst, arith}
+use Rattle.std.proofs.Common.{◌≡◌, ◌≢◌, ◌∙◌, ◌≤◌, ◌*◌, ◌⊎◌, lit<, lit≤, inl, inr, ℕ, zero, suc, Bool, true, false, cond, Result, Ok, Err, List, [], ◌∷◌, ◌++◌, length, take, drop, refl, sym, ap, subst, arith}
 use Rattle.std.specs.Prelude.{◌&&◌, ◌==◌, nat_le, IfOk}
 use Rattle.std.specs.List.{concat}
 use Rattle.std.proofs.lemmas.Bool.{eqb-true, eq-eqb, and_parts, and_from, leb-true, le-leb}
 use Rattle.std.proofs.lemmas.List.{nil_from_length, take-take, take-append-le}
 use Rattle.std.proofs.lemmas.Slice.Eq.{bytes_eq-Decides}
+use Rattle.hmc_codes.specs.declared.profile.Profile.{Profile}
+use Rattle.hmc_codes.specs.declared.profile.Profile.TheVariants.{One, Two}
 use Rattle.hmc_codes.specs.Bytes.{IsBytes}
 use Rattle.hmc_codes.specs.Commands.{layout_of, is_flow}
 use Rattle.hmc_codes.specs.declared.layout.Layout.{Layout}
@@ -15,8 +17,8 @@ use Rattle.hmc_packet.specs.declared.bad.Bad.TheVariants as bads
 use Rattle.hmc_packet.specs.declared.seen.Seen.{Seen}
 use Rattle.hmc_packet.specs.Bits.{bits_from}
 use Rattle.hmc_packet.specs.Packet.{PacketFields, IsPacket, IsLaidOut, flits_of, null_packet}
-use Rattle.hmc_packet.specs.Tail.{pointers}
-use Rattle.hmc_packet.specs.Spelling.{HasPointer, bytes_of, cut, null_flit, flits_with, spelling}
+use Rattle.hmc_packet.specs.Spelling.{FitsProfile, bytes_of, cut, flits_with, spelling}
+use Rattle.hmc_codes.specs.Flit.{zero_flit}
 use Rattle.hmc_packet.specs.Parts.{word_of, header_in, lng_of}
 use Rattle.hmc_packet.specs.Reading.{is_null, is_null_alone, has_length, bytes_read, read_of, AreBytesOf, IsSpelled}
 use Rattle.hmc_packet.proofs.CommandLemmas.{flow-one, null_layout-null, layout_of-null}
@@ -28,17 +30,17 @@ use Rattle.hmc_packet.proofs.ReadLemmas.{IsWhole, bytes_read-AreBytesOf}
 
 -- ---- NULL
 
-pub is_null-is : (flit : List ℕ) → is_null flit ≡ true → flit ≡ null_flit
+pub is_null-is : (flit : List ℕ) → is_null flit ≡ true → flit ≡ zero_flit
 unfolding is_null
-is_null-is flit is = (bytes_eq-Decides flit null_flit).0 is
+is_null-is flit is = (bytes_eq-Decides flit zero_flit).0 is
 
-pub is_null-null : is_null null_flit ≡ true
+pub is_null-null : is_null zero_flit ≡ true
 unfolding is_null
-is_null-null = (bytes_eq-Decides null_flit null_flit).1 refl
+is_null-null = (bytes_eq-Decides zero_flit zero_flit).1 refl
 
 -- NULL's LNG is 0
-pub lng_of-null : lng_of null_flit ≡ 0
-unfolding lng_of word_of null_flit
+pub lng_of-null : lng_of zero_flit ≡ 0
+unfolding lng_of word_of zero_flit
 lng_of-null = refl
 
 pub null_or_other : (layout : Layout) → (layout ≡ layouts.Null) ⊎ (layout ≢ layouts.Null)
@@ -76,18 +78,18 @@ null-null_packet p is null =
 
 -- ---- spellings as flits
 
-flits_with-other : (layout : Layout) (p : PacketFields) (rrp : ℕ) → layout ≢ layouts.Null → flits_with layout p rrp ≡ cut (flits_of p) (bytes_of p rrp)
+flits_with-other : (profile : Profile) → (layout : Layout) (p : PacketFields) (rrp : ℕ) → layout ≢ layouts.Null → flits_with profile layout p rrp ≡ cut (flits_of p) (bytes_of profile p rrp)
 unfolding flits_with
-flits_with-other layouts.Null p rrp other = absurd (other refl)
-flits_with-other _ p rrp other = refl
+flits_with-other profile layouts.Null p rrp other = absurd (other refl)
+flits_with-other profile _ p rrp other = refl
 
-pub spelling-other : (p : PacketFields) (rrp : ℕ) → layout_of p.command ≢ layouts.Null → spelling p rrp ≡ cut (flits_of p) (bytes_of p rrp)
+pub spelling-other : (profile : Profile) → (p : PacketFields) (rrp : ℕ) → layout_of p.command ≢ layouts.Null → spelling profile p rrp ≡ cut (flits_of p) (bytes_of profile p rrp)
 unfolding spelling
-spelling-other p rrp other = flits_with-other (layout_of p.command) p rrp other
+spelling-other profile p rrp other = flits_with-other profile (layout_of p.command) p rrp other
 
-pub spelling-null : (rrp : ℕ) → spelling null_packet rrp ≡ null_flit ∷ []
+pub spelling-null : (profile : Profile) → (rrp : ℕ) → spelling profile null_packet rrp ≡ zero_flit ∷ []
 unfolding spelling flits_with
-spelling-null rrp = ap (λ (l : Layout). flits_with l null_packet rrp) layout_of-null
+spelling-null profile rrp = ap (λ (l : Layout). flits_with profile l null_packet rrp) layout_of-null
 
 -- a first flit's header is that of the bytes
 pub header_in-front : (bytes : List ℕ) → header_in (take 16 bytes) ≡ header_in bytes
@@ -121,39 +123,39 @@ cut_tests (suc k) bytes lng some few =
       has_its_length (take 16 bytes) (cut k (drop 16 bytes)) (suc k) front (ap suc (length-cut k (drop 16 bytes))) few,
     )
 
-pub lng-bytes_of : (p : PacketFields) (rrp : ℕ) → IsPacket p → bits_from 7 5 (header_in (bytes_of p rrp)) ≡ flits_of p
-lng-bytes_of p rrp is = ap (bits_from 7 5) (header_in-bytes_of p rrp is) ∙ headers.flits-word (layout_of p.command) _ (IsHeader-fields p is)
+pub lng-bytes_of : (profile : Profile) → (p : PacketFields) (rrp : ℕ) → IsPacket p → bits_from 7 5 (header_in (bytes_of profile p rrp)) ≡ flits_of p
+lng-bytes_of profile p rrp is = ap (bits_from 7 5) (header_in-bytes_of profile p rrp is) ∙ headers.flits-word (layout_of p.command) _ (IsHeader-fields p is)
 
 -- ---- what is spelled is read
 
-read_null : (p : PacketFields) (rrp : ℕ) → p ≡ null_packet → rrp ≡ 0 → read_of (spelling p rrp) ≡ Ok (record { packet = p; rrp = rrp })
+read_null : (profile : Profile) → (p : PacketFields) (rrp : ℕ) → p ≡ null_packet → rrp ≡ 0 → read_of profile (spelling profile p rrp) ≡ Ok (record { packet = p; rrp = rrp })
 unfolding read_of is_null_alone
-read_null p rrp is zero_pointer =
+read_null profile p rrp is zero_pointer =
     let seen : Result Seen Bad = Ok (record { packet = null_packet; rrp = 0 }) in
-    let found : read_of (null_flit ∷ []) ≡ seen = rw is_null-null refl in
-    (λ i. read_of (spelling (is i) (zero_pointer i))) ∙ ap read_of (spelling-null 0) ∙ found ∙ (λ i. Ok (record { packet = sym is i; rrp = sym zero_pointer i }))
+    let found : read_of profile (zero_flit ∷ []) ≡ seen = rw is_null-null refl in
+    (λ i. read_of profile (spelling profile (is i) (zero_pointer i))) ∙ ap (read_of profile) (spelling-null profile 0) ∙ found ∙ (λ i. Ok (record { packet = sym is i; rrp = sym zero_pointer i }))
 
-read_other : (p : PacketFields) (rrp : ℕ) → IsPacket p → rrp < pointers → layout_of p.command ≢ layouts.Null → read_of (spelling p rrp) ≡ Ok (record { packet = p; rrp = rrp })
+read_other : (profile : Profile) → (p : PacketFields) (rrp : ℕ) → IsPacket p → FitsProfile profile p rrp → layout_of p.command ≢ layouts.Null → read_of profile (spelling profile p rrp) ≡ Ok (record { packet = p; rrp = rrp })
 unfolding read_of
-read_other p rrp is lt other =
+read_other profile p rrp is lt other =
     let few = flits_of-few p is in
-    let bytes = bytes_of p rrp in
-    let tests = cut_tests (flits_of p) bytes (lng-bytes_of p rrp is) few.0 few.1 in
-    let joined : concat (cut (flits_of p) bytes) ≡ bytes = concat-cut (flits_of p) bytes (length-bytes_of p rrp is) in
-    let found : read_of (cut (flits_of p) bytes) ≡ bytes_read bytes = rw (tests.0, tests.1, joined) refl in
-    ap read_of (spelling-other p rrp other) ∙ found ∙ bytes_read-bytes_of p rrp is lt other
+    let bytes = bytes_of profile p rrp in
+    let tests = cut_tests (flits_of p) bytes (lng-bytes_of profile p rrp is) few.0 few.1 in
+    let joined : concat (cut (flits_of p) bytes) ≡ bytes = concat-cut (flits_of p) bytes (length-bytes_of profile p rrp is) in
+    let found : read_of profile (cut (flits_of p) bytes) ≡ bytes_read profile bytes = rw (tests.0, tests.1, joined) refl in
+    ap (read_of profile) (spelling-other profile p rrp other) ∙ found ∙ bytes_read-bytes_of profile p rrp is lt other
 
 -- the spelling of a packet is read as that packet and its pointer
-pub read_of-spelling : (p : PacketFields) (rrp : ℕ) → IsPacket p → HasPointer p rrp → read_of (spelling p rrp) ≡ Ok (record { packet = p; rrp = rrp })
-read_of-spelling p rrp is pointer =
+pub read_of-spelling : (profile : Profile) → (p : PacketFields) (rrp : ℕ) → IsPacket p → FitsProfile profile p rrp → read_of profile (spelling profile p rrp) ≡ Ok (record { packet = p; rrp = rrp })
+read_of-spelling profile p rrp is pointer =
     elim (null_or_other (layout_of p.command)) [
-      | inl null ↦ read_null p rrp (null-null_packet p is null) (pointer.null (null_layout-null p.command null))
-      | inr other ↦ read_other p rrp is pointer.below other
+      | inl null ↦ read_null profile p rrp (null-null_packet p is null) (pointer.null (null_layout-null p.command null))
+      | inr other ↦ read_other profile p rrp is pointer other
     ]
 
 -- ---- what is read is spelled so
 
-found_null : (flits : List (List ℕ)) → is_null_alone flits ≡ true → flits ≡ null_flit ∷ []
+found_null : (flits : List (List ℕ)) → is_null_alone flits ≡ true → flits ≡ zero_flit ∷ []
 unfolding is_null_alone
 found_null [] is = absurd cc
 found_null (flit ∷ []) is = ap (λ (f : List ℕ). f ∷ []) (is_null-is flit is)
@@ -184,42 +186,46 @@ done seen = Ok seen
 done_is : (a b : Seen) → done a ≡ done b → a ≡ b
 done_is a b e = cc
 
-pub null_is_spelled : (flits : List (List ℕ)) → is_null_alone flits ≡ true → IsSpelled flits (record { packet = null_packet; rrp = 0 })
-null_is_spelled flits is = record {
+null_fits : (profile : Profile) → FitsProfile profile null_packet 0
+null_fits One = record { below = lit< tt; forward = lit< tt; errstat = lit< tt; null = λ null. refl }
+null_fits Two = record { below = lit< tt; forward = lit< tt; errstat = lit< tt; null = λ null. refl }
+
+pub null_is_spelled : (profile : Profile) → (flits : List (List ℕ)) → is_null_alone flits ≡ true → IsSpelled profile flits (record { packet = null_packet; rrp = 0 })
+null_is_spelled profile flits is = record {
   packet = IsPacket-null;
-  pointer = record { below = lit< tt; null = λ null. refl };
-  spelled = found_null flits is ∙ sym (spelling-null 0);
+  pointer = null_fits profile;
+  spelled = found_null flits is ∙ sym (spelling-null profile 0);
 }
 
-other_is_spelled : (flits : List (List ℕ)) (seen : Seen) → AreFlits flits → AreBytesOf (concat flits) seen → IsSpelled flits seen
-other_is_spelled flits seen are is =
+other_is_spelled : (profile : Profile) → (flits : List (List ℕ)) (seen : Seen) → AreFlits flits → AreBytesOf profile (concat flits) seen → IsSpelled profile flits seen
+other_is_spelled profile flits seen are is =
     let len = length-concat flits are in
-    let same : length (concat flits) ≡ 16 * flits_of seen.packet = ap length is.bytes_are ∙ length-bytes_of seen.packet seen.rrp is.packet in
+    let same : length (concat flits) ≡ 16 * flits_of seen.packet = ap length is.bytes_are ∙ length-bytes_of profile seen.packet seen.rrp is.packet in
     let count : length flits ≡ flits_of seen.packet = omega arith in
     record {
       packet = is.packet;
-      pointer = record { below = is.pointer; null = λ null. absurd (is.other (ap layout_of null ∙ layout_of-null)) };
-      spelled = sym (cut-concat flits are) ∙ (λ i. cut (count i) (is.bytes_are i)) ∙ sym (spelling-other seen.packet seen.rrp is.other);
+      pointer = record { below = is.pointer; forward = is.forward; errstat = is.errstat; null = λ null. absurd (is.other (ap layout_of null ∙ layout_of-null)) };
+      spelled = sym (cut-concat flits are) ∙ (λ i. cut (count i) (is.bytes_are i)) ∙ sym (spelling-other profile seen.packet seen.rrp is.other);
     }
 
 -- bytes that were read, as flits
-pub bytes-spelled : (flits : List (List ℕ)) (bytes : List ℕ) (r : Result Seen Bad) → AreFlits flits → bytes ≡ concat flits → IfOk r (λ seen. AreBytesOf bytes seen) → IfOk r (λ seen. IsSpelled flits seen)
-bytes-spelled flits bytes (Ok seen) are is found = other_is_spelled flits seen are (subst (λ (b : List ℕ). AreBytesOf b seen) is found)
-bytes-spelled flits bytes (Err bad) are is found = tt
+pub bytes-spelled : (profile : Profile) → (flits : List (List ℕ)) (bytes : List ℕ) (r : Result Seen Bad) → AreFlits flits → bytes ≡ concat flits → IfOk r (λ seen. AreBytesOf profile bytes seen) → IfOk r (λ seen. IsSpelled profile flits seen)
+bytes-spelled profile flits bytes (Ok seen) are is found = other_is_spelled profile flits seen are (subst (λ (b : List ℕ). AreBytesOf profile b seen) is found)
+bytes-spelled profile flits bytes (Err bad) are is found = tt
 
-found_by : (flits : List (List ℕ)) (seen : Seen) (null long : Bool) → AreFlits flits → (is_null_alone flits ≡ false → IsBytes (concat flits)) → is_null_alone flits ≡ null → has_length flits ≡ long →
-    cond null (done (record { packet = null_packet; rrp = 0 })) (cond long (bytes_read (concat flits)) (Err bads.Length)) ≡ Ok seen → IsSpelled flits seen
-found_by flits seen true long are fits is-null is-long is =
+found_by : (profile : Profile) → (flits : List (List ℕ)) (seen : Seen) (null long : Bool) → AreFlits flits → (is_null_alone flits ≡ false → IsBytes (concat flits)) → is_null_alone flits ≡ null → has_length flits ≡ long →
+    cond null (done (record { packet = null_packet; rrp = 0 })) (cond long (bytes_read profile (concat flits)) (Err bads.Length)) ≡ Ok seen → IsSpelled profile flits seen
+found_by profile flits seen true long are fits is-null is-long is =
     let nothing : Seen = record { packet = null_packet; rrp = 0 } in
-    subst (λ (s : Seen). IsSpelled flits s) (done_is nothing seen is) (null_is_spelled flits is-null)
-found_by flits seen false true are fits is-null is-long is =
-    other_is_spelled flits seen are (bytes_read-AreBytesOf (concat flits) seen (whole_bytes flits are is-long (fits is-null)) is)
-found_by flits seen false false are fits is-null is-long is = absurd cc
+    subst (λ (s : Seen). IsSpelled profile flits s) (done_is nothing seen is) (null_is_spelled profile flits is-null)
+found_by profile flits seen false true are fits is-null is-long is =
+    other_is_spelled profile flits seen are (bytes_read-AreBytesOf profile (concat flits) seen (whole_bytes flits are is-long (fits is-null)) is)
+found_by profile flits seen false false are fits is-null is-long is = absurd cc
 
 -- what flits are read as, they are the spelling of
-pub read_of-found : (flits : List (List ℕ)) (seen : Seen) → AreFlits flits → (is_null_alone flits ≡ false → IsBytes (concat flits)) → read_of flits ≡ Ok seen → IsSpelled flits seen
+pub read_of-found : (profile : Profile) → (flits : List (List ℕ)) (seen : Seen) → AreFlits flits → (is_null_alone flits ≡ false → IsBytes (concat flits)) → read_of profile flits ≡ Ok seen → IsSpelled profile flits seen
 unfolding read_of
-read_of-found flits seen are fits is = found_by flits seen (is_null_alone flits) (has_length flits) are fits refl refl is
+read_of-found profile flits seen are fits is = found_by profile flits seen (is_null_alone flits) (has_length flits) are fits refl refl is
 
 -- as many flits as Length permits
 pub has_length-few : (flits : List (List ℕ)) → AreFlits flits → has_length flits ≡ true → (1 ≤ length flits) × (length flits ≤ 17)
@@ -228,5 +234,5 @@ has_length-few flits are is = let lng = length-lng flits are is in (lng.0, lng.1
 pub whole-bytes : (flits : List (List ℕ)) → AreFlits flits → has_length flits ≡ true → length (concat flits) ≡ 16 * bits_from 7 5 (header_in (concat flits))
 whole-bytes flits are is = length-concat flits are ∙ ap (λ (n : ℕ). 16 * n) (sym (length-lng flits are is).2)
 
-pub read_of-only : (flits : List (List ℕ)) (r : Result Seen Bad) → r ≡ read_of flits → (p : PacketFields) (rrp : ℕ) → IsPacket p → HasPointer p rrp → flits ≡ spelling p rrp → r ≡ Ok (record { packet = p; rrp = rrp })
-read_of-only flits r exact p rrp is pointer spelled = exact ∙ ap read_of spelled ∙ read_of-spelling p rrp is pointer
+pub read_of-only : (profile : Profile) → (flits : List (List ℕ)) (r : Result Seen Bad) → r ≡ read_of profile flits → (p : PacketFields) (rrp : ℕ) → IsPacket p → FitsProfile profile p rrp → flits ≡ spelling profile p rrp → r ≡ Ok (record { packet = p; rrp = rrp })
+read_of-only profile flits r exact p rrp is pointer spelled = exact ∙ ap (read_of profile) spelled ∙ read_of-spelling profile p rrp is pointer

@@ -1,12 +1,15 @@
--- A tail's fields and its word, both ways.
-use Rattle.std.proofs.Common.{◌≡◌, ◌<◌, ◌≤◌, ◌+◌, ◌*◌, ◌^◌, ◌∙◌, ℕ, zero, suc, true, refl, ap, arith, inl, inr}
-use Rattle.std.specs.Prelude.{◌==◌}
+-- A tail's fields and its word, both ways, in both profiles.
+use Rattle.std.proofs.Common.{◌≡◌, ◌<◌, ◌≤◌, ◌+◌, ◌*◌, ◌^◌, ◌∙◌, ℕ, zero, suc, Bool, true, refl, ap, arith, inl, inr}
+use Rattle.std.specs.Prelude.{◌==◌, ◌&&◌}
 use Rattle.std.proofs.lemmas.Bool.{eqb-true, eq-eqb, and_parts, and_from, or_cases}
+use Rattle.hmc_codes.specs.Profile.{modulus_of}
+use Rattle.hmc_codes.specs.declared.profile.Profile.{Profile}
+use Rattle.hmc_codes.specs.declared.profile.Profile.TheVariants.{One, Two}
 use Rattle.hmc_codes.specs.declared.layout.Layout.{Layout}
 use Rattle.hmc_codes.specs.declared.layout.Layout.TheVariants as layouts
 use Rattle.hmc_packet.specs.declared.tail.Tail.{Tail}
 use Rattle.hmc_packet.specs.Bits.{bits_from}
-use Rattle.hmc_packet.specs.Tail.{IsTail, pointers, tail_word, tail_of, is_start_or_clear, tail_is_clean}
+use Rattle.hmc_packet.specs.Tail.{IsTail, FitsField, tail_layout, tail_word, tail_of, is_start_or_clear, has_zeros, tail_is_clean}
 
 -- a tail without the fields that the layout lacks
 unfoldable pub kept : Layout → Tail → Tail
@@ -22,37 +25,88 @@ TailFits layouts.Irtry t = (1 ≤ t.frp) × (t.frp ≤ 2) × (t.seq ≡ 0) × (t
 TailFits layouts.Ask t = Unit {0}
 TailFits layouts.Reply t = Unit {0}
 
+-- pointers below the modulus fit their fields, and the other way round
+pub rrp-fits : (profile : Profile) (rrp : ℕ) → rrp < modulus_of profile → FitsField (tail_layout profile).rrp rrp
+rrp-fits One rrp lt = lt
+rrp-fits Two rrp lt = lt
+
+pub frp-fits : (profile : Profile) (frp : ℕ) → frp < modulus_of profile → FitsField (tail_layout profile).frp frp
+frp-fits One frp lt = lt
+frp-fits Two frp lt = lt
+
+pub rrp-below : (profile : Profile) (rrp : ℕ) → FitsField (tail_layout profile).rrp rrp → rrp < modulus_of profile
+rrp-below One rrp fits = fits
+rrp-below Two rrp fits = fits
+
+pub frp-below : (profile : Profile) (frp : ℕ) → FitsField (tail_layout profile).frp frp → frp < modulus_of profile
+frp-below One frp fits = fits
+frp-below Two frp fits = fits
+
+pub seq-below : (profile : Profile) (seq : ℕ) → FitsField (tail_layout profile).seq seq → seq < 8
+seq-below One seq fits = fits
+seq-below Two seq fits = fits
+
+pub slid-below : (profile : Profile) (slid : ℕ) → FitsField (tail_layout profile).slid slid → slid < 8
+slid-below One slid fits = fits
+slid-below Two slid fits = fits
+
+pub rtc-below : (profile : Profile) (rtc : ℕ) → FitsField (tail_layout profile).rtc rtc → rtc < 8
+rtc-below One rtc fits = fits
+rtc-below Two rtc fits = fits
+
+pub errstat-below : (profile : Profile) (errstat : ℕ) → FitsField (tail_layout profile).errstat errstat → errstat < 2 ^ 7
+errstat-below One errstat fits = fits
+errstat-below Two errstat fits = omega arith
+
+pub three-fits : (profile : Profile) (n : ℕ) → n < 8 → FitsField (tail_layout profile).seq n × FitsField (tail_layout profile).slid n × FitsField (tail_layout profile).rtc n
+three-fits One n lt = (lt, lt, lt)
+three-fits Two n lt = (lt, lt, lt)
+
 -- ---- from the fields to the word
 
-ask_lt : (rrp frp seq slid rtc : ℕ) → rrp < pointers → frp < pointers → seq < 2 ^ 3 → slid < 2 ^ 3 → rtc < 2 ^ 3 → rrp + frp * 2 ^ 9 + seq * 2 ^ 18 + slid * 2 ^ 26 + rtc * 2 ^ 29 < 2 ^ 32
-ask_lt rrp frp seq slid rtc p q r s t = omega arith
-
-reply_lt : (rrp frp seq errstat rtc : ℕ) → rrp < pointers → frp < pointers → seq < 2 ^ 3 → errstat < 2 ^ 7 → rtc < 2 ^ 3 → rrp + frp * 2 ^ 9 + seq * 2 ^ 18 + errstat * 2 ^ 22 + rtc * 2 ^ 29 < 2 ^ 32
-reply_lt rrp frp seq errstat rtc p q r s t = omega arith
-
-pub tail_word-lt : (layout : Layout) (t : Tail) → IsTail t → tail_word layout t < 2 ^ 32
+ask_lt : (profile : Profile) (layout : Layout) (t : Tail) → IsTail profile t → tail_word profile layout t < 2 ^ 32
 unfolding tail_word
-tail_word-lt layouts.Reply t is = reply_lt t.rrp t.frp t.seq t.errstat t.rtc is.rrp is.frp is.seq is.errstat is.rtc
-tail_word-lt _ t is = ask_lt t.rrp t.frp t.seq t.slid t.rtc is.rrp is.frp is.seq is.slid is.rtc
+ask_lt One layouts.Reply t is = omega arith
+ask_lt Two layouts.Reply t is = omega arith
+ask_lt One _ t is = omega arith
+ask_lt Two _ t is = omega arith
 
-ask_fields : (rrp frp seq slid rtc word : ℕ) → rrp < pointers → frp < pointers → seq < 2 ^ 3 → slid < 2 ^ 3 → rtc < 2 ^ 3 →
-    word ≡ rrp + frp * 2 ^ 9 + seq * 2 ^ 18 + slid * 2 ^ 26 + rtc * 2 ^ 29 →
+pub tail_word-lt : (profile : Profile) (layout : Layout) (t : Tail) → IsTail profile t → tail_word profile layout t < 2 ^ 32
+tail_word-lt profile layout t is = ask_lt profile layout t is
+
+ask_one : (rrp frp seq slid rtc word : ℕ) → rrp < 512 → frp < 512 → seq < 8 → slid < 8 → rtc < 8 → word ≡ rrp + frp * 2 ^ 9 + seq * 2 ^ 18 + slid * 2 ^ 26 + rtc * 2 ^ 29 →
     (bits_from 0 9 word ≡ rrp) × (bits_from 9 9 word ≡ frp) × (bits_from 18 3 word ≡ seq) × (bits_from 26 3 word ≡ slid) × (bits_from 29 3 word ≡ rtc)
-ask_fields rrp frp seq slid rtc word p q r s t is = (omega arith, omega arith, omega arith, omega arith, omega arith)
+ask_one rrp frp seq slid rtc word p q r s t is = (omega arith, omega arith, omega arith, omega arith, omega arith)
 
-reply_fields : (rrp frp seq errstat rtc word : ℕ) → rrp < pointers → frp < pointers → seq < 2 ^ 3 → errstat < 2 ^ 7 → rtc < 2 ^ 3 →
-    word ≡ rrp + frp * 2 ^ 9 + seq * 2 ^ 18 + errstat * 2 ^ 22 + rtc * 2 ^ 29 →
+reply_one : (rrp frp seq errstat rtc word : ℕ) → rrp < 512 → frp < 512 → seq < 8 → errstat < 128 → rtc < 8 → word ≡ rrp + frp * 2 ^ 9 + seq * 2 ^ 18 + errstat * 2 ^ 22 + rtc * 2 ^ 29 →
     (bits_from 0 9 word ≡ rrp) × (bits_from 9 9 word ≡ frp) × (bits_from 18 3 word ≡ seq) × (bits_from 22 7 word ≡ errstat) × (bits_from 29 3 word ≡ rtc)
-reply_fields rrp frp seq errstat rtc word p q r s t is = (omega arith, omega arith, omega arith, omega arith, omega arith)
+reply_one rrp frp seq errstat rtc word p q r s t is = (omega arith, omega arith, omega arith, omega arith, omega arith)
 
-pub tail_of-word : (layout : Layout) (t : Tail) → IsTail t → tail_of layout (tail_word layout t) ≡ kept layout t
+-- in profile Two SLID and ERRSTAT are at one place
+ask_two : (rrp frp seq slid rtc word : ℕ) → rrp < 2048 → frp < 2048 → seq < 8 → slid < 8 → rtc < 8 → word ≡ rrp + frp * 2 ^ 11 + seq * 2 ^ 22 + slid * 2 ^ 25 + rtc * 2 ^ 29 →
+    (bits_from 0 11 word ≡ rrp) × (bits_from 11 11 word ≡ frp) × (bits_from 22 3 word ≡ seq) × (bits_from 25 3 word ≡ slid) × (bits_from 29 3 word ≡ rtc)
+ask_two rrp frp seq slid rtc word p q r s t is = (omega arith, omega arith, omega arith, omega arith, omega arith)
+
+pub tail_of-word : (profile : Profile) (layout : Layout) (t : Tail) → IsTail profile t → tail_of profile layout (tail_word profile layout t) ≡ kept layout t
 unfolding tail_word tail_of kept
-tail_of-word layouts.Reply t is =
-    let f = reply_fields t.rrp t.frp t.seq t.errstat t.rtc _ is.rrp is.frp is.seq is.errstat is.rtc refl in
+tail_of-word One layouts.Reply t is =
+    let f = reply_one t.rrp t.frp t.seq t.errstat t.rtc _ is.rrp is.frp is.seq is.errstat is.rtc refl in
     λ i. record { rrp = f.0 i; frp = f.1 i; seq = f.2 i; slid = 0; errstat = f.3 i; rtc = f.4 i }
-tail_of-word _ t is =
-    let f = ask_fields t.rrp t.frp t.seq t.slid t.rtc _ is.rrp is.frp is.seq is.slid is.rtc refl in
+tail_of-word Two layouts.Reply t is =
+    let f = ask_two t.rrp t.frp t.seq t.errstat t.rtc _ is.rrp is.frp is.seq is.errstat is.rtc refl in
+    λ i. record { rrp = f.0 i; frp = f.1 i; seq = f.2 i; slid = 0; errstat = f.3 i; rtc = f.4 i }
+tail_of-word One _ t is =
+    let f = ask_one t.rrp t.frp t.seq t.slid t.rtc _ is.rrp is.frp is.seq is.slid is.rtc refl in
     λ i. record { rrp = f.0 i; frp = f.1 i; seq = f.2 i; slid = f.3 i; errstat = 0; rtc = f.4 i }
+tail_of-word Two _ t is =
+    let f = ask_two t.rrp t.frp t.seq t.slid t.rtc _ is.rrp is.frp is.seq is.slid is.rtc refl in
+    λ i. record { rrp = f.0 i; frp = f.1 i; seq = f.2 i; slid = f.3 i; errstat = 0; rtc = f.4 i }
+
+-- the fields that a layout lacks don't count
+tail_word-kept : (profile : Profile) (layout : Layout) (t : Tail) → tail_word profile layout (kept layout t) ≡ tail_word profile layout t
+unfolding tail_word kept
+tail_word-kept profile layouts.Reply t = refl
+tail_word-kept profile _ t = refl
 
 start_or_clear : (frp : ℕ) → 1 ≤ frp → frp ≤ 2 → is_start_or_clear frp ≡ true
 start_or_clear zero p q = absurd (omega arith)
@@ -67,96 +121,66 @@ one_or_two frp is =
       | inr two ↦ let same = eqb-true frp 2 two in (omega arith, omega arith)
     ]
 
-ask_zeros : (rrp frp seq slid rtc : ℕ) → rrp < pointers → frp < pointers → seq < 2 ^ 3 → slid < 2 ^ 3 → rtc < 2 ^ 3 → bits_from 21 5 (rrp + frp * 2 ^ 9 + seq * 2 ^ 18 + slid * 2 ^ 26 + rtc * 2 ^ 29) ≡ 0
-ask_zeros rrp frp seq slid rtc p q r s t = omega arith
+both : (a b : Bool) → a ≡ true → b ≡ true → (a && b) ≡ true
+both a b p q = and_from a b p q
 
-reply_zeros : (rrp frp seq errstat rtc : ℕ) → rrp < pointers → frp < pointers → seq < 2 ^ 3 → errstat < 2 ^ 7 → rtc < 2 ^ 3 → bits_from 21 1 (rrp + frp * 2 ^ 9 + seq * 2 ^ 18 + errstat * 2 ^ 22 + rtc * 2 ^ 29) ≡ 0
-reply_zeros rrp frp seq errstat rtc p q r s t = omega arith
+-- the zeros that a layout wants, as a fact and as a test
+has_zeros-TailFits : (layout : Layout) (t : Tail) → TailFits layout t → has_zeros layout (kept layout t) ≡ true
+unfolding kept
+has_zeros-TailFits layouts.Ask t fits = refl
+has_zeros-TailFits layouts.Reply t fits = refl
+has_zeros-TailFits layouts.Tret t fits = eq-eqb t.slid 0 fits
+has_zeros-TailFits layouts.Irtry t fits =
+    both _ _ (both _ _ (eq-eqb t.seq 0 fits.2) (eq-eqb t.slid 0 fits.3)) (both _ _ (eq-eqb t.rtc 0 fits.4) (start_or_clear t.frp fits.0 fits.1))
+has_zeros-TailFits layouts.Pret t fits =
+    both _ _ (both _ _ (eq-eqb t.frp 0 fits.0) (eq-eqb t.seq 0 fits.1)) (both _ _ (eq-eqb t.slid 0 fits.2) (eq-eqb t.rtc 0 fits.3))
+has_zeros-TailFits layouts.Null t fits =
+    both _ _ (both _ _ (eq-eqb t.rrp 0 fits.0) (eq-eqb t.frp 0 fits.1)) (both _ _ (eq-eqb t.seq 0 fits.2) (both _ _ (eq-eqb t.slid 0 fits.3) (eq-eqb t.rtc 0 fits.4)))
 
-tret_zeros : (rrp frp seq slid rtc : ℕ) → rrp < pointers → frp < pointers → seq < 2 ^ 3 → slid ≡ 0 → rtc < 2 ^ 3 → bits_from 21 8 (rrp + frp * 2 ^ 9 + seq * 2 ^ 18 + slid * 2 ^ 26 + rtc * 2 ^ 29) ≡ 0
-tret_zeros rrp frp seq slid rtc p q r s t = omega arith
+TailFits-has_zeros : (layout : Layout) (t : Tail) → has_zeros layout t ≡ true → TailFits layout t
+TailFits-has_zeros layouts.Ask t is = tt
+TailFits-has_zeros layouts.Reply t is = tt
+TailFits-has_zeros layouts.Tret t is = eqb-true t.slid 0 is
+TailFits-has_zeros layouts.Irtry t is =
+    let parts = and_parts (t.seq == 0 && t.slid == 0) (t.rtc == 0 && is_start_or_clear t.frp) is in
+    let low = and_parts (t.seq == 0) (t.slid == 0) parts.0 in
+    let high = and_parts (t.rtc == 0) (is_start_or_clear t.frp) parts.1 in
+    let kind = one_or_two t.frp high.1 in
+    (kind.0, kind.1, eqb-true t.seq 0 low.0, eqb-true t.slid 0 low.1, eqb-true t.rtc 0 high.0)
+TailFits-has_zeros layouts.Pret t is =
+    let parts = and_parts (t.frp == 0 && t.seq == 0) (t.slid == 0 && t.rtc == 0) is in
+    let low = and_parts (t.frp == 0) (t.seq == 0) parts.0 in
+    let high = and_parts (t.slid == 0) (t.rtc == 0) parts.1 in
+    (eqb-true t.frp 0 low.0, eqb-true t.seq 0 low.1, eqb-true t.slid 0 high.0, eqb-true t.rtc 0 high.1)
+TailFits-has_zeros layouts.Null t is =
+    let parts = and_parts (t.rrp == 0 && t.frp == 0) (t.seq == 0 && (t.slid == 0 && t.rtc == 0)) is in
+    let low = and_parts (t.rrp == 0) (t.frp == 0) parts.0 in
+    let high = and_parts (t.seq == 0) (t.slid == 0 && t.rtc == 0) parts.1 in
+    let last = and_parts (t.slid == 0) (t.rtc == 0) high.1 in
+    (eqb-true t.rrp 0 low.0, eqb-true t.frp 0 low.1, eqb-true t.seq 0 high.0, eqb-true t.slid 0 last.0, eqb-true t.rtc 0 last.1)
 
-irtry_zeros : (rrp frp seq slid rtc : ℕ) → rrp < pointers → frp < pointers → seq ≡ 0 → slid ≡ 0 → rtc ≡ 0 → bits_from 18 14 (rrp + frp * 2 ^ 9 + seq * 2 ^ 18 + slid * 2 ^ 26 + rtc * 2 ^ 29) ≡ 0
-irtry_zeros rrp frp seq slid rtc p q r s t = omega arith
-
-pret_zeros : (rrp frp seq slid rtc : ℕ) → rrp < pointers → frp ≡ 0 → seq ≡ 0 → slid ≡ 0 → rtc ≡ 0 → bits_from 9 23 (rrp + frp * 2 ^ 9 + seq * 2 ^ 18 + slid * 2 ^ 26 + rtc * 2 ^ 29) ≡ 0
-pret_zeros rrp frp seq slid rtc p q r s t = omega arith
-
-null_zeros : (rrp frp seq slid rtc : ℕ) → rrp ≡ 0 → frp ≡ 0 → seq ≡ 0 → slid ≡ 0 → rtc ≡ 0 → rrp + frp * 2 ^ 9 + seq * 2 ^ 18 + slid * 2 ^ 26 + rtc * 2 ^ 29 ≡ 0
-null_zeros rrp frp seq slid rtc p q r s t = omega arith
-
-pub tail_is_clean-word : (layout : Layout) (t : Tail) → IsTail t → TailFits layout t → tail_is_clean layout (tail_word layout t) ≡ true
-unfolding tail_word tail_is_clean
-tail_is_clean-word layouts.Ask t is fits = eq-eqb _ 0 (ask_zeros t.rrp t.frp t.seq t.slid t.rtc is.rrp is.frp is.seq is.slid is.rtc)
-tail_is_clean-word layouts.Reply t is fits = eq-eqb _ 0 (reply_zeros t.rrp t.frp t.seq t.errstat t.rtc is.rrp is.frp is.seq is.errstat is.rtc)
-tail_is_clean-word layouts.Tret t is fits = eq-eqb _ 0 (tret_zeros t.rrp t.frp t.seq t.slid t.rtc is.rrp is.frp is.seq fits is.rtc)
-tail_is_clean-word layouts.Irtry t is fits =
-    let f = ask_fields t.rrp t.frp t.seq t.slid t.rtc _ is.rrp is.frp is.seq is.slid is.rtc refl in
-    and_from _ _ (eq-eqb _ 0 (irtry_zeros t.rrp t.frp t.seq t.slid t.rtc is.rrp is.frp fits.2 fits.3 fits.4))
-    (ap is_start_or_clear f.1 ∙ start_or_clear t.frp fits.0 fits.1)
-tail_is_clean-word layouts.Pret t is fits = eq-eqb _ 0 (pret_zeros t.rrp t.frp t.seq t.slid t.rtc is.rrp fits.0 fits.1 fits.2 fits.3)
-tail_is_clean-word layouts.Null t is fits = eq-eqb _ 0 (null_zeros t.rrp t.frp t.seq t.slid t.rtc fits.0 fits.1 fits.2 fits.3 fits.4)
+pub tail_is_clean-word : (profile : Profile) (layout : Layout) (t : Tail) → IsTail profile t → TailFits layout t → tail_is_clean profile layout (tail_word profile layout t) ≡ true
+unfolding tail_is_clean
+tail_is_clean-word profile layout t is fits =
+    let fields = tail_of-word profile layout t is in
+    both _ _
+    (eq-eqb _ _ (ap (tail_word profile layout) fields ∙ tail_word-kept profile layout t))
+    (ap (has_zeros layout) fields ∙ has_zeros-TailFits layout t fits)
 
 -- ---- from the word to the fields
 
-ask_whole : (word : ℕ) → word < 2 ^ 32 → bits_from 21 5 word ≡ 0 →
-    bits_from 0 9 word + bits_from 9 9 word * 2 ^ 9 + bits_from 18 3 word * 2 ^ 18 + bits_from 26 3 word * 2 ^ 26 + bits_from 29 3 word * 2 ^ 29 ≡ word
-ask_whole word lt p = omega arith
-
-reply_whole : (word : ℕ) → word < 2 ^ 32 → bits_from 21 1 word ≡ 0 →
-    bits_from 0 9 word + bits_from 9 9 word * 2 ^ 9 + bits_from 18 3 word * 2 ^ 18 + bits_from 22 7 word * 2 ^ 22 + bits_from 29 3 word * 2 ^ 29 ≡ word
-reply_whole word lt p = omega arith
-
--- how much of a word is zero
-tret_parts : (word : ℕ) → word < 2 ^ 32 → bits_from 21 8 word ≡ 0 → (bits_from 21 5 word ≡ 0) × (bits_from 26 3 word ≡ 0)
-tret_parts word lt is = (omega arith, omega arith)
-
-irtry_parts : (word : ℕ) → word < 2 ^ 32 → bits_from 18 14 word ≡ 0 → (bits_from 21 5 word ≡ 0) × (bits_from 18 3 word ≡ 0) × (bits_from 26 3 word ≡ 0) × (bits_from 29 3 word ≡ 0)
-irtry_parts word lt is = (omega arith, omega arith, omega arith, omega arith)
-
-pret_parts : (word : ℕ) → word < 2 ^ 32 → bits_from 9 23 word ≡ 0 → (bits_from 9 9 word ≡ 0) × (bits_from 18 14 word ≡ 0)
-pret_parts word lt is = (omega arith, omega arith)
-
-null_parts : (word : ℕ) → word ≡ 0 → (bits_from 0 9 word ≡ 0) × (bits_from 9 23 word ≡ 0)
-null_parts word is = (omega arith, omega arith)
-
--- bits 21 to 25 of a clean word are zero, but for those of ERRSTAT
-clean_ask : (layout : Layout) (word : ℕ) → word < 2 ^ 32 → tail_is_clean layout word ≡ true → TailFits layout (tail_of layout word) × ((layout ≡ layouts.Reply → bits_from 21 1 word ≡ 0) × ((layout ≡ layouts.Reply → ⊥) → bits_from 21 5 word ≡ 0))
-unfolding tail_of tail_is_clean
-clean_ask layouts.Ask word lt clean = (tt, (λ is. absurd cc, λ other. eqb-true _ 0 clean))
-clean_ask layouts.Reply word lt clean = (tt, (λ is. eqb-true _ 0 clean, λ other. absurd (other refl)))
-clean_ask layouts.Tret word lt clean =
-    let z = tret_parts word lt (eqb-true _ 0 clean) in
-    (z.1, (λ is. absurd cc, λ other. z.0))
-clean_ask layouts.Irtry word lt clean =
-    let both = and_parts (bits_from 18 14 word == 0) (is_start_or_clear (bits_from 9 9 word)) clean in
-    let z = irtry_parts word lt (eqb-true _ 0 both.0) in
-    let f = one_or_two (bits_from 9 9 word) both.1 in
-    ((f.0, f.1, z.1, z.2, z.3), (λ is. absurd cc, λ other. z.0))
-clean_ask layouts.Pret word lt clean =
-    let y = pret_parts word lt (eqb-true _ 0 clean) in
-    let z = irtry_parts word lt y.1 in
-    ((y.0, z.1, z.2, z.3), (λ is. absurd cc, λ other. z.0))
-clean_ask layouts.Null word lt clean =
-    let x = null_parts word (eqb-true word 0 clean) in
-    let y = pret_parts word lt x.1 in
-    let z = irtry_parts word lt y.1 in
-    ((x.0, y.0, z.1, z.2, z.3), (λ is. absurd cc, λ other. z.0))
-
 -- a clean word has what the layout wants
-pub TailFits-of : (layout : Layout) (word : ℕ) → word < 2 ^ 32 → tail_is_clean layout word ≡ true → TailFits layout (tail_of layout word)
-TailFits-of layout word lt clean = (clean_ask layout word lt clean).0
+pub TailFits-of : (profile : Profile) (layout : Layout) (word : ℕ) → tail_is_clean profile layout word ≡ true → TailFits layout (tail_of profile layout word)
+unfolding tail_is_clean
+TailFits-of profile layout word clean = TailFits-has_zeros layout _ (and_parts (tail_word profile layout (tail_of profile layout word) == word) (has_zeros layout (tail_of profile layout word)) clean).1
 
-pub tail_word-of : (layout : Layout) (word : ℕ) → word < 2 ^ 32 → tail_is_clean layout word ≡ true → tail_word layout (tail_of layout word) ≡ word
-unfolding tail_word tail_of
-tail_word-of layouts.Reply word lt clean = reply_whole word lt ((clean_ask layouts.Reply word lt clean).1.0 refl)
-tail_word-of layouts.Ask word lt clean = ask_whole word lt ((clean_ask layouts.Ask word lt clean).1.1 (λ is. cc))
-tail_word-of layouts.Null word lt clean = ask_whole word lt ((clean_ask layouts.Null word lt clean).1.1 (λ is. cc))
-tail_word-of layouts.Pret word lt clean = ask_whole word lt ((clean_ask layouts.Pret word lt clean).1.1 (λ is. cc))
-tail_word-of layouts.Tret word lt clean = ask_whole word lt ((clean_ask layouts.Tret word lt clean).1.1 (λ is. cc))
-tail_word-of layouts.Irtry word lt clean = ask_whole word lt ((clean_ask layouts.Irtry word lt clean).1.1 (λ is. cc))
+pub tail_word-of : (profile : Profile) (layout : Layout) (word : ℕ) → tail_is_clean profile layout word ≡ true → tail_word profile layout (tail_of profile layout word) ≡ word
+unfolding tail_is_clean
+tail_word-of profile layout word clean = eqb-true _ word (and_parts (tail_word profile layout (tail_of profile layout word) == word) (has_zeros layout (tail_of profile layout word)) clean).0
 
-pub IsTail-of : (layout : Layout) (word : ℕ) → IsTail (tail_of layout word)
+pub IsTail-of : (profile : Profile) (layout : Layout) (word : ℕ) → IsTail profile (tail_of profile layout word)
 unfolding tail_of
-IsTail-of layouts.Reply word = record { rrp = omega arith; frp = omega arith; seq = omega arith; slid = omega arith; errstat = omega arith; rtc = omega arith }
-IsTail-of _ word = record { rrp = omega arith; frp = omega arith; seq = omega arith; slid = omega arith; errstat = omega arith; rtc = omega arith }
+IsTail-of One layouts.Reply word = record { rrp = omega arith; frp = omega arith; seq = omega arith; slid = omega arith; errstat = omega arith; rtc = omega arith }
+IsTail-of Two layouts.Reply word = record { rrp = omega arith; frp = omega arith; seq = omega arith; slid = omega arith; errstat = omega arith; rtc = omega arith }
+IsTail-of One _ word = record { rrp = omega arith; frp = omega arith; seq = omega arith; slid = omega arith; errstat = omega arith; rtc = omega arith }
+IsTail-of Two _ word = record { rrp = omega arith; frp = omega arith; seq = omega arith; slid = omega arith; errstat = omega arith; rtc = omega arith }

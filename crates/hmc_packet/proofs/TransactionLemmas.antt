@@ -4,7 +4,7 @@ use Rattle.std.specs.Prelude.{◌&&◌, ◌||◌, ◌==◌, nat_le, is_some, rep
 use Rattle.std.proofs.lemmas.Bool.{eqb-true, eq-eqb, and_parts, and_from, leb-true, le-leb, or_cases, or_left, or_right}
 use Rattle.std.proofs.lemmas.List.{length-take, take_at, drop_at, take-append-drop}
 use Rattle.hmc_codes.specs.Bytes.{IsBytes}
-use Rattle.hmc_codes.specs.Table.{line_of}
+use Rattle.hmc_codes.specs.Table.{table_line}
 use Rattle.hmc_codes.specs.Commands.{layout_of, allows_of, family_of, family_of_layout, payload_len_of, is_ask}
 use Rattle.hmc_codes.specs.Request.{RequestFields, IsRequest}
 use Rattle.hmc_codes.specs.declared.answer.Answer.{Answer}
@@ -18,7 +18,8 @@ use Rattle.hmc_codes.proofs.BytesLemmas.{IsBytes-[], IsBytes-append, IsBytes-tak
 use Rattle.hmc_packet.specs.Packet.{PacketFields, IsPacket, IsLaidOut}
 use Rattle.hmc_packet.specs.Spelling.{half_bytes}
 use Rattle.hmc_packet.specs.Parts.{half_of}
-use Rattle.hmc_packet.specs.Transactions.{asked, response, replied, is_returned, CanReply, IsAnswer, with_zeros, payload_of, request_in, answer_by, answer_in}
+use Rattle.hmc_codes.specs.Answer.{is_returned, CanReply, IsAnswer}
+use Rattle.hmc_packet.specs.Transactions.{request_packet, response, reply_packet, with_zeros, payload_of, request_in, answer_by, answer_in}
 use Rattle.hmc_packet.proofs.CommandLemmas.{ask-payload, ask-allows}
 use Rattle.hmc_packet.proofs.PartLemmas.{length-half_bytes, half_of-half_bytes, IsBytes-half_bytes}
 
@@ -42,14 +43,14 @@ ask_laid_out layouts.Pret p is flag errstat = absurd cc
 ask_laid_out layouts.Tret p is flag errstat = absurd cc
 ask_laid_out layouts.Irtry p is flag errstat = absurd cc
 
-pub IsPacket-asked : (r : RequestFields) (tag slid : ℕ) (poisoned : Bool) → IsRequest r → tag < 2 ^ 11 → slid < 8 → IsPacket (asked r tag slid poisoned)
-unfolding asked
-IsPacket-asked r tag slid poisoned is tag-fits slid-fits =
+pub IsPacket-request_packet : (r : RequestFields) (tag slid : ℕ) (poisoned : Bool) → IsRequest r → tag < 2 ^ 11 → slid < 8 → IsPacket (request_packet r tag slid poisoned)
+unfolding request_packet
+IsPacket-request_packet r tag slid poisoned is tag-fits slid-fits =
     let layout = asks-layout (layout_of r.command) is.asks in
     let allowed = ask-allows r.command (length r.payload) layout is.payload in
     record {
       ranges = record { tag = tag-fits; address = is.address; cube = is.cube; slid = slid-fits; errstat = lit< tt; rtc = lit< tt; seq = lit< tt; frp = lit< tt };
-      layout = ask_laid_out (layout_of r.command) (asked r tag slid poisoned) layout refl refl;
+      layout = ask_laid_out (layout_of r.command) (request_packet r tag slid poisoned) layout refl refl;
       payload = record { bytes = is.bytes; whole = allowed.0; allowed = allowed.1 };
     }
 
@@ -60,7 +61,7 @@ mdwr_or_other Mdwr = inl refl
 mdwr_or_other _ = inr (λ is. cc, λ payload. refl)
 
 payload_len_of-mdwr : payload_len_of Mdwr ≡ 16
-unfolding line_of
+unfolding table_line
 payload_len_of-mdwr = refl
 
 payload_of-mdwr : (payload : List ℕ) → payload_of Mdwr payload ≡ with_zeros (take 4 payload)
@@ -144,9 +145,9 @@ request_payload_back r is =
     ]
 
 -- a request is read back from its packet
-pub request_in-asked : (r : RequestFields) (tag slid : ℕ) (poisoned : Bool) → IsRequest r → request_in (asked r tag slid poisoned) ≡ Some r
-unfolding request_in asked
-request_in-asked r tag slid poisoned is =
+pub request_in-request_packet : (r : RequestFields) (tag slid : ℕ) (poisoned : Bool) → IsRequest r → request_in (request_packet r tag slid poisoned) ≡ Some r
+unfolding request_in request_packet
+request_in-request_packet r tag slid poisoned is =
     let asks : is_ask (layout_of r.command) ≡ true = ap is_ask (asks-layout (layout_of r.command) is.asks) in
     let made : Option RequestFields = Some (record { command = r.command; cube = r.cube; address = r.address; payload = payload_of r.command r.payload }) in
     ap (λ (b : Bool). cond b made None) asks ∙ (λ i. Some (record { command = r.command; cube = r.cube; address = r.address; payload = request_payload_back r is i }))
@@ -180,7 +181,7 @@ returned_whole n is =
     ]
 
 allows_of-read : (n : ℕ) → allows_of RdRs n ≡ ((nat_le 2 n && nat_le n 9) || n == 17)
-unfolding line_of
+unfolding table_line
 allows_of-read n = refl
 
 few_low : (n : ℕ) → 16 ≤ n → 2 ≤ 1 + n / 16
@@ -202,38 +203,38 @@ returned_allowed n is =
     ]
 
 pub IsPacket-register : (value tag slid cube : ℕ) → tag < 2 ^ 11 → slid < 8 → cube < 8 → IsPacket (response MdRdRs false 0 (with_zeros (half_bytes value)) tag slid cube)
-unfolding line_of
+unfolding table_line
 IsPacket-register value tag slid cube t s c =
     let len : length (with_zeros (half_bytes value)) ≡ 16 = length-with_zeros (half_bytes value) (length-half_bytes value) in
     IsPacket-response MdRdRs false 0 (with_zeros (half_bytes value)) tag slid cube refl (lit< tt) (IsBytes-with_zeros (half_bytes value) (IsBytes-half_bytes value))
     (ap (λ (n : ℕ). n % 16) len) (ap (λ (n : ℕ). allows_of MdRdRs (1 + n / 16)) len) t s c
 
 -- what `reply` makes is a packet
-pub IsPacket-replied : (a : Answer) (tag slid cube : ℕ) → CanReply a → IsAnswer a → tag < 2 ^ 11 → slid < 8 → cube < 8 → IsPacket (replied a tag slid cube)
-unfolding replied line_of
-IsPacket-replied Silent tag slid cube can fits t s c = absurd can
-IsPacket-replied (Done flag) tag slid cube can fits t s c = IsPacket-response WrRs flag 0 [] tag slid cube refl (lit< tt) IsBytes-[] refl refl t s c
-IsPacket-replied (Read flag payload) tag slid cube can fits t s c =
+pub IsPacket-reply_packet : (a : Answer) (tag slid cube : ℕ) → CanReply a → IsAnswer a → tag < 2 ^ 11 → slid < 8 → cube < 8 → IsPacket (reply_packet a tag slid cube)
+unfolding reply_packet table_line
+IsPacket-reply_packet Silent tag slid cube can fits t s c = absurd can
+IsPacket-reply_packet (Done flag) tag slid cube can fits t s c = IsPacket-response WrRs flag 0 [] tag slid cube refl (lit< tt) IsBytes-[] refl refl t s c
+IsPacket-reply_packet (Read flag payload) tag slid cube can fits t s c =
     IsPacket-response RdRs flag 0 payload tag slid cube refl (lit< tt) fits (returned_whole (length payload) can).0 (returned_allowed (length payload) can) t s c
-IsPacket-replied (Register value) tag slid cube can fits t s c = IsPacket-register value tag slid cube t s c
-IsPacket-replied Stored tag slid cube can fits t s c = IsPacket-response MdWrRs false 0 [] tag slid cube refl (lit< tt) IsBytes-[] refl refl t s c
-IsPacket-replied (Refused errstat) tag slid cube can fits t s c = IsPacket-response Error false errstat [] tag slid cube refl can IsBytes-[] refl refl t s c
+IsPacket-reply_packet (Register value) tag slid cube can fits t s c = IsPacket-register value tag slid cube t s c
+IsPacket-reply_packet Stored tag slid cube can fits t s c = IsPacket-response MdWrRs false 0 [] tag slid cube refl (lit< tt) IsBytes-[] refl refl t s c
+IsPacket-reply_packet (Refused errstat) tag slid cube can fits t s c = IsPacket-response Error false errstat [] tag slid cube refl can IsBytes-[] refl refl t s c
 
 -- an answer is read back from its packet
-pub answer_in-replied : (a : Answer) (tag slid cube : ℕ) → CanReply a → IsAnswer a → answer_in (replied a tag slid cube) ≡ Some a
-unfolding answer_in answer_by replied
-answer_in-replied Silent tag slid cube can fits = absurd can
-answer_in-replied (Done flag) tag slid cube can fits = refl
-answer_in-replied (Read flag payload) tag slid cube can fits = refl
-answer_in-replied (Register value) tag slid cube can fits =
+pub answer_in-reply_packet : (a : Answer) (tag slid cube : ℕ) → CanReply a → IsAnswer a → answer_in (reply_packet a tag slid cube) ≡ Some a
+unfolding answer_in answer_by reply_packet
+answer_in-reply_packet Silent tag slid cube can fits = absurd can
+answer_in-reply_packet (Done flag) tag slid cube can fits = refl
+answer_in-reply_packet (Read flag payload) tag slid cube can fits = refl
+answer_in-reply_packet (Register value) tag slid cube can fits =
     let front : half_of (take 4 (with_zeros (half_bytes value))) ≡ value = ap half_of (take-with_zeros (half_bytes value) (length-half_bytes value)) ∙ half_of-half_bytes value fits in
     λ i. Some (Register (front i))
-answer_in-replied Stored tag slid cube can fits = refl
-answer_in-replied (Refused errstat) tag slid cube can fits = refl
+answer_in-reply_packet Stored tag slid cube can fits = refl
+answer_in-reply_packet (Refused errstat) tag slid cube can fits = refl
 
 -- the responses carry an answer, and no other packet does
 answer_by-replies : (c : Command) (p : PacketFields) → (is_some (answer_by c p) ≡ true → family_of c ≡ families.Reply) × (family_of c ≡ families.Reply → is_some (answer_by c p) ≡ true)
-unfolding answer_by line_of
+unfolding answer_by table_line
 answer_by-replies WrRs p = (λ is. refl, λ is. refl)
 answer_by-replies RdRs p = (λ is. refl, λ is. refl)
 answer_by-replies MdRdRs p = (λ is. refl, λ is. refl)
@@ -247,7 +248,7 @@ answer_in-replies p = answer_by-replies p.command p
 
 -- the value of a register is in a whole flit
 pub register_payload : (p : PacketFields) → IsPacket p → p.command ≡ MdRdRs → 4 ≤ length p.payload
-unfolding line_of
+unfolding table_line
 register_payload p is register =
     let two : 1 + length p.payload / 16 ≡ 2 = eqb-true (1 + length p.payload / 16) 2 (ap (λ (c : Command). allows_of c (1 + length p.payload / 16)) (sym register) ∙ is.payload.allowed) in
     omega arith

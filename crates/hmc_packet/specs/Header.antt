@@ -21,7 +21,9 @@ pub record IsHeader (h : Header) : Type 0 where
 
 -- the word with these fields; a field that the layout lacks is left out
 unfoldable pub header_word : Layout → Header → ℕ
-header_word layouts.Reply h = h.code + h.flits * 2 ^ 7 + h.tag * 2 ^ 12 + bit h.flag * 2 ^ 33 + h.slid * 2 ^ 39 + h.cube * 2 ^ 61
+header_word layouts.Reply h =
+    h.code + h.flits * 2 ^ 7 + h.tag * 2 ^ 12
+    + bit h.flag * 2 ^ 33 + h.slid * 2 ^ 39 + h.cube * 2 ^ 61
 header_word _ h = h.code + h.flits * 2 ^ 7 + h.tag * 2 ^ 12 + h.address * 2 ^ 24 + h.cube * 2 ^ 61
 
 -- the fields of a word; those that the layout lacks are zero
@@ -48,5 +50,6 @@ header_of _ word = record {
 -- each reserved bit is zero
 unfoldable pub header_is_clean : Layout → ℕ → Bool
 header_is_clean layouts.Ask word = bits_from 23 1 word == 0 && bits_from 58 3 word == 0
-header_is_clean layouts.Reply word = (bits_from 23 10 word == 0 && bits_from 34 5 word == 0) && bits_from 42 19 word == 0
+header_is_clean layouts.Reply word =
+    (bits_from 23 10 word == 0 && bits_from 34 5 word == 0) && bits_from 42 19 word == 0
 header_is_clean _ word = bits_from 12 52 word == 0

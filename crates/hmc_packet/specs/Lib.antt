@@ -8,3 +8,5 @@ pub mod Reading
 pub mod Transactions
 pub mod Head
 pub mod Laws
+pub mod Irtry
+pub mod Copy

@@ -6,7 +6,6 @@ use Rattle.hmc_codes.specs.declared.layout.Layout.{Layout}
 use Rattle.hmc_codes.specs.declared.layout.Layout.TheVariants as layouts
 use Rattle.hmc_codes.specs.declared.command.Command.{Command}
 use Rattle.hmc_codes.specs.declared.command.Command.TheVariants.{Null}
-use Rattle.hmc_packet.specs.Tail.{pointers}
 
 -- a packet's fields, without the return pointer
 pub record PacketFields : Type 0 where
@@ -23,7 +22,7 @@ pub record PacketFields : Type 0 where
   pub poisoned : Bool
   pub payload : List ℕ
 
--- the length in flits: header and tail have one between them, and each further one has 16 bytes of payload
+-- the length in flits: header and tail fill one, and each further flit has 16 bytes of payload
 abbrev pub flits_of : PacketFields → ℕ
 flits_of p = 1 + length p.payload / 16
 
@@ -36,9 +35,9 @@ pub record IsInRange (p : PacketFields) : Type 0 where
   pub errstat : p.errstat < 2 ^ 7
   pub rtc : p.rtc < 8
   pub seq : p.seq < 8
-  pub frp : p.frp < pointers
+  pub frp : p.frp < 2 ^ 11
 
--- a packet between the two ends of a link: it has no transaction's fields, and can't be poisoned
+-- a packet between the two ends of a link has no fields of a transaction, and can't be poisoned
 pub record IsFlow (p : PacketFields) : Type 0 where
   pub tag : p.tag ≡ 0
   pub address : p.address ≡ 0
@@ -53,7 +52,8 @@ pub record IsUncounted (p : PacketFields) : Type 0 where
   pub rtc : p.rtc ≡ 0
   pub seq : p.seq ≡ 0
 
--- a field that the layout lacks is zero, and so is each that is always zero; the FRP of an IRTRY says which of the two it is
+-- a field that the layout lacks is zero, and so is each that is always zero; the FRP of an IRTRY is
+-- 1 for a start and 2 for a clear
 abbrev pub IsLaidOut : Layout → PacketFields → Type 0
 IsLaidOut layouts.Null p = IsFlow p × IsUncounted p × (p.frp ≡ 0)
 IsLaidOut layouts.Pret p = IsFlow p × IsUncounted p × (p.frp ≡ 0)
@@ -76,4 +76,17 @@ pub record IsPacket (p : PacketFields) : Type 0 where
 
 -- all of its fields are zero
 abbrev pub null_packet : PacketFields
-null_packet = record { command = Null; tag = 0; address = 0; cube = 0; slid = 0; flag = false; errstat = 0; rtc = 0; seq = 0; frp = 0; poisoned = false; payload = [] }
+null_packet = record {
+  command = Null;
+  tag = 0;
+  address = 0;
+  cube = 0;
+  slid = 0;
+  flag = false;
+  errstat = 0;
+  rtc = 0;
+  seq = 0;
+  frp = 0;
+  poisoned = false;
+  payload = [];
+}

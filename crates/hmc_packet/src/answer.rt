@@ -8,7 +8,8 @@ ghost use Rattle.hmc_codes.specs.declared.family.Family.TheVariants as families;
 ghost use Rattle.hmc_packet.specs.Packet.{IsPacket};
 ghost use Rattle.hmc_packet.specs.Spelling.{half_bytes};
 ghost use Rattle.hmc_packet.specs.Parts.{half_of};
-ghost use Rattle.hmc_packet.specs.Transactions.{with_zeros, response, replied, CanReply, answer_in};
+ghost use Rattle.hmc_codes.specs.Answer.{CanReply};
+ghost use Rattle.hmc_packet.specs.Transactions.{with_zeros, response, reply_packet, answer_in};
 
 use crate::Packet;
 use crate::reading::half_of;
@@ -24,9 +25,10 @@ struct Way {
     cube: u8,
 }
 
-// What the payload holds are bytes: that is what its slice says.
+// Each number of the payload is a byte: that is a clause of its slice.
 fn response(command: Command, flag: bool, errstat: u8, payload: &Payload, way: Way) -> Packet
-    requires { IsBytes payload.now → IsPacket (response command flag errstat payload.now way.tag way.slid way.cube) }
+    requires { IsBytes payload.now
+        → IsPacket (response command flag errstat payload.now way.tag way.slid way.cube) }
     ensures { result ≡ response command flag errstat payload.now way.tag way.slid way.cube }
 {
     let _ = payload.as_slice();
@@ -60,23 +62,26 @@ fn payload_of_register(value: u32) -> Payload
 }
 
 fn register_response(value: u32, way: Way) -> Packet
-    requires { IsPacket (response MdRdRs false 0 (with_zeros (half_bytes value)) way.tag way.slid way.cube) }
-    ensures { result ≡ response MdRdRs false 0 (with_zeros (half_bytes value)) way.tag way.slid way.cube }
+    requires { IsPacket
+        (response MdRdRs false 0 (with_zeros (half_bytes value)) way.tag way.slid way.cube) }
+    ensures { result
+        ≡ response MdRdRs false 0 (with_zeros (half_bytes value)) way.tag way.slid way.cube }
 {
     response(Command::MdRdRs, false, 0, &payload_of_register(value), way)
 }
 
 /// The packet of an answer: RTC, SEQ and FRP are zero until it is sent.
 ///
-/// The answer isn't Silent, what was read is 16 to 128 bytes in steps of 16 or 256 bytes, and an errstat is below 128.
-/// The tag is below 2,048; the host link `slid` and the cube that answers are below 8.
-#[tactic(auto, unfolding(crate::specs::Transactions::replied))]
+/// The answer isn't Silent, what was read is 16 to 128 bytes in steps of 16 or 256 bytes, and an
+/// errstat is below 128. The tag is below 2,048; the host link `slid` and the cube that answers are
+/// below 8.
+#[tactic(auto, unfolding(crate::specs::Transactions::reply_packet))]
 pub fn reply(answer: &Answer, tag: u16, slid: u8, cube: u8) -> Packet
     requires answer { CanReply answer.now }
     requires tag { tag < 2 ^ 11 }
     requires slid { slid < 8 }
     requires cube { cube < 8 }
-    ensures { result ≡ replied answer.now tag slid cube }
+    ensures { result ≡ reply_packet answer.now tag slid cube }
 {
     let way = Way { tag, slid, cube };
     match answer {

@@ -1,4 +1,4 @@
-//! Why flits are no packet.
+//! Why flits are not a packet.
 
 /// The first test that flits fail.
 #[derive(Clone, Copy, Debug, PartialEq, Eq)]
@@ -7,7 +7,7 @@ pub enum Bad {
     Length,
     /// The table lacks the code, or it is 0, or the command doesn't allow the LNG.
     Command,
-    /// A bit that has to be zero isn't, or an IRTRY is neither of the two.
+    /// A bit that has to be zero is not, or an IRTRY is neither a start nor a clear.
     Reserved,
     /// The check is wrong.
     Crc,

@@ -1,19 +1,17 @@
-//! The two flits that stand for no packet.
+//! The flits that are the same in every link: that of a NULL, and the training flit.
 
 ghost use Rattle.std.specs.Prelude.{◌≡◌};
-ghost use Rattle.hmc_packet.specs.Spelling.{null_flit, training_flit};
+ghost use Rattle.hmc_codes.specs.Flit.{zero_flit};
+ghost use Rattle.hmc_packet.specs.Spelling.{training_flit};
 
-use hmc_codes::Flit;
+use hmc_codes::{Flit, ZERO_FLIT};
 
-/// The one flit of a NULL.
-pub const NULL_FLIT: Flit = [0; 16];
-
-/// What trains a receiver. It is the first flit of no packet.
+/// The flit that trains a receiver. No packet begins with it.
 pub const TRAINING_FLIT: Flit = [0x5a; 16];
 
-/// Nothing is done: the contract says which flits the two constants are.
-#[tactic(auto, unfolding(crate::specs::Spelling::null_flit, crate::specs::Spelling::training_flit))]
+/// Does nothing. Its contract is which flits the two constants are.
+#[tactic(auto, unfolding(hmc_codes::specs::Flit::zero_flit, crate::specs::Spelling::training_flit))]
 pub fn constant_flits()
-    ensures null { NULL_FLIT ≡ null_flit }
+    ensures zero { ZERO_FLIT ≡ zero_flit }
     ensures training { TRAINING_FLIT ≡ training_flit }
 {}

@@ -1,4 +1,4 @@
-//! What a packet's first flit tells alone.
+//! What a packet's first flit alone shows.
 
 ghost use Rattle.std.specs.Prelude.{◌≡◌};
 ghost use Rattle.hmc_packet.specs.Head.{named_by, head_with, head_in};
@@ -10,17 +10,18 @@ use hmc_codes::{Command, Flit, Layout};
 /// The head of a request or a response.
 #[derive(Clone, Copy, Debug, PartialEq, Eq)]
 pub struct Head {
+    /// Of a request or a response.
     pub command: Command,
     /// The packet's length in flits, 1 to 17.
     pub flits: u8,
     /// Below 8.
     pub cube: u8,
-    /// The host link that a response goes to, below 8. Of a request 0: its SLID stands in the tail.
+    /// The host link that a response goes to, below 8. Of a request 0: its SLID is in its tail.
     pub slid: u8,
 }
 
 #[tactic(auto, unfolding(crate::specs::Head::named_by))]
-fn named_by(flit: &Flit) -> Option<Command>
+pub fn named_by(flit: &Flit) -> Option<Command>
     ensures { result ≡ named_by flit.now }
 {
     command_in(header_in(flit))
@@ -45,8 +46,8 @@ fn head_with(layout: Layout, command: Command, word: u64) -> Option<Head>
 
 /// The head that a flit has as a packet's first one.
 ///
-/// None where it names no command of a request or a response that allows its LNG, or where a reserved bit of its header
-/// isn't zero.
+/// `None` where its command is not that of a request or a response, or doesn't allow its LNG, or
+/// where a reserved bit of its header is not zero.
 #[tactic(auto, unfolding(crate::specs::Head::head_in))]
 pub fn head_of(flit: &Flit) -> Option<Head>
     ensures { result ≡ head_in flit.now }

@@ -1,25 +1,30 @@
 //! Packets, and how they are spelled as flits and read again.
 //!
-//! The model: a [`Packet`] is a record of its fields (`PacketFields`) that keeps `IsPacket`: each field in its range, zero
-//! where the command's layout lacks it, and whole flits of payload, as many as the command allows. `spelling` gives the
-//! flits of a packet and a return pointer, each a list of 16 bytes. `read_of` gives what flits read as: a packet and its
-//! pointer, or the first test that they fail.
+//! The model: a [`Packet`] is a record of its fields (`PacketFields`) that keeps `IsPacket`: each
+//! field is in its range, and zero where the command's layout lacks it, and the payload is whole
+//! flits, as many as the command allows. `spelling` gives the flits of a packet and a return
+//! pointer, each a list of 16 bytes. `read_of` gives what flits read as: a packet and its pointer,
+//! or the first test that they fail.
 //!
-//! - [`spell`] gives the spelling, and [`read`] what flits read as: what is read is spelled so, and what is spelled is
-//!   read so. [`lng_of`] and [`is_null`] look at one flit.
-//! - [`ask`], [`reply`], [`request_of`] and [`answer_of`] carry requests and answers in packets and take them out:
-//!   `asked`, `replied`, `request_in` and `answer_in`.
+//! - [`spell`] returns `spelling`, and [`read`] returns `read_of`: `read` is `Ok` exactly on the
+//!   spellings of packets, and inverts `spell`. [`lng_of`] and [`is_null`] look at one flit.
+//! - [`ask`] and [`reply`] return `request_packet` and `reply_packet`, [`request_of`] and
+//!   [`answer_of`] return `request_in` and `answer_in`.
 //! - [`head_of`] reads a first flit alone: `head_in`.
 //!
-//! A layer above need not look into bytes: it cites these words, and the laws in `laws.rt`, each the contract of a
-//! function that does nothing.
+//! A layer above doesn't look into bytes: it cites these words, and the laws in `laws.rt`, each the
+//! contract of a function that does nothing.
 #![tactic(auto)]
 
 mod answer;
 mod bad;
+mod copy;
+mod feed;
 mod flits;
 mod head;
 mod header;
+mod kind;
+mod landed;
 mod laws;
 mod packet;
 mod reading;
@@ -27,12 +32,17 @@ mod request;
 mod seen;
 mod spelling;
 mod tail;
+mod view;
 mod what;
 
 pub use answer::{answer_of, reply};
 pub use bad::Bad;
-pub use flits::{NULL_FLIT, TRAINING_FLIT, constant_flits};
+pub use copy::last_feed_of;
+pub use feed::Feed;
+pub use flits::{TRAINING_FLIT, constant_flits};
 pub use head::{Head, head_of};
+pub use kind::Kind;
+pub use landed::Landed;
 pub use laws::{
     answer_comes_back, first_flit_alone_reads_as_no_other_command,
     first_flit_names_length_and_command, first_flit_tells_the_head, flow_packet_is_one_flit,
@@ -44,4 +54,5 @@ pub use reading::{is_null, lng_of, read};
 pub use request::{ask, request_of};
 pub use seen::Seen;
 pub use spelling::spell;
+pub use view::{Mode, View};
 pub use what::What;

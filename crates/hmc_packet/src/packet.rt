@@ -28,7 +28,7 @@ pub struct Packet {
     pub rtc: u8,
     /// The sequence number, below 8.
     pub seq: u8,
-    /// The forward retry pointer, below 512.
+    /// The forward retry pointer, below 2,048, and in profile One below 512.
     pub frp: u16,
     /// Whether its check is the inverse of the right one.
     pub poisoned: bool,
@@ -41,16 +41,55 @@ impl Model for Packet {
 
     ghost Value = { PacketFields };
 
-    ghost view = { λ p. record { command = p.command; tag = p.tag; address = p.address; cube = p.cube; slid = p.slid; flag = p.flag; errstat = p.errstat; rtc = p.rtc; seq = p.seq; frp = p.frp; poisoned = p.poisoned; payload = p.payload } };
+    ghost view = { λ p. record {
+      command = p.command;
+      tag = p.tag;
+      address = p.address;
+      cube = p.cube;
+      slid = p.slid;
+      flag = p.flag;
+      errstat = p.errstat;
+      rtc = p.rtc;
+      seq = p.seq;
+      frp = p.frp;
+      poisoned = p.poisoned;
+      payload = p.payload;
+    } };
 
-    ghost invariant = { λ p. IsPacket (record { command = p.command; tag = p.tag; address = p.address; cube = p.cube; slid = p.slid; flag = p.flag; errstat = p.errstat; rtc = p.rtc; seq = p.seq; frp = p.frp; poisoned = p.poisoned; payload = p.payload }) };
+    ghost invariant = { λ p. IsPacket (record {
+      command = p.command;
+      tag = p.tag;
+      address = p.address;
+      cube = p.cube;
+      slid = p.slid;
+      flag = p.flag;
+      errstat = p.errstat;
+      rtc = p.rtc;
+      seq = p.seq;
+      frp = p.frp;
+      poisoned = p.poisoned;
+      payload = p.payload;
+    }) };
 
-    ghost inverse = { λ p. record { command = p.command; tag = p.tag; address = p.address; cube = p.cube; slid = p.slid; flag = p.flag; errstat = p.errstat; rtc = p.rtc; seq = p.seq; frp = p.frp; poisoned = p.poisoned; payload = p.payload } };
+    ghost inverse = { λ p. record {
+      command = p.command;
+      tag = p.tag;
+      address = p.address;
+      cube = p.cube;
+      slid = p.slid;
+      flag = p.flag;
+      errstat = p.errstat;
+      rtc = p.rtc;
+      seq = p.seq;
+      frp = p.frp;
+      poisoned = p.poisoned;
+      payload = p.payload;
+    } };
 }
 
 impl Packet {
     /// Nothing is done: what every packet keeps is the contract.
-    pub fn keeps(&self)
+    pub fn invariant(&self)
         ensures { IsPacket self.now }
     {
         let _ = &self.command;

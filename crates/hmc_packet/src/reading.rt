@@ -5,16 +5,17 @@ ghost use Rattle.std.specs.List.{concat};
 ghost use Rattle.hmc_packet.specs.Bits.{bits_from};
 ghost use Rattle.hmc_codes.specs.Commands.{is_flow};
 ghost use Rattle.hmc_packet.specs.Packet.{PacketFields, IsPacket};
-ghost use Rattle.hmc_packet.specs.Spelling.{HasPointer, null_flit, spelling};
+ghost use Rattle.hmc_packet.specs.Spelling.{FitsProfile, spelling};
+ghost use Rattle.hmc_codes.specs.Flit.{zero_flit};
 ghost use Rattle.hmc_packet.specs.Parts.{word_of, half_of, header_in, payload_in, tail_in, check_in, lng_of};
-ghost use Rattle.hmc_packet.specs.Reading.{is_null, is_null_alone, has_length, fitting, command_in, is_clean, poison_in, packet_from, seen_in, judged, bytes_read, read_of, AreBytesOf, IsSpelled};
+ghost use Rattle.hmc_packet.specs.Reading.{is_null, is_null_alone, has_length, fitting, command_in, is_clean, poison_in, packet_from, seen_in, judgement_of, bytes_read, read_of, AreBytesOf, IsSpelled};
 
 use crate::header::Header;
 use crate::spelling::{Bytes, append};
 use crate::tail::Tail;
 use crate::{Bad, Packet, Seen};
-use hmc_codes::{Command, Flit, Layout, Payload};
-use hmc_crc::crc;
+use hmc_codes::{Command, Flit, Layout, Payload, Profile, ZERO_FLIT};
+use hmc_crc::crc_fast;
 
 #[tactic(auto, unfolding(crate::specs::Parts::word_of))]
 fn word_of(bytes: &[u8]) -> u64
@@ -65,12 +66,12 @@ pub fn lng_of(flit: &Flit) -> u8
 }
 
 /// Whether a flit is a NULL.
-#[tactic(auto, unfolding(crate::specs::Reading::is_null, crate::specs::Spelling::null_flit))]
+#[tactic(auto, unfolding(crate::specs::Reading::is_null, hmc_codes::specs::Flit::zero_flit))]
 pub fn is_null(flit: &Flit) -> bool
     ensures value { result ≡ is_null flit.now }
-    ensures zeros { IsTrue result ↔ (flit.now ≡ null_flit) }
+    ensures zeros { IsTrue result ↔ (flit.now ≡ zero_flit) }
 {
-    flit.as_slice() == [0; 16].as_slice()
+    flit.as_slice() == ZERO_FLIT.as_slice()
 }
 
 #[tactic(auto, unfolding(crate::specs::Reading::is_null_alone))]
@@ -133,11 +134,11 @@ pub fn command_in(header: u64) -> Option<Command>
 }
 
 #[tactic(auto, unfolding(crate::specs::Reading::is_clean))]
-fn is_clean(layout: Layout, bytes: &[u8]) -> bool
+fn is_clean(profile: Profile, layout: Layout, bytes: &[u8]) -> bool
     requires { 16 ≤ length bytes.now }
-    ensures { result ≡ is_clean layout bytes.now }
+    ensures { result ≡ is_clean profile layout bytes.now }
 {
-    Header::is_clean(layout, header_in(bytes)) && Tail::is_clean(layout, tail_in(bytes))
+    Header::is_clean(layout, header_in(bytes)) && Tail::is_clean(profile, layout, tail_in(bytes))
 }
 
 // Whether a packet is a request or a response.
@@ -161,17 +162,17 @@ fn poison_in(layout: Layout, check: u32, right: u32) -> Option<bool>
     }
 }
 
-#[tactic(auto, unfolding(crate::specs::Reading::judged))]
-fn judged(bytes: &[u8]) -> Result<(Command, bool), Bad>
+#[tactic(auto, unfolding(crate::specs::Reading::judgement_of))]
+fn judgement_of(profile: Profile, bytes: &[u8]) -> Result<(Command, bool), Bad>
     requires { 16 ≤ length bytes.now }
-    ensures { result ≡ judged bytes.now }
+    ensures { result ≡ judgement_of profile bytes.now }
 {
     let command = command_in(header_in(bytes)).ok_or(Bad::Command)?;
     let layout = command.layout();
-    if !is_clean(layout, bytes) {
+    if !is_clean(profile, layout, bytes) {
         return Err(Bad::Reserved);
     }
-    let right = crc(&bytes[..bytes.len() - 4]);
+    let right = crc_fast(&bytes[..bytes.len() - 4]);
     let poisoned = poison_in(layout, check_in(bytes), right).ok_or(Bad::Crc)?;
     Ok((command, poisoned))
 }
@@ -219,15 +220,15 @@ fn payload_in(bytes: &[u8]) -> Payload
 }
 
 #[tactic(auto, unfolding(crate::specs::Reading::seen_in))]
-fn seen_in(command: Command, poisoned: bool, bytes: &[u8]) -> Seen
+fn seen_in(profile: Profile, command: Command, poisoned: bool, bytes: &[u8]) -> Seen
     requires few { length bytes.now ≤ 272 }
     requires some { 16 ≤ length bytes.now }
-    requires packet { IsPacket (seen_in command poisoned bytes.now).packet }
-    ensures { result ≡ seen_in command poisoned bytes.now }
+    requires packet { IsPacket (seen_in profile command poisoned bytes.now).packet }
+    ensures { result ≡ seen_in profile command poisoned bytes.now }
 {
     let layout = command.layout();
     let header = Header::unpack(layout, header_in(bytes));
-    let tail = Tail::unpack(layout, tail_in(bytes));
+    let tail = Tail::unpack(profile, layout, tail_in(bytes));
     let payload = payload_in(bytes);
     Seen {
         packet: packet_from(layout, command, &header, &tail, poisoned, &payload),
@@ -236,21 +237,21 @@ fn seen_in(command: Command, poisoned: bool, bytes: &[u8]) -> Seen
 }
 
 #[tactic(auto, unfolding(crate::specs::Reading::bytes_read))]
-fn bytes_read(bytes: &[u8]) -> Result<Seen, Bad>
+fn bytes_read(profile: Profile, bytes: &[u8]) -> Result<Seen, Bad>
     requires few { length bytes.now ≤ 272 }
     requires some { 16 ≤ length bytes.now }
     requires whole { length bytes.now ≡ 16 * bits_from 7 5 (header_in bytes.now) }
-    ensures value { result ≡ bytes_read bytes.now }
-    ensures found { IfOk result (λ seen. AreBytesOf bytes.now seen) }
+    ensures value { result ≡ bytes_read profile bytes.now }
+    ensures found { IfOk result (λ seen. AreBytesOf profile bytes.now seen) }
 {
-    let (command, poisoned) = judged(bytes)?;
-    Ok(seen_in(command, poisoned, bytes))
+    let (command, poisoned) = judgement_of(profile, bytes)?;
+    Ok(seen_in(profile, command, poisoned, bytes))
 }
 
 #[tactic(auto, unfolding(crate::specs::Reading::read_of))]
-fn read_all(flits: &[Flit]) -> Result<Seen, Bad>
-    ensures exact { result ≡ read_of flits.now }
-    ensures found { IfOk result (λ seen. IsSpelled flits.now seen) }
+fn read_all(profile: Profile, flits: &[Flit]) -> Result<Seen, Bad>
+    ensures exact { result ≡ read_of profile flits.now }
+    ensures found { IfOk result (λ seen. IsSpelled profile flits.now seen) }
 {
     if is_null_alone(flits) {
         return Ok(Seen {
@@ -261,19 +262,22 @@ fn read_all(flits: &[Flit]) -> Result<Seen, Bad>
     if !has_length(flits) {
         return Err(Bad::Length);
     }
-    bytes_read(joined(flits).as_slice())
+    bytes_read(profile, joined(flits).as_slice())
 }
 
-/// The packet and the return pointer that the flits spell, or the first test that they fail: Length, Command, Reserved, Crc.
+/// The packet and the return pointer that the flits spell, or the first test that they fail:
+/// Length, Command, Reserved, Crc.
 ///
 /// A NULL, one flit of 16 zero bytes, is read before any test.
-pub fn read(flits: &[Flit]) -> Result<Seen, Bad>
+pub fn read(flits: &[Flit], profile: Profile) -> Result<Seen, Bad>
     // The first test that fails.
-    ensures exact { result ≡ read_of flits.now }
+    ensures exact { result ≡ read_of profile flits.now }
     // What is read is spelled so.
-    ensures found { IfOk result (λ seen. IsSpelled flits.now seen) }
+    ensures found { IfOk result (λ seen. IsSpelled profile flits.now seen) }
     // What is spelled so is read.
-    ensures only { (p : PacketFields) (rrp : ℕ) → IsPacket p → HasPointer p rrp → flits.now ≡ spelling p rrp → result ≡ Ok (record { packet = p; rrp = rrp }) }
+    ensures only { (p : PacketFields) (rrp : ℕ) → IsPacket p → FitsProfile profile p rrp →
+        flits.now ≡ spelling profile p rrp →
+        result ≡ Ok (record { packet = p; rrp = rrp }) }
 {
-    read_all(flits)
+    read_all(profile, flits)
 }

@@ -4,7 +4,7 @@ ghost use Rattle.std.specs.Prelude.{◌≡◌, ◌<◌, ◌≤◌, ◌^◌, ◌�
 ghost use Rattle.hmc_codes.specs.Commands.{family_of};
 ghost use Rattle.hmc_codes.specs.declared.family.Family.TheVariants as families;
 ghost use Rattle.hmc_codes.specs.declared.command.Command.TheVariants.{Mdwr};
-ghost use Rattle.hmc_packet.specs.Transactions.{with_zeros, asked, payload_of, request_in};
+ghost use Rattle.hmc_packet.specs.Transactions.{with_zeros, request_packet, payload_of, request_in};
 
 use crate::Packet;
 use hmc_codes::{Command, Layout, Payload, Request};
@@ -12,11 +12,11 @@ use hmc_codes::{Command, Layout, Payload, Request};
 /// The packet of a request: RTC, SEQ and FRP are zero until it is sent.
 ///
 /// The tag is below 2,048; `slid` is the number of the host link, below 8.
-#[tactic(auto, unfolding(crate::specs::Transactions::asked))]
+#[tactic(auto, unfolding(crate::specs::Transactions::request_packet))]
 pub fn ask(request: &Request, tag: u16, slid: u8, poisoned: bool) -> Packet
     requires tag { tag < 2 ^ 11 }
     requires slid { slid < 8 }
-    ensures { result ≡ asked request.now tag slid poisoned }
+    ensures { result ≡ request_packet request.now tag slid poisoned }
 {
     Packet {
         command: request.command,

@@ -2,15 +2,14 @@
 
 ghost use Rattle.std.specs.Prelude.{◌≡◌, ◌<◌, ◌≤◌, ◌+◌, ◌*◌, ◌/◌, ◌++◌, length};
 ghost use Rattle.hmc_packet.specs.Packet.{flits_of};
-ghost use Rattle.hmc_packet.specs.Tail.{pointers};
-ghost use Rattle.hmc_packet.specs.Spelling.{HasPointer, header_fields, tail_fields, word_bytes, half_bytes, covered, check_of, bytes_of, cut, flits_with, spelling};
+ghost use Rattle.hmc_packet.specs.Spelling.{FitsProfile, header_fields, tail_fields, word_bytes, half_bytes, covered, check_of, bytes_of, cut, flits_with, spelling};
 
 use crate::Packet;
 use crate::header::Header;
 use crate::tail::Tail;
 use arrayvec::ArrayVec;
-use hmc_codes::{Flit, Layout};
-use hmc_crc::crc;
+use hmc_codes::{Flit, Layout, Profile, ZERO_FLIT};
+use hmc_crc::crc_fast;
 
 /// The bytes of at most 17 flits.
 pub type Bytes = ArrayVec<u8, 272>;
@@ -64,14 +63,14 @@ fn tail_of_packet(packet: &Packet, rrp: u16) -> Tail
 }
 
 #[tactic(auto, unfolding(crate::specs::Spelling::covered))]
-fn covered_bytes(packet: &Packet, rrp: u16) -> Bytes
-    requires { rrp < pointers }
-    ensures bytes { result.items ≡ covered packet.now rrp }
+fn covered_bytes(profile: Profile, packet: &Packet, rrp: u16) -> Bytes
+    requires { FitsProfile profile packet.now rrp }
+    ensures bytes { result.items ≡ covered profile packet.now rrp }
     ensures len { length result.items + 4 ≡ 16 * flits_of packet.now }
 {
     let layout = packet.command.layout();
     let header = header_of_packet(packet).pack(layout);
-    let tail = tail_of_packet(packet, rrp).pack(layout);
+    let tail = tail_of_packet(packet, rrp).pack(profile, layout);
     let mut bytes = Bytes::new();
     append(&mut bytes, &bytes_of_word(header));
     append(&mut bytes, packet.payload.as_slice());
@@ -83,17 +82,17 @@ fn covered_bytes(packet: &Packet, rrp: u16) -> Bytes
 fn check(poisoned: bool, bytes: &[u8]) -> u32
     ensures { result ≡ check_of poisoned bytes.now }
 {
-    let right = crc(bytes);
+    let right = crc_fast(bytes);
     if poisoned { !right } else { right }
 }
 
 #[tactic(auto, unfolding(crate::specs::Spelling::bytes_of))]
-fn all_bytes(packet: &Packet, rrp: u16) -> Bytes
-    requires { rrp < pointers }
-    ensures bytes { result.items ≡ bytes_of packet.now rrp }
+fn all_bytes(profile: Profile, packet: &Packet, rrp: u16) -> Bytes
+    requires { FitsProfile profile packet.now rrp }
+    ensures bytes { result.items ≡ bytes_of profile packet.now rrp }
     ensures len { length result.items ≡ 16 * flits_of packet.now }
 {
-    let mut bytes = covered_bytes(packet, rrp);
+    let mut bytes = covered_bytes(profile, packet, rrp);
     let check = check(packet.poisoned, bytes.as_slice());
     append(&mut bytes, &bytes_of_half(check));
     bytes
@@ -110,26 +109,29 @@ fn flits_in(bytes: &[u8]) -> ArrayVec<Flit, 17>
     flits
 }
 
-#[tactic(auto, unfolding(crate::specs::Spelling::flits_with, crate::specs::Spelling::null_flit))]
-fn spell_by(layout: Layout, packet: &Packet, rrp: u16) -> ArrayVec<Flit, 17>
-    requires { rrp < pointers }
-    ensures { result.items ≡ flits_with layout packet.now rrp }
+#[tactic(auto, unfolding(crate::specs::Spelling::flits_with, hmc_codes::specs::Flit::zero_flit))]
+fn spell_by(profile: Profile, layout: Layout, packet: &Packet, rrp: u16) -> ArrayVec<Flit, 17>
+    requires { FitsProfile profile packet.now rrp }
+    ensures { result.items ≡ flits_with profile layout packet.now rrp }
 {
     match layout {
         Layout::Null => {
             let mut flits = ArrayVec::new();
-            flits.push([0; 16]);
+            flits.push(ZERO_FLIT);
             flits
         }
-        _ => flits_in(all_bytes(packet, rrp).as_slice()),
+        _ => flits_in(all_bytes(profile, packet, rrp).as_slice()),
     }
 }
 
-/// The flits of a packet that is sent with this return pointer.
+/// The flits of a packet that is sent with this return pointer on a link of this profile.
+///
+/// Both pointers are below the profile's modulus, the return pointer of a NULL is 0, and in profile
+/// Two the error number is below 8.
 #[tactic(auto, unfolding(crate::specs::Spelling::spelling))]
-pub fn spell(packet: &Packet, rrp: u16) -> ArrayVec<Flit, 17>
-    requires { HasPointer packet.now rrp }
-    ensures { result.items ≡ spelling packet.now rrp }
+pub fn spell(packet: &Packet, rrp: u16, profile: Profile) -> ArrayVec<Flit, 17>
+    requires { FitsProfile profile packet.now rrp }
+    ensures { result.items ≡ spelling profile packet.now rrp }
 {
-    spell_by(packet.command.layout(), packet, rrp)
+    spell_by(profile, packet.command.layout(), packet, rrp)
 }

@@ -4,7 +4,8 @@ use Rattle.hmc_codes.specs.Shape.{ShapeFields}
 
 -- at first: the cube's number, then its shape, then twelve scratch registers at zero
 unfoldable pub opening_registers : (cube : ℕ) → ShapeFields → List ℕ
-opening_registers cube shape = cube ∷ shape.vault_bits ∷ shape.bank_bits ∷ shape.rows ∷ replicate 12 0
+opening_registers cube shape =
+    cube ∷ shape.vault_bits ∷ shape.bank_bits ∷ shape.rows ∷ replicate 12 0
 
 -- sixteen numbers of 32 bits
 pub record IsRegisters (numbers : List ℕ) : Type 0 where

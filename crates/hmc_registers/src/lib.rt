@@ -1,7 +1,8 @@
 //! The sixteen registers of a cube: its number and shape, which stay, and twelve for scratch.
 //!
-//! A cube's registers are a list of sixteen numbers of 32 bits. The layer above reads and writes them by number, and is told
-//! which numbers there are no registers for, and which registers aren't written.
+//! A cube's registers are a list of sixteen numbers of 32 bits. The layers above read and write
+//! them by number. A read or write of a number without a register, and a write of the number or the
+//! shape, is refused.
 #![tactic(auto)]
 
 mod registers;

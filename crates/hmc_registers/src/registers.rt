@@ -6,7 +6,7 @@ ghost use Rattle.hmc_registers.specs.Registers.{opening_registers, IsRegisters};
 use hmc_codes::Shape;
 use std::marker::Model;
 
-/// How many registers a cube has.
+/// The number of registers of a cube.
 pub const REGISTERS: u64 = 16;
 
 /// Registers below this number are not written.
@@ -17,7 +17,7 @@ pub const FIRST_SCRATCH: u64 = 4;
 pub enum RegisterFault {
     /// There is no register with this number.
     NoRegister,
-    /// The register tells the cube's number or shape.
+    /// The register holds the cube's number or a part of its shape.
     ReadOnly,
 }
 
@@ -55,14 +55,14 @@ impl Registers {
         }
     }
 
-    /// Nothing is done: what all registers keep is the contract.
-    pub fn keeps(&self)
+    /// Does nothing. Its contract is what all registers keep.
+    pub fn invariant(&self)
         ensures { IsRegisters self.now }
     {
         let _ = &self.values;
     }
 
-    /// The value of a register, if there is one with this number.
+    /// The value of a register, or `None` if there is none with this number.
     pub fn read(&self, number: u64) -> Option<u32>
         ensures value { result ≡ slice_get self.now number }
         ensures none { IsNone result ↔ (16 ≤ number) }
@@ -74,7 +74,7 @@ impl Registers {
         }
     }
 
-    /// Gives a register its value.
+    /// Writes a register. `NoRegister` from number 16 on, `ReadOnly` for the numbers 0 to 3.
     pub fn write(&mut self, number: u64, value: u32) -> Result<(), RegisterFault>
         ensures ok { OnOk result (self.new ≡ slice_set self.old number value) }
         ensures err { OnErr result (self.new ≡ self.old) }

@@ -1,21 +1,35 @@
 -- The lines of a cube's memory and registers, written one after another.
-use Rattle.std.proofs.Common.{◌≡◌, ◌<◌, ◌≤◌, ◌+◌, ◌*◌, ◌∙◌, ◌⊎◌, ℕ, zero, suc, List, [], ◌++◌, length, Option, refl, sym, ap, subst, inl, inr, arith, add-one, append_assoc}
-use Rattle.std.specs.Prelude.{slice_range, slice_index, slice_get, Some, IsSome}
-use Rattle.std.proofs.lemmas.List.{append-nil}
+use Rattle.std.proofs.Common.{◌≡◌, ◌<◌, ◌≤◌, ◌+◌, ◌*◌, ◌∙◌, ◌⊎◌, ℕ, zero, suc, Bool, true, false, List, [], ◌∷◌, ◌++◌, length, Option, Err, refl, sym, ap, subst, inl, inr, arith, add-one, append_assoc, append-nil}
+use Rattle.std.specs.Prelude.{slice_range, slice_index, slice_get, Some, IsSome, ◌==◌, if◌then◌else◌}
 use Rattle.std.proofs.lemmas.Option.{slice_get-get_or}
-use Rattle.std.specs.Io.KnownBytes.{Appends}
-use Rattle.std.proofs.KnownBytes.{Appends-trans, Appends-nil}
-use Rattle.hmc_outside.specs.Front.{AppendsFront}
-use Rattle.hmc_outside.proofs.FrontLemmas.{AppendsFront-after, AppendsFront-more}
-use Rattle.hmc_journal.specs.Final.{memory_line, memory_lines, register_line, register_lines}
+use Rattle.hmc_outside.specs.Lines.{WritesLines}
+use Rattle.hmc_outside.specs.Views.{SinkView}
+use Rattle.hmc_outside.proofs.LinesLemmas.{WritesLines-none, WritesLines-after}
+use Rattle.hmc_report.specs.Lines.{is_zero, memory_line, block_lines, lines_of_blocks, register_line, value_lines, lines_of_registers}
+use Rattle.hmc_replay.specs.Output.{Writes}
+use Rattle.hmc_replay.specs.declared.output.OutputError.{OutputError}
+use Rattle.hmc_replay.proofs.Writing.{Err-after}
 
--- lines that come one after another: those of a number more are one line more
-record IsByLines (lines : ℕ → List ℕ) (line : ℕ → List ℕ) : Type 0 where
+-- a block or a register that is zero has no line, and another has one
+pub block_lines-zero : (a : SinkView) (cube block : ℕ) (bytes : List ℕ) → is_zero bytes ≡ true → WritesLines a a (block_lines cube block bytes)
+block_lines-zero a cube block bytes is = subst (λ (test : Bool). WritesLines a a (if test then [] else memory_line cube block bytes ∷ [])) (sym is) (WritesLines-none a)
+
+pub block_lines-some : (cube block : ℕ) (bytes : List ℕ) → is_zero bytes ≡ false → memory_line cube block bytes ∷ [] ≡ block_lines cube block bytes
+block_lines-some cube block bytes is = ap (λ (test : Bool). if test then [] else memory_line cube block bytes ∷ []) (sym is)
+
+pub value_lines-zero : (a : SinkView) (cube register value : ℕ) → value == 0 ≡ true → WritesLines a a (value_lines cube register value)
+value_lines-zero a cube register value is = subst (λ (test : Bool). WritesLines a a (if test then [] else register_line cube register value ∷ [])) (sym is) (WritesLines-none a)
+
+pub value_lines-some : (cube register value : ℕ) → value == 0 ≡ false → register_line cube register value ∷ [] ≡ value_lines cube register value
+value_lines-some cube register value is = ap (λ (test : Bool). if test then [] else register_line cube register value ∷ []) (sym is)
+
+-- lines that come one after another: those of a number more are those of one more
+record IsByLines (lines : ℕ → List (List ℕ)) (line : ℕ → List (List ℕ)) : Type 0 where
   none : lines 0 ≡ []
   more : (n : ℕ) → lines (suc n) ≡ lines n ++ line n
 
--- the lines of fewer are a front of those of more
-fewer : (lines line : ℕ → List ℕ) → IsByLines lines line → (n all : ℕ) → n ≤ all → (rest : List ℕ) × (lines all ≡ lines n ++ rest)
+-- the lines of fewer begin those of more
+fewer : (lines line : ℕ → List (List ℕ)) → IsByLines lines line → (n all : ℕ) → n ≤ all → (rest : List (List ℕ)) × (lines all ≡ lines n ++ rest)
 fewer lines line by n zero h =
     let e : zero ≡ n = omega arith in ([], ap lines e ∙ sym (append-nil (lines n)))
 fewer lines line by n (suc all) h = fewer_by n all (at_most n all h) (λ k. fewer lines line by n all k)
@@ -23,68 +37,68 @@ fewer lines line by n (suc all) h = fewer_by n all (at_most n all h) (λ k. fewe
     at_most : (m n : ℕ) → m ≤ suc n → (m ≤ n) ⊎ (m ≡ suc n)
     at_most m n h = grind arith
 
-    fewer_by : (n all : ℕ) → (n ≤ all) ⊎ (n ≡ suc all) → (n ≤ all → (rest : List ℕ) × (lines all ≡ lines n ++ rest)) → (rest : List ℕ) × (lines (suc all) ≡ lines n ++ rest)
+    fewer_by : (n all : ℕ) → (n ≤ all) ⊎ (n ≡ suc all) → (n ≤ all → (rest : List (List ℕ)) × (lines all ≡ lines n ++ rest)) → (rest : List (List ℕ)) × (lines (suc all) ≡ lines n ++ rest)
     fewer_by n all (inl h) before =
         ((before h).0 ++ line all, by.more all ∙ ap (λ l. l ++ line all) (before h).1 ∙ append_assoc (lines n) (before h).0 (line all))
     fewer_by n all (inr e) before = ([], ap lines (sym e) ∙ sym (append-nil (lines n)))
 
--- one line more was written
-one_more : (lines line : ℕ → List ℕ) → IsByLines lines line → (a b c : Option (List ℕ)) (n : ℕ) (text : List ℕ) → text ≡ line n → Appends a b (lines n) → Appends b c text → Appends a c (lines (n + 1))
+-- those of one more were written
+one_more : (lines line : ℕ → List (List ℕ)) → IsByLines lines line → (a b c : SinkView) (n : ℕ) (text : List (List ℕ)) → text ≡ line n → WritesLines a b (lines n) → WritesLines b c text → WritesLines a c (lines (n + 1))
 one_more lines line by a b c n text is before here =
-    subst (Appends a c) (ap (λ l. lines n ++ l) is ∙ sym (by.more n) ∙ ap lines (sym (add-one n))) (Appends-trans a b c _ _ before here)
+    subst (WritesLines a c) (ap (λ l. lines n ++ l) is ∙ sym (by.more n) ∙ ap lines (sym (add-one n))) (WritesLines-after a b c (lines n) text before here)
 
--- a front of one line more was written
-front_here : (lines line : ℕ → List ℕ) → IsByLines lines line → (a b c : Option (List ℕ)) (n all : ℕ) (text : List ℕ) → n < all → text ≡ line n → Appends a b (lines n) → AppendsFront b c text
-    → AppendsFront a c (lines all)
-front_here lines line by a b c n all text h is before here =
+-- the writing of those of one more ended early
+ended_here : (lines line : ℕ → List (List ℕ)) → IsByLines lines line → (a b c : SinkView) (n all : ℕ) (text : List (List ℕ)) (error : OutputError) → n < all → text ≡ line n → WritesLines a b (lines n) → Writes (Err error) b c text
+    → Writes (Err error) a c (lines all)
+ended_here lines line by a b c n all text error h is before here =
     let more = fewer lines line by (suc n) all (omega arith) in
-    subst (AppendsFront a c)
-    (ap (λ l. (lines n ++ l) ++ more.0) is ∙ ap (λ l. l ++ more.0) (sym (by.more n)) ∙ sym more.1)
-    (AppendsFront-more a c _ more.0 (AppendsFront-after a b c _ _ before here))
+    subst (Writes (Err error) a c)
+    (ap (λ l. lines n ++ (l ++ more.0)) is ∙ sym (append_assoc (lines n) (line n) more.0) ∙ ap (λ l. l ++ more.0) (sym (by.more n)) ∙ sym more.1)
+    (Err-after a b c (lines n) text more.0 error before here)
 
--- the line of a block, by its place in the memory
-abbrev block_line : ℕ → List ℕ → ℕ → List ℕ
-block_line cube memory block = memory_line cube block (slice_range memory (16 * block) (16 * block + 16))
+-- the lines of a block, by its place in the memory
+abbrev lines_of_block : ℕ → List ℕ → ℕ → List (List ℕ)
+lines_of_block cube memory block = block_lines cube block (slice_range memory (16 * block) (16 * block + 16))
 
-memory_by_lines : (cube : ℕ) (memory : List ℕ) → IsByLines (memory_lines cube memory) (block_line cube memory)
-unfolding memory_lines
+memory_by_lines : (cube : ℕ) (memory : List ℕ) → IsByLines (lines_of_blocks cube memory) (lines_of_block cube memory)
+unfolding lines_of_blocks
 memory_by_lines cube memory = record { none = refl; more = λ n. refl }
 
-pub memory_none : (a : Option (List ℕ)) (cube : ℕ) (memory : List ℕ) → Appends a a (memory_lines cube memory 0)
-unfolding memory_lines
-memory_none a cube memory = Appends-nil a
+pub memory_none : (a : SinkView) (cube : ℕ) (memory : List ℕ) → WritesLines a a (lines_of_blocks cube memory 0)
+unfolding lines_of_blocks
+memory_none a cube memory = WritesLines-none a
 
-pub memory_more : (a b c : Option (List ℕ)) (cube : ℕ) (memory bytes : List ℕ) (block : ℕ) → bytes ≡ slice_range memory (16 * block) (16 * block + 16) → Appends a b (memory_lines cube memory block)
-    → Appends b c (memory_line cube block bytes) → Appends a c (memory_lines cube memory (block + 1))
+pub memory_more : (a b c : SinkView) (cube : ℕ) (memory bytes : List ℕ) (block : ℕ) → bytes ≡ slice_range memory (16 * block) (16 * block + 16) → WritesLines a b (lines_of_blocks cube memory block)
+    → WritesLines b c (block_lines cube block bytes) → WritesLines a c (lines_of_blocks cube memory (block + 1))
 memory_more a b c cube memory bytes block is before here =
-    one_more (memory_lines cube memory) (block_line cube memory) (memory_by_lines cube memory) a b c block _ (ap (memory_line cube block) is) before here
+    one_more (lines_of_blocks cube memory) (lines_of_block cube memory) (memory_by_lines cube memory) a b c block _ (ap (block_lines cube block) is) before here
 
-pub memory_front : (a b c : Option (List ℕ)) (cube : ℕ) (memory bytes : List ℕ) (block blocks : ℕ) → block < blocks → bytes ≡ slice_range memory (16 * block) (16 * block + 16)
-    → Appends a b (memory_lines cube memory block) → AppendsFront b c (memory_line cube block bytes) → AppendsFront a c (memory_lines cube memory blocks)
-memory_front a b c cube memory bytes block blocks h is before here =
-    front_here (memory_lines cube memory) (block_line cube memory) (memory_by_lines cube memory) a b c block blocks _ h (ap (memory_line cube block) is) before here
+pub memory_ended : (a b c : SinkView) (cube : ℕ) (memory bytes : List ℕ) (block blocks : ℕ) (error : OutputError) → block < blocks → bytes ≡ slice_range memory (16 * block) (16 * block + 16)
+    → WritesLines a b (lines_of_blocks cube memory block) → Writes (Err error) b c (block_lines cube block bytes) → Writes (Err error) a c (lines_of_blocks cube memory blocks)
+memory_ended a b c cube memory bytes block blocks error h is before here =
+    ended_here (lines_of_blocks cube memory) (lines_of_block cube memory) (memory_by_lines cube memory) a b c block blocks _ error h (ap (block_lines cube block) is) before here
 
--- the line of a register, by its place behind the first that can be written
-abbrev scratch_line : ℕ → List ℕ → ℕ → List ℕ
-scratch_line cube registers place = register_line cube (place + 4) (slice_index registers (place + 4))
+-- the lines of a register, by its place after the first that can be written
+abbrev lines_of_register : ℕ → List ℕ → ℕ → List (List ℕ)
+lines_of_register cube registers place = value_lines cube (place + 4) (slice_index registers (place + 4))
 
-registers_by_lines : (cube : ℕ) (registers : List ℕ) → IsByLines (register_lines cube registers) (scratch_line cube registers)
-unfolding register_lines
+registers_by_lines : (cube : ℕ) (registers : List ℕ) → IsByLines (lines_of_registers cube registers) (lines_of_register cube registers)
+unfolding lines_of_registers
 registers_by_lines cube registers = record { none = refl; more = λ n. refl }
 
-pub registers_none : (a : Option (List ℕ)) (cube : ℕ) (registers : List ℕ) → Appends a a (register_lines cube registers 0)
-unfolding register_lines
-registers_none a cube registers = Appends-nil a
+pub registers_none : (a : SinkView) (cube : ℕ) (registers : List ℕ) → WritesLines a a (lines_of_registers cube registers 0)
+unfolding lines_of_registers
+registers_none a cube registers = WritesLines-none a
 
-pub registers_more : (a b c : Option (List ℕ)) (cube : ℕ) (registers : List ℕ) (value place : ℕ) → value ≡ slice_index registers (place + 4) → Appends a b (register_lines cube registers place)
-    → Appends b c (register_line cube (place + 4) value) → Appends a c (register_lines cube registers (place + 1))
+pub registers_more : (a b c : SinkView) (cube : ℕ) (registers : List ℕ) (value place : ℕ) → value ≡ slice_index registers (place + 4) → WritesLines a b (lines_of_registers cube registers place)
+    → WritesLines b c (value_lines cube (place + 4) value) → WritesLines a c (lines_of_registers cube registers (place + 1))
 registers_more a b c cube registers value place is before here =
-    one_more (register_lines cube registers) (scratch_line cube registers) (registers_by_lines cube registers) a b c place _ (ap (register_line cube (place + 4)) is) before here
+    one_more (lines_of_registers cube registers) (lines_of_register cube registers) (registers_by_lines cube registers) a b c place _ (ap (value_lines cube (place + 4)) is) before here
 
-pub registers_front : (a b c : Option (List ℕ)) (cube : ℕ) (registers : List ℕ) (value place all : ℕ) → place < all → value ≡ slice_index registers (place + 4)
-    → Appends a b (register_lines cube registers place) → AppendsFront b c (register_line cube (place + 4) value) → AppendsFront a c (register_lines cube registers all)
-registers_front a b c cube registers value place all h is before here =
-    front_here (register_lines cube registers) (scratch_line cube registers) (registers_by_lines cube registers) a b c place all _ h (ap (register_line cube (place + 4)) is) before here
+pub registers_ended : (a b c : SinkView) (cube : ℕ) (registers : List ℕ) (value place all : ℕ) (error : OutputError) → place < all → value ≡ slice_index registers (place + 4)
+    → WritesLines a b (lines_of_registers cube registers place) → Writes (Err error) b c (value_lines cube (place + 4) value) → Writes (Err error) a c (lines_of_registers cube registers all)
+registers_ended a b c cube registers value place all error h is before here =
+    ended_here (lines_of_registers cube registers) (lines_of_register cube registers) (registers_by_lines cube registers) a b c place all _ error h (ap (value_lines cube (place + 4)) is) before here
 
 -- what is read of a register that is there
 pub register_there : (registers : List ℕ) (place : ℕ) (read : Option ℕ) → length registers ≡ 16 → place < 12 → read ≡ slice_get registers (place + 4) → read ≡ Some (slice_index registers (place + 4))

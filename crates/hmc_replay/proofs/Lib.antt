@@ -1,7 +1,10 @@
 pub mod Writing
-pub mod Outputs
 pub mod CubeLines
 pub mod Counting
+pub mod EntryLines
 pub mod Finals
+pub mod Reading
+pub mod Refusals
+pub mod Replays
 pub mod Reports
 mod Worked

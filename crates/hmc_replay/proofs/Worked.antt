@@ -1,24 +1,19 @@
--- Definitions computed: words, the line of a fault, what a journal counts, and final lines, written out by hand.
+-- Definitions computed: words, the line of a fault, and what a journal counts.
 use Rattle.std.proofs.Common.{◌≡◌, List, [], ◌∷◌, ◌++◌, Some, None, true, false, refl}
 use Rattle.std.specs.Prelude.{codes, map, replicate}
 use Rattle.std.specs.Fmt.{decimal}
-use Rattle.hex.specs.Hex.{encode_lower}
 use Rattle.hmc_codes.specs.Request.{RequestFields}
-use Rattle.hmc_codes.specs.Text.{line, hex_number}
 use Rattle.hmc_codes.specs.declared.answer.Answer.TheVariants.{Stored}
 use Rattle.hmc_codes.specs.declared.command.Command.TheVariants.{Mdwr}
 use Rattle.hmc_codes.specs.declared.unit.Unit.TheVariants as units
-use Rattle.hmc_serial.specs.Cube.{CubeState}
 use Rattle.hmc_schedule.specs.declared.fault.ScheduleKind.TheVariants as schedule_kinds
 use Rattle.hmc_case.specs.declared.fault.CaseKind.TheVariants as kinds
 use Rattle.hmc_case.specs.declared.fault.Section.TheVariants.{Toml, Schedule}
-use Rattle.hmc_journal.specs.Counts.{taken_count, executed_count, dropped_count}
-use Rattle.hmc_journal.specs.Final.{memory_line, memory_lines, register_line, register_lines, host_line, cube_line}
+use Rattle.hmc_journal.specs.Counts.{taken_count, executed_count, dropped_count, cube_counts}
 use Rattle.hmc_journal.specs.Hosts.{given_count}
 use Rattle.hmc_journal.specs.declared.entry.Entry.{Entry}
 use Rattle.hmc_journal.specs.declared.entry.Entry.TheVariants.{Gave, Executed, Took, Dropped, Discarded}
-use Rattle.hmc_replay.specs.Counting.{counts_of}
-use Rattle.hmc_replay.specs.Report.{final_lines}
+use Rattle.hmc_replay.specs.Counting.{host_counted}
 use Rattle.hmc_replay.specs.Top.{is_run, bad_line}
 
 is_run-words : map is_run ([] ∷ (codes "run" ∷ []) ∷ (codes "run" ∷ codes "run" ∷ []) ∷ (codes "Run" ∷ []) ∷ (codes "ru" ∷ []) ∷ []) ≡
@@ -37,29 +32,17 @@ bad_line-toml = refl
 abbrev write : RequestFields
 write = record { command = Mdwr; cube = 0; address = 4; payload = replicate 16 0 }
 
--- two requests were given, of which one was poisoned and dropped; the other was carried out, and its answer taken. What another host and
+-- two requests were given, of which one was poisoned and dropped; the other was executed, and its answer taken. What another host and
 -- another cube did isn't counted, and neither is a poisoned packet that the host discarded
 abbrev some_entries : List Entry
 some_entries =
     Dropped 1 0 ∷ Dropped 0 0 ∷ Discarded 0 ∷ Took 1 0 Stored ∷ Took 0 0 Stored ∷ Executed (units.Bank 1 0 0) 0 None write Stored ∷
     Executed (units.Registers 0) 0 (Some 0) write Stored ∷ Gave 1 (Some 0) false write ∷ Gave 0 None true write ∷ Gave 0 (Some 0) false write ∷ []
 
-counts_of-some : counts_of some_entries ≡ record { given = 2; taken = 1; executed = 1; dropped = 1 }
-unfolding given_count taken_count executed_count dropped_count
-counts_of-some = refl
+host_counted-some : host_counted 0 7 some_entries ≡ record { given = 2; taken = 1; out = 7 }
+unfolding given_count taken_count
+host_counted-some = refl
 
--- two blocks, of which the first is zero; of the scratch registers the last alone isn't zero, and 0 to 3 are none
-abbrev some_state : CubeState
-some_state = record {
-  shape = record { vault_bits = 0; bank_bits = 0; rows = 4 };
-  memory = replicate 16 0 ++ (0xab ∷ replicate 15 0);
-  registers = 9 ∷ 9 ∷ 9 ∷ 9 ∷ (replicate 11 0 ++ (0x1234abcd ∷ []));
-}
-
-final_lines-busy : final_lines some_state (record { given = 2; taken = 1; out = 1 }) (record { executed = 10; dropped = 3 }) false ≡
-    line (codes "memory" ∷ decimal 0 ∷ hex_number 0x10 ∷ encode_lower (0xab ∷ replicate 15 0) ∷ []) ++
-    (line (codes "register" ∷ decimal 0 ∷ decimal 15 ∷ encode_lower (0x12 ∷ 0x34 ∷ 0xab ∷ 0xcd ∷ []) ∷ []) ++
-    (line (codes "host" ∷ decimal 0 ∷ decimal 2 ∷ decimal 1 ∷ decimal 1 ∷ []) ++
-    (line (codes "cube" ∷ decimal 0 ∷ decimal 10 ∷ decimal 3 ∷ []) ++ (codes "state busy" ++ 10 ∷ []))))
-unfolding memory_line memory_lines register_line register_lines host_line cube_line
-final_lines-busy = refl
+cube_counts-some : cube_counts some_entries 1 ≡ record { executed = 1; dropped = 1 }
+unfolding cube_counts executed_count dropped_count
+cube_counts-some = refl

@@ -1,10 +1,11 @@
--- How the cause of a part that ended early becomes the cause of the run.
+-- How the cause of a part that ended early becomes the cause of the run, and this the status.
+use Rattle.std.specs.Prelude.{ℕ, Result, Ok, Err}
 use Rattle.hmc_replay.specs.declared.input.InputError.{InputError}
 use Rattle.hmc_replay.specs.declared.input.InputError.TheVariants as input
 use Rattle.hmc_replay.specs.declared.output.OutputError.{OutputError}
 use Rattle.hmc_replay.specs.declared.output.OutputError.TheVariants as output
 use Rattle.hmc_replay.specs.declared.run.RunError.{RunError}
-use Rattle.hmc_replay.specs.declared.run.RunError.TheVariants.{Memory, ReadFault, WriteFault, TooLong}
+use Rattle.hmc_replay.specs.declared.run.RunError.TheVariants.{Memory, ReadFault, WriteFault, TooLong, BadCase}
 
 -- why reading the input ended early
 abbrev pub cause_of_input : InputError → RunError
@@ -16,3 +17,12 @@ cause_of_input input.TooLong = TooLong
 abbrev pub cause_of_output : OutputError → RunError
 cause_of_output output.Memory = Memory
 cause_of_output output.Fault = WriteFault
+
+-- the status of a run
+abbrev pub status_of : Result (Unit {0}) RunError → ℕ
+status_of (Ok done) = 0
+status_of (Err Memory) = 1
+status_of (Err ReadFault) = 3
+status_of (Err WriteFault) = 4
+status_of (Err TooLong) = 5
+status_of (Err BadCase) = 6

@@ -1,5 +1,7 @@
-pub mod Input
-pub mod Counting
-pub mod Report
-pub mod Top
 pub mod Causes
+pub mod Counting
+pub mod Input
+pub mod Output
+pub mod Report
+pub mod Runs
+pub mod Top

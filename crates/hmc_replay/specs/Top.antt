@@ -1,95 +1,145 @@
--- What the top call makes of its words and its input.
-use Rattle.std.specs.Prelude.{◌≡◌, ◌≤◌, ◌⊎◌, ℕ, suc, nat_le, if◌then◌else◌, Bool, false, List, [], ◌∷◌, ◌++◌, length, codes, bytes_eq, Option, Result, Ok, Err}
+-- What the top call promises.
+use Rattle.std.specs.Prelude.{◌≡◌, ◌≢◌, ◌≤◌, ◌<◌, ◌⊎◌, ◌↔◌, ℕ, suc, nat_le, if◌then◌else◌, Bool, true, false, List, [], ◌∷◌, ◌++◌, length, codes, bytes_eq, IfSome, Result, Ok, Err}
 use Rattle.std.specs.Fmt.{decimal}
-use Rattle.std.specs.Io.KnownBytes.{Appends, Consumes, IsAtEnd}
-use Rattle.hmc_outside.specs.Front.{AppendsFront}
+use Rattle.std.specs.Io.KnownBytes.{IsAtEnd}
+use Rattle.hmc_codes.specs.Limits.{most_input}
 use Rattle.hmc_codes.specs.Text.{line}
+use Rattle.hmc_outside.specs.Lines.{WritesLines, WritesSome, BreaksOff}
+use Rattle.hmc_outside.specs.Raised.{raised}
+use Rattle.hmc_outside.specs.Reading.{Stops}
+use Rattle.hmc_outside.specs.Views.{SourceView, SinkView}
 use Rattle.hmc_case.specs.Case.{CaseFields, case_of}
 use Rattle.hmc_case.specs.Reading.{Fault}
 use Rattle.hmc_case.specs.Kind.{section_word, kind_word}
 use Rattle.hmc_journal.specs.Setup.{setup_of}
-use Rattle.hmc_journal.specs.Final.{final_text}
+use Rattle.hmc_journal.specs.Final.{final_lines_of}
 use Rattle.hmc_journal.specs.Lawful.{journal_of}
-use Rattle.hmc_journal.specs.Text.{text_of}
-use Rattle.hmc_journal.specs.Told.{IsTold}
+use Rattle.hmc_journal.specs.Text.{lines_of}
+use Rattle.hmc_journal.specs.Guarantees.{Guarantees}
+use Rattle.hmc_replay.specs.Input.{BytesRead, IsTooLong}
 
 -- the one form of words
 abbrev pub is_run : List (List ℕ) → Bool
 is_run (word ∷ []) = bytes_eq word (codes "run")
 is_run _ = false
 
--- the most bytes of an input
-abbrev pub most_bytes : ℕ
-most_bytes = 4194304
-
--- the line for what is no case: the section, the line there, and what is wrong
-unfoldable pub bad_line : Fault → List ℕ
-bad_line fault = line (codes "bad" ∷ section_word fault.section ∷ decimal fault.line ∷ kind_word fault.kind ∷ [])
-
 -- the number is one of these
 abbrev pub OneOf : List ℕ → ℕ → Type 0
 OneOf [] n = ⊥
 OneOf (m ∷ ms) n = (n ≡ m) ⊎ OneOf ms n
 
--- the report of a case: the lines of its journal, and what the journal leaves and counts
-unfoldable pub report_of : CaseFields → List ℕ
+-- the line for an input that isn't a case: the section, the line there, and what is wrong
+unfoldable pub bad_line : Fault → List ℕ
+bad_line fault =
+    line (codes "bad" ∷ section_word fault.section ∷ decimal fault.line ∷ kind_word fault.kind ∷ [])
+
+-- the report of a case: the lines of its journal, and the final lines
+unfoldable pub report_of : CaseFields → List (List ℕ)
 report_of case =
     let setup = setup_of case in
-    text_of (journal_of setup) ++ final_text setup.topology (journal_of setup)
+    lines_of (journal_of setup) ++ final_lines_of setup.topology (journal_of setup)
 
--- what is to be written for an input: nothing where it is too long to be judged
-abbrev pub output_for : Result CaseFields Fault → List ℕ
-output_for (Ok case) = report_of case
-output_for (Err fault) = bad_line fault
+-- the lines for an input that was judged
+abbrev pub lines_for : Result CaseFields Fault → List (List ℕ)
+lines_for (Ok case) = report_of case
+lines_for (Err fault) = bad_line fault ∷ []
 
--- what is to be written for these bytes
-abbrev pub output_of : List ℕ → List ℕ
-output_of input = if nat_le (length input) most_bytes then output_for (case_of input) else []
+-- the lines for these bytes: none where they are too many to be judged
+abbrev pub lines_to_write : List ℕ → List (List ℕ)
+lines_to_write input = if nat_le (length input) most_input then lines_for (case_of input) else []
 
 -- the input is a case
 abbrev pub IsCaseText : List ℕ → Type 0
 IsCaseText input = (case : CaseFields) × (case_of input ≡ Ok case)
 
--- the input is no case, and this is its first fault
+-- the input isn't a case, and this is its first fault
 abbrev pub IsFaulty : List ℕ → Type 0
 IsFaulty input = (fault : Fault) × (case_of input ≡ Err fault)
 
--- the input is a case, its report was written whole, and this is what the report's journal tells
-pub record IsReportOf (input : List ℕ) (held held' : Option (List ℕ)) : Type 0 where
+-- the input is a case, its report was written, and the report's journal has these guarantees
+pub record IsReportOf (input : List ℕ) (sink sink' : SinkView) : Type 0 where
   pub case : CaseFields
   pub is_case : case_of input ≡ Ok case
-  pub written : Appends held held' (report_of case)
-  pub told : IsTold (setup_of case) (journal_of (setup_of case))
+  pub written : WritesLines sink sink' (report_of case)
+  pub guarantees : Guarantees (setup_of case) (journal_of (setup_of case))
 
--- the input is no case, and the line that says so was written
-pub record IsRefusalOf (input : List ℕ) (held held' : Option (List ℕ)) : Type 0 where
+-- the input isn't a case, and the line with its first fault was written
+pub record IsRefusalOf (input : List ℕ) (sink sink' : SinkView) : Type 0 where
   pub fault : Fault
   pub is_fault : case_of input ≡ Err fault
-  pub written : Appends held held' (bad_line fault)
+  pub written : WritesLines sink sink' (bad_line fault ∷ [])
 
--- so many bytes came from a source, of which this is left before and behind
-pub record Came (most : ℕ) (left left' : Option (List ℕ)) : Type 0 where
-  pub input : List ℕ
-  pub few : length input ≤ most
-  pub consumed : Consumes left left' input
+-- what was read is a case, and was reported
+pub record IsReported (source source' : SourceView) (sink sink' : SinkView) : Type 0 where
+  pub read : BytesRead most_input source.left source'.left
+  pub report : IsReportOf read.input sink sink'
 
--- what came is a case, and was reported
-pub record IsReported (left left' held held' : Option (List ℕ)) : Type 0 where
-  pub came : Came most_bytes left left'
-  pub report : IsReportOf came.input held held'
+-- what was read isn't a case, and was refused
+pub record IsRefused (source source' : SourceView) (sink sink' : SinkView) : Type 0 where
+  pub read : BytesRead most_input source.left source'.left
+  pub refusal : IsRefusalOf read.input sink sink'
 
--- what came is no case, and was refused
-pub record IsRefused (left left' held held' : Option (List ℕ)) : Type 0 where
-  pub came : Came most_bytes left left'
-  pub refusal : IsRefusalOf came.input held held'
+-- whatever the status: lines of those for the bytes read were written, in order
+pub record IsAnswered (source source' : SourceView) (sink sink' : SinkView)
+    (status : ℕ) : Type 0 where
+  pub read : BytesRead (suc most_input) source.left source'.left
+  -- with each status except 4 whole lines
+  pub whole_lines : status ≢ 4 → WritesSome sink sink' (lines_to_write read.input)
+  -- with 4 whole lines and a prefix of the next one, whose write was the last
+  pub written_prefix : status ≡ 4 → BreaksOff sink sink' (lines_to_write read.input)
+  -- and none unless the input was read to its end
+  pub not_early : WritesLines sink sink' [] ⊎ IsAtEnd source'.left
 
--- one byte more came than an input may have
-pub record IsTooLong (left left' : Option (List ℕ)) : Type 0 where
-  pub came : Came (suc most_bytes) left left'
-  pub full : length came.input ≡ suc most_bytes
-
--- what was written is a first part of what is to be written for what came, and it is nothing unless the input was read to its end
-pub record IsAnswered (left left' held held' : Option (List ℕ)) : Type 0 where
-  pub came : Came (suc most_bytes) left left'
-  pub written : AppendsFront held held' (output_of came.input)
-  pub whole : Appends held held' [] ⊎ IsAtEnd left'
+-- The promises of `replay`. A count is raised by one, except at the last value of a u64.
+pub record Replayed {S O : Type 0} (source_view : S → SourceView) (sink_view : O → SinkView)
+    (words : List (List ℕ)) (source source' : S) (sink sink' : O) (status : ℕ) : Type 0 where
+  -- The status is 0 to 6.
+  pub range : status ≤ 6
+  -- 0: what was read is a case, and its whole report was written.
+  pub reported : status ≡ 0 → IsReported
+      (source_view source) (source_view source') (sink_view sink) (sink_view sink')
+  -- 6: what was read isn't a case, and the line with its first fault was written.
+  pub refused : status ≡ 6 → IsRefused
+      (source_view source) (source_view source') (sink_view sink) (sink_view sink')
+  -- 5: one byte more was read than an input may have, and no further one.
+  pub too_long : status ≡ 5 → IsTooLong (source_view source) (source_view source')
+  -- 2: exactly where the words are no defined form.
+  pub usage : (status ≡ 2) ↔ (is_run words ≡ false)
+  -- Then nothing is read or written.
+  pub untouched : status ≡ 2 → (source' ≡ source) × (sink' ≡ sink)
+  -- 3: the source failed once in this call.
+  pub read_fault : status ≡ 3 →
+      (source_view source').faults ≡ raised (source_view source).faults
+  -- Each fault of the source ends the call so.
+  pub no_read_fault : (status ≡ 3) ⊎
+      ((source_view source').faults ≡ (source_view source).faults)
+  -- 4: the sink failed once in this call.
+  pub write_fault : status ≡ 4 → (sink_view sink').faults ≡ raised (sink_view sink).faults
+  -- Each fault of the sink ends the call so.
+  pub no_write_fault : (status ≡ 4) ⊎ ((sink_view sink').faults ≡ (sink_view sink).faults)
+  -- The input is read to its end before anything is written.
+  pub read_whole : OneOf (0 ∷ 4 ∷ 6 ∷ []) status → IsAtEnd (source_view source').left
+  -- Nothing is read after the end or a fault: exactly one read found them, the last one.
+  pub stops : OneOf (0 ∷ 3 ∷ 4 ∷ 6 ∷ []) status →
+      Stops (source_view source) (source_view source')
+  -- Where there is no form, or too many bytes, none did.
+  pub no_stop : OneOf (2 ∷ 5 ∷ []) status →
+      (source_view source').stops ≡ (source_view source).stops
+  -- Out of memory: at most one did.
+  pub few_stops : status ≡ 1 →
+      ((source_view source').stops ≡ (source_view source).stops) ⊎
+      ((source_view source').stops ≡ raised (source_view source).stops)
+  -- Where the source failed or gave too many bytes, nothing is written.
+  pub unwritten : OneOf (3 ∷ 5 ∷ []) status → sink' ≡ sink
+  -- Whatever the status, what is written are lines for what was read.
+  pub answered : IsAnswered
+      (source_view source) (source_view source') (sink_view sink) (sink_view sink') status
+  -- A case is reported, unless memory runs out or a fault comes.
+  pub case_reports : is_run words ≡ true → IfSome (source_view source).left
+      (λ input. length input ≤ most_input → IsCaseText input → OneOf (0 ∷ 1 ∷ 3 ∷ 4 ∷ []) status)
+  -- An input that isn't a case is refused likewise.
+  pub fault_refuses : is_run words ≡ true → IfSome (source_view source).left
+      (λ input. length input ≤ most_input → IsFaulty input → OneOf (6 ∷ 1 ∷ 3 ∷ 4 ∷ []) status)
+  -- An input that is too long ends the call likewise.
+  pub excess_stops : is_run words ≡ true → IfSome (source_view source).left
+      (λ input. most_input < length input → OneOf (5 ∷ 1 ∷ 3 ∷ []) status)

@@ -1,7 +1,8 @@
 //! The top call `replay`: from words and input to a report and a status.
 //!
-//! Contracts speak of the report by `report_of` (specs/Top), which is the text of the one journal of a case and of what
-//! the journal leaves, and of what that journal tells by `IsTold` (hmc_journal, specs/Told).
+//! Its contract is `Replayed` (specs/Top), a field a promise. The report of a case is `report_of`
+//! there: the lines of the case's one journal, and those of what the journal leaves and counts.
+//! What that journal guarantees is said in hmc_journal.
 #![tactic(auto)]
 
 mod counts;

@@ -1,11 +1,8 @@
-//! Writing a report, each line by one write.
+//! Writing lines, each by one write.
 
-ghost use Rattle.std.specs.Prelude.{◌≡◌, ◌⊎◌, OnOk, OnErr, IsErrOf};
-ghost use Rattle.std.specs.Io.KnownBytes.{Appends};
-ghost use Rattle.std.specs.List.{flat_map};
-ghost use Rattle.hmc_outside.specs.Rose.{Rose};
-ghost use Rattle.hmc_outside.specs.Front.{AppendsFront};
+ghost use Rattle.std.specs.Prelude.{◌≡◌, ◌<◌, ◌∷◌, [], length, map};
 ghost use Rattle.hmc_journal.specs.Lines.{line_of};
+ghost use Rattle.hmc_replay.specs.Output.{Writes};
 ghost use Rattle.hmc_replay.specs.declared.output.OutputError.TheVariants.{Memory};
 
 use hmc_codes::Memory;
@@ -13,10 +10,10 @@ use hmc_journal::Entry;
 use hmc_outside::Sink;
 use std::alloc::Global;
 
-/// Why a report was not written whole.
+/// Why not all lines were written.
 #[derive(Clone, Copy, Debug, PartialEq, Eq)]
 pub enum OutputError {
-    /// Want of memory.
+    /// Out of memory.
     Memory,
     /// The sink failed.
     Fault,
@@ -30,11 +27,10 @@ impl From<Memory> for OutputError {
     }
 }
 
+/// Writes a line, which has a byte at least.
 pub fn write_line<O: Sink>(sink: &mut O, line: &str) -> Result<(), OutputError>
-    ensures written { OnOk result (Appends (O.held sink.old) (O.held sink.new) line.now) }
-    ensures front { OnErr result (AppendsFront (O.held sink.old) (O.held sink.new) line.now) }
-    ensures fault { IsErrOf result OutputError.Fault → Rose (O.faults sink.old) (O.faults sink.new) }
-    ensures told { IsErrOf result OutputError.Fault ⊎ (O.faults sink.new ≡ O.faults sink.old) }
+    requires { 0 < length line.now }
+    ensures { Writes result (O.shows sink.old) (O.shows sink.new) (line.now ∷ []) }
 {
     match sink.write(line.as_bytes()) {
         Ok(()) => Ok(()),
@@ -42,29 +38,22 @@ pub fn write_line<O: Sink>(sink: &mut O, line: &str) -> Result<(), OutputError>
     }
 }
 
-#[tactic(auto, using(hmc_outside::proofs::FrontLemmas::fronts))]
 fn write_entry<O: Sink>(alloc: Global, sink: &mut O, entry: &Entry) -> Result<(), OutputError>
-    ensures written { OnOk result (Appends (O.held sink.old) (O.held sink.new) (line_of entry.now)) }
-    ensures front { OnErr result (AppendsFront (O.held sink.old) (O.held sink.new) (line_of entry.now)) }
-    ensures fault { IsErrOf result OutputError.Fault → Rose (O.faults sink.old) (O.faults sink.new) }
-    ensures told { IsErrOf result OutputError.Fault ⊎ (O.faults sink.new ≡ O.faults sink.old) }
+    ensures { Writes result (O.shows sink.old) (O.shows sink.new) (line_of entry.now ∷ []) }
 {
     let line = entry.line(alloc)?;
     write_line(sink, line.as_str())
 }
 
-/// The lines of the entries, in order.
+/// Writes the lines of the entries, in order.
 pub fn write_entries<O: Sink>(
     alloc: Global,
     sink: &mut O,
     entries: &[Entry],
 ) -> Result<(), OutputError>
-    ensures written { OnOk result (Appends (O.held sink.old) (O.held sink.new) (flat_map line_of entries.now)) }
-    ensures front { OnErr result (AppendsFront (O.held sink.old) (O.held sink.new) (flat_map line_of entries.now)) }
-    ensures fault { IsErrOf result OutputError.Fault → Rose (O.faults sink.old) (O.faults sink.new) }
-    ensures told { IsErrOf result OutputError.Fault ⊎ (O.faults sink.new ≡ O.faults sink.old) }
+    ensures { Writes result (O.shows sink.old) (O.shows sink.new) (map line_of entries.now) }
 {
-    for entry in entries {
+    'entries: for entry in entries {
         match write_entry(alloc, sink, entry) {
             Ok(()) => {}
             Err(error) => return Err(error),

@@ -10,8 +10,8 @@ use hmc_codes::Memory;
 use hmc_net::Net;
 use std::alloc::Global;
 
-/// The network of a case behind all its steps.
-pub fn replayed(alloc: Global, case: &Case) -> Result<Net, Memory>
+/// The network of a case after all its steps.
+pub fn net_after_steps(alloc: Global, case: &Case) -> Result<Net, Memory>
     ensures stands { IfOk result (λ net. StandsFor net (setup_of case.now)) }
     ensures whole { IfOk result (λ net. IsWhole (setup_of case.now) net.journal.past) }
 {

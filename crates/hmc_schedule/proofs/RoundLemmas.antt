@@ -5,7 +5,7 @@ use Rattle.std.proofs.lemmas.Grind.{flat_map-append}
 use Rattle.std.proofs.lemmas.List.FromFn.{map-range_with_len_more}
 use Rattle.std.specs.Result.{IsOkAnd}
 use Rattle.hmc_schedule.specs.declared.step.Step.{Step}
-use Rattle.hmc_schedule.specs.Round.{upto}
+use Rattle.hmc_codes.specs.Numbers.{upto}
 
 map-same : (xs : List ℕ) → map (λ x. x) xs ≡ xs
 map-same [] = refl

@@ -9,8 +9,10 @@ use Rattle.hmc_schedule.specs.declared.meaning.Meaning.TheVariants.{Nothing, One
 use Rattle.hmc_schedule.specs.declared.step.Step.{Step}
 use Rattle.hmc_schedule.specs.declared.step.Step.TheVariants.{Give, Send, Land, Shift, Spread, Bank, Registers, Lift, Take}
 use Rattle.hmc_schedule.specs.Meaning.{IfOne}
-use Rattle.hmc_schedule.specs.Plan.{PlanFields, IsWorking, is_joined, vaults_at, banks_at, zero_mask}
-use Rattle.hmc_schedule.specs.Round.{upto, shifts_of, spreads_of, banks_of, lifts_of, round_of, rounds_of}
+use Rattle.hmc_schedule.specs.Plan.{PlanFields, IsWorking, is_joined, vaults_at, banks_at}
+use Rattle.hmc_codes.specs.Flit.{zero_flit}
+use Rattle.hmc_schedule.specs.Round.{shifts_of, spreads_of, banks_of, lifts_of, round_of, rounds_of}
+use Rattle.hmc_codes.specs.Numbers.{upto}
 use Rattle.hmc_schedule.specs.Schedule.{steps_of}
 
 upto_all : (Q : ℕ → Type 0) (n : ℕ) → ((i : ℕ) → i < n → Q i) → All Q (upto n)
@@ -78,7 +80,7 @@ round_works plan =
     All-append P _ _ (All-append P _ _ (All-append P _ _ (All-append P _ _ (All-append P _ _ (All-append P _ _ (All-append P _ _ (All-append P _ _
     (map_all P Give plan.hosts (λ host small. record { within = small; built = tt }))
     (map_all P Send plan.directions (λ direction small. record { within = small; built = tt })))
-    (map_all P (λ direction. Land direction zero_mask) plan.directions (λ direction small. record { within = small; built = refl })))
+    (map_all P (λ direction. Land direction zero_flit) plan.directions (λ direction small. record { within = small; built = refl })))
     (each_all P (shifts_of plan) n (shifts_work plan)))
     (each_all P (spreads_of plan) n (spreads_work plan)))
     (each_all P (banks_of plan) n (banks_work plan)))

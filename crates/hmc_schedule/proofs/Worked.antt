@@ -1,21 +1,24 @@
 -- Definitions computed at a plan of two cubes: the second has one vault, four banks, and a link at port 1 alone.
-use Rattle.std.proofs.Common.{◌≡◌, [], ◌∷◌, ◌++◌, Ok, Err, true, false, refl, arith}
+use Rattle.std.proofs.Common.{◌≡◌, ◌+◌, List, length, nat_le, [], ◌∷◌, ◌++◌, Ok, Err, true, false, refl, arith}
+use Rattle.std.proofs.lemmas.Bool.Decides.{nat_tests}
 use Rattle.std.specs.Prelude.{codes, map}
 use Rattle.hex.specs.Hex.{decode_pairs}
 use Rattle.hmc_codes.specs.declared.lift.Lift.TheVariants as lifts
 use Rattle.hmc_text.specs.InTurn.{after_lines}
 use Rattle.hmc_text.specs.Lines.{lines_of}
-use Rattle.hmc_text.specs.Number.{number_behind, number_in, number_of}
+use Rattle.hmc_text.specs.Number.{number_after, number_in, number_of}
 use Rattle.hmc_text.specs.Reading.{number_word}
 use Rattle.hmc_text.specs.Words.{words_of}
 use Rattle.hmc_schedule.specs.declared.fault.ScheduleKind.TheVariants as kinds
+use Rattle.hmc_schedule.specs.declared.step.Step.{Step}
 use Rattle.hmc_schedule.specs.declared.step.Step.TheVariants as steps
 use Rattle.hmc_schedule.specs.declared.verb.Verb.TheVariants as verbs
-use Rattle.hmc_schedule.specs.Meaning.{numbered, land_of, at_port, spread_of, bank_of, lift_of, step_of, one_of, said_of, meaning_of}
+use Rattle.hmc_schedule.specs.Meaning.{numbered_step, land_of, port_step, spread_of, bank_of, lift_of, step_of, one_of, statement_of, meaning_of}
 use Rattle.hmc_schedule.specs.Operands.{port_words, vault_words, vault_lift, lift_word, mask_word, mask_words, count_word}
-use Rattle.hmc_schedule.specs.Plan.{PlanFields, IsStepOf, zero_mask}
+use Rattle.hmc_schedule.specs.Plan.{PlanFields, IsPlan, IsStepOf}
+use Rattle.hmc_codes.specs.Flit.{zero_flit}
 use Rattle.hmc_schedule.specs.Round.{shifts_of, spreads_of, banks_of, lifts_of, round_of}
-use Rattle.hmc_schedule.specs.Schedule.{with_more, after_line, schedule_of}
+use Rattle.hmc_schedule.specs.Schedule.{add_steps, after_line, schedule_of}
 use Rattle.hmc_schedule.specs.Verb.{verbs as all_verbs, verb_of}
 
 abbrev two_cubes : PlanFields
@@ -23,14 +26,14 @@ two_cubes = record {
   hosts = 1;
   directions = 4;
   cubes =
-      record { shape = record { vault_bits = 1; bank_bits = 0; rows = 1 }; ports = true ∷ false ∷ true ∷ false ∷ [] } ∷
-      record { shape = record { vault_bits = 0; bank_bits = 2; rows = 1 }; ports = false ∷ true ∷ false ∷ false ∷ [] } ∷ [];
+      record { shape = record { vault_bits = 1; bank_bits = 0; rows = 1; block = 256 }; ports = true ∷ false ∷ true ∷ false ∷ [] } ∷
+      record { shape = record { vault_bits = 0; bank_bits = 2; rows = 1; block = 256 }; ports = false ∷ true ∷ false ∷ false ∷ [] } ∷ [];
 }
 
 -- one kind after another, and in each kind by ascending numbers
 round_of-two_cubes : round_of two_cubes ≡
     steps.Give 0 ∷ steps.Send 0 ∷ steps.Send 1 ∷ steps.Send 2 ∷ steps.Send 3 ∷
-    steps.Land 0 zero_mask ∷ steps.Land 1 zero_mask ∷ steps.Land 2 zero_mask ∷ steps.Land 3 zero_mask ∷
+    steps.Land 0 zero_flit ∷ steps.Land 1 zero_flit ∷ steps.Land 2 zero_flit ∷ steps.Land 3 zero_flit ∷
     steps.Shift 0 0 ∷ steps.Shift 0 2 ∷ steps.Shift 1 1 ∷ steps.Spread 0 0 ∷ steps.Spread 0 1 ∷ steps.Spread 1 0 ∷
     steps.Bank 0 0 0 ∷ steps.Bank 0 1 0 ∷ steps.Bank 1 0 0 ∷ steps.Bank 1 0 1 ∷ steps.Bank 1 0 2 ∷ steps.Bank 1 0 3 ∷
     steps.Registers 0 ∷ steps.Registers 1 ∷ steps.Lift 0 (lifts.Vault 0) ∷ steps.Lift 0 (lifts.Vault 1) ∷ steps.Lift 0 lifts.Registers ∷
@@ -38,25 +41,25 @@ round_of-two_cubes : round_of two_cubes ≡
 unfolding round_of shifts_of spreads_of banks_of lifts_of
 round_of-two_cubes = refl
 
--- the words of steps that aren't built yet are read already
+-- the words of steps that aren't built yet are read all the same
 step_of-through : step_of two_cubes verbs.Through (codes "1" ∷ codes "1" ∷ codes "x" ∷ []) ≡ Ok (steps.Through 1 1, codes "x" ∷ [])
-unfolding step_of at_port port_words number_word number_of number_in number_behind
+unfolding step_of port_step port_words number_word number_of number_in number_after
 step_of-through = refl
 
 step_of-unjoined : step_of two_cubes verbs.Through (codes "1" ∷ codes "0" ∷ []) ≡ Err kinds.Range
-unfolding step_of at_port port_words number_word number_of number_in number_behind
+unfolding step_of port_step port_words number_word number_of number_in number_after
 step_of-unjoined = refl
 
 step_of-unlock : map (λ direction. step_of two_cubes verbs.Unlock (direction ∷ [])) (codes "3" ∷ codes "4" ∷ codes "r" ∷ []) ≡
     Ok (steps.Unlock 3, []) ∷ Err kinds.Range ∷ Err kinds.Number ∷ []
-unfolding step_of numbered number_word number_of number_in number_behind
+unfolding step_of numbered_step number_word number_of number_in number_after
 step_of-unlock = refl
 
 step_of-retire : map (λ slot. step_of two_cubes verbs.Retire (slot ∷ [])) (codes "7" ∷ codes "8" ∷ []) ≡ Ok (steps.Retire 7, []) ∷ Err kinds.Range ∷ []
-unfolding step_of numbered number_word number_of number_in number_behind
+unfolding step_of numbered_step number_word number_of number_in number_after
 step_of-retire = refl
 
--- so far none of them is a step
+-- so far none of them is a step, and neither is noise
 one_of-unbuilt : map (λ first. one_of two_cubes first (codes "0" ∷ [])) (codes "through" ∷ codes "unlock" ∷ codes "retire" ∷ codes "noise" ∷ []) ≡
     Err kinds.Step ∷ Err kinds.Step ∷ Err kinds.Step ∷ Err kinds.Step ∷ []
 unfolding one_of verb_of all_verbs
@@ -64,14 +67,30 @@ one_of-unbuilt = refl
 
 count_word-ends : map (λ count. count_word (count ∷ [])) (codes "0" ∷ codes "1" ∷ codes "1000000" ∷ codes "1000001" ∷ []) ≡
     Err kinds.Range ∷ Ok (1, []) ∷ Ok (1000000, []) ∷ Err kinds.Range ∷ []
-unfolding count_word number_word number_of number_in number_behind
+unfolding count_word number_word number_of number_in number_after
 count_word-ends = refl
 
 -- masks of other than zero bits aren't built yet
 mask_word-rows : map mask_word (codes "00000000000000000000000000000000" ∷ codes "0000000000000000000000000000000F" ∷ codes "00" ∷ []) ≡
-    Ok zero_mask ∷ Err kinds.Mask ∷ Err kinds.Mask ∷ []
-unfolding mask_word decode_pairs
+    Ok zero_flit ∷ Err kinds.Mask ∷ Err kinds.Mask ∷ []
+unfolding mask_word decode_pairs zero_flit
 mask_word-rows = refl
+
+-- the last step that a schedule has room for, and the one after it
+add_steps-last : (before : List Step) → length before ≡ 999999 → add_steps before (steps.Give 0 ∷ []) ≡ Ok (before ++ steps.Give 0 ∷ [])
+unfolding add_steps
+add_steps-last before is = let room : nat_le (length before + 1) 1000000 ≡ true = grind (arith, nat_tests) in rw room refl
+
+add_steps-many : (before : List Step) → length before ≡ 1000000 → add_steps before (steps.Give 0 ∷ []) ≡ Err kinds.Steps
+unfolding add_steps
+add_steps-many before is = let full : nat_le (length before + 1) 1000000 ≡ false = grind (arith, nat_tests) in rw full refl
+
+-- what no plan is: one without a host, and one with too many directions
+IsPlan-no_host : IsPlan (record two_cubes { hosts = 0 }) → ⊥
+IsPlan-no_host is = omega (arith, is.some_hosts)
+
+IsPlan-many_directions : IsPlan (record two_cubes { directions = 65 }) → ⊥
+IsPlan-many_directions is = omega (arith, is.directions)
 
 IsStepOf-bank : IsStepOf two_cubes (steps.Bank 1 0 3)
 IsStepOf-bank = record { some_vault = record { some_cube = omega arith; some_vault = omega arith }; some_bank = omega arith }
@@ -87,10 +106,10 @@ IsStepOf-no_slot : IsStepOf two_cubes (steps.Retire 8) → ⊥
 IsStepOf-no_slot is = omega (arith, is)
 
 schedule_of-good : schedule_of two_cubes (codes "land 3" ++ 10 ∷ codes "# none" ++ 10 ∷ codes "lift 1 r" ++ 10 ∷ codes "bank 1 0 3") ≡
-    Ok (steps.Land 3 zero_mask ∷ steps.Lift 1 lifts.Registers ∷ steps.Bank 1 0 3 ∷ [])
-unfolding schedule_of after_lines after_line with_more lines_of words_of meaning_of said_of one_of verb_of all_verbs step_of land_of bank_of lift_of vault_words lift_word mask_words number_word number_of number_in number_behind
+    Ok (steps.Land 3 zero_flit ∷ steps.Lift 1 lifts.Registers ∷ steps.Bank 1 0 3 ∷ [])
+unfolding schedule_of after_lines after_line add_steps lines_of words_of meaning_of statement_of one_of verb_of all_verbs step_of land_of bank_of lift_of vault_words lift_word mask_words number_word number_of number_in number_after
 schedule_of-good = refl
 
 schedule_of-fault : schedule_of two_cubes (codes "spread 1 0" ++ 10 ∷ codes "lift 1 1" ++ 10 ∷ codes "jump") ≡ Err (2, kinds.Range)
-unfolding schedule_of after_lines after_line with_more lines_of words_of meaning_of said_of one_of verb_of all_verbs step_of spread_of lift_of vault_words lift_word vault_lift number_word number_of number_in number_behind
+unfolding schedule_of after_lines after_line add_steps lines_of words_of meaning_of statement_of one_of verb_of all_verbs step_of spread_of lift_of vault_words lift_word vault_lift number_word number_of number_in number_after
 schedule_of-fault = refl

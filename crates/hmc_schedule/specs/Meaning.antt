@@ -1,4 +1,4 @@
--- What a line of a schedule says.
+-- What a line of a schedule states.
 use Rattle.std.specs.Prelude.{ℕ, List, length, codes, Result, Ok, if◌then◌else◌}
 use Rattle.std.specs.Str.{bytes_eq}
 use Rattle.hmc_text.specs.Reading.{◌>>=◌, or_fault, next_word, no_word}
@@ -12,12 +12,13 @@ use Rattle.hmc_schedule.specs.declared.step.Step.TheVariants as steps
 use Rattle.hmc_schedule.specs.declared.verb.Verb.{Verb}
 use Rattle.hmc_schedule.specs.declared.verb.Verb.TheVariants.{Give, Send, Land, Shift, Spread, Bank, Registers, Lift, Take, Through, Unlock, Retire}
 use Rattle.hmc_schedule.specs.Operands.{index_word, port_words, vault_words, lift_word, mask_words, count_word}
-use Rattle.hmc_schedule.specs.Plan.{PlanFields, vaults_at, banks_at}
-use Rattle.hmc_schedule.specs.Verb.{verb_of, built}
+use Rattle.hmc_schedule.specs.Plan.{PlanFields, slots, vaults_at, banks_at}
+use Rattle.hmc_schedule.specs.Verb.{verb_of, verb_if_built}
 
 -- a step with one number below the limit
-unfoldable pub numbered : (ℕ → Step) → ℕ → List (List ℕ) → Result (Step × List (List ℕ)) ScheduleKind
-numbered step limit words = do
+unfoldable pub numbered_step : (ℕ → Step) → ℕ → List (List ℕ)
+    → Result (Step × List (List ℕ)) ScheduleKind
+numbered_step step limit words = do
   number ← index_word limit words
   Ok (step number.0, number.1)
 
@@ -29,8 +30,9 @@ land_of plan words = do
   Ok (steps.Land direction.0 mask.0, mask.1)
 
 -- a cube and its port
-unfoldable pub at_port : (ℕ → ℕ → Step) → PlanFields → List (List ℕ) → Result (Step × List (List ℕ)) ScheduleKind
-at_port step plan words = do
+unfoldable pub port_step : (ℕ → ℕ → Step) → PlanFields → List (List ℕ)
+    → Result (Step × List (List ℕ)) ScheduleKind
+port_step step plan words = do
   port ← port_words plan words
   Ok (step port.0 port.1, port.2)
 
@@ -54,46 +56,47 @@ lift_of plan words = do
   lift ← lift_word (vaults_at plan cube.0) cube.1
   Ok (steps.Lift cube.0 lift.0, lift.1)
 
--- a step of this kind, and the words behind it
-unfoldable pub step_of : PlanFields → Verb → List (List ℕ) → Result (Step × List (List ℕ)) ScheduleKind
-step_of plan Give words = numbered steps.Give plan.hosts words
-step_of plan Send words = numbered steps.Send plan.directions words
+-- a step of this kind, and the words after it
+unfoldable pub step_of : PlanFields → Verb → List (List ℕ)
+    → Result (Step × List (List ℕ)) ScheduleKind
+step_of plan Give words = numbered_step steps.Give plan.hosts words
+step_of plan Send words = numbered_step steps.Send plan.directions words
 step_of plan Land words = land_of plan words
-step_of plan Shift words = at_port steps.Shift plan words
+step_of plan Shift words = port_step steps.Shift plan words
 step_of plan Spread words = spread_of plan words
 step_of plan Bank words = bank_of plan words
-step_of plan Registers words = numbered steps.Registers (length plan.cubes) words
+step_of plan Registers words = numbered_step steps.Registers (length plan.cubes) words
 step_of plan Lift words = lift_of plan words
-step_of plan Take words = numbered steps.Take plan.hosts words
-step_of plan Through words = at_port steps.Through plan words
-step_of plan Unlock words = numbered steps.Unlock plan.directions words
-step_of plan Retire words = numbered steps.Retire 8 words
+step_of plan Take words = numbered_step steps.Take plan.hosts words
+step_of plan Through words = port_step steps.Through plan words
+step_of plan Unlock words = numbered_step steps.Unlock plan.directions words
+step_of plan Retire words = numbered_step steps.Retire slots words
 
--- one step, behind which no word stands
+-- one step, after which no word follows
 unfoldable pub one_of : PlanFields → List ℕ → List (List ℕ) → Result Meaning ScheduleKind
 one_of plan first words = do
   verb ← or_fault kinds.Step (verb_of first)
-  verb ← or_fault kinds.Step (built verb)
+  verb ← or_fault kinds.Step (verb_if_built verb)
   step ← step_of plan verb words
   end ← no_word kinds.Words step.1
   Ok (One step.0)
 
--- some rounds, behind which no word stands
-unfoldable pub rounds_said : List (List ℕ) → Result Meaning ScheduleKind
-rounds_said words = do
+-- some rounds, after which no word follows
+unfoldable pub rounds_meaning : List (List ℕ) → Result Meaning ScheduleKind
+rounds_meaning words = do
   count ← count_word words
   end ← no_word kinds.Words count.1
   Ok (Rounds count.0)
 
 -- rounds, or one step
-unfoldable pub said_of : PlanFields → List (List ℕ) → Result Meaning ScheduleKind
-said_of plan words = do
+unfoldable pub statement_of : PlanFields → List (List ℕ) → Result Meaning ScheduleKind
+statement_of plan words = do
   first ← next_word kinds.Words words
-  if bytes_eq first.0 (codes "round") then rounds_said first.1 else one_of plan first.0 first.1
+  if bytes_eq first.0 (codes "round") then rounds_meaning first.1 else one_of plan first.0 first.1
 
--- what the words of a line say
+-- what the words of a line state
 unfoldable pub meaning_of : PlanFields → List (List ℕ) → Result Meaning ScheduleKind
-meaning_of plan words = if is_passed_over words then Ok Nothing else said_of plan words
+meaning_of plan words = if is_passed_over words then Ok Nothing else statement_of plan words
 
 -- P holds of the step, if a line names one
 abbrev pub IfOne : (Step → Type 0) → Meaning → Type 0

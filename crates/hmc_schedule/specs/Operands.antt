@@ -1,14 +1,16 @@
--- The words behind the first word of a line, from left to right.
-use Rattle.std.specs.Prelude.{ℕ, ◌==◌, List, [], ◌∷◌, length, codes, Option, Some, None, Result, Ok, if◌then◌else◌}
+-- The words after the first word of a line, from left to right.
+use Rattle.std.specs.Prelude.{ℕ, ◌+◌, ◌==◌, List, [], ◌∷◌, length, codes, Option, Some, None, Result, Ok, if◌then◌else◌}
 use Rattle.std.specs.Result.{result_ok}
 use Rattle.std.specs.Str.{bytes_eq}
 use Rattle.hex.specs.Hex.{decode_sized}
+use Rattle.hmc_codes.specs.Limits.{ports, most_steps}
 use Rattle.hmc_codes.specs.declared.lift.Lift.{Lift}
 use Rattle.hmc_codes.specs.declared.lift.Lift.TheVariants as lifts
 use Rattle.hmc_text.specs.Reading.{◌>>=◌, or_fault, next_word, number_word}
 use Rattle.hmc_schedule.specs.declared.fault.ScheduleKind.{ScheduleKind}
 use Rattle.hmc_schedule.specs.declared.fault.ScheduleKind.TheVariants as kinds
-use Rattle.hmc_schedule.specs.Plan.{PlanFields, is_joined, vaults_at, zero_mask}
+use Rattle.hmc_schedule.specs.Plan.{PlanFields, is_joined, vaults_at}
+use Rattle.hmc_codes.specs.Flit.{zero_flit}
 
 -- a number below the limit: the word is missing, no number, or out of range
 abbrev pub index_word : ℕ → List (List ℕ) → Result (ℕ × List (List ℕ)) ScheduleKind
@@ -18,12 +20,13 @@ index_word limit words = number_word kinds.Words kinds.Number kinds.Range limit 
 unfoldable pub port_words : PlanFields → List (List ℕ) → Result (ℕ × ℕ × List (List ℕ)) ScheduleKind
 port_words plan words = do
   cube ← index_word (length plan.cubes) words
-  port ← index_word 4 cube.1
+  port ← index_word ports cube.1
   joined ← or_fault kinds.Range (if is_joined plan cube.0 port.0 then Some port.0 else None)
   Ok (cube.0, joined, port.1)
 
 -- a cube and one of its vaults
-unfoldable pub vault_words : PlanFields → List (List ℕ) → Result (ℕ × ℕ × List (List ℕ)) ScheduleKind
+unfoldable pub vault_words : PlanFields → List (List ℕ)
+    → Result (ℕ × ℕ × List (List ℕ)) ScheduleKind
 vault_words plan words = do
   cube ← index_word (length plan.cubes) words
   vault ← index_word (vaults_at plan cube.0) cube.1
@@ -42,26 +45,26 @@ lift_word vaults words = do
   if bytes_eq first.0 (codes "r") then Ok (lifts.Registers, first.1) else vault_lift vaults words
 
 -- the mask, if masks like it are built so far
-abbrev pub built_mask : List ℕ → Option (List ℕ)
-built_mask mask = if bytes_eq mask zero_mask then Some mask else None
+abbrev pub mask_if_built : List ℕ → Option (List ℕ)
+mask_if_built mask = if bytes_eq mask zero_flit then Some mask else None
 
 -- two hexadecimal digits for each byte of a flit
 unfoldable pub mask_word : List ℕ → Result (List ℕ) ScheduleKind
 mask_word word = do
   mask ← or_fault kinds.Mask (result_ok (decode_sized word 16))
-  mask ← or_fault kinds.Mask (built_mask mask)
+  mask ← or_fault kinds.Mask (mask_if_built mask)
   Ok mask
 
--- a mask, which is zero where no word stands
+-- a mask, which is zero where there is no word
 unfoldable pub mask_words : List (List ℕ) → Result (List ℕ × List (List ℕ)) ScheduleKind
-mask_words [] = Ok (zero_mask, [])
+mask_words [] = Ok (zero_flit, [])
 mask_words (word ∷ words) = do
   mask ← mask_word word
   Ok (mask, words)
 
--- how many rounds: 1 to 1,000,000
+-- the number of rounds, which is 1 to that of the steps of a schedule
 unfoldable pub count_word : List (List ℕ) → Result (ℕ × List (List ℕ)) ScheduleKind
 count_word words = do
-  count ← index_word 1000001 words
+  count ← index_word (most_steps + 1) words
   some ← or_fault kinds.Range (if count.0 == 0 then None else Some count.0)
   Ok (some, count.1)

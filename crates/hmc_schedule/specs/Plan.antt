@@ -1,13 +1,15 @@
--- What a network has, and which steps are steps of its parts.
-use Rattle.std.specs.Prelude.{◌≡◌, ◌<◌, ◌≤◌, ◌^◌, ℕ, Bool, true, false, List, length, replicate, slice_index_or, slice_get}
+-- The parts of a network, and the steps that name them.
+use Rattle.std.specs.Prelude.{◌≡◌, ◌<◌, ◌≤◌, ◌*◌, ◌^◌, ℕ, Bool, true, false, List, length, slice_index_or, slice_get}
 use Rattle.std.specs.Option.{option_map_or}
+use Rattle.hmc_codes.specs.Limits.{most_cubes, most_links, most_hosts, ports}
+use Rattle.hmc_codes.specs.Flit.{zero_flit}
 use Rattle.hmc_codes.specs.declared.lift.Lift.{Lift}
 use Rattle.hmc_codes.specs.declared.lift.Lift.TheVariants as lifts
 use Rattle.hmc_schedule.specs.declared.plan.CubePlan.{CubePlan}
 use Rattle.hmc_schedule.specs.declared.step.Step.{Step}
 use Rattle.hmc_schedule.specs.declared.step.Step.TheVariants as steps
 
--- a cube, as contracts see it: its shape, and which of its four ports a link joins
+-- a cube, as contracts see it: its shape, and which of its ports a link joins
 abbrev pub CubePlanFields : Type 0
 CubePlanFields = CubePlan
 
@@ -17,31 +19,37 @@ pub record PlanFields : Type 0 where
   pub directions : ℕ
   pub cubes : List CubePlanFields
 
--- 1 to 8 hosts, 2 to 64 directions, 1 to 8 cubes
+-- what every plan keeps: it has hosts, directions and cubes, as many as a case may have
 pub record IsPlan (plan : PlanFields) : Type 0 where
   pub some_hosts : 1 ≤ plan.hosts
-  pub hosts : plan.hosts ≤ 8
+  pub hosts : plan.hosts ≤ most_hosts
   pub some_directions : 2 ≤ plan.directions
-  pub directions : plan.directions ≤ 64
+  pub directions : plan.directions ≤ 2 * most_links
   pub some_cubes : 1 ≤ length plan.cubes
-  pub cubes : length plan.cubes ≤ 8
+  pub cubes : length plan.cubes ≤ most_cubes
 
 -- whether a link joins this port of this cube
 abbrev pub is_joined : PlanFields → ℕ → ℕ → Bool
-is_joined plan cube port = option_map_or (λ (fields : CubePlanFields). slice_index_or fields.ports port false) (slice_get plan.cubes cube) false
+is_joined plan cube port =
+    option_map_or (λ (fields : CubePlanFields). slice_index_or fields.ports port false)
+    (slice_get plan.cubes cube) false
 
--- how many vaults this cube has; none where there is no such cube
+-- the number of vaults of this cube; 0 where there is no such cube
 abbrev pub vaults_at : PlanFields → ℕ → ℕ
-vaults_at plan cube = option_map_or (λ (fields : CubePlanFields). 2 ^ fields.shape.vault_bits) (slice_get plan.cubes cube) 0
+vaults_at plan cube =
+    option_map_or (λ (fields : CubePlanFields). 2 ^ fields.shape.vault_bits)
+    (slice_get plan.cubes cube) 0
 
--- how many banks each of its vaults has
+-- the number of banks in each of its vaults
 abbrev pub banks_at : PlanFields → ℕ → ℕ
-banks_at plan cube = option_map_or (λ (fields : CubePlanFields). 2 ^ fields.shape.bank_bits) (slice_get plan.cubes cube) 0
+banks_at plan cube =
+    option_map_or (λ (fields : CubePlanFields). 2 ^ fields.shape.bank_bits)
+    (slice_get plan.cubes cube) 0
 
 -- a cube of the plan, and one of its joined ports
 pub record IsPortOf (plan : PlanFields) (cube port : ℕ) : Type 0 where
   pub some_cube : cube < length plan.cubes
-  pub some_port : port < 4
+  pub some_port : port < ports
   pub joined : is_joined plan cube port ≡ true
 
 -- a cube of the plan, and one of its vaults
@@ -64,7 +72,11 @@ pub record IsLiftOf (plan : PlanFields) (cube : ℕ) (lift : Lift) : Type 0 wher
   pub some_cube : cube < length plan.cubes
   pub some_lift : IsLiftBelow (vaults_at plan cube) lift
 
--- each number that the step names is one of the plan; a slot of a logic unit is below 8
+-- the slots of logic units
+abbrev pub slots : ℕ
+slots = 8
+
+-- each number that the step names is one of the plan, or of a slot
 abbrev pub IsStepOf : PlanFields → Step → Type 0
 IsStepOf plan (steps.Give host) = host < plan.hosts
 IsStepOf plan (steps.Send direction) = direction < plan.directions
@@ -77,15 +89,11 @@ IsStepOf plan (steps.Lift cube lift) = IsLiftOf plan cube lift
 IsStepOf plan (steps.Take host) = host < plan.hosts
 IsStepOf plan (steps.Through cube port) = IsPortOf plan cube port
 IsStepOf plan (steps.Unlock direction) = direction < plan.directions
-IsStepOf plan (steps.Retire slot) = slot < 8
+IsStepOf plan (steps.Retire slot) = slot < slots
 
--- 16 zero bytes: no bit of a flit is turned over
-abbrev pub zero_mask : List ℕ
-zero_mask = replicate 16 0
-
--- a step that is built so far: none lands with a mask, and none goes through, unlocks or retires
+-- a step that is built so far: it has no mask, and doesn't go through, unlock or retire
 abbrev pub IsBuilt : Step → Type 0
-IsBuilt (steps.Land direction mask) = mask ≡ zero_mask
+IsBuilt (steps.Land direction mask) = mask ≡ zero_flit
 IsBuilt (steps.Through cube port) = ⊥
 IsBuilt (steps.Unlock direction) = ⊥
 IsBuilt (steps.Retire slot) = ⊥

@@ -22,15 +22,16 @@ word_of Retire = codes "retire"
 -- all kinds of steps
 unfoldable pub verbs : List Verb
 verbs =
-    Give ∷ Send ∷ Land ∷ Shift ∷ Spread ∷ Bank ∷ Registers ∷ Lift ∷ Take ∷ Through ∷ Unlock ∷ Retire ∷ []
+    Give ∷ Send ∷ Land ∷ Shift ∷ Spread ∷ Bank ∷ Registers ∷ Lift ∷ Take ∷
+    Through ∷ Unlock ∷ Retire ∷ []
 
 -- the kind of step with this word
 unfoldable pub verb_of : List ℕ → Option Verb
 verb_of word = find (λ verb. bytes_eq (word_of verb) word) verbs
 
 -- the kind of step, if it is built so far
-abbrev pub built : Verb → Option Verb
-built Through = None
-built Unlock = None
-built Retire = None
-built verb = Some verb
+abbrev pub verb_if_built : Verb → Option Verb
+verb_if_built Through = None
+verb_if_built Unlock = None
+verb_if_built Retire = None
+verb_if_built verb = Some verb

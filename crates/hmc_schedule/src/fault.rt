@@ -8,15 +8,15 @@ use std::fmt;
 /// What is wrong with a line.
 #[derive(Clone, Copy, Debug, PartialEq, Eq)]
 pub enum ScheduleKind {
-    /// The first word names no step.
+    /// The first word is not that of a step.
     Step,
-    /// A word is missing, or words are left over.
+    /// A word is missing, or words are left.
     Words,
-    /// No number where one is due.
+    /// The word is not a number where one is due.
     Number,
     /// The network has no part of this number, or a round's count is out of range.
     Range,
-    /// No mask.
+    /// The word is not a mask.
     Mask,
     /// More steps than a schedule may have.
     Steps,
@@ -39,5 +39,5 @@ impl fmt::Display for ScheduleKind {
     }
 }
 
-/// Why a text is no schedule.
+/// Why a text is not a schedule.
 pub type ScheduleFault = TextFault<ScheduleKind>;

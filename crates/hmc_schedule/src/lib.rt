@@ -1,9 +1,10 @@
 //! Schedules: in which order the parts of a network work, as a text.
 //!
-//! A schedule is a list of steps, each of which names one part of a network by its numbers: a host gives or takes, a flit is
-//! sent or lands, a cube's port, vault or bank does one thing. [`Schedule::parse`] reads a text for a [`Plan`], which says
-//! what the network has, and answers the list of steps with every round written out, or the first fault with its line;
-//! `specs/Schedule.antt` says which. Every step is one of the plan (`IsStepOf`), so that the layers above need not ask.
+//! A schedule is a list of steps, each of which names one part of a network by its numbers: a host
+//! gives or takes, a flit is sent or lands, a cube's port, vault or bank takes one step.
+//! [`Schedule::parse`] reads a text for a [`Plan`], which has the parts of the network. It returns
+//! the list of steps with every round written out, or the first fault with its line, by
+//! `specs/Schedule.antt`. Every step names parts of the plan (`IsStepOf`).
 #![tactic(auto)]
 
 mod fault;

@@ -1,11 +1,11 @@
-//! What a line of a schedule says.
+//! What a line of a schedule states.
 
 ghost use Rattle.std.specs.Prelude.{◌≡◌, IfOk, IsSome};
 ghost use Rattle.hmc_text.specs.Reading.{Gives};
 ghost use Rattle.hmc_text.specs.Words.{words_of};
-ghost use Rattle.hmc_schedule.specs.Meaning.{numbered, at_port, land_of, spread_of, bank_of, lift_of, step_of, one_of, rounds_said, said_of, meaning_of, IfOne};
+ghost use Rattle.hmc_schedule.specs.Meaning.{numbered_step, port_step, land_of, spread_of, bank_of, lift_of, step_of, one_of, rounds_meaning, statement_of, meaning_of, IfOne};
 ghost use Rattle.hmc_schedule.specs.Plan.{PlanFields, IsStepOf, IsBuilt, IsWorking};
-ghost use Rattle.hmc_schedule.specs.Verb.{built};
+ghost use Rattle.hmc_schedule.specs.Verb.{verb_if_built};
 
 use crate::operands::{count_word, index_word, lift_word, mask_words, port_words, vault_words};
 use crate::verb::{Verb, verb_of};
@@ -13,22 +13,24 @@ use crate::{Plan, ScheduleKind, Step};
 use hmc_text::reading::{next_word, no_word};
 use hmc_text::words::is_passed_over;
 
-/// What a line says.
+/// What a line states.
 #[derive(Clone, Copy)]
 pub enum Meaning {
+    /// Nothing: it has no word, or it is a comment.
     Nothing,
     /// One step.
     One(Step),
-    /// So many rounds.
+    /// A number of rounds.
     Rounds(u32),
 }
 
-/// Slots of logic units are numbered below 8.
+/// The slots of logic units.
 const SLOTS: u8 = 8;
 
 #[tactic(auto, unfolding(crate::specs::Meaning::land_of))]
 fn land<'a>(plan: &Plan, line: &'a [u8]) -> Result<(Step, &'a [u8]), ScheduleKind>
-    ensures value { Gives (λ p. (p.0, words_of p.1.now)) result (land_of plan.now (words_of line.now)) }
+    ensures value { Gives (λ p. (p.0, words_of p.1.now)) result
+        (land_of plan.now (words_of line.now)) }
     ensures within { IfOk result (λ p. IsStepOf plan.now p.0) }
     ensures built { IfOk result (λ p. IsBuilt p.0) }
 {
@@ -37,9 +39,10 @@ fn land<'a>(plan: &Plan, line: &'a [u8]) -> Result<(Step, &'a [u8]), ScheduleKin
     Ok((Step::Land(direction, mask), rest))
 }
 
-#[tactic(auto, unfolding(crate::specs::Meaning::at_port))]
+#[tactic(auto, unfolding(crate::specs::Meaning::port_step))]
 fn shift<'a>(plan: &Plan, line: &'a [u8]) -> Result<(Step, &'a [u8]), ScheduleKind>
-    ensures value { Gives (λ p. (p.0, words_of p.1.now)) result (at_port Step.Shift plan.now (words_of line.now)) }
+    ensures value { Gives (λ p. (p.0, words_of p.1.now)) result
+        (port_step Step.Shift plan.now (words_of line.now)) }
     ensures within { IfOk result (λ p. IsStepOf plan.now p.0) }
     ensures built { IfOk result (λ p. IsBuilt p.0) }
 {
@@ -47,9 +50,10 @@ fn shift<'a>(plan: &Plan, line: &'a [u8]) -> Result<(Step, &'a [u8]), ScheduleKi
     Ok((Step::Shift(cube, port), rest))
 }
 
-#[tactic(auto, unfolding(crate::specs::Meaning::at_port))]
+#[tactic(auto, unfolding(crate::specs::Meaning::port_step))]
 fn through<'a>(plan: &Plan, line: &'a [u8]) -> Result<(Step, &'a [u8]), ScheduleKind>
-    ensures value { Gives (λ p. (p.0, words_of p.1.now)) result (at_port Step.Through plan.now (words_of line.now)) }
+    ensures value { Gives (λ p. (p.0, words_of p.1.now)) result
+        (port_step Step.Through plan.now (words_of line.now)) }
     ensures within { IfOk result (λ p. IsStepOf plan.now p.0) }
 {
     let (cube, port, rest) = port_words(plan, line)?;
@@ -58,7 +62,8 @@ fn through<'a>(plan: &Plan, line: &'a [u8]) -> Result<(Step, &'a [u8]), Schedule
 
 #[tactic(auto, unfolding(crate::specs::Meaning::spread_of))]
 fn spread<'a>(plan: &Plan, line: &'a [u8]) -> Result<(Step, &'a [u8]), ScheduleKind>
-    ensures value { Gives (λ p. (p.0, words_of p.1.now)) result (spread_of plan.now (words_of line.now)) }
+    ensures value { Gives (λ p. (p.0, words_of p.1.now)) result
+        (spread_of plan.now (words_of line.now)) }
     ensures within { IfOk result (λ p. IsStepOf plan.now p.0) }
     ensures built { IfOk result (λ p. IsBuilt p.0) }
 {
@@ -68,7 +73,8 @@ fn spread<'a>(plan: &Plan, line: &'a [u8]) -> Result<(Step, &'a [u8]), ScheduleK
 
 #[tactic(auto, unfolding(crate::specs::Meaning::bank_of))]
 fn bank<'a>(plan: &Plan, line: &'a [u8]) -> Result<(Step, &'a [u8]), ScheduleKind>
-    ensures value { Gives (λ p. (p.0, words_of p.1.now)) result (bank_of plan.now (words_of line.now)) }
+    ensures value { Gives (λ p. (p.0, words_of p.1.now)) result
+        (bank_of plan.now (words_of line.now)) }
     ensures within { IfOk result (λ p. IsStepOf plan.now p.0) }
     ensures built { IfOk result (λ p. IsBuilt p.0) }
 {
@@ -79,7 +85,8 @@ fn bank<'a>(plan: &Plan, line: &'a [u8]) -> Result<(Step, &'a [u8]), ScheduleKin
 
 #[tactic(auto, unfolding(crate::specs::Meaning::lift_of))]
 fn lift<'a>(plan: &Plan, line: &'a [u8]) -> Result<(Step, &'a [u8]), ScheduleKind>
-    ensures value { Gives (λ p. (p.0, words_of p.1.now)) result (lift_of plan.now (words_of line.now)) }
+    ensures value { Gives (λ p. (p.0, words_of p.1.now)) result
+        (lift_of plan.now (words_of line.now)) }
     ensures within { IfOk result (λ p. IsStepOf plan.now p.0) }
     ensures built { IfOk result (λ p. IsBuilt p.0) }
 {
@@ -88,12 +95,13 @@ fn lift<'a>(plan: &Plan, line: &'a [u8]) -> Result<(Step, &'a [u8]), ScheduleKin
     Ok((Step::Lift(cube, lift), rest))
 }
 
-// A step of this kind, and the line behind it.
-#[tactic(auto, unfolding(crate::specs::Meaning::step_of, crate::specs::Meaning::numbered))]
+// A step of this kind, and the rest of the line.
+#[tactic(auto, unfolding(crate::specs::Meaning::step_of, crate::specs::Meaning::numbered_step))]
 fn step<'a>(plan: &Plan, verb: Verb, line: &'a [u8]) -> Result<(Step, &'a [u8]), ScheduleKind>
-    ensures value { Gives (λ p. (p.0, words_of p.1.now)) result (step_of plan.now verb (words_of line.now)) }
+    ensures value { Gives (λ p. (p.0, words_of p.1.now)) result
+        (step_of plan.now verb (words_of line.now)) }
     ensures within { IfOk result (λ p. IsStepOf plan.now p.0) }
-    ensures built { IsSome (built verb) → IfOk result (λ p. IsBuilt p.0) }
+    ensures built { IsSome (verb_if_built verb) → IfOk result (λ p. IsBuilt p.0) }
 {
     match verb {
         Verb::Give => {
@@ -129,7 +137,7 @@ fn step<'a>(plan: &Plan, verb: Verb, line: &'a [u8]) -> Result<(Step, &'a [u8]),
     }
 }
 
-// One step, behind which no word stands.
+// One step, after which no word follows.
 #[tactic(auto, unfolding(crate::specs::Meaning::one_of))]
 fn one(plan: &Plan, first: &[u8], line: &[u8]) -> Result<Meaning, ScheduleKind>
     ensures value { result ≡ one_of plan.now first.now (words_of line.now) }
@@ -138,7 +146,7 @@ fn one(plan: &Plan, first: &[u8], line: &[u8]) -> Result<Meaning, ScheduleKind>
     let Some(verb) = verb_of(first) else {
         return Err(ScheduleKind::Step);
     };
-    let Some(verb) = verb.built() else {
+    let Some(verb) = verb.if_built() else {
         return Err(ScheduleKind::Step);
     };
     let (step, rest) = step(plan, verb, line)?;
@@ -146,10 +154,10 @@ fn one(plan: &Plan, first: &[u8], line: &[u8]) -> Result<Meaning, ScheduleKind>
     Ok(Meaning::One(step))
 }
 
-// Some rounds, behind which no word stands.
-#[tactic(auto, unfolding(crate::specs::Meaning::rounds_said))]
+// Some rounds, after which no word follows.
+#[tactic(auto, unfolding(crate::specs::Meaning::rounds_meaning))]
 fn rounds(line: &[u8]) -> Result<Meaning, ScheduleKind>
-    ensures value { result ≡ rounds_said (words_of line.now) }
+    ensures value { result ≡ rounds_meaning (words_of line.now) }
     ensures works { (plan : PlanFields) → IfOk result (IfOne (IsWorking plan)) }
 {
     let (count, rest) = count_word(line)?;
@@ -157,9 +165,9 @@ fn rounds(line: &[u8]) -> Result<Meaning, ScheduleKind>
     Ok(Meaning::Rounds(count))
 }
 
-#[tactic(auto, unfolding(crate::specs::Meaning::said_of))]
-fn said(plan: &Plan, line: &[u8]) -> Result<Meaning, ScheduleKind>
-    ensures value { result ≡ said_of plan.now (words_of line.now) }
+#[tactic(auto, unfolding(crate::specs::Meaning::statement_of))]
+fn statement(plan: &Plan, line: &[u8]) -> Result<Meaning, ScheduleKind>
+    ensures value { result ≡ statement_of plan.now (words_of line.now) }
     ensures works { IfOk result (IfOne (IsWorking plan.now)) }
 {
     let (first, rest) = next_word(ScheduleKind::Words, line)?;
@@ -169,7 +177,7 @@ fn said(plan: &Plan, line: &[u8]) -> Result<Meaning, ScheduleKind>
     one(plan, first, rest)
 }
 
-/// What a line says, word by word from left to right. The fault is the first one.
+/// What a line states, word by word from left to right. The fault is the first one.
 #[tactic(auto, unfolding(crate::specs::Meaning::meaning_of))]
 pub fn meaning_of(plan: &Plan, line: &[u8]) -> Result<Meaning, ScheduleKind>
     ensures value { result ≡ meaning_of plan.now (words_of line.now) }
@@ -178,5 +186,5 @@ pub fn meaning_of(plan: &Plan, line: &[u8]) -> Result<Meaning, ScheduleKind>
     if is_passed_over(line) {
         return Ok(Meaning::Nothing);
     }
-    said(plan, line)
+    statement(plan, line)
 }

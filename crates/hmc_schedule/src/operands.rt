@@ -1,25 +1,24 @@
-//! The words behind the first word of a line.
+//! The words after the first word of a line.
 
 ghost use Rattle.std.specs.Prelude.{◌≡◌, ◌<◌, ℕ, IfOk, IfSome, length};
 ghost use Rattle.std.specs.Result.{result_ok};
 ghost use Rattle.hex.specs.Hex.{decode_sized};
 ghost use Rattle.hmc_text.specs.Reading.{Gives};
 ghost use Rattle.hmc_text.specs.Words.{words_of};
-ghost use Rattle.hmc_schedule.specs.Operands.{index_word, port_words, vault_words, vault_lift, lift_word, built_mask, mask_word, mask_words, count_word};
-ghost use Rattle.hmc_schedule.specs.Plan.{IsPortOf, IsVaultOf, IsLiftBelow, zero_mask};
+ghost use Rattle.hmc_schedule.specs.Operands.{index_word, port_words, vault_words, vault_lift, lift_word, mask_if_built, mask_word, mask_words, count_word};
+ghost use Rattle.hmc_schedule.specs.Plan.{IsPortOf, IsVaultOf, IsLiftBelow};
+ghost use Rattle.hmc_codes.specs.Flit.{zero_flit};
 
 use crate::{Plan, ScheduleKind};
 use hex::FromHex;
-use hmc_codes::{Flit, Lift};
+use hmc_codes::{Flit, Lift, MOST_STEPS, PORTS, ZERO_FLIT};
 use hmc_text::reading::{next_word, number_word};
 use hmc_text::words::first_word;
 
-/// The most rounds of a line, and one.
-const ROUNDS: u64 = 1_000_001;
-
-/// A number below the limit, and the line behind it.
+/// A number below the limit, and the rest of the line.
 pub fn index_word(limit: u8, line: &[u8]) -> Result<(u8, &[u8]), ScheduleKind>
-    ensures value { Gives (λ p. (p.0, words_of p.1.now)) result (index_word limit (words_of line.now)) }
+    ensures value { Gives (λ p. (p.0, words_of p.1.now)) result
+        (index_word limit (words_of line.now)) }
     ensures small { IfOk result (λ p. p.0 < limit) }
 {
     let (number, rest) = number_word(
@@ -32,24 +31,26 @@ pub fn index_word(limit: u8, line: &[u8]) -> Result<(u8, &[u8]), ScheduleKind>
     Ok((number as u8, rest))
 }
 
-/// A cube and one of its joined ports, and the line behind them.
+/// A cube and one of its joined ports, and the rest of the line.
 #[tactic(auto, unfolding(crate::specs::Operands::port_words))]
 pub fn port_words<'a>(plan: &Plan, line: &'a [u8]) -> Result<(u8, u8, &'a [u8]), ScheduleKind>
-    ensures value { Gives (λ p. (p.0, p.1, words_of p.2.now)) result (port_words plan.now (words_of line.now)) }
+    ensures value { Gives (λ p. (p.0, p.1, words_of p.2.now)) result
+        (port_words plan.now (words_of line.now)) }
     ensures within { IfOk result (λ p. IsPortOf plan.now p.0 p.1) }
 {
     let (cube, rest) = index_word(plan.cube_count(), line)?;
-    let (port, rest) = index_word(4, rest)?;
+    let (port, rest) = index_word(PORTS, rest)?;
     if !plan.is_joined(cube, port) {
         return Err(ScheduleKind::Range);
     }
     Ok((cube, port, rest))
 }
 
-/// A cube and one of its vaults, and the line behind them.
+/// A cube and one of its vaults, and the rest of the line.
 #[tactic(auto, unfolding(crate::specs::Operands::vault_words))]
 pub fn vault_words<'a>(plan: &Plan, line: &'a [u8]) -> Result<(u8, u8, &'a [u8]), ScheduleKind>
-    ensures value { Gives (λ p. (p.0, p.1, words_of p.2.now)) result (vault_words plan.now (words_of line.now)) }
+    ensures value { Gives (λ p. (p.0, p.1, words_of p.2.now)) result
+        (vault_words plan.now (words_of line.now)) }
     ensures within { IfOk result (λ p. IsVaultOf plan.now p.0 p.1) }
 {
     let (cube, rest) = index_word(plan.cube_count(), line)?;
@@ -59,17 +60,19 @@ pub fn vault_words<'a>(plan: &Plan, line: &'a [u8]) -> Result<(u8, u8, &'a [u8])
 
 #[tactic(auto, unfolding(crate::specs::Operands::vault_lift))]
 fn vault_lift(vaults: u8, line: &[u8]) -> Result<(Lift, &[u8]), ScheduleKind>
-    ensures value { Gives (λ p. (p.0, words_of p.1.now)) result (vault_lift vaults (words_of line.now)) }
+    ensures value { Gives (λ p. (p.0, words_of p.1.now)) result
+        (vault_lift vaults (words_of line.now)) }
     ensures within { IfOk result (λ p. IsLiftBelow vaults p.0) }
 {
     let (vault, rest) = index_word(vaults, line)?;
     Ok((Lift::Vault(vault), rest))
 }
 
-/// One of so many vaults, or `r` for the registers, and the line behind it.
+/// One of this many vaults, or `r` for the registers, and the rest of the line.
 #[tactic(auto, unfolding(crate::specs::Operands::lift_word))]
 pub fn lift_word(vaults: u8, line: &[u8]) -> Result<(Lift, &[u8]), ScheduleKind>
-    ensures value { Gives (λ p. (p.0, words_of p.1.now)) result (lift_word vaults (words_of line.now)) }
+    ensures value { Gives (λ p. (p.0, words_of p.1.now)) result
+        (lift_word vaults (words_of line.now)) }
     ensures within { IfOk result (λ p. IsLiftBelow vaults p.0) }
 {
     let (first, rest) = next_word(ScheduleKind::Words, line)?;
@@ -87,11 +90,12 @@ fn flit(digits: &[u8]) -> Option<Flit>
 }
 
 // The mask, if masks like it are built so far.
-fn built_mask(mask: Flit) -> Option<Flit>
-    ensures value { result ≡ built_mask mask }
-    ensures zero { IfSome result (λ mask. mask ≡ zero_mask) }
+#[tactic(auto, unfolding(hmc_codes::specs::Flit::zero_flit))]
+fn mask_if_built(mask: Flit) -> Option<Flit>
+    ensures value { result ≡ mask_if_built mask }
+    ensures zero { IfSome result (λ mask. mask ≡ zero_flit) }
 {
-    if mask.as_slice() == [0; 16].as_slice() {
+    if mask.as_slice() == ZERO_FLIT.as_slice() {
         Some(mask)
     } else {
         None
@@ -101,31 +105,31 @@ fn built_mask(mask: Flit) -> Option<Flit>
 #[tactic(auto, unfolding(crate::specs::Operands::mask_word))]
 fn mask_word(word: &[u8]) -> Result<Flit, ScheduleKind>
     ensures value { result ≡ mask_word word.now }
-    ensures zero { IfOk result (λ mask. mask ≡ zero_mask) }
+    ensures zero { IfOk result (λ mask. mask ≡ zero_flit) }
 {
     let Some(mask) = flit(word) else {
         return Err(ScheduleKind::Mask);
     };
-    let Some(mask) = built_mask(mask) else {
+    let Some(mask) = mask_if_built(mask) else {
         return Err(ScheduleKind::Mask);
     };
     Ok(mask)
 }
 
-/// A mask, and the line behind it. It is zero where no word stands.
-#[tactic(auto, unfolding(crate::specs::Operands::mask_words))]
+/// A mask, and the rest of the line. The mask is zero where there is no word.
+#[tactic(auto, unfolding(crate::specs::Operands::mask_words, hmc_codes::specs::Flit::zero_flit))]
 pub fn mask_words(line: &[u8]) -> Result<(Flit, &[u8]), ScheduleKind>
     ensures value { Gives (λ p. (p.0, words_of p.1.now)) result (mask_words (words_of line.now)) }
-    ensures zero { IfOk result (λ p. p.0 ≡ zero_mask) }
+    ensures zero { IfOk result (λ p. p.0 ≡ zero_flit) }
 {
     let Some((word, rest)) = first_word(line) else {
-        return Ok(([0; 16], line));
+        return Ok((ZERO_FLIT, line));
     };
     let mask = mask_word(word)?;
     Ok((mask, rest))
 }
 
-/// How many rounds, 1 to 1,000,000, and the line behind the number.
+/// The number of rounds, 1 to `MOST_STEPS`, and the rest of the line.
 #[tactic(auto, unfolding(crate::specs::Operands::count_word))]
 pub fn count_word(line: &[u8]) -> Result<(u32, &[u8]), ScheduleKind>
     ensures { Gives (λ p. (p.0, words_of p.1.now)) result (count_word (words_of line.now)) }
@@ -134,7 +138,7 @@ pub fn count_word(line: &[u8]) -> Result<(u32, &[u8]), ScheduleKind>
         ScheduleKind::Words,
         ScheduleKind::Number,
         ScheduleKind::Range,
-        ROUNDS,
+        u64::from(MOST_STEPS) + 1,
         line,
     )?;
     if count == 0 {

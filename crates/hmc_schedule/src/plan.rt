@@ -1,27 +1,27 @@
-//! What a schedule is read for.
+//! The parts of the network for which a schedule is read.
 
 ghost use Rattle.std.specs.Prelude.{◌≡◌, ◌^◌, false, length, slice_index_or};
 
-use hmc_codes::Shape;
+use hmc_codes::{PORTS, Shape};
 use std::marker::Model;
 
-/// A cube, as far as steps name its parts.
+/// The parts of a cube that steps name.
 #[derive(Clone, Copy)]
 pub struct CubePlan {
-    /// It has so many vaults and banks.
+    /// Its vaults and banks.
     pub shape: Shape,
     /// Which of its ports a link joins.
-    pub ports: [bool; 4],
+    pub ports: [bool; PORTS as usize],
 }
 
-/// What a network has. Contracts see the two numbers and the list of cubes.
+/// The parts of a network. Contracts see the two numbers and the list of cubes.
 #[derive(Drop)]
 pub struct Plan {
-    /// 1 to 8.
+    /// The number of hosts; 1 to 8.
     pub hosts: u8,
-    /// 2 to 64.
+    /// The number of directions, two for each link; 2 to 64.
     pub directions: u8,
-    /// 1 to 8 cubes.
+    /// The cubes by their numbers; 1 to 8.
     pub cubes: Vec<CubePlan>,
 }
 
@@ -30,9 +30,17 @@ impl Model for Plan {
 
     ghost Value = { PlanFields };
 
-    ghost view = { λ p. record { hosts = p.hosts; directions = p.directions; cubes = p.cubes.items } };
+    ghost view = { λ p. record {
+      hosts = p.hosts;
+      directions = p.directions;
+      cubes = p.cubes.items;
+    } };
 
-    ghost invariant = { λ p. IsPlan (record { hosts = p.hosts; directions = p.directions; cubes = p.cubes.items }) };
+    ghost invariant = { λ p. IsPlan (record {
+      hosts = p.hosts;
+      directions = p.directions;
+      cubes = p.cubes.items;
+    }) };
 }
 
 // Whether the port with this number is joined.
@@ -48,35 +56,35 @@ fn joined_in(ports: &[bool], port: u8) -> bool
 fn vaults_in(shape: Shape) -> u8
     ensures { result ≡ 2 ^ shape.vault_bits }
 {
-    shape.keeps();
+    shape.invariant();
     1 << shape.vault_bits
 }
 
 fn banks_in(shape: Shape) -> u8
     ensures { result ≡ 2 ^ shape.bank_bits }
 {
-    shape.keeps();
+    shape.invariant();
     1 << shape.bank_bits
 }
 
 impl Plan {
     ghost use Rattle.hmc_schedule.specs.Plan.{IsPlan, is_joined, vaults_at, banks_at};
 
-    /// Nothing is done: what every plan keeps is the contract.
-    pub fn keeps(&self)
+    /// Does nothing. Its contract is what every plan keeps.
+    pub fn invariant(&self)
         ensures { IsPlan self.now }
     {
         let _ = &self.hosts;
     }
 
-    /// How many cubes there are.
+    /// The number of cubes.
     pub(crate) fn cube_count(&self) -> u8
         ensures { result ≡ length self.now.cubes }
     {
         self.cubes.len() as u8
     }
 
-    /// Whether this port of this cube is joined. A cube or a port that isn't there has no joined port.
+    /// Whether a link joins this port of this cube; false where there is no such cube or port.
     pub(crate) fn is_joined(&self, cube: u8, port: u8) -> bool
         ensures { result ≡ is_joined self.now cube port }
     {
@@ -86,7 +94,7 @@ impl Plan {
         }
     }
 
-    /// How many vaults this cube has, or 0 where there is no such cube.
+    /// The number of vaults of this cube, or 0 where there is no such cube.
     pub(crate) fn vaults(&self, cube: u8) -> u8
         ensures { result ≡ vaults_at self.now cube }
     {
@@ -96,7 +104,7 @@ impl Plan {
         }
     }
 
-    /// How many banks each vault of this cube has, or 0 where there is no such cube.
+    /// The number of banks in each vault of this cube, or 0 where there is no such cube.
     pub(crate) fn banks(&self, cube: u8) -> u8
         ensures { result ≡ banks_at self.now cube }
     {

@@ -1,18 +1,20 @@
-//! Rounds: every part of the network works once.
+//! Rounds: every part of the network takes one step.
 
 ghost use Rattle.std.specs.Prelude.{◌≡◌, ◌≤◌, ◌++◌, OnOk, IfOk, length, map, filter};
 ghost use Rattle.std.specs.List.{flat_map};
 ghost use Rattle.std.specs.Result.{IsOkAnd};
 ghost use Rattle.hmc_schedule.specs.declared.step.Step.TheVariants as steps;
 ghost use Rattle.hmc_codes.specs.declared.lift.Lift.TheVariants as lift;
-ghost use Rattle.hmc_schedule.specs.Plan.{is_joined, vaults_at, banks_at, zero_mask};
-ghost use Rattle.hmc_schedule.specs.Round.{upto, shifts_of, spreads_of, banks_of, lifts_of, part_of, round_of};
+ghost use Rattle.hmc_schedule.specs.Plan.{is_joined, vaults_at, banks_at};
+ghost use Rattle.hmc_codes.specs.Flit.{zero_flit};
+ghost use Rattle.hmc_schedule.specs.Round.{shifts_of, spreads_of, banks_of, lifts_of, part_of, round_of};
+ghost use Rattle.hmc_codes.specs.Numbers.{upto};
 
 use crate::{Plan, Step};
-use hmc_codes::{Lift, Memory};
+use hmc_codes::{Lift, Memory, PORTS, ZERO_FLIT};
 use std::alloc::{AllocError, Global};
 
-/// What a part of every cube does in a round.
+/// A part of every cube that takes steps in a round.
 #[derive(Clone, Copy)]
 pub enum Part {
     Shifts,
@@ -37,11 +39,13 @@ fn sends(alloc: Global, directions: u8) -> Steps
         .collect(alloc)
 }
 
+#[tactic(auto, unfolding(hmc_codes::specs::Flit::zero_flit))]
 fn lands(alloc: Global, directions: u8) -> Steps
-    ensures { IfOk result (λ v. v.items ≡ map (λ direction. steps.Land direction zero_mask) (upto directions)) }
+    ensures { IfOk result
+        (λ v. v.items ≡ map (λ direction. steps.Land direction zero_flit) (upto directions)) }
 {
     (0..directions)
-        .map(|direction| Step::Land(direction, [0; 16]))
+        .map(|direction| Step::Land(direction, ZERO_FLIT))
         .collect(alloc)
 }
 
@@ -61,7 +65,7 @@ fn takes(alloc: Global, hosts: u8) -> Steps
 fn shifts(alloc: Global, plan: &Plan, cube: u8) -> Steps
     ensures { IfOk result (λ v. v.items ≡ shifts_of plan.now cube) }
 {
-    (0..4)
+    (0..PORTS)
         .filter(|port| plan.is_joined(cube, *port))
         .map(|port| Step::Shift(cube, port))
         .collect(alloc)
@@ -91,7 +95,8 @@ fn bank_steps(alloc: Global, banks: u8, cube: u8, vault: u8) -> Steps
 }
 
 fn lift_steps(alloc: Global, vaults: u8, cube: u8) -> Steps
-    ensures { IfOk result (λ v. v.items ≡ map (λ vault. steps.Lift cube (lift.Vault vault)) (upto vaults)) }
+    ensures { IfOk result
+        (λ v. v.items ≡ map (λ vault. steps.Lift cube (lift.Vault vault)) (upto vaults)) }
 {
     (0..vaults)
         .map(|vault| Step::Lift(cube, Lift::Vault(vault)))
@@ -122,7 +127,7 @@ fn banks(alloc: Global, plan: &Plan, cube: u8) -> Steps
     Ok(steps)
 }
 
-// Puts steps behind others, if there was memory for them.
+// Appends steps, if there was memory for them.
 fn add(steps: &mut Vec<Step>, more: Steps) -> Result<(), AllocError>
     ensures { OnOk result (IsOkAnd more (λ v. steps.new.items ≡ steps.old.items ++ v.items)) }
 {
@@ -140,9 +145,10 @@ fn part_steps(alloc: Global, plan: &Plan, part: Part, cube: u8) -> Steps
     }
 }
 
-// What a part of each cube does, the cubes ascending.
+// The steps of a part of each cube, the cubes ascending.
 fn each_cube(alloc: Global, plan: &Plan, part: Part) -> Steps
-    ensures { IfOk result (λ v. v.items ≡ flat_map (part_of part plan.now) (upto (length plan.now.cubes))) }
+    ensures { IfOk result
+        (λ v. v.items ≡ flat_map (part_of part plan.now) (upto (length plan.now.cubes))) }
 {
     let mut steps = Vec::new(alloc);
     for cube in 0..plan.cube_count() {

@@ -2,15 +2,15 @@
 
 use hmc_codes::{Flit, Lift};
 
-/// A step: one thing that one part of a network does. Hosts, directions, cubes, ports, vaults and banks go by their numbers,
-/// from 0.
+/// A step: one thing that one part of a network does. Hosts, directions, cubes, ports, vaults and
+/// banks go by their numbers, from 0.
 #[derive(Clone, Copy, Debug, PartialEq, Eq)]
 pub enum Step {
     /// This host gives its next request to its link.
     Give(u8),
     /// A flit is sent in this direction.
     Send(u8),
-    /// The next flit of this direction lands, with the bits of the mask turned over.
+    /// The next flit of this direction lands, with the bits of the mask inverted.
     Land(u8, Flit),
     /// The front packet of a port's buffer goes on: a cube and its port.
     Shift(u8, u8),
@@ -28,6 +28,6 @@ pub enum Step {
     Through(u8, u8),
     /// The receiver of this direction loses its framing.
     Unlock(u8),
-    /// The logic unit in this slot, below 8, works no more.
+    /// The logic unit in this slot, below 8, is retired.
     Retire(u8),
 }

@@ -1,7 +1,7 @@
 //! The first words of lines.
 
 ghost use Rattle.std.specs.Prelude.{◌≡◌};
-ghost use Rattle.hmc_schedule.specs.Verb.{word_of, verb_of, built};
+ghost use Rattle.hmc_schedule.specs.Verb.{word_of, verb_of, verb_if_built};
 
 /// A kind of step.
 #[derive(Clone, Copy)]
@@ -56,8 +56,8 @@ impl Verb {
     }
 
     /// The kind of step, if it is built so far.
-    pub fn built(self) -> Option<Verb>
-        ensures { result ≡ built self }
+    pub fn if_built(self) -> Option<Verb>
+        ensures { result ≡ verb_if_built self }
     {
         match self {
             Verb::Through | Verb::Unlock | Verb::Retire => None,

@@ -1,8 +1,8 @@
 -- The requests of the command table.
 use Rattle.std.proofs.Common.{cond, ℕ, ◌≡◌, Bool, true, false, Option, Some, None, IfSome, List, [], ◌∷◌, find, ◌&&◌, refl}
 use Rattle.std.specs.List.{list_all}
-use Rattle.hmc_codes.specs.Table.{line_of}
-use Rattle.hmc_codes.specs.Codes.{commands}
+use Rattle.hmc_codes.specs.Table.{table_line}
+use Rattle.hmc_codes.specs.Codes.{all_commands}
 use Rattle.hmc_codes.specs.Commands.{family_of, family_of_layout, layout_of, is_ask}
 use Rattle.hmc_codes.specs.declared.family.Family.TheVariants as families
 use Rattle.hmc_codes.specs.declared.layout.Layout.{Layout}
@@ -23,7 +23,7 @@ found_passes test passes (x ∷ xs) all = by_test (test x) (passes x) refl (λ l
   by_test found false is later all = absurd (cc all)
 
 all_ask : list_all asks requests ≡ true
-unfolding requests commands line_of asks
+unfolding requests all_commands table_line asks
 all_ask = refl
 
 asks_is_family : (layout : Layout) → is_ask layout ≡ true → family_of_layout layout ≡ families.Ask

@@ -3,8 +3,9 @@ use Rattle.std.proofs.Common.{◌≡◌, ◌∙◌, ◌<◌, ◌≤◌, ℕ, ◌
 use Rattle.std.proofs.lemmas.List.{set-get_or, get_or-replicate}
 use Rattle.std.specs.List.{All}
 use Rattle.std.proofs.lemmas.List.Elements.{All-head, All-tail}
+use Rattle.hmc_codes.specs.Limits.{most_hosts, most_requests}
 use Rattle.hmc_codes.specs.Request.{RequestFields, IsRequest}
-use Rattle.hmc_codes.specs.Text.{spaced, line}
+use Rattle.hmc_codes.specs.Text.{spaced_words, line}
 use Rattle.hmc_script.proofs.MeaningText.{meaning_of-fence, meaning_of-ask, fence_are_words, item_are_words, request_line-words}
 use Rattle.hmc_text.proofs.InTurnLemmas.{after_lines-ok}
 use Rattle.hmc_script.proofs.WordsText.{AreWords, words_of-spaced, lines_of-line}
@@ -31,36 +32,36 @@ line_does : (hosts cubes number : ℕ) (progress next : Progress) (words : List 
     after_lines (after_line hosts cubes) number progress (lines_of (line words ++ rest)) ≡ after_lines (after_line hosts cubes) (next_number number) next (lines_of rest)
 unfolding after_line
 line_does hosts cubes number progress next words meaning rest are says does =
-    let said : after_line hosts cubes progress (spaced words) ≡ Ok next = ap (λ ws. meaning_of hosts cubes ws >>= after_meaning progress) (words_of-spaced words are) ∙ ap (λ (r : Result Meaning ScriptKind). r >>= after_meaning progress) says ∙ does in
-    ap (after_lines (after_line hosts cubes) number progress) (lines_of-line words rest are) ∙ after_lines-ok (after_line hosts cubes) number progress next (spaced words) (lines_of rest) (ap (at_line number) said)
+    let said : after_line hosts cubes progress (spaced_words words) ≡ Ok next = ap (λ ws. meaning_of hosts cubes ws >>= after_meaning progress) (words_of-spaced words are) ∙ ap (λ (r : Result Meaning ScriptKind). r >>= after_meaning progress) says ∙ does in
+    ap (after_lines (after_line hosts cubes) number progress) (lines_of-line words rest are) ∙ after_lines-ok (after_line hosts cubes) number progress next (spaced_words words) (lines_of rest) (ap (at_line number) said)
 
-fence_does : (hosts cubes number host : ℕ) (items : List ItemFields) (fences : List Bool) (rest : List ℕ) → host < 8 → host < hosts →
+fence_does : (hosts cubes number host : ℕ) (items : List ItemFields) (fences : List Bool) (rest : List ℕ) → host < most_hosts → host < hosts →
     after_lines (after_line hosts cubes) number (record { items = items; fences = fences }) (lines_of (fence_line host ++ rest)) ≡ after_lines (after_line hosts cubes) (next_number number) (record { items = items; fences = set fences host true }) (lines_of rest)
 unfolding after_meaning
 fence_does hosts cubes number host items fences rest small within =
     line_does hosts cubes number _ _ _ (Fence host) rest (fence_are_words host small) (meaning_of-fence hosts cubes host small within) refl
 
-ask_does : (hosts cubes number host : ℕ) (poisoned : Bool) (request : RequestFields) (items : List ItemFields) (fences : List Bool) (rest : List ℕ) → host < 8 → host < hosts → IsRequest request → request.cube < cubes → length items < 65536 →
+ask_does : (hosts cubes number host : ℕ) (poisoned : Bool) (request : RequestFields) (items : List ItemFields) (fences : List Bool) (rest : List ℕ) → host < most_hosts → host < hosts → IsRequest request → request.cube < cubes → length items < most_requests →
     after_lines (after_line hosts cubes) number (record { items = items; fences = fences }) (lines_of (request_line host poisoned request ++ rest))
     ≡ after_lines (after_line hosts cubes) (next_number number) (record { items = items ++ record { host = host; fenced = get_or fences host false; poisoned = poisoned; request = request } ∷ []; fences = set fences host false }) (lines_of rest)
 unfolding after_meaning
 ask_does hosts cubes number host poisoned request items fences rest small in_hosts is in_cubes room =
     ap (λ l. after_lines (after_line hosts cubes) number (record { items = items; fences = fences }) (lines_of (l ++ rest))) (request_line-words host poisoned request)
-    ∙ line_does hosts cubes number _ _ _ (Ask host poisoned request) rest (item_are_words host poisoned request small is) (meaning_of-ask hosts cubes host poisoned request small in_hosts is in_cubes) (rw (lt-ltb (length items) 65536 room) refl)
+    ∙ line_does hosts cubes number _ _ _ (Ask host poisoned request) rest (item_are_words host poisoned request small is) (meaning_of-ask hosts cubes host poisoned request small in_hosts is in_cubes) (rw (lt-ltb (length items) most_requests room) refl)
 
-quiet_at : (host : ℕ) → host < 8 → get_or quiet host false ≡ false
+quiet_at : (host : ℕ) → host < most_hosts → get_or quiet host false ≡ false
 quiet_at host small = get_or-replicate 8 host false false small
 
-quiet_keeps : (host : ℕ) → host < 8 → set quiet host false ≡ quiet
+quiet_keeps : (host : ℕ) → host < most_hosts → set quiet host false ≡ quiet
 quiet_keeps host small = ap (set quiet host) (sym (quiet_at host small)) ∙ set-get_or quiet host false
 
 -- after its request a fence waits no more
-quiet_again : (host : ℕ) (fenced : Bool) → host < 8 → set (set quiet host fenced) host false ≡ quiet
+quiet_again : (host : ℕ) (fenced : Bool) → host < most_hosts → set (set quiet host fenced) host false ≡ quiet
 quiet_again host fenced small =
     set-set quiet host fenced false ∙ quiet_keeps host small
 
 -- a fence and its request are read as an item
-item_does : (hosts cubes number host : ℕ) (fenced poisoned : Bool) (request : RequestFields) (items : List ItemFields) (rest : List ℕ) (read : Result Progress (ℕ × ScriptKind)) → host < 8 → host < hosts → IsRequest request → request.cube < cubes → length items < 65536 →
+item_does : (hosts cubes number host : ℕ) (fenced poisoned : Bool) (request : RequestFields) (items : List ItemFields) (rest : List ℕ) (read : Result Progress (ℕ × ScriptKind)) → host < most_hosts → host < hosts → IsRequest request → request.cube < cubes → length items < most_requests →
     ((n : ℕ) → after_lines (after_line hosts cubes) n (record { items = items ++ record { host = host; fenced = fenced; poisoned = poisoned; request = request } ∷ []; fences = quiet }) (lines_of rest) ≡ read) →
     after_lines (after_line hosts cubes) number (record { items = items; fences = quiet }) (lines_of ((fence_text host fenced ++ request_line host poisoned request) ++ rest)) ≡ read
 item_does hosts cubes number host true poisoned request items rest read small in_hosts is in_cubes room later =
@@ -74,7 +75,7 @@ item_does hosts cubes number host false poisoned request items rest read small i
     ask_does hosts cubes number host poisoned request items quiet rest small in_hosts is in_cubes room
     ∙ rw (quiet_at host small, quiet_keeps host small) (later (next_number number))
 
--- behind the last line feed nothing is said
+-- after the last line feed nothing is stated
 end_does : (hosts cubes number : ℕ) (progress : Progress) → after_lines (after_line hosts cubes) number progress (lines_of []) ≡ Ok progress
 unfolding lines_of words_of meaning_of after_line after_meaning after_lines
 end_does hosts cubes number progress = refl
@@ -85,7 +86,7 @@ joined read items item =
     ap (λ l. Ok (progress l)) (append_assoc read (item ∷ []) items)
 
 -- so are all of them
-items_do : (hosts cubes number : ℕ) (read items : List ItemFields) → All (λ item. item.host < 8) items → All (λ item. IsRequest item.request) items → All (IsWithin hosts cubes) items → length read + length items ≤ 65536 →
+items_do : (hosts cubes number : ℕ) (read items : List ItemFields) → All (λ item. item.host < most_hosts) items → All (λ item. IsRequest item.request) items → All (IsWithin hosts cubes) items → length read + length items ≤ most_requests →
     after_lines (after_line hosts cubes) number (record { items = read; fences = quiet }) (lines_of (script_text items)) ≡ Ok (record { items = read ++ items; fences = quiet })
 unfolding script_text item_text
 items_do hosts cubes number read [] small are within few =
@@ -94,8 +95,8 @@ items_do hosts cubes number read [] small are within few =
 items_do hosts cubes number read (item ∷ items) small are within few =
     let inside = All-head (IsWithin hosts cubes) item items within in
     item_does hosts cubes number item.host item.fenced item.poisoned item.request read (script_text items) (Ok (record { items = read ++ item ∷ items; fences = quiet }))
-    (All-head (λ i. i.host < 8) item items small) inside.host (All-head (λ i. IsRequest i.request) item items are) inside.cube (omega arith)
-    (λ n. items_do hosts cubes n (read ++ item ∷ []) items (All-tail (λ i. i.host < 8) item items small) (All-tail (λ i. IsRequest i.request) item items are) (All-tail (IsWithin hosts cubes) item items within) (omega (arith, length-append read (item ∷ []))) ∙ joined read items item)
+    (All-head (λ i. i.host < most_hosts) item items small) inside.host (All-head (λ i. IsRequest i.request) item items are) inside.cube (omega arith)
+    (λ n. items_do hosts cubes n (read ++ item ∷ []) items (All-tail (λ i. i.host < most_hosts) item items small) (All-tail (λ i. IsRequest i.request) item items are) (All-tail (IsWithin hosts cubes) item items within) (omega (arith, length-append read (item ∷ []))) ∙ joined read items item)
 
 -- what is printed is read again
 pub printed_is_read : PrintedIsRead

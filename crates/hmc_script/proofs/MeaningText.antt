@@ -18,7 +18,7 @@ use Rattle.hmc_script.specs.declared.fault.ScriptKind.{ScriptKind}
 use Rattle.hmc_script.specs.declared.fault.ScriptKind.TheVariants as kinds
 use Rattle.hmc_script.specs.declared.meaning.Meaning.TheVariants.{Fence, Ask}
 use Rattle.hmc_script.specs.Commands.{command_of}
-use Rattle.hmc_script.specs.Meaning.{number_word, command_word, request_of, ask_of, fence_of, said_of, meaning_of}
+use Rattle.hmc_script.specs.Meaning.{number_word, command_word, request_of, ask_of, fence_of, statement_of, meaning_of}
 use Rattle.hmc_text.specs.Number.{number_of}
 use Rattle.hmc_script.specs.Payload.{payload_of, no_payload, some_payload, payload_word}
 use Rattle.hmc_script.specs.Text.{request_line}
@@ -81,7 +81,7 @@ host_word hosts host ws small within =
     number_word-is kinds.Host hosts host (decimal host) ws (number_of-decimal host (omega arith)) within
 
 pub meaning_of-fence : (hosts cubes host : ℕ) → host < 8 → host < hosts → meaning_of hosts cubes (decimal host ∷ codes "fence" ∷ []) ≡ Ok (Fence host)
-unfolding meaning_of said_of fence_of
+unfolding meaning_of statement_of fence_of
 meaning_of-fence hosts cubes host small within =
     rw (not_silent host (codes "fence" ∷ []) small, host_word hosts host (codes "fence" ∷ []) small within) refl
 
@@ -96,7 +96,7 @@ item_words host true r = decimal host ∷ codes "poison" ∷ request_words r
 item_words host false r = decimal host ∷ request_words r
 
 pub meaning_of-ask : (hosts cubes host : ℕ) (poisoned : Bool) (r : RequestFields) → host < 8 → host < hosts → IsRequest r → r.cube < cubes → meaning_of hosts cubes (item_words host poisoned r) ≡ Ok (Ask host poisoned r)
-unfolding meaning_of said_of
+unfolding meaning_of statement_of
 meaning_of-ask hosts cubes host true r small in_hosts is in_cubes =
     rw (not_silent host (codes "poison" ∷ request_words r) small, host_word hosts host (codes "poison" ∷ request_words r) small in_hosts) (ask_of-request_words cubes host true r is in_cubes)
 meaning_of-ask hosts cubes host false r small in_hosts is in_cubes =

@@ -9,7 +9,7 @@ use Rattle.std.proofs.lemmas.Fmt.{digits_is_IsNumeral, decimal_is_IsNumeral, len
 use Rattle.std.proofs.Math.Nat.{pow-suc, pow-zero, div-eq_of_lt, div-lt_iff_lt-mul}
 use Rattle.hex.specs.Hex.{hex_digit_value}
 use Rattle.hmc_codes.specs.Text.{hex_number}
-use Rattle.hmc_text.specs.Number.{below, number_behind, number_in, number_of}
+use Rattle.hmc_text.specs.Number.{below, number_after, number_in, number_of}
 
 pub hex_digit_value-digit : (c : ℕ) → digit_value c < 16 → hex_digit_value c ≡ Some (digit_value c)
 hex_digit_value-digit c small = grind (arith, nat_tests)
@@ -17,19 +17,19 @@ hex_digit_value-digit c small = grind (arith, nat_tests)
 pub below-is : (limit n : ℕ) → n < limit → below limit (Some n) ≡ Some n
 below-is limit n small = grind (arith, nat_tests)
 
-pub number_behind-digits : (base n : ℕ) (ds : List ℕ) → base ≤ 16 → AllDigits base ds → number_behind base n ds ≡ Some (digits_value_after base n ds)
-unfolding number_behind
-number_behind-digits base n [] small all = refl
-number_behind-digits base n (c ∷ cs) small all =
+pub number_after-digits : (base n : ℕ) (ds : List ℕ) → base ≤ 16 → AllDigits base ds → number_after base n ds ≡ Some (digits_value_after base n ds)
+unfolding number_after
+number_after-digits base n [] small all = refl
+number_after-digits base n (c ∷ cs) small all =
     let digit : below base (hex_digit_value c) ≡ Some (digit_value c) = ap (below base) (hex_digit_value-digit c (omega (arith, all.0))) ∙ below-is base (digit_value c) all.0 in
-    ap (option_and_then (λ d. number_behind base (n * base + d) cs)) digit ∙ number_behind-digits base (n * base + digit_value c) cs small all.1
+    ap (option_and_then (λ d. number_after base (n * base + d) cs)) digit ∙ number_after-digits base (n * base + digit_value c) cs small all.1
 
 pub number_in-numeral : (base n : ℕ) (ds : List ℕ) → base ≤ 16 → IsNumeral base ds → length ds ≤ 20 → digits_value base ds ≡ n → number_in base ds ≡ Some n
 unfolding number_in
 number_in-numeral base n ds small numeral few is =
     let some : nat_le 1 (length ds) ≡ true = let long = numeral.0 in grind (arith, nat_tests) in
     let fits : nat_le (length ds) 20 ≡ true = grind (arith, nat_tests) in
-    rw (some, fits) (number_behind-digits base 0 ds small numeral.1 ∙ ap Some is)
+    rw (some, fits) (number_after-digits base 0 ds small numeral.1 ∙ ap Some is)
 
 and_false : (b : Bool) → (b && false) ≡ false
 and_false true = refl

@@ -1,7 +1,7 @@
 -- What the payload of each command is.
 use Rattle.std.proofs.Common.{◌≡◌, ◌≤◌, ℕ, false, Option, Some, None, IfSome, Result, Ok, Err, IfOk, List, [], length, refl, sym, ap, arith, lit≤, lit<}
 use Rattle.hmc_codes.specs.Bytes.{IsBytes}
-use Rattle.hmc_codes.specs.Table.{line_of}
+use Rattle.hmc_codes.specs.Table.{table_line}
 use Rattle.hmc_codes.specs.Commands.{payload_len_of}
 use Rattle.hmc_codes.specs.Text.{is_mdwr}
 use Rattle.hmc_codes.specs.declared.command.Command.{Command}
@@ -10,7 +10,7 @@ use Rattle.hmc_script.specs.declared.fault.ScriptKind.{ScriptKind}
 use Rattle.hmc_script.specs.Payload.{IsPayload, value_bytes}
 
 pub payload_len_of-le : (command : Command) → payload_len_of command ≤ 256
-unfolding line_of
+unfolding table_line
 payload_len_of-le Null = lit≤ tt
 payload_len_of-le _ = lit≤ tt
 
@@ -23,7 +23,7 @@ pub payload_of_mdwr : (command : Command) (r : Option (List ℕ)) → command �
 payload_of_mdwr command r is fits = rw is fits
 
 pub len_of_mdwr : payload_len_of Mdwr ≡ 16
-unfolding line_of
+unfolding table_line
 len_of_mdwr = refl
 
 pub IsPayload-[] : (command : Command) → payload_len_of command ≡ 0 → IsPayload command []

@@ -13,8 +13,8 @@ use Rattle.hex.specs.Hex.{encode_with, encode_lower, lower_digits}
 use Rattle.hex.proofs.HexLemmas.{decode_sized-encode_lower}
 use Rattle.hmc_codes.specs.Bytes.{IsBytes}
 use Rattle.hmc_codes.proofs.BytesLemmas.{IsBytes-take}
-use Rattle.hmc_codes.specs.Table.{line_of}
-use Rattle.hmc_codes.specs.Codes.{commands}
+use Rattle.hmc_codes.specs.Table.{table_line}
+use Rattle.hmc_codes.specs.Codes.{all_commands}
 use Rattle.hmc_codes.specs.Commands.{word_of, family_of, payload_len_of}
 use Rattle.hmc_codes.specs.Text.{hex_number, is_mdwr, value_in}
 use Rattle.hmc_codes.specs.declared.family.Family.TheVariants as families
@@ -28,23 +28,23 @@ use Rattle.hmc_script.specs.Payload.{payload_of, value_bytes}
 
 -- each command's word is one word, and neither a fence nor poison
 pub IsWord-word_of : (command : Command) → IsWord (word_of command)
-unfolding line_of
+unfolding table_line
 IsWord-word_of Null = record { some = refl; letters = refl }
 IsWord-word_of _ = record { some = refl; letters = refl }
 
 pub no_fence : (command : Command) → bytes_eq (word_of command) (codes "fence") ≡ false
-unfolding line_of
+unfolding table_line
 no_fence Null = refl
 no_fence _ = refl
 
 pub no_poison : (command : Command) → bytes_eq (word_of command) (codes "poison") ≡ false
-unfolding line_of
+unfolding table_line
 no_poison Null = refl
 no_poison _ = refl
 
 -- no two requests have one word
 pub command_of-word_of : (command : Command) → family_of command ≡ families.Ask → command_of (word_of command) ≡ Some command
-unfolding line_of commands requests command_of
+unfolding table_line all_commands requests command_of
 command_of-word_of Null asks = cc
 command_of-word_of Pret asks = cc
 command_of-word_of Tret asks = cc

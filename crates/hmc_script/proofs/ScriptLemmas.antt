@@ -3,7 +3,7 @@ use Rattle.std.proofs.Common.{◌≡◌, ◌∙◌, ℕ, Some, Result, Ok, List,
 use Rattle.std.specs.Borrow.{Bor}
 use Rattle.hmc_text.proofs.InTurnLemmas as turns
 use Rattle.hmc_text.proofs.InTurnLemmas.{after_left}
-use Rattle.hmc_text.specs.InTurn.{after_lines, at_line, Numbered, IsNextLine, TellsBy, told}
+use Rattle.hmc_text.specs.InTurn.{after_lines, at_line, Numbered, IsNextLine, ReportsBy, fault_of}
 use Rattle.hmc_text.specs.Lines.{lines_of}
 use Rattle.hmc_text.specs.Reading.{◌>>=◌}
 use Rattle.hmc_text.specs.declared.fault.TextFault.{TextFault}
@@ -17,10 +17,10 @@ script_of-ok hosts cubes text left progress none is =
     ap (λ (r : Result Progress (ℕ × ScriptKind)). r >>= (λ q. Ok q.items)) (sym is ∙ turns.none_left (after_line hosts cubes) left progress none)
 
 -- the fault of the next line is that of the script, if no line before it has one
-pub first_fault : (hosts cubes : ℕ) (text : List ℕ) (left behind : Numbered) (line : ℕ × Bor (List ℕ)) (progress : Progress) (fault : TextFault ScriptKind) → IsNextLine left (Some line) behind →
-    TellsBy told fault (at_line line.0 (after_line hosts cubes progress line.1.now)) →
+pub first_fault : (hosts cubes : ℕ) (text : List ℕ) (left rest : Numbered) (line : ℕ × Bor (List ℕ)) (progress : Progress) (fault : TextFault ScriptKind) → IsNextLine left (Some line) rest →
+    ReportsBy fault_of fault (at_line line.0 (after_line hosts cubes progress line.1.now)) →
     after_left (after_line hosts cubes) progress left ≡ after_lines (after_line hosts cubes) 1 nothing_yet (lines_of text) →
-    TellsBy told fault (script_of hosts cubes text)
+    ReportsBy fault_of fault (script_of hosts cubes text)
 unfolding script_of
-first_fault hosts cubes text left behind line progress fault is read so_far =
-    turns.fault_made (λ (p : Progress). p.items) _ fault (turns.first_fault (after_line hosts cubes) left behind line progress _ fault is read so_far)
+first_fault hosts cubes text left rest line progress fault is read so_far =
+    turns.fault_made (λ (p : Progress). p.items) _ fault (turns.first_fault (after_line hosts cubes) left rest line progress _ fault is read so_far)

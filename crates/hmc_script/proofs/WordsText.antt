@@ -4,7 +4,7 @@ use Rattle.std.specs.List.{slice_split, list_all, All}
 use Rattle.std.proofs.lemmas.List.Elements.{All-nil, All-cons}
 use Rattle.std.proofs.lemmas.List.Folds.{list_all-append}
 use Rattle.std.proofs.lemmas.List.Splits.{slice_split_at, slice_split_none}
-use Rattle.hmc_codes.specs.Text.{spaced, line}
+use Rattle.hmc_codes.specs.Text.{spaced_words, line}
 use Rattle.hmc_text.specs.Lines.{is_line_feed, without_return, lines_of}
 use Rattle.hmc_text.specs.Words.{is_blank, is_some, words_of}
 
@@ -68,24 +68,24 @@ all_inner : (w : List ℕ) → IsWord w → list_all is_inner w ≡ true
 all_inner w word =
     passes_weaker is_letter is_inner (λ b letter. second_passes (not (is_blank b)) (is_inner b) letter) w word.letters
 
-pub words_of-spaced : (words : List (List ℕ)) → AreWords words → words_of (spaced words) ≡ words
+pub words_of-spaced : (words : List (List ℕ)) → AreWords words → words_of (spaced_words words) ≡ words
 unfolding words_of
 words_of-spaced [] are = refl
 words_of-spaced (w ∷ []) are =
     ap (filter is_some) (slice_split_none is_blank w (no_blank w are.0)) ∙ rw are.0.some refl
 words_of-spaced (w ∷ v ∷ vs) are =
-    ap (filter is_some) (slice_split_at is_blank w 32 (spaced (v ∷ vs)) (no_blank w are.0) refl) ∙ rw are.0.some (ap (λ ws. w ∷ ws) (words_of-spaced (v ∷ vs) are.1))
+    ap (filter is_some) (slice_split_at is_blank w 32 (spaced_words (v ∷ vs)) (no_blank w are.0) refl) ∙ rw are.0.some (ap (λ ws. w ∷ ws) (words_of-spaced (v ∷ vs) are.1))
 
-inner_spaced : (words : List (List ℕ)) → AreWords words → list_all is_inner (spaced words) ≡ true
+inner_spaced : (words : List (List ℕ)) → AreWords words → list_all is_inner (spaced_words words) ≡ true
 inner_spaced [] are = refl
 inner_spaced (w ∷ []) are = all_inner w are.0
 inner_spaced (w ∷ v ∷ vs) are =
-    list_all-append is_inner w (32 ∷ spaced (v ∷ vs)) ∙ both_pass _ _ (all_inner w are.0) (inner_spaced (v ∷ vs) are.1)
+    list_all-append is_inner w (32 ∷ spaced_words (v ∷ vs)) ∙ both_pass _ _ (all_inner w are.0) (inner_spaced (v ∷ vs) are.1)
 
-pub line-spaced : (words : List (List ℕ)) → line words ≡ spaced words ++ 10 ∷ []
+pub line-spaced : (words : List (List ℕ)) → line words ≡ spaced_words words ++ 10 ∷ []
 line-spaced [] = refl
 line-spaced (w ∷ []) = refl
-line-spaced (w ∷ v ∷ vs) = ap (λ l. w ++ 32 ∷ l) (line-spaced (v ∷ vs)) ∙ sym (append_assoc w (32 ∷ spaced (v ∷ vs)) (10 ∷ []))
+line-spaced (w ∷ v ∷ vs) = ap (λ l. w ++ 32 ∷ l) (line-spaced (v ∷ vs)) ∙ sym (append_assoc w (32 ∷ spaced_words (v ∷ vs)) (10 ∷ []))
 
 no_return : (text : List ℕ) (k : ℕ) → list_all is_inner text ≡ true → (get_or text k 0 == 13) ≡ false
 no_return [] k inner = refl
@@ -95,12 +95,12 @@ no_return (b ∷ bs) (suc k) inner = no_return bs k (second_passes (is_inner b) 
 without_return-inner : (text : List ℕ) → list_all is_inner text ≡ true → without_return text ≡ text
 without_return-inner text inner = rw (no_return text (length text - 1) inner) refl
 
--- a written line stands alone
-pub lines_of-line : (words : List (List ℕ)) (rest : List ℕ) → AreWords words → lines_of (line words ++ rest) ≡ spaced words ∷ lines_of rest
+-- a written line is one line
+pub lines_of-line : (words : List (List ℕ)) (rest : List ℕ) → AreWords words → lines_of (line words ++ rest) ≡ spaced_words words ∷ lines_of rest
 unfolding lines_of
 lines_of-line words rest are =
     let inner = inner_spaced words are in
-    let feed = fails_all is_inner is_line_feed (λ b letter. first_fails (is_line_feed b) (not (b == 13)) letter) (spaced words) inner in
-    ap (λ t. map without_return (slice_split is_line_feed t)) (ap (λ l. l ++ rest) (line-spaced words) ∙ append_assoc (spaced words) (10 ∷ []) rest)
-    ∙ ap (map without_return) (slice_split_at is_line_feed (spaced words) 10 rest feed refl)
-    ∙ ap (λ l. l ∷ map without_return (slice_split is_line_feed rest)) (without_return-inner (spaced words) inner)
+    let feed = fails_all is_inner is_line_feed (λ b letter. first_fails (is_line_feed b) (not (b == 13)) letter) (spaced_words words) inner in
+    ap (λ t. map without_return (slice_split is_line_feed t)) (ap (λ l. l ++ rest) (line-spaced words) ∙ append_assoc (spaced_words words) (10 ∷ []) rest)
+    ∙ ap (map without_return) (slice_split_at is_line_feed (spaced_words words) 10 rest feed refl)
+    ∙ ap (λ l. l ∷ map without_return (slice_split is_line_feed rest)) (without_return-inner (spaced_words words) inner)

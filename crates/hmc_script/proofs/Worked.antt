@@ -5,25 +5,25 @@ use Rattle.std.specs.List.{range_with_len}
 use Rattle.std.specs.Fmt.{digits}
 use Rattle.hex.specs.Hex.{decode_pairs}
 use Rattle.hmc_codes.specs.Request.{RequestFields}
-use Rattle.hmc_codes.specs.Table.{line_of}
-use Rattle.hmc_codes.specs.Codes.{commands as all_commands}
+use Rattle.hmc_codes.specs.Table.{table_line}
+use Rattle.hmc_codes.specs.Codes.{all_commands}
 use Rattle.hmc_codes.specs.Text.{request_text}
 use Rattle.hmc_codes.specs.declared.command.Command.TheVariants as commands
 use Rattle.hmc_text.specs.InTurn.{after_lines}
 use Rattle.hmc_text.specs.Lines.{lines_of}
-use Rattle.hmc_text.specs.Number.{number_behind, number_in, number_of}
+use Rattle.hmc_text.specs.Number.{number_after, number_in, number_of}
 use Rattle.hmc_text.specs.Reading.{number_word as number_read}
 use Rattle.hmc_text.specs.Words.{words_of}
 use Rattle.hmc_script.specs.declared.fault.ScriptKind.TheVariants.{Command}
 use Rattle.hmc_script.specs.Commands.{requests, command_of}
 use Rattle.hmc_script.specs.Items.{ItemFields, IsWithin}
-use Rattle.hmc_script.specs.Meaning.{command_word, request_of, ask_of, fence_of, said_of, meaning_of}
+use Rattle.hmc_script.specs.Meaning.{command_word, request_of, ask_of, fence_of, statement_of, meaning_of}
 use Rattle.hmc_script.specs.Payload.{value_bytes, payload_of, no_payload, some_payload, payload_word}
 use Rattle.hmc_script.specs.Script.{after_meaning, after_line, script_of}
 use Rattle.hmc_script.specs.Text.{item_text, script_text}
 
 requests-count : length requests ≡ 62
-unfolding requests all_commands line_of
+unfolding requests all_commands table_line
 requests-count = refl
 
 -- the lowest byte of a value comes first
@@ -31,11 +31,11 @@ value_bytes-mixed : value_bytes 0x0a0b0c0d ≡ 0x0d ∷ 0x0c ∷ 0x0b ∷ 0x0a �
 value_bytes-mixed = refl
 
 payload_of-digits : payload_of commands.Wr16 (codes "000102030405060708090a0B0c0D0e0f") ≡ Some (range_with_len 0 16)
-unfolding payload_of line_of decode_pairs
+unfolding payload_of table_line decode_pairs
 payload_of-digits = refl
 
 payload_of-values : map (payload_of commands.Mdwr) (codes "0x04030201" ∷ codes "0x100000000" ∷ []) ≡ Some (1 ∷ 2 ∷ 3 ∷ 4 ∷ replicate 12 0) ∷ None ∷ []
-unfolding payload_of number_of number_in number_behind
+unfolding payload_of number_of number_in number_after
 payload_of-values = refl
 
 abbrev read_at : ℕ → ℕ → RequestFields
@@ -52,17 +52,17 @@ abbrev fenced_items : List ItemFields
 fenced_items = item_of 1 false (read_at 1 0x40) ∷ item_of 0 true (read_at 0 0x40) ∷ item_of 0 false (read_at 0 0) ∷ []
 
 script_of-fences : script_of 2 2 fenced_text ≡ Ok fenced_items
-unfolding script_of after_lines after_line after_meaning lines_of words_of meaning_of said_of fence_of ask_of request_of command_word command_of requests all_commands line_of number_read number_of number_in number_behind payload_word no_payload some_payload payload_of
+unfolding script_of after_lines after_line after_meaning lines_of words_of meaning_of statement_of fence_of ask_of request_of command_word command_of requests all_commands table_line number_read number_of number_in number_after payload_word no_payload some_payload payload_of
 script_of-fences = refl
 
 script_of-fault : script_of 2 2 (codes "0 fence" ++ 10 ∷ codes "0 poison fence" ++ 10 ∷ codes "x" ++ []) ≡ Err (2, Command)
-unfolding script_of after_lines after_line after_meaning lines_of words_of meaning_of said_of fence_of ask_of request_of command_word command_of requests all_commands line_of number_read number_of number_in number_behind
+unfolding script_of after_lines after_line after_meaning lines_of words_of meaning_of statement_of fence_of ask_of request_of command_word command_of requests all_commands table_line number_read number_of number_in number_after
 script_of-fault = refl
 
--- the fence is printed just before its request, and the one behind which nothing stands isn't
+-- a fence is printed just before its request, and a last fence is not printed
 script_text-fences : script_text fenced_items ≡
     codes "1 rd16 1 0x40" ++ 10 ∷ codes "0 fence" ++ 10 ∷ codes "0 rd16 0 0x40" ++ 10 ∷ codes "0 rd16 0 0x0" ++ 10 ∷ []
-unfolding script_text item_text request_text line_of digits
+unfolding script_text item_text request_text table_line digits
 script_text-fences = refl
 
 IsWithin-last : IsWithin 2 2 (item_of 1 false (read_at 1 0))

@@ -1,4 +1,5 @@
 -- What a script is: a list of requests.
+use Rattle.hmc_codes.specs.Limits.{most_hosts, most_requests}
 use Rattle.std.specs.Prelude.{ℕ, ◌<◌, ◌≤◌, List, length}
 use Rattle.std.specs.List.{All}
 use Rattle.hmc_codes.specs.Request.{IsRequest}
@@ -13,8 +14,8 @@ pub record IsWithin (hosts cubes : ℕ) (item : ItemFields) : Type 0 where
   pub host : item.host < hosts
   pub cube : item.request.cube < cubes
 
--- at most 65,536 requests, of hosts below 8
+-- what every script keeps: it has not too many requests, and each is of a host that there can be
 pub record IsScript (items : List ItemFields) : Type 0 where
-  pub few : length items ≤ 65536
-  pub hosts : All (λ item. item.host < 8) items
+  pub few : length items ≤ most_requests
+  pub hosts : All (λ item. item.host < most_hosts) items
   pub requests : All (λ item. IsRequest item.request) items

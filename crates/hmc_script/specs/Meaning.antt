@@ -1,4 +1,4 @@
--- What a line of a script says, word by word from left to right.
+-- What a line of a script states, word by word from left to right.
 use Rattle.std.specs.Prelude.{ℕ, ◌<◌, ◌^◌, Bool, true, false, List, codes, Result, Ok, if◌then◌else◌}
 use Rattle.std.specs.Str.{bytes_eq}
 use Rattle.hmc_codes.specs.Request.{RequestFields}
@@ -39,27 +39,28 @@ ask_of cubes host poisoned words = do
   request ← request_of cubes words
   Ok (Ask host poisoned request)
 
--- a fence of this host, behind which no word stands
+-- a fence of this host, after which no word follows
 unfoldable pub fence_of : ℕ → List (List ℕ) → Result Meaning ScriptKind
 fence_of host words = do
   end ← no_word kinds.Words words
   Ok (Fence host)
 
 -- a host, and then a fence or a request, which may be poisoned
-unfoldable pub said_of : ℕ → ℕ → List (List ℕ) → Result Meaning ScriptKind
-said_of hosts cubes words = do
+unfoldable pub statement_of : ℕ → ℕ → List (List ℕ) → Result Meaning ScriptKind
+statement_of hosts cubes words = do
   host ← number_word kinds.Host hosts words
   second ← next_word kinds.Words host.1
   if bytes_eq second.0 (codes "fence") then fence_of host.0 second.1
       else if bytes_eq second.0 (codes "poison") then ask_of cubes host.0 true second.1
       else ask_of cubes host.0 false host.1
 
--- what the words of a line say
+-- what the words of a line state
 unfoldable pub meaning_of : ℕ → ℕ → List (List ℕ) → Result Meaning ScriptKind
-meaning_of hosts cubes words = if is_passed_over words then Ok Nothing else said_of hosts cubes words
+meaning_of hosts cubes words =
+    if is_passed_over words then Ok Nothing else statement_of hosts cubes words
 
 -- the host and the cube that a line names are among so many
-abbrev pub IsSaidWithin : ℕ → ℕ → Meaning → Type 0
-IsSaidWithin hosts cubes Nothing = Unit {0}
-IsSaidWithin hosts cubes (Fence host) = host < hosts
-IsSaidWithin hosts cubes (Ask host poisoned request) = (host < hosts) × (request.cube < cubes)
+abbrev pub NamesWithin : ℕ → ℕ → Meaning → Type 0
+NamesWithin hosts cubes Nothing = Unit {0}
+NamesWithin hosts cubes (Fence host) = host < hosts
+NamesWithin hosts cubes (Ask host poisoned request) = (host < hosts) × (request.cube < cubes)

@@ -13,7 +13,7 @@ use Rattle.hmc_script.specs.declared.fault.ScriptKind.TheVariants as kinds
 use Rattle.hmc_text.specs.Number.{below, number_of}
 use Rattle.hmc_text.specs.Reading.{◌>>=◌, or_fault, next_word, no_word}
 
--- the bytes are a payload of a request with this command, as IsRequest (hmc_codes) asks
+-- the bytes are a payload of a request with this command, as IsRequest of hmc_codes requires
 pub record IsPayload (command : Command) (payload : List ℕ) : Type 0 where
   pub length : length payload ≡ payload_len_of command
   pub bytes : IsBytes payload
@@ -23,7 +23,8 @@ pub record IsPayload (command : Command) (payload : List ℕ) : Type 0 where
 abbrev pub value_bytes : ℕ → List ℕ
 value_bytes value = to_le_bytes w32 value ++ replicate 12 0
 
--- the payload that a word stands for: a value below 2^32 for an mdwr, else two hexadecimal digits a byte
+-- the payload that a word represents: of an mdwr a value below 2^32, else two hexadecimal digits
+-- for each byte
 unfoldable pub payload_of : Command → List ℕ → Option (List ℕ)
 payload_of command word =
     if is_mdwr command then option_map value_bytes (below (2 ^ 32) (number_of word))
@@ -43,6 +44,7 @@ some_payload command words = do
   end ← no_word kinds.Words first.1
   Ok payload
 
--- the last word of a request, which stands only where the command has a payload
+-- the last word of a request, which it has only where its command has a payload
 unfoldable pub payload_word : Command → List (List ℕ) → Result (List ℕ) ScriptKind
-payload_word command words = if payload_len_of command == 0 then no_payload words else some_payload command words
+payload_word command words =
+    if payload_len_of command == 0 then no_payload words else some_payload command words

@@ -15,14 +15,15 @@ abbrev pub request_line : ℕ → Bool → RequestFields → List ℕ
 request_line host false request = line (decimal host ∷ request_text request ∷ [])
 request_line host true request = line (decimal host ∷ codes "poison" ∷ request_text request ∷ [])
 
--- the fence of a request stands on the line before it
+-- the fence of a request is on the line before it
 abbrev pub fence_text : ℕ → Bool → List ℕ
 fence_text host false = []
 fence_text host true = fence_line host
 
 -- the lines of an item
 unfoldable pub item_text : ItemFields → List ℕ
-item_text item = fence_text item.host item.fenced ++ request_line item.host item.poisoned item.request
+item_text item =
+    fence_text item.host item.fenced ++ request_line item.host item.poisoned item.request
 
 -- a script, printed
 unfoldable pub script_text : List ItemFields → List ℕ

@@ -21,7 +21,7 @@ pub fn command_of(word: &[u8]) -> Option<Command>
     with_word(word)
 }
 
-#[tactic(auto, unfolding(crate::specs::Commands::command_of, crate::specs::Commands::requests, hmc_codes::specs::Codes::commands))]
+#[tactic(auto, unfolding(crate::specs::Commands::command_of, crate::specs::Commands::requests, hmc_codes::specs::Codes::all_commands))]
 fn with_word(word: &[u8]) -> Option<Command>
     ensures { result ≡ command_of word.now }
 {

@@ -8,17 +8,17 @@ use std::fmt;
 /// What is wrong with a line.
 #[derive(Clone, Copy, Debug, PartialEq, Eq)]
 pub enum ScriptKind {
-    /// No number of a host.
+    /// The word is not the number of a host of the case.
     Host,
-    /// A word is missing, or words are left over.
+    /// A word is missing, or words are left.
     Words,
-    /// No word of a request.
+    /// The word is not that of a request, or it is `fence` after `poison`.
     Command,
-    /// No number of a cube.
+    /// The word is not the number of a cube of the case.
     Cube,
-    /// No number below 2^34.
+    /// The word is not a number below 2^34.
     Address,
-    /// The payload or the value is wrong.
+    /// The word is not the payload of the command, or of an `mdwr` not a value below 2^32.
     Payload,
     /// More requests than a script may have.
     TooMany,
@@ -42,5 +42,5 @@ impl fmt::Display for ScriptKind {
     }
 }
 
-/// Why a text is no script.
+/// Why a text is not a script.
 pub type ScriptFault = TextFault<ScriptKind>;

@@ -7,10 +7,11 @@ use hmc_codes::Request;
 pub struct Item {
     /// The host that asks, below 8.
     pub host: u8,
-    /// Whether a fence of the host stands before the request and behind the host's previous one, if there is one. The
-    /// request then waits until the host awaits no answer.
+    /// Whether a fence of the host is before the request and after the host's previous one, if
+    /// there is one. The request then waits until no tag of the host is out.
     pub fenced: bool,
     /// Whether the request is sent poisoned: whole on the links, and without effect at its cube.
     pub poisoned: bool,
+    /// The request.
     pub request: Request,
 }

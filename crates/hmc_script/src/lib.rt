@@ -1,9 +1,9 @@
 //! Scripts: what hosts ask of cubes, as a text.
 //!
-//! A script is a list of items: a host, its request, whether the request is poisoned, and whether a fence stands before
-//! it. [`Script::parse`] reads a text and answers the script, or the first fault with its line; `specs/Script.antt` says
-//! which. [`Script::print`] writes a script as a text. The layers above take scripts from either, or make them by
-//! [`Script::new`] and [`Script::add`].
+//! A script is a list of items: a host, its request, whether the request is poisoned, and whether a
+//! fence is before it. [`Script::parse`] reads a text and returns the script, or the first fault
+//! with its line, by `specs/Script.antt`. [`Script::print`] writes a script as a text that is read
+//! again as the same script. [`Script::new`] and [`Script::add`] make a script item by item.
 //!
 //! Lines, words and numbers are those of `hmc_text`.
 #![tactic(auto)]

@@ -2,21 +2,23 @@
 
 ghost use Rattle.std.specs.Prelude.{◌≡◌, ◌≤◌, ◌<◌, ℕ, length, IfOk, OnOk};
 ghost use Rattle.std.specs.List.{All};
+ghost use Rattle.hmc_codes.specs.Limits.{most_cubes, most_hosts};
 ghost use Rattle.hmc_script.specs.Items.{IsWithin};
-ghost use Rattle.hmc_script.specs.Meaning.{IsSaidWithin};
+ghost use Rattle.hmc_script.specs.Meaning.{NamesWithin};
 ghost use Rattle.hmc_script.specs.Script.{Progress, after_meaning, after_line, script_of};
 ghost use Rattle.hmc_text.specs.InTurn.{at_line, Answers};
 
 use crate::meaning::{Meaning, meaning_of};
-use crate::script::MOST_ITEMS;
 use crate::{Item, Script, ScriptFault, ScriptKind};
+use hmc_codes::{MOST_HOSTS, MOST_REQUESTS};
 use hmc_text::lines::Lines;
 use std::alloc::Global;
 
-/// Hosts are numbered below 8.
-const HOSTS: usize = 8;
+/// One flag for each host that there can be.
+const HOSTS: usize = MOST_HOSTS as usize;
 
-// Follows what a line says: a request goes behind the others, and a fence waits for the next one of its host.
+// Applies what a line states: a request is appended, and a fence waits for the next request of its
+// host.
 #[tactic(auto, unfolding(crate::specs::Script::after_meaning))]
 fn follow(
     script: &mut Script,
@@ -24,10 +26,12 @@ fn follow(
     number: u32,
     meaning: Meaning,
 ) -> Result<(), ScriptFault>
-    requires { IsSaidWithin 8 8 meaning }
+    requires { NamesWithin most_hosts most_cubes meaning }
     ensures value { Answers (λ _. record { items = script.new; fences = fences.new }) result
-        (at_line number (after_meaning (record { items = script.old; fences = fences.old }) meaning)) }
-    ensures within { (hosts cubes : ℕ) → IsSaidWithin hosts cubes meaning → All (IsWithin hosts cubes) script.old
+        (at_line number
+        (after_meaning (record { items = script.old; fences = fences.old }) meaning)) }
+    ensures within { (hosts cubes : ℕ) → NamesWithin hosts cubes meaning
+        → All (IsWithin hosts cubes) script.old
         → OnOk result (All (IsWithin hosts cubes) script.new) }
 {
     match meaning {
@@ -37,7 +41,7 @@ fn follow(
             Ok(())
         }
         Meaning::Ask(host, poisoned, request) => {
-            if script.len() as usize >= MOST_ITEMS {
+            if script.len() >= MOST_REQUESTS {
                 return Err(ScriptFault::Fault {
                     line: number,
                     kind: ScriptKind::TooMany,
@@ -66,11 +70,14 @@ fn read_line(
     hosts: u8,
     cubes: u8,
 ) -> Result<(), ScriptFault>
-    requires hosts { hosts ≤ 8 }
-    requires cubes { cubes ≤ 8 }
+    requires hosts { hosts ≤ most_hosts }
+    requires cubes { cubes ≤ most_cubes }
     ensures value { Answers (λ _. record { items = script.new; fences = fences.new }) result
-        (at_line number (after_line hosts cubes (record { items = script.old; fences = fences.old }) line.now)) }
-    ensures within { All (IsWithin hosts cubes) script.old → OnOk result (All (IsWithin hosts cubes) script.new) }
+        (at_line number
+        (after_line hosts cubes (record { items = script.old; fences = fences.old })
+        line.now)) }
+    ensures within { All (IsWithin hosts cubes) script.old
+        → OnOk result (All (IsWithin hosts cubes) script.new) }
 {
     match meaning_of(hosts, cubes, line) {
         Ok(meaning) => follow(script, fences, number, meaning),
@@ -79,13 +86,13 @@ fn read_line(
 }
 
 impl Script {
-    /// Reads a script, for a case with so many hosts and cubes, at most 8 each. The fault is the first one: its line,
-    /// counted from 1, and what is wrong there, judged word by word from left to right. A line number that would pass
-    /// 4,294,967,295 is answered as that number.
+    /// Reads a script for a case with these numbers of hosts and cubes, at most 8 each. The fault
+    /// is the first one: its line, counted from 1, and what is wrong there, found word by word from
+    /// left to right. Lines after line 4,294,967,295 have that number too.
     #[tactic(auto, unfolding(crate::specs::Script::script_of))]
     pub fn parse(alloc: Global, text: &str, hosts: u8, cubes: u8) -> Result<Script, ScriptFault>
-        requires hosts { hosts ≤ 8 }
-        requires cubes { cubes ≤ 8 }
+        requires hosts { hosts ≤ most_hosts }
+        requires cubes { cubes ≤ most_cubes }
         ensures exact { Answers (λ script. script) result (script_of hosts cubes text.now) }
         ensures within { IfOk result (All (IsWithin hosts cubes)) }
     {

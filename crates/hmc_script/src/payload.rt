@@ -26,7 +26,7 @@ fn is_mdwr(command: Command) -> bool
     matches!(command, Command::Mdwr)
 }
 
-// A payload, and that its bytes are bytes.
+// The payload with these bytes, each of which is a byte.
 fn made(bytes: &[u8]) -> Option<Payload>
     requires { length bytes.now ≤ 256 }
     ensures value { result ≡ Some bytes.now }
@@ -70,7 +70,7 @@ fn hex_payload(len: usize, word: &[u8]) -> Option<Payload>
     made(bytes)
 }
 
-// The payload that a word stands for.
+// The payload that a word represents.
 #[tactic(auto, unfolding(crate::specs::Payload::payload_of))]
 fn payload(command: Command, word: &[u8]) -> Option<Payload>
     ensures value { result ≡ payload_of command word.now }
@@ -107,8 +107,8 @@ fn some_payload(command: Command, line: &[u8]) -> Result<Payload, ScriptKind>
     Ok(payload)
 }
 
-/// The payload that stands behind a request's address, where no word may follow. It has a word only where the command
-/// has a payload.
+/// The payload after a request's address, after which no word may follow. The line has a word for
+/// it only where the command has a payload.
 #[tactic(auto, unfolding(crate::specs::Payload::payload_word))]
 pub fn payload_word(command: Command, line: &[u8]) -> Result<Payload, ScriptKind>
     ensures value { result ≡ payload_word command (words_of line.now) }

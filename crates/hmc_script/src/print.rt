@@ -13,7 +13,8 @@ use std::alloc::Global;
 
 // The line of a fence.
 fn print_fence(into: &mut String, host: u8, fenced: bool) -> Result<(), Memory>
-    ensures { OnOk result (string_bytes into.new ≡ string_bytes into.old ++ fence_text host fenced) }
+    ensures { OnOk result
+        (string_bytes into.new ≡ string_bytes into.old ++ fence_text host fenced) }
 {
     if fenced {
         write!(into, "{host} fence\n")?;
@@ -29,7 +30,8 @@ fn print_request(
     poisoned: bool,
     request: &Request,
 ) -> Result<(), Memory>
-    ensures { OnOk result (string_bytes into.new ≡ string_bytes into.old ++ request_line host poisoned request.now) }
+    ensures { OnOk result
+        (string_bytes into.new ≡ string_bytes into.old ++ request_line host poisoned request.now) }
 {
     let request = request.text(alloc)?;
     if poisoned {
@@ -61,12 +63,13 @@ fn print_items(alloc: Global, items: &[Item]) -> Result<String, Memory>
 }
 
 impl Script {
-    /// The script as a text: one line for each fence or request, which a line feed ends, in words with one space between.
-    /// A fence stands on the line before its request.
+    /// The script as a text: one line for each fence and each request, ended by a line feed, its
+    /// words separated by one space. A fence is on the line before its request. `Memory` comes only
+    /// where memory is exhausted.
     pub fn print(&self, alloc: Global) -> Result<String, Memory>
         ensures text { IfOk result (λ text. string_bytes text ≡ script_text self.now) }
 
-        // It is read again as the same script, for a case that has the hosts and the cubes that it names.
+        // It is read again as the same script, for a case with the hosts and cubes that it names.
         ensures again { (hosts cubes : ℕ) → All (IsWithin hosts cubes) self.now
             → IfOk result (λ text. script_of hosts cubes (string_bytes text) ≡ Ok self.now) }
     {

@@ -1,6 +1,7 @@
 //! Scripts.
 
 ghost use Rattle.std.specs.Prelude.{◌≡◌, ◌<◌, [], ◌∷◌, ◌++◌, length, slice_get, Some, false, OnOk, OnErr};
+ghost use Rattle.hmc_codes.specs.Limits.{most_hosts, most_requests};
 ghost use Rattle.hmc_script.specs.Items.{IsScript};
 
 use crate::Item;
@@ -8,10 +9,7 @@ use hmc_codes::{Memory, Request};
 use std::alloc::Global;
 use std::marker::Model;
 
-/// The most requests of a script.
-pub(crate) const MOST_ITEMS: usize = 65536;
-
-/// At most 65,536 requests of hosts, in order. Contracts see the list of them.
+/// At most `MOST_REQUESTS` requests of hosts, in order. Contracts see them as a list.
 #[derive(Drop)]
 pub struct Script {
     items: Vec<Item>,
@@ -29,7 +27,7 @@ impl Model for Script {
 }
 
 impl Script {
-    /// No requests. It takes no memory.
+    /// A script without requests. It takes no memory.
     pub fn new(alloc: Global) -> Self
         ensures { result ≡ [] }
     {
@@ -38,53 +36,59 @@ impl Script {
         }
     }
 
-    /// Nothing is done: what every script keeps is the contract.
-    pub fn keeps(&self)
+    /// Does nothing. Its contract is what every script keeps.
+    pub fn invariant(&self)
         ensures { IsScript self.now }
     {
         let _ = &self.items;
     }
 
-    /// How many requests there are.
+    /// The number of requests.
     pub fn len(&self) -> u32
         ensures { result ≡ length self.now }
     {
         self.items.len() as u32
     }
 
-    /// The request at this place, counted from 0.
+    /// The request at this place, counted from 0 and below the length.
     pub fn item(&self, at: u32) -> Item
         requires { at < length self.now }
         ensures item { slice_get self.now at ≡ Some result }
-        ensures host { result.host < 8 }
+        ensures host { result.host < most_hosts }
     {
         self.items[at as usize]
     }
 
     pub(crate) fn items(&self) -> &[Item]
         ensures items { result.now ≡ self.now }
-        ensures keeps { IsScript self.now }
+        ensures rule { IsScript self.now }
     {
         self.items.as_slice()
     }
 
-    // Puts a request behind the others.
+    // Appends a request.
     pub(crate) fn push(&mut self, item: Item) -> Result<(), Memory>
-        requires room { length self.old < 65536 }
-        requires host { item.host < 8 }
+        requires room { length self.old < most_requests }
+        requires host { item.host < most_hosts }
         ensures ok { OnOk result (self.new ≡ self.old ++ item ∷ []) }
         ensures err { OnErr result (self.new ≡ self.old) }
     {
-        item.request.keeps();
+        item.request.invariant();
         self.items.push(item)?;
         Ok(())
     }
 
-    /// Puts a request without a fence behind the others. A refusal changes nothing.
+    /// Appends a request without a fence. Its host is below 8, and the script has fewer than
+    /// `MOST_REQUESTS` requests. Where it is out of memory nothing changes.
     pub fn add(&mut self, host: u8, poisoned: bool, request: Request) -> Result<(), Memory>
-        requires host { host < 8 }
-        requires room { length self.old < 65536 }
-        ensures ok { OnOk result (self.new ≡ self.old ++ record { host = host; fenced = false; poisoned = poisoned; request = request } ∷ []) }
+        requires host { host < most_hosts }
+        requires room { length self.old < most_requests }
+        ensures ok { OnOk result (self.new ≡ self.old ++ record {
+          host = host;
+          fenced = false;
+          poisoned = poisoned;
+          request = request;
+        } ∷ []) }
         ensures err { OnErr result (self.new ≡ self.old) }
     {
         self.push(Item {

@@ -5,7 +5,7 @@ use Rattle.std.proofs.Math.Seq.{take-add}
 use Rattle.std.proofs.lemmas.List.{length-take, drop-drop}
 use Rattle.std.proofs.lemmas.Slice.{take-put_mid}
 use borrow.Rule.Slice.PartMut.{put_mid}
-use Rattle.hmc_memory.specs.Banks.{written}
+use Rattle.hmc_memory.specs.Banks.{written_bytes}
 use Rattle.hmc_memory.proofs.WrittenLemmas.{written-written}
 
 -- a range, and the next one
@@ -26,14 +26,14 @@ read_more bytes memory a i block long sixteen is fits so_far =
     ∙ slice_range-more memory a (16 * i) 16 ∙ ap (λ n. slice_range memory a (a + n)) (omega arith)
 
 -- one more block is written
-pub write_more : (first before after bytes block : List ℕ) (a i : ℕ) → a + length bytes ≤ length first → 16 * i + 16 ≤ length bytes → block ≡ slice_range bytes (16 * i) (16 * i + 16) → before ≡ written first a (take (16 * i) bytes) → after ≡ written before (a + 16 * i) block →
-    after ≡ written first a (take (16 * (i + 1)) bytes)
+pub write_more : (first before after bytes block : List ℕ) (a i : ℕ) → a + length bytes ≤ length first → 16 * i + 16 ≤ length bytes → block ≡ slice_range bytes (16 * i) (16 * i + 16) → before ≡ written_bytes first a (take (16 * i) bytes) → after ≡ written_bytes before (a + 16 * i) block →
+    after ≡ written_bytes first a (take (16 * (i + 1)) bytes)
 write_more first before after bytes block a i fits inside is so_far then =
     let front : length (take (16 * i) bytes) ≡ 16 * i = omega (arith, length-take (16 * i) bytes) in
     let part : 16 * i + 16 - 16 * i ≡ 16 = omega arith in
     let next : 16 * i + 16 ≡ 16 * (i + 1) = omega arith in
     let joined : take (16 * i) bytes ++ block ≡ take (16 * (i + 1)) bytes =
     ap (λ l. take (16 * i) bytes ++ l) (is ∙ ap (λ n. take n (drop (16 * i) bytes)) part) ∙ sym (take-add (16 * i) 16 bytes) ∙ ap (λ n. take n bytes) next in
-    then ∙ ap (λ l. written l (a + 16 * i) block) so_far
+    then ∙ ap (λ l. written_bytes l (a + 16 * i) block) so_far
     ∙ written-written first a (take (16 * i) bytes) block (a + 16 * i) (omega arith) (omega arith)
-    ∙ ap (written first a) joined
+    ∙ ap (written_bytes first a) joined

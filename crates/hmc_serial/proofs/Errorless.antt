@@ -9,7 +9,7 @@ use Rattle.hmc_serial.specs.Errors.{is_misaligned, memory_error, register_error,
 -- what memory without an error says
 pub record IsErrorless (shape : ShapeFields) (size : ℕ) (halves : Bool) (address : ℕ) : Type 0 where
   pub aligned : is_misaligned halves address ≡ false
-  pub fits : offset_of address + size ≤ 256
+  pub fits : offset_of shape address + size ≤ shape.block
   pub row : row_of shape address < shape.rows
 
 -- errors that tests find in their order
@@ -47,8 +47,8 @@ not_at_most m n is = grind (arith, nat_tests)
 pub errorless : (shape : ShapeFields) (size : ℕ) (halves : Bool) (address : ℕ) → memory_error shape size halves address ≡ None → IsErrorless shape size halves address
 unfolding memory_error
 errorless shape size halves address is =
-    let tests = three_tests (is_misaligned halves address) (nat_lt 256 (offset_of address + size)) (nat_le shape.rows (row_of shape address)) is in
-    record { aligned = tests.0; fits = not_less 256 (offset_of address + size) tests.1; row = not_at_most shape.rows (row_of shape address) tests.2 }
+    let tests = three_tests (is_misaligned halves address) (nat_lt shape.block (offset_of shape address + size)) (nat_le shape.rows (row_of shape address)) is in
+    record { aligned = tests.0; fits = not_less shape.block (offset_of shape address + size) tests.1; row = not_at_most shape.rows (row_of shape address) tests.2 }
 
 pub aligned_block : (address : ℕ) → is_misaligned false address ≡ false → address % 16 ≡ 0
 aligned_block address is = grind (arith, nat_tests)
@@ -62,12 +62,19 @@ div_inside n k m some below =
 div_inside_3 : (n v b r : ℕ) → 0 < v → 0 < b → n / v / b < r → n < r * b * v
 div_inside_3 n v b r some_v some_b below = div_inside n v (r * b) some_v (div_inside (n / v) b r some_b below)
 
+-- bytes that fit in one of n blocks of b bytes each are among all
+block_holds : (b n q offset size : ℕ) → q < n → offset + size ≤ b → q * b + offset + size ≤ n * b
+block_holds b n q offset size below fits = omega (arith, mul-le (q + 1) b n b (omega arith) (omega arith))
+
 -- bytes that fit in a row that is there are below the capacity
-pub inside_capacity : (shape : ShapeFields) (size address : ℕ) → offset_of address + size ≤ 256 → row_of shape address < shape.rows → address + size ≤ capacity_of shape
+pub inside_capacity : (shape : ShapeFields) (size address : ℕ) → offset_of shape address + size ≤ shape.block → row_of shape address < shape.rows → address + size ≤ capacity_of shape
 inside_capacity shape size address fits row =
-    let block : address / 256 < shape.rows * 2 ^ shape.bank_bits * 2 ^ shape.vault_bits =
-    div_inside_3 (address / 256) (2 ^ shape.vault_bits) (2 ^ shape.bank_bits) shape.rows (pow_pos shape.vault_bits) (pow_pos shape.bank_bits) row in
-    omega (arith, block)
+    let blocks : ℕ = shape.rows * 2 ^ shape.bank_bits * 2 ^ shape.vault_bits in
+    let inside : address / shape.block < blocks =
+    div_inside_3 (address / shape.block) (2 ^ shape.vault_bits) (2 ^ shape.bank_bits) shape.rows (pow_pos shape.vault_bits) (pow_pos shape.bank_bits) row in
+    let held = block_holds shape.block blocks (address / shape.block) (offset_of shape address) size inside fits in
+    let whole : shape.rows * 2 ^ shape.bank_bits * 2 ^ shape.vault_bits * shape.block ≡ capacity_of shape = grind arith in
+    omega (arith, held, whole, div-add-mod' address shape.block)
 
 pub register_there : (address : ℕ) → register_error address ≡ None → address < 16
 unfolding register_error

@@ -66,7 +66,8 @@ pub acted_short : (shape : ShapeFields) (action : Action) (own request : Request
 acted_short shape action own request op is fine =
     omega (arith, ap (λ r. length r.payload) fine.view_is, fine.kept.payload, acted_payload request.command op (fine.asks ∙ ap Some is))
 
-some_bytes : (halves : Bool) → 8 ≤ acted_size halves
+-- an atomic command touches 8 bytes at least
+pub some_bytes : (halves : Bool) → 8 ≤ acted_size halves
 some_bytes false = lit≤ tt
 some_bytes true = lit≤ tt
 

@@ -4,4 +4,7 @@ pub mod Errorless
 pub mod Fine
 pub mod Performed
 pub mod MachineLemmas
+pub mod CommandLemmas
+pub mod AnswerLemmas
+pub mod CubeLemmas
 mod Worked

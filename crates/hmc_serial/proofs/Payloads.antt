@@ -1,6 +1,6 @@
--- What the command of a request tells of its payload.
+-- What the command of a request says of its payload.
 use Rattle.std.proofs.Common.{◌≡◌, ◌≤◌, ◌%◌, ℕ, Some, refl, subst, lit≤}
-use Rattle.hmc_codes.specs.Table.{line_of}
+use Rattle.hmc_codes.specs.Table.{table_line}
 use Rattle.hmc_codes.specs.Commands.{payload_len_of}
 use Rattle.hmc_codes.specs.declared.command.Command.{Command}
 use Rattle.hmc_codes.specs.declared.command.Command.TheVariants as commands
@@ -28,13 +28,13 @@ read_size _ size is = absurd (cc)
 
 -- a register is written by a payload of 16 bytes
 pub register_payload : (command : Command) → action_of command ≡ Some WriteRegister → payload_len_of command ≡ 16
-unfolding action_of atomic_of line_of
+unfolding action_of atomic_of table_line
 register_payload commands.Mdwr is = refl
 register_payload _ is = absurd (cc)
 
 -- the payload of an atomic command is 16 bytes or none
 pub acted_payload : (command : Command) (op : Atomic) → action_of command ≡ Some (Act op) → payload_len_of command ≤ 16
-unfolding action_of atomic_of line_of
+unfolding action_of atomic_of table_line
 acted_payload commands.Bwr op is = lit≤ tt
 acted_payload commands.Pbwr op is = lit≤ tt
 acted_payload commands.Bwr8r op is = lit≤ tt

@@ -1,19 +1,28 @@
 -- Definitions computed at a cube of one bank of four rows: the errors, each at its edges, and where atomic commands act.
-use Rattle.std.proofs.Common.{◌≡◌, ℕ, List, [], ◌∷◌, Option, Some, None, true, false, refl}
-use Rattle.std.specs.Prelude.{map}
+-- Then at a cube with blocks of 64 bytes: errors, reads and writes, registers and units.
+use Rattle.std.proofs.Common.{◌≡◌, ℕ, List, [], ◌∷◌, ◌++◌, Option, Some, None, true, false, refl}
+use Rattle.std.specs.Prelude.{map, replicate, slice_get}
 use Rattle.hmc_codes.specs.Shape.{ShapeFields}
+use Rattle.hmc_codes.specs.Request.{RequestFields}
+use Rattle.hmc_codes.specs.declared.command.Command.{Command}
 use Rattle.hmc_codes.specs.declared.command.Command.TheVariants as commands
+use Rattle.hmc_codes.specs.declared.answer.Answer.{Answer}
+use Rattle.hmc_codes.specs.declared.unit.Unit.TheVariants as units
 use Rattle.hmc_codes.specs.declared.answer.Answer.TheVariants as answers
 use Rattle.hmc_atomics.specs.declared.atomic.Atomic.TheVariants.{Inc8, Add16, TwoAdd8, Eq8}
 use Rattle.hmc_atomics.specs.Operations.{atomic_of}
 use Rattle.hmc_serial.specs.declared.action.Action.TheVariants.{Read, Write, ReadRegister, WriteRegister, Act, Work}
 use Rattle.hmc_serial.specs.Actions.{action_of}
 use Rattle.hmc_serial.specs.Errors.{memory_error, register_error, register_write_error, error_of}
-use Rattle.hmc_serial.specs.Perform.{unless_posted, block_start, is_high}
-use Rattle.hmc_codes.specs.Table.{line_of}
+use Rattle.hmc_registers.specs.Registers.{opening_registers}
+use Rattle.hmc_serial.specs.Cube.{CubeState, opening}
+use Rattle.hmc_serial.specs.Machine.{cube_state_at, opening_state, apply, answer_to}
+use Rattle.hmc_serial.specs.Perform.{answer_unless_posted, block_start, is_high, perform_on}
+use Rattle.hmc_serial.specs.Unit.{is_for_registers, unit_of}
+use Rattle.hmc_codes.specs.Table.{table_line}
 
 abbrev four_rows : ShapeFields
-four_rows = record { vault_bits = 0; bank_bits = 0; rows = 4 }
+four_rows = record { vault_bits = 0; bank_bits = 0; rows = 4; block = 256 }
 
 abbrev errors_of_read : ℕ → List ℕ → List (Option ℕ)
 errors_of_read size addresses = map (λ address. error_of (Read size) four_rows address 0) addresses
@@ -37,7 +46,7 @@ error_of-write : map (error_of Write four_rows 0xf0) (16 ∷ 32 ∷ []) ≡ None
 unfolding memory_error
 error_of-write = refl
 
--- a command on eight bytes may stand in the high half, up to the row's end
+-- a command on eight bytes may be in the high half, up to the row's end
 error_of-increment : map (λ address. error_of (Act Inc8) four_rows address 0) (0xf8 ∷ 0x3f8 ∷ 0x4 ∷ 0x408 ∷ []) ≡
     None ∷ None ∷ Some 1 ∷ Some 3 ∷ []
 unfolding memory_error
@@ -77,6 +86,108 @@ block_start-last = refl
 is_high-bit_three : map is_high (0 ∷ 0x8 ∷ 0x10 ∷ 0x18 ∷ []) ≡ false ∷ true ∷ false ∷ true ∷ []
 is_high-bit_three = refl
 
-unless_posted-error : unless_posted commands.Pwr16 (answers.Refused 1) ≡ answers.Silent
-unfolding line_of
+unless_posted-error : answer_unless_posted commands.Pwr16 (answers.Refused 1) ≡ answers.Silent
+unfolding table_line
 unless_posted-error = refl
+
+-- two vaults of one bank of four blocks of 64 bytes
+abbrev small_blocks : ShapeFields
+small_blocks = record { vault_bits = 1; bank_bits = 0; rows = 4; block = 64 }
+
+-- past the block's end, twice: from 0x30 on, and longer than a block; past the last row; a whole block
+error_of-small_blocks : (error_of (Read 32) small_blocks 0x30 0 ∷ error_of (Read 128) small_blocks 0 0 ∷ error_of (Read 16) small_blocks 0x200 0 ∷ error_of (Read 64) small_blocks 0x40 0 ∷ error_of (Read 32) small_blocks 0x20 0 ∷ error_of (Read 16) small_blocks 0x1f0 0 ∷ []) ≡
+    Some 2 ∷ Some 2 ∷ Some 3 ∷ None ∷ None ∷ None ∷ []
+unfolding memory_error
+error_of-small_blocks = refl
+
+-- an atomic command and one on a half, in the last bytes of a block
+error_of-small_acted : (error_of (Act Add16) small_blocks 0x30 16 ∷ error_of (Act Inc8) small_blocks 0x38 0 ∷ error_of (Work 0) small_blocks 0x30 16 ∷ []) ≡ None ∷ None ∷ Some 6 ∷ []
+unfolding memory_error
+error_of-small_acted = refl
+
+-- 256 bytes are more than any smaller block, wherever they begin
+error_of-write_of_256 : map (λ bytes. error_of Write (record small_blocks { block = bytes }) 0 256) (32 ∷ 64 ∷ 128 ∷ 256 ∷ []) ≡ Some 2 ∷ Some 2 ∷ Some 2 ∷ None ∷ []
+unfolding memory_error
+error_of-write_of_256 = refl
+
+-- the cube 1, with sevens in its second block
+abbrev small_cube : CubeState
+small_cube = record { shape = small_blocks; memory = replicate 64 0 ++ replicate 64 7 ++ replicate 384 0; registers = 1 ∷ 1 ∷ 0 ∷ 4 ∷ replicate 12 0 }
+
+abbrev request_with : Command → (address : ℕ) → List ℕ → RequestFields
+request_with command address payload = record { command = command; cube = 1; address = address; payload = payload }
+
+abbrev answer_of : RequestFields → Answer
+answer_of request = (perform_on small_cube request).answer
+
+perform_on-read : answer_of (request_with commands.Rd64 0x40 []) ≡ answers.Read false (replicate 64 7)
+unfolding perform_on action_of memory_error
+perform_on-read = refl
+
+perform_on-errors : map answer_of (request_with commands.Rd32 0x30 [] ∷ request_with commands.Rd128 0 [] ∷ request_with commands.Rd16 0x200 [] ∷ request_with commands.Rd16 0x48 [] ∷ []) ≡
+    answers.Refused 2 ∷ answers.Refused 2 ∷ answers.Refused 3 ∷ answers.Refused 1 ∷ []
+unfolding perform_on action_of memory_error table_line
+perform_on-errors = refl
+
+-- 16 bytes of the second block are written, and nothing else
+perform_on-write : perform_on small_cube (request_with commands.Wr16 0x50 (replicate 16 9)) ≡
+    record {
+      cube = record small_cube { memory = replicate 64 0 ++ replicate 16 7 ++ replicate 16 9 ++ replicate 32 7 ++ replicate 384 0 };
+      answer = answers.Done false;
+    }
+unfolding perform_on action_of memory_error table_line
+perform_on-write = refl
+
+-- a refused write changes nothing
+perform_on-refused_write : (perform_on small_cube (request_with commands.Wr32 0x70 (replicate 32 9))).cube ≡ small_cube
+unfolding perform_on action_of memory_error table_line
+perform_on-refused_write = refl
+
+-- Registers 0 to 3 are read and not written, 4 to 15 are both, and there is no register 16.
+perform_on-read_register : map (λ number. answer_of (request_with commands.Mdrd number [])) (0 ∷ 1 ∷ 2 ∷ 3 ∷ 4 ∷ 15 ∷ 16 ∷ []) ≡
+    answers.Register 1 ∷ answers.Register 1 ∷ answers.Register 0 ∷ answers.Register 4 ∷ answers.Register 0 ∷ answers.Register 0 ∷ answers.Refused 4 ∷ []
+unfolding perform_on action_of register_error table_line
+perform_on-read_register = refl
+
+-- the value 0x04030201
+abbrev write_of : (number : ℕ) → RequestFields
+write_of number = request_with commands.Mdwr number (1 ∷ 2 ∷ 3 ∷ 4 ∷ replicate 12 0)
+
+perform_on-write_register : map (λ number. answer_of (write_of number)) (0 ∷ 3 ∷ 4 ∷ 15 ∷ 16 ∷ []) ≡
+    answers.Refused 5 ∷ answers.Refused 5 ∷ answers.Stored ∷ answers.Stored ∷ answers.Refused 4 ∷ []
+unfolding perform_on action_of register_write_error table_line
+perform_on-write_register = refl
+
+perform_on-registers : map (λ number. (perform_on small_cube (write_of number)).cube.registers) (0 ∷ 4 ∷ 15 ∷ 16 ∷ []) ≡
+    (1 ∷ 1 ∷ 0 ∷ 4 ∷ replicate 12 0) ∷ (1 ∷ 1 ∷ 0 ∷ 4 ∷ 0x04030201 ∷ replicate 11 0) ∷ (1 ∷ 1 ∷ 0 ∷ 4 ∷ replicate 11 0 ++ 0x04030201 ∷ []) ∷
+    (1 ∷ 1 ∷ 0 ∷ 4 ∷ replicate 12 0) ∷ []
+unfolding perform_on action_of register_write_error table_line
+perform_on-registers = refl
+
+-- the cubes of a machine are numbered from 0
+cube_at-numbers : map (λ number. slice_get (cube_state_at (opening_state (four_rows ∷ small_blocks ∷ [])) number).registers 0) (0 ∷ 1 ∷ 2 ∷ []) ≡ Some 0 ∷ Some 1 ∷ None ∷ []
+unfolding opening_state opening opening_registers
+cube_at-numbers = refl
+
+-- a request changes its own cube, and no other
+apply-second : map (λ number. (cube_state_at (apply (record { cubes = small_cube ∷ small_cube ∷ [] }) (write_of 4)) number).registers) (0 ∷ 1 ∷ []) ≡
+    (1 ∷ 1 ∷ 0 ∷ 4 ∷ replicate 12 0) ∷ (1 ∷ 1 ∷ 0 ∷ 4 ∷ 0x04030201 ∷ replicate 11 0) ∷ []
+unfolding apply perform_on action_of register_write_error table_line
+apply-second = refl
+
+answer_to-second : answer_to (record { cubes = opening four_rows 0 ∷ small_cube ∷ [] }) (request_with commands.Rd16 0x40 []) ≡ answers.Read false (replicate 16 7)
+unfolding answer_to perform_on action_of memory_error
+answer_to-second = refl
+
+-- registers execute mdrd and mdwr, and banks all else, also past the capacity
+is_for_registers-each : map is_for_registers (commands.Mdrd ∷ commands.Mdwr ∷ commands.Rd16 ∷ commands.Wr16 ∷ commands.Inc8 ∷ commands.Unit0 ∷ []) ≡ true ∷ true ∷ false ∷ false ∷ false ∷ false ∷ []
+is_for_registers-each = refl
+
+unit_of-registers : map (λ command. unit_of small_blocks (request_with command 0x40 [])) (commands.Mdrd ∷ commands.Mdwr ∷ []) ≡ units.Registers 1 ∷ units.Registers 1 ∷ []
+unfolding unit_of
+unit_of-registers = refl
+
+unit_of-banks : map (λ address. unit_of (record small_blocks { bank_bits = 1 }) (request_with commands.Rd16 address [])) (0x30 ∷ 0x40 ∷ 0x80 ∷ 0xc0 ∷ 0x100 ∷ 0x4c0 ∷ []) ≡
+    units.Bank 1 0 0 ∷ units.Bank 1 1 0 ∷ units.Bank 1 0 1 ∷ units.Bank 1 1 1 ∷ units.Bank 1 0 0 ∷ units.Bank 1 1 1 ∷ []
+unfolding unit_of
+unit_of-banks = refl

@@ -1,4 +1,4 @@
--- What each request asks for, one line a command.
+-- The action of each request, one line per command.
 use Rattle.std.specs.Prelude.{Option, Some}
 use Rattle.std.specs.Option.{option_map}
 use Rattle.hmc_codes.specs.declared.command.Command.{Command}
@@ -7,7 +7,7 @@ use Rattle.hmc_atomics.specs.Operations.{atomic_of}
 use Rattle.hmc_serial.specs.declared.action.Action.{Action}
 use Rattle.hmc_serial.specs.declared.action.Action.TheVariants.{Read, Write, ReadRegister, WriteRegister, Act, Work}
 
--- nothing for what is no request; the atomic commands are those that have an operation
+-- None for a command that isn't a request's; the atomic commands are those with an operation
 unfoldable pub action_of : Command → Option Action
 action_of commands.Wr16 = Some Write
 action_of commands.Wr32 = Some Write

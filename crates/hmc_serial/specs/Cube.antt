@@ -12,7 +12,7 @@ pub record CubeState : Type 0 where
   pub memory : List ℕ
   pub registers : List ℕ
 
--- what a request leaves, and what it is answered
+-- what a request leaves of its cube, and its answer
 pub record Outcome : Type 0 where
   pub cube : CubeState
   pub answer : Answer
@@ -20,9 +20,13 @@ pub record Outcome : Type 0 where
 -- at first all bytes are zero
 unfoldable pub opening : ShapeFields → (number : ℕ) → CubeState
 opening shape number =
-    record { shape = shape; memory = replicate (capacity_of shape) 0; registers = opening_registers number shape }
+    record {
+      shape = shape;
+      memory = replicate (capacity_of shape) 0;
+      registers = opening_registers number shape;
+    }
 
--- what each cube keeps: as many bytes as its shape says, and sixteen registers
+-- what each cube keeps: as many bytes as its shape gives, and sixteen registers
 pub record IsCube (cube : CubeState) : Type 0 where
   pub is_shape : IsShape cube.shape
   pub capacity : length cube.memory ≡ capacity_of cube.shape
@@ -30,9 +34,11 @@ pub record IsCube (cube : CubeState) : Type 0 where
   pub are_registers : IsRegisters cube.registers
 
 -- the cube with this memory and these registers
-abbrev pub cube_of : BanksFields → List ℕ → CubeState
-cube_of banks registers = record { shape = banks.shape; memory = banks.bytes; registers = registers }
+abbrev pub cube_state_of : BanksFields → List ℕ → CubeState
+cube_state_of banks registers =
+    record { shape = banks.shape; memory = banks.bytes; registers = registers }
 
--- this memory and these registers are left, and this is answered
-abbrev pub outcome_of : BanksFields → List ℕ → Answer → Outcome
-outcome_of banks registers answer = record { cube = cube_of banks registers; answer = answer }
+-- a cube of this memory and these registers, and this answer
+abbrev pub outcome_of_parts : BanksFields → List ℕ → Answer → Outcome
+outcome_of_parts banks registers answer =
+    record { cube = cube_state_of banks registers; answer = answer }

@@ -1,32 +1,33 @@
--- The errors of requests, by their numbers, in the order in which they are found.
+-- The errors of requests, by their numbers, in the order of the tests.
 use Rattle.std.specs.Prelude.{ℕ, ◌+◌, ◌/◌, ◌%◌, Bool, false, not, ◌==◌, ◌||◌, ◌&&◌, nat_lt, nat_le, if◌then◌else◌, Option, Some, None}
 use Rattle.hmc_codes.specs.Shape.{ShapeFields, offset_of, row_of}
 use Rattle.hmc_atomics.specs.Operations.{by_halves}
 use Rattle.hmc_serial.specs.declared.action.Action.{Action}
 use Rattle.hmc_serial.specs.declared.action.Action.TheVariants.{Read, Write, ReadRegister, WriteRegister, Act, Work}
 
--- bits 2 to 0 of the address are not zero, or bit 3 is not zero though the command doesn't act on halves
+-- bits 2 to 0 of the address are not zero, or bit 3 is not zero and the command doesn't act on
+-- halves
 abbrev pub is_misaligned : (halves : Bool) → (address : ℕ) → Bool
 is_misaligned halves address = not (address % 8 == 0) || (not halves && not (address / 8 % 2 == 0))
 
--- 1: misaligned; 2: past the end of the 256 bytes of a row; 3: no such row
+-- 1: misaligned; 2: past the end of its block; 3: no such row
 unfoldable pub memory_error : ShapeFields → (size : ℕ) → (halves : Bool) → (address : ℕ) → Option ℕ
 memory_error shape size halves address =
     (if is_misaligned halves address then Some 1 else
-    (if nat_lt 256 (offset_of address + size) then Some 2 else
+    (if nat_lt shape.block (offset_of shape address + size) then Some 2 else
     (if nat_le shape.rows (row_of shape address) then Some 3 else None)))
 
 -- 4: no such register
 unfoldable pub register_error : (address : ℕ) → Option ℕ
 register_error address = (if nat_le 16 address then Some 4 else None)
 
--- 4: no such register; 5: one that isn't written
+-- 4: no such register; 5: a read-only one
 unfoldable pub register_write_error : (address : ℕ) → Option ℕ
 register_write_error address =
     (if nat_le 16 address then Some 4 else
     (if nat_lt address 4 then Some 5 else None))
 
--- 6, where there is no error before it: no logic unit is there
+-- 6, if there is no error before it: there is no logic unit
 abbrev pub unit_error : Option ℕ → Option ℕ
 unit_error (Some errstat) = Some errstat
 unit_error None = Some 6
@@ -41,5 +42,6 @@ error_of (Read size) shape address len = memory_error shape size false address
 error_of Write shape address len = memory_error shape len false address
 error_of ReadRegister shape address len = register_error address
 error_of WriteRegister shape address len = register_write_error address
-error_of (Act op) shape address len = memory_error shape (acted_size (by_halves op)) (by_halves op) address
+error_of (Act op) shape address len =
+    memory_error shape (acted_size (by_halves op)) (by_halves op) address
 error_of (Work code) shape address len = unit_error (memory_error shape 16 false address)

@@ -3,3 +3,4 @@ pub mod Cube
 pub mod Errors
 pub mod Perform
 pub mod Machine
+pub mod Unit

@@ -1,6 +1,6 @@
--- What a request does to a cube: one case a kind of command.
+-- What a request does to a cube: one case per kind of command.
 use Rattle.std.specs.Prelude.{ℕ, ◌+◌, ◌-◌, ◌/◌, ◌%◌, Bool, false, not, ◌==◌, if◌then◌else◌, List, length, slice_range, slice_index, slice_set, Option, Some, None}
-use Rattle.hmc_codes.specs.Bytes.{padded}
+use Rattle.hmc_codes.specs.Bytes.{padded_bytes}
 use Rattle.hmc_codes.specs.Commands.{is_posted, reply_of}
 use Rattle.hmc_codes.specs.Request.{RequestFields}
 use Rattle.hmc_codes.specs.Text.{value_in}
@@ -9,7 +9,7 @@ use Rattle.hmc_codes.specs.declared.command.Command.TheVariants as commands
 use Rattle.hmc_codes.specs.declared.answer.Answer.{Answer}
 use Rattle.hmc_codes.specs.declared.answer.Answer.TheVariants as answers
 use Rattle.hmc_codes.specs.declared.answer.Acted.{Acted}
-use Rattle.hmc_memory.specs.Banks.{written}
+use Rattle.hmc_memory.specs.Banks.{written_bytes}
 use Rattle.hmc_atomics.specs.declared.atomic.Atomic.{Atomic}
 use Rattle.hmc_atomics.specs.Act.{acted_of}
 use Rattle.hmc_serial.specs.declared.action.Action.{Action}
@@ -19,27 +19,31 @@ use Rattle.hmc_serial.specs.Cube.{CubeState, Outcome}
 use Rattle.hmc_serial.specs.Errors.{error_of}
 
 -- nothing changes
-abbrev pub keeps : CubeState → Answer → Outcome
-keeps cube answer = record { cube = cube; answer = answer }
+abbrev pub unchanged_with : CubeState → Answer → Outcome
+unchanged_with cube answer = record { cube = cube; answer = answer }
 
 -- only the memory changes
 abbrev pub leaves_memory : CubeState → List ℕ → Answer → Outcome
-leaves_memory cube memory answer = record { cube = record cube { memory = memory }; answer = answer }
+leaves_memory cube memory answer =
+    record { cube = record cube { memory = memory }; answer = answer }
 
 -- only the registers change
 abbrev pub leaves_registers : CubeState → List ℕ → Answer → Outcome
-leaves_registers cube registers answer = record { cube = record cube { registers = registers }; answer = answer }
+leaves_registers cube registers answer =
+    record { cube = record cube { registers = registers }; answer = answer }
 
--- a posted request is not answered
-abbrev pub unless_posted : Command → Answer → Answer
-unless_posted command answer = (if is_posted command then answers.Silent else answer)
+-- a posted request has no answer
+abbrev pub answer_unless_posted : Command → Answer → Answer
+answer_unless_posted command answer = (if is_posted command then answers.Silent else answer)
 
 -- a request with an error changes nothing, and is refused
 abbrev pub unless_error : Option ℕ → CubeState → Command → Outcome → Outcome
 unless_error None cube command outcome = outcome
-unless_error (Some errstat) cube command outcome = keeps cube (unless_posted command (answers.Refused errstat))
+unless_error (Some errstat) cube command outcome =
+    unchanged_with cube (answer_unless_posted command (answers.Refused errstat))
 
--- an atomic command is answered by the old bytes where its reply is RD_RS, and by the flag alone where it is WR_RS
+-- the answer to an atomic command: the old bytes if its response is RD_RS, and the flag alone if
+-- it is WR_RS
 abbrev pub acted_answer : Option Command → Acted → Answer
 acted_answer (Some commands.RdRs) acted = answers.Read acted.flag acted.answer
 acted_answer (Some commands.WrRs) acted = answers.Done acted.flag
@@ -53,40 +57,46 @@ block_start address = address - address % 16
 abbrev pub is_high : ℕ → Bool
 is_high address = not (address / 8 % 2 == 0)
 
--- an atomic command acts on the block that holds its address; without a payload its operand is zeros
+-- an atomic command acts on the block that holds its address; without a payload its operand is
+-- zeros
 abbrev pub acted_at : Atomic → List ℕ → (address : ℕ) → (payload : List ℕ) → Acted
 acted_at op memory address payload =
-    acted_of op (is_high address) (slice_range memory (block_start address) (block_start address + 16)) (padded 16 payload)
+    acted_of op (is_high address)
+    (slice_range memory (block_start address) (block_start address + 16)) (padded_bytes 16 payload)
 
 -- the block has its new bytes
 abbrev pub leaves_acted : CubeState → RequestFields → Acted → Outcome
 leaves_acted cube request acted =
-    leaves_memory cube (written cube.memory (block_start request.address) acted.block)
+    leaves_memory cube (written_bytes cube.memory (block_start request.address) acted.block)
     (acted_answer (reply_of request.command) acted)
 
--- what a request without an error does, one case a kind of command; a unit command always has an error
-abbrev pub carried_out : Action → CubeState → RequestFields → Outcome
-carried_out (Read size) cube request =
-    keeps cube (answers.Read false (slice_range cube.memory request.address (request.address + size)))
-carried_out Write cube request =
-    leaves_memory cube (written cube.memory request.address request.payload)
-    (unless_posted request.command (answers.Done false))
-carried_out ReadRegister cube request =
-    keeps cube (answers.Register (slice_index cube.registers request.address))
-carried_out WriteRegister cube request =
-    leaves_registers cube (slice_set cube.registers request.address (value_in request.payload)) answers.Stored
-carried_out (Act op) cube request =
+-- what a request without an error does, one case per kind of command; a unit command always has an
+-- error
+abbrev pub carry_out : Action → CubeState → RequestFields → Outcome
+carry_out (Read size) cube request =
+    unchanged_with cube
+    (answers.Read false (slice_range cube.memory request.address (request.address + size)))
+carry_out Write cube request =
+    leaves_memory cube (written_bytes cube.memory request.address request.payload)
+    (answer_unless_posted request.command (answers.Done false))
+carry_out ReadRegister cube request =
+    unchanged_with cube (answers.Register (slice_index cube.registers request.address))
+carry_out WriteRegister cube request =
+    leaves_registers cube
+    (slice_set cube.registers request.address (value_in request.payload)) answers.Stored
+carry_out (Act op) cube request =
     leaves_acted cube request (acted_at op cube.memory request.address request.payload)
-carried_out (Work code) cube request =
-    keeps cube answers.Silent
+carry_out (Work code) cube request =
+    unchanged_with cube answers.Silent
 
--- what is no request does nothing
+-- what isn't a request does nothing
 abbrev pub perform_action : Option Action → CubeState → RequestFields → Outcome
-perform_action None cube request = keeps cube answers.Silent
+perform_action None cube request = unchanged_with cube answers.Silent
 perform_action (Some action) cube request =
-    unless_error (error_of action cube.shape request.address (length request.payload)) cube request.command
-    (carried_out action cube request)
+    unless_error (error_of action cube.shape request.address (length request.payload))
+    cube request.command
+    (carry_out action cube request)
 
--- what a request leaves of its cube, and what it is answered
+-- what a request leaves of its cube, and its answer
 unfoldable pub perform_on : CubeState → RequestFields → Outcome
 perform_on cube request = perform_action (action_of request.command) cube request

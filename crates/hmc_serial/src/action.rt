@@ -8,7 +8,7 @@ ghost use Rattle.hmc_serial.specs.Actions.{action_of};
 use hmc_atomics::Atomic;
 use hmc_codes::Command;
 
-/// What a request asks for.
+/// The action that a request asks for.
 #[derive(Clone, Copy)]
 pub enum Action {
     /// This number of bytes is read.
@@ -17,7 +17,7 @@ pub enum Action {
     Write,
     /// The value of a register is read.
     ReadRegister,
-    /// A register is given the number in the payload's first four bytes.
+    /// A register gets the number in the payload's first four bytes.
     WriteRegister,
     /// An atomic command.
     Act(Atomic),
@@ -26,14 +26,14 @@ pub enum Action {
 }
 
 impl Action {
-    // What an atomic command asks for.
+    // The action of an atomic command.
     fn atomic(command: Command) -> Option<Self>
         ensures { result ≡ option_map Action.Act (atomic_of command) }
     {
         Atomic::of(command).map(Action::Act)
     }
 
-    /// What a command asks for, if it is that of a request.
+    /// The action of a command, or `None` if it isn't that of a request.
     #[tactic(auto, unfolding(crate::specs::Actions::action_of))]
     pub fn of(command: Command) -> Option<Self>
         ensures { result ≡ action_of command }

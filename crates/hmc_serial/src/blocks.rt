@@ -1,9 +1,9 @@
-//! Bytes of a memory, which is read and written in blocks of 16.
+//! Bytes of a memory, in blocks of 16.
 
 ghost use Rattle.std.specs.Prelude.{◌≡◌, ◌<◌, ◌≤◌, ◌+◌, ◌%◌, ◌^◌, length, slice_range};
-ghost use Rattle.hmc_codes.specs.Bytes.{padded};
+ghost use Rattle.hmc_codes.specs.Bytes.{padded_bytes};
 ghost use Rattle.hmc_codes.specs.Shape.{capacity_of};
-ghost use Rattle.hmc_memory.specs.Banks.{written};
+ghost use Rattle.hmc_memory.specs.Banks.{written_bytes};
 ghost use Rattle.hmc_serial.specs.Perform.{acted_at, block_start};
 
 use hmc_atomics::{Atomic, act};
@@ -37,9 +37,9 @@ pub fn write(banks: &mut Banks, address: u64, bytes: &[u8])
     requires blocks { length bytes.now % 16 ≡ 0 }
     requires inside { address + length bytes.now ≤ capacity_of banks.old.shape }
     ensures shape { banks.new.shape ≡ banks.old.shape }
-    ensures bytes { banks.new.bytes ≡ written banks.old.bytes address bytes.now }
+    ensures bytes { banks.new.bytes ≡ written_bytes banks.old.bytes address bytes.now }
 {
-    banks.keeps();
+    banks.invariant();
     for i in 0..bytes.len() / BLOCK {
         let from = BLOCK * i;
         let mut block = [0; BLOCK];
@@ -51,20 +51,21 @@ pub fn write(banks: &mut Banks, address: u64, bytes: &[u8])
 // The operand of an atomic command: its payload, or zeros.
 fn operand(payload: &[u8]) -> [u8; 16]
     requires { length payload.now ≤ 16 }
-    ensures { result ≡ padded 16 payload.now }
+    ensures { result ≡ padded_bytes 16 payload.now }
 {
     let mut operand = [0; BLOCK];
     operand[..payload.len()].copy_from_slice(payload);
     operand
 }
 
-/// Lets an operation act on the block that holds an address.
+/// Performs an operation on the block that holds an address.
 pub fn act_at(op: Atomic, banks: &mut Banks, address: u64, payload: &[u8]) -> Acted
     requires short { length payload.now ≤ 16 }
     requires inside { address < capacity_of banks.old.shape }
     ensures shape { banks.new.shape ≡ banks.old.shape }
     ensures acted { result ≡ acted_at op banks.old.bytes address payload.now }
-    ensures bytes { banks.new.bytes ≡ written banks.old.bytes (block_start address) result.block }
+    ensures bytes { banks.new.bytes ≡
+        written_bytes banks.old.bytes (block_start address) result.block }
 {
     let start = address - address % 16;
     let high = address / 8 % 2 != 0;

@@ -1,38 +1,38 @@
-//! What a request does to a cube.
+//! A request performed on a cube.
 
 ghost use Rattle.std.specs.Prelude.{◌≡◌, ◌<◌, ◌≤◌, length, slice_index, slice_set};
 ghost use Rattle.hmc_codes.specs.Text.{value_in};
 ghost use Rattle.hmc_serial.specs.Actions.{action_of};
-ghost use Rattle.hmc_serial.specs.Cube.{cube_of, outcome_of};
+ghost use Rattle.hmc_serial.specs.Cube.{cube_state_of, outcome_of_parts};
 ghost use Rattle.hmc_serial.specs.Errors.{error_of};
-ghost use Rattle.hmc_serial.specs.Perform.{carried_out, perform_on};
+ghost use Rattle.hmc_serial.specs.Perform.{carry_out, perform_on};
 
 use crate::Action;
-use crate::answers::{acted_answer, unless_posted};
+use crate::answers::{acted_answer, answer_unless_posted};
 use crate::blocks::{act_at, read, write};
 use crate::errors::error;
 use hmc_codes::{Answer, Request};
 use hmc_memory::Banks;
 use hmc_registers::Registers;
 
-/// Performs a request on the memory and the registers of its cube, and answers it.
+/// Performs a request on the memory and the registers of its cube. Returns its answer.
 pub fn perform(banks: &mut Banks, registers: &mut Registers, request: &Request) -> Answer
-    ensures outcome { outcome_of banks.new registers.new result
-        ≡ perform_on (cube_of banks.old registers.old) request.now }
+    ensures outcome { outcome_of_parts banks.new registers.new result
+        ≡ perform_on (cube_state_of banks.old registers.old) request.now }
     ensures shape { banks.new.shape ≡ banks.old.shape }
 {
-    request.keeps();
+    request.invariant();
     let Some(action) = Action::of(request.command) else {
         return Answer::Silent;
     };
     let payload = request.payload.as_slice();
     match error(action, &banks.shape(), request.address, payload.len()) {
-        Some(errstat) => unless_posted(request.command, Answer::Refused { errstat }),
+        Some(errstat) => answer_unless_posted(request.command, Answer::Refused { errstat }),
         None => carry_out(action, banks, registers, request),
     }
 }
 
-// Does what a request without an error asks for.
+// Performs a request that has no error.
 fn carry_out(
     action: Action,
     banks: &mut Banks,
@@ -40,12 +40,13 @@ fn carry_out(
     request: &Request,
 ) -> Answer
     requires action { action_of request.now.command ≡ Some action }
-    requires no_error { error_of action banks.old.shape request.now.address (length request.now.payload) ≡ None }
-    ensures outcome { outcome_of banks.new registers.new result
-        ≡ carried_out action (cube_of banks.old registers.old) request.now }
+    requires no_error { error_of action banks.old.shape request.now.address
+        (length request.now.payload) ≡ None }
+    ensures outcome { outcome_of_parts banks.new registers.new result
+        ≡ carry_out action (cube_state_of banks.old registers.old) request.now }
     ensures shape { banks.new.shape ≡ banks.old.shape }
 {
-    request.keeps();
+    request.invariant();
     let address = request.address;
     match action {
         Action::Read(size) => {
@@ -57,7 +58,7 @@ fn carry_out(
         }
         Action::Write => {
             write(banks, address, request.payload.as_slice());
-            unless_posted(request.command, Answer::Done { flag: false })
+            answer_unless_posted(request.command, Answer::Done { flag: false })
         }
         Action::ReadRegister => read_register(registers, address),
         Action::WriteRegister => write_register(registers, address, request.payload.as_slice()),
@@ -69,18 +70,18 @@ fn carry_out(
     }
 }
 
-// The value of a register that is there.
+// The value of a register that exists.
 fn read_register(registers: &Registers, address: u64) -> Answer
     requires { address < 16 }
     ensures { result ≡ Answer.Register (slice_index registers.now address) }
 {
-    registers.keeps();
+    registers.invariant();
     Answer::Register {
         value: registers.read(address).unwrap_or(0),
     }
 }
 
-// Gives a register that is written the number of its first four bytes.
+// Writes the number in the first four bytes to a scratch register.
 fn write_register(registers: &mut Registers, address: u64, payload: &[u8]) -> Answer
     requires there { address < 16 }
     requires written { 4 ≤ address }

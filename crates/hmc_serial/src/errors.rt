@@ -7,9 +7,6 @@ use crate::Action;
 use hmc_codes::Shape;
 use hmc_registers::{FIRST_SCRATCH, REGISTERS};
 
-// How many bytes a row has.
-const ROW: u64 = 256;
-
 fn is_misaligned(halves: bool, address: u64) -> bool
     ensures { result ≡ is_misaligned halves address }
 {
@@ -25,7 +22,7 @@ fn memory_error(shape: &Shape, size: u64, halves: bool, address: u64) -> Option<
     let spot = shape.spot(address);
     if is_misaligned(halves, address) {
         Some(1)
-    } else if u64::from(spot.offset) + size > ROW {
+    } else if u64::from(spot.offset) + size > u64::from(shape.block) {
         Some(2)
     } else if spot.row >= u64::from(shape.rows) {
         Some(3)
@@ -56,7 +53,7 @@ fn register_write_error(address: u64) -> Option<u8>
     }
 }
 
-/// The number of a request's error, if it has one.
+/// The number of a request's error, or `None` if it has none.
 pub fn error(action: Action, shape: &Shape, address: u64, len: usize) -> Option<u8>
     requires { len ≤ 256 }
     ensures { result ≡ error_of action shape.now address len }

@@ -1,7 +1,7 @@
 //! Cases, and the networks that are built of them.
 
 use hmc_case::{Case, CaseFault, CaseKind, Section};
-use hmc_codes::{Join, LinkSetup, Place, Shape};
+use hmc_codes::{Join, LinkSetup, Place, Profile, Shape};
 use hmc_net::Net;
 use std::test::Fail;
 
@@ -36,6 +36,7 @@ fn has_the_cube(case: &Case) -> bool {
         vault_bits: 1,
         bank_bits: 2,
         rows: 4,
+        block: 256,
     };
     matches!(case.cubes(), [cube] if cube.shape == shape && cube.queue == 3)
 }
@@ -51,11 +52,13 @@ fn has_the_link(case: &Case) -> bool {
         tokens: 34,
         retry: 64,
         output: 5,
+        profile: Profile::One,
     };
     matches!(case.links(), [link] if link.join == join && link.setup == setup)
 }
 
-// A round of that cube has 21 steps: give, 2 sends, 2 landings, a shift, 2 spreads, 8 banks, the registers, 3 lifts and take.
+// A round of that cube has 21 steps: give, 2 sends, 2 landings, a shift, 2 spreads, 8 banks, the
+// registers, 3 lifts and take.
 #[test]
 fn a_case_has_what_its_text_says(rt: HostRuntime) -> Result<(), Fail> {
     let case = Case::read(rt.alloc(), TEXT.as_bytes()).map_err(|_| "the text is a case")?;
@@ -78,7 +81,7 @@ fn is_refused(rt: &HostRuntime, text: &str, kind: CaseKind) -> bool {
 }
 
 #[test]
-fn the_first_fault_is_told(rt: HostRuntime) -> Result<(), Fail> {
+fn the_first_fault_is_reported(rt: HostRuntime) -> Result<(), Fail> {
     assert!(rt; is_refused(&rt, "", CaseKind::Missing), "no key");
     assert!(rt;
         is_refused(&rt, "profile = true\n", CaseKind::Kind),
@@ -99,7 +102,7 @@ fn the_first_fault_is_told(rt: HostRuntime) -> Result<(), Fail> {
 fn nothing_has_happened_in_a_network_that_was_built(rt: HostRuntime) -> Result<(), Fail> {
     let case = Case::read(rt.alloc(), TEXT.as_bytes()).map_err(|_| "the text is a case")?;
     let net = Net::build(rt.alloc(), &case)?;
-    assert!(rt; net.journal().entries().is_empty(), "entries");
+    assert!(rt; net.journal().is_empty(), "entries");
     assert!(rt; net.tags_out(0) == 0, "tags");
     assert!(rt; net.cube(0).capacity() == 8192, "bytes");
     assert!(rt; net.cube(0).held() == 0, "packets");

@@ -13,7 +13,7 @@ use std::test::Fail;
 const BYTES: [u8; 16] = [1, 2, 3, 4, 5, 6, 7, 8, 9, 10, 11, 12, 13, 14, 15, 16];
 
 // A posted write of host 1 to the second vault.
-#[tactic(auto, unfolding(hmc_codes::specs::Table::line_of, hmc_packet::specs::Transactions::asked))]
+#[tactic(auto, unfolding(hmc_codes::specs::Table::table_line, hmc_packet::specs::Transactions::request_packet))]
 fn posted_write(payload: Payload) -> Packet
     requires { length payload ≡ 16 }
     ensures { IsForBanks result }
@@ -28,7 +28,7 @@ fn posted_write(payload: Payload) -> Packet
 }
 
 // A read of host 1 from the second vault.
-#[tactic(auto, unfolding(hmc_codes::specs::Table::line_of, hmc_packet::specs::Transactions::asked))]
+#[tactic(auto, unfolding(hmc_codes::specs::Table::table_line, hmc_packet::specs::Transactions::request_packet))]
 fn read() -> Packet
     ensures { IsForBanks result }
 {
@@ -42,7 +42,7 @@ fn read() -> Packet
 }
 
 // A read of register 0 by host 2.
-#[tactic(auto, unfolding(hmc_codes::specs::Table::line_of, hmc_packet::specs::Transactions::asked))]
+#[tactic(auto, unfolding(hmc_codes::specs::Table::table_line, hmc_packet::specs::Transactions::request_packet))]
 fn read_number() -> Packet
     ensures { IsForRegisters result }
 {
@@ -107,6 +107,7 @@ fn two_vaults(alloc: Global) -> Result<Cube, Memory>
         vault_bits: 1,
         bank_bits: 0,
         rows: 1,
+        block: 256,
     };
     Cube::new(alloc, 6, shape, 2)
 }
@@ -205,6 +206,7 @@ fn one_bank(alloc: Global) -> Result<Cube, Memory> {
         vault_bits: 0,
         bank_bits: 0,
         rows: 1,
+        block: 256,
     };
     Cube::new(alloc, 6, shape, 1)
 }
@@ -232,7 +234,7 @@ fn assert_number(rt: &impl Abort, cube: &mut Cube) {
     assert!(rt; cube.lift_front(Lift::Registers).is_none(), "lifted");
 }
 
-// A read of register 0 passes through the queues of the registers of a cube of number 6.
+// A read of register 0 passes through the queues of the registers of cube 6.
 #[test]
 fn registers(rt: HostRuntime) -> Result<(), Fail> {
     let mut cube = one_bank(rt.alloc())?;

@@ -4,7 +4,7 @@ ghost use Rattle.hmc_codes.specs.declared.family.Family.TheVariants as families;
 ghost use Rattle.hmc_host.specs.Tags.{IsOut};
 ghost use Rattle.hmc_host.specs.Give.{taken_tag};
 
-use hmc_codes::{Answer, Command, Memory, Payload, Request};
+use hmc_codes::{Answer, Command, MOST_REQUESTS, Memory, Payload, Request, TAGS};
 use hmc_host::{Given, Host, HostBuffer, Settled};
 use hmc_packet::{Packet, ask, reply};
 use hmc_script::Script;
@@ -14,7 +14,7 @@ use std::process::Abort;
 use std::test::Fail;
 
 // A read of the first 16 bytes of cube 0.
-#[tactic(auto, unfolding(hmc_codes::specs::Table::line_of))]
+#[tactic(auto, unfolding(hmc_codes::specs::Table::table_line))]
 fn read() -> Request {
     Request {
         command: Command::Rd16,
@@ -25,7 +25,7 @@ fn read() -> Request {
 }
 
 // The reply that something was done.
-#[tactic(auto, unfolding(hmc_codes::specs::Table::line_of, hmc_packet::specs::Transactions::replied))]
+#[tactic(auto, unfolding(hmc_codes::specs::Table::table_line, hmc_packet::specs::Transactions::reply_packet))]
 fn done(tag: u16) -> Packet
     requires { tag < 2 ^ 11 }
     ensures replies { family_of result.command ≡ families.Reply }
@@ -48,7 +48,8 @@ fn tag_of(given: &Given) -> Option<u16>
 fn carries(given: &Given, tag: u16, address: u64) -> bool {
     matches!(
         given,
-        Given::Gave { packet, .. } if packet.tag == tag && packet.address == address && packet.slid == 1
+        Given::Gave { packet, .. }
+            if packet.tag == tag && packet.address == address && packet.slid == 1
     )
 }
 
@@ -69,28 +70,32 @@ fn settle(rt: &impl Abort, host: &mut Host, tag: u16)
 {
     let settled = host.settle(&done(tag));
     assert!(rt;
-        matches!(&settled, Settled::Took { tag: of, answer: Answer::Done { flag: false } } if *of == tag),
+        matches!(
+            &settled,
+            Settled::Took { tag: of, answer: Answer::Done { flag: false } } if *of == tag
+        ),
         "settled {tag}"
     );
 }
 
-// As many reads of host 1.
+// A script of this many reads of host 1.
 fn reads(alloc: Global, count: u32) -> Result<Script, Memory> {
     let mut script = Script::new(alloc);
     for _ in 0..count {
-        if script.len() < 65536 {
+        if script.len() < MOST_REQUESTS {
             script.add(1, false, read())?;
         }
     }
     Ok(script)
 }
 
-// A host has 2,048 tags. One more request waits until an answer comes, and goes out under that answer's tag.
+// A host has 2,048 tags. One more request waits until an answer comes, and goes out under that
+// answer's tag.
 #[test]
 fn all_tags(rt: HostRuntime) -> Result<(), Fail> {
-    let script = reads(rt.alloc(), 2049)?;
+    let script = reads(rt.alloc(), u32::from(TAGS) + 1)?;
     let mut host = Host::new(rt.alloc(), 1, &script)?;
-    for tag in 0..2048 {
+    for tag in 0..TAGS {
         give_under(&rt, &mut host, tag, 0);
     }
     assert!(rt; matches!(&host.give(true), Given::Tags), "all are out");
@@ -114,7 +119,8 @@ fn gives_untagged(host: &mut Host, address: u64) -> bool {
     carries(&given, 0, address) && tag_of(&given).is_none()
 }
 
-// Posted and poisoned requests take no tag. Those behind a fence wait for the answer, and its tag is the lowest again.
+// Posted and poisoned requests take no tag. A request after a fence waits for the answer, and its
+// tag is the lowest again.
 fn assert_fence(rt: &impl Abort, host: &mut Host) {
     assert!(rt; matches!(&host.give(false), Given::Full), "no room");
     assert!(rt; gives_untagged(host, 0x10), "posted");

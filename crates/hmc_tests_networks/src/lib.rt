@@ -1,6 +1,6 @@
-//! Tests of what the crates below promise from the texts of a case to its report: scripts, schedules, packets, the parts of a
-//! network, and the top call. All are tests of public calls. They stand here since a crate with tests is proved twice: with
-//! them, and without.
+//! Tests of the crates from the texts of a case to its report: scripts, schedules, packets, the
+//! parts of a network, and the top call. All are tests of public calls. They are in a crate of
+//! their own, since a crate with tests is proved twice: with them, and without.
 #![tactic(auto)]
 
 #[cfg(test)]
@@ -11,6 +11,8 @@ mod cube;
 mod host;
 #[cfg(test)]
 mod journal;
+#[cfg(test)]
+mod link_end;
 #[cfg(test)]
 mod packet;
 #[cfg(test)]

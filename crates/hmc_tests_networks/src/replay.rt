@@ -1,5 +1,6 @@
-//! The top call: words, faulty sources and sinks, and inputs that are no case.
+//! The top call: words, faulty sources and sinks, and inputs that are not a case.
 
+use hmc_codes::MOST_INPUT;
 use hmc_outside::{MemorySink, MemorySource};
 use hmc_replay::replay;
 use std::alloc::Global;
@@ -41,7 +42,7 @@ fn words_of(alloc: Global, words: &[&str]) -> Result<Vec<String>, Fail> {
     Ok(all)
 }
 
-// What is asked for, and the calls at which the outside fails.
+// The words and the input of a run, and the calls at which source and sink fail.
 #[derive(Clone, Copy)]
 struct Run<'a> {
     words: &'a [&'a str],
@@ -88,7 +89,8 @@ fn other_words_are_no_form(rt: HostRuntime) -> Result<(), Fail> {
     Ok(())
 }
 
-// Whether each write that fails, and takes nothing, leaves just the lines before the one that has its number.
+// Whether each write that fails, and takes nothing, leaves just the lines before the line with its
+// number, and a write past the last line never comes.
 fn each_line_is_one_write(alloc: Global, input: &[u8], report: &str) -> Result<bool, Fail> {
     let mut before = String::new(alloc);
     let mut call = 0u32;
@@ -104,7 +106,11 @@ fn each_line_is_one_write(alloc: Global, input: &[u8], report: &str) -> Result<b
         before.push_str(line)?;
         before.push('\n')?;
     }
-    Ok(before.as_str() == report)
+    let run = Run {
+        writes: &[(call.wrapping_add(1), 0)],
+        ..Run::of(&["run"], input)
+    };
+    Ok(before.as_str() == report && run.answers(alloc, 0, report)?)
 }
 
 #[test]
@@ -131,15 +137,29 @@ fn each_line_of_a_report_is_one_write(rt: HostRuntime) -> Result<(), Fail> {
 #[test]
 fn a_failing_source_writes_nothing(rt: HostRuntime) -> Result<(), Fail> {
     let case = case_on(rt.alloc(), "", "")?;
-    let run = Run {
-        reads: &[2],
-        ..Run::of(&["run"], case.as_bytes())
-    };
-    assert!(rt; run.answers(rt.alloc(), 3, "")?, "nothing");
+    for call in 1..3u32 {
+        let run = Run {
+            reads: &[call],
+            ..Run::of(&["run"], case.as_bytes())
+        };
+        assert!(rt; run.answers(rt.alloc(), 3, "")?, "read {call}");
+    }
     Ok(())
 }
 
-// A comment behind the empty case fills it up.
+// The first read gets the whole case, the second one finds its end, and no third one comes.
+#[test]
+fn nothing_is_read_after_the_end(rt: HostRuntime) -> Result<(), Fail> {
+    let case = case_on(rt.alloc(), "", "")?;
+    let run = Run {
+        reads: &[3],
+        ..Run::of(&["run"], case.as_bytes())
+    };
+    assert!(rt; run.answers(rt.alloc(), 0, NOTHING)?, "third read");
+    Ok(())
+}
+
+// The empty case, with a comment after it that makes it this long.
 fn filled(alloc: Global, len: usize) -> Result<Vec<u8>, Fail> {
     let case = case_on(alloc, "", "")?;
     let mut input = Vec::from_slice(alloc, case.as_bytes())?;
@@ -148,8 +168,8 @@ fn filled(alloc: Global, len: usize) -> Result<Vec<u8>, Fail> {
 }
 
 #[test]
-fn the_longest_input_is_judged_and_one_byte_more_is_not(rt: HostRuntime) -> Result<(), Fail> {
-    for (len, status, output) in &[(4_194_304, 0, NOTHING), (4_194_305, 5, "")] {
+fn the_longest_input_is_read_and_one_byte_more_is_too_long(rt: HostRuntime) -> Result<(), Fail> {
+    for (len, status, output) in &[(MOST_INPUT, 0, NOTHING), (MOST_INPUT + 1, 5, "")] {
         let input = filled(rt.alloc(), *len)?;
         let run = Run::of(&["run"], &input);
         assert!(rt; run.answers(rt.alloc(), *status, output)?, "{len} bytes");
@@ -165,7 +185,7 @@ fn cut(alloc: Global) -> Result<String, Fail> {
 }
 
 #[test]
-fn bytes_that_are_no_document_are_told(rt: HostRuntime) -> Result<(), Fail> {
+fn bytes_that_are_not_a_document_are_reported(rt: HostRuntime) -> Result<(), Fail> {
     let cut = cut(rt.alloc())?;
     for input in &[b"\xff".as_slice(), cut.as_bytes()] {
         let run = Run::of(&["run"], input);

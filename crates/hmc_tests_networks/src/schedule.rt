@@ -12,6 +12,7 @@ fn small(alloc: Global) -> Result<Plan, AllocError> {
         vault_bits: 0,
         bank_bits: 0,
         rows: 4,
+        block: 256,
     };
     let cubes = vec![in alloc;
         CubePlan {
@@ -33,6 +34,7 @@ fn wide(alloc: Global) -> Result<Plan, AllocError> {
             vault_bits: 1,
             bank_bits: 1,
             rows: 4,
+            block: 256,
         },
         ports: [true, false, true, false],
     };
@@ -41,6 +43,7 @@ fn wide(alloc: Global) -> Result<Plan, AllocError> {
             vault_bits: 0,
             bank_bits: 2,
             rows: 4,
+            block: 256,
         },
         ports: [false, true, false, false],
     };
@@ -130,13 +133,8 @@ fn is_same_text(
     Ok(is_same(&one, &other))
 }
 
-// Whether a text has the steps of another behind two rounds, too.
-fn is_same_behind_rounds(
-    alloc: Global,
-    plan: &Plan,
-    text: &str,
-    other: &str,
-) -> Result<bool, Fail> {
+// Whether a text has the steps of another one after two rounds as well.
+fn is_same_after_rounds(alloc: Global, plan: &Plan, text: &str, other: &str) -> Result<bool, Fail> {
     let text = format!(in alloc; "give 0\nround 2\ntake 0\n{text}")?;
     let other = format!(in alloc; "give 0\nround 1\nround 1\ntake 0\n{other}")?;
     Ok(is_same_text(alloc, plan, text.as_str(), other.as_str())?)
@@ -162,7 +160,7 @@ fn assert_longhand(
     assert!(rt; has_len(alloc, plan, text, len)?, "at {text:?}");
     assert!(rt; is_same_text(alloc, plan, text, longhand)?, "at {text:?}");
     assert!(rt;
-        is_same_behind_rounds(alloc, plan, text, longhand)?,
+        is_same_after_rounds(alloc, plan, text, longhand)?,
         "twice, at {text:?}"
     );
     Ok(())

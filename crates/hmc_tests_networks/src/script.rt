@@ -1,6 +1,6 @@
 //! Lines of scripts: how good ones are printed again, and how many there may be.
 
-use hmc_codes::{Command, Payload, Request};
+use hmc_codes::{Command, MOST_REQUESTS, Payload, Request};
 use hmc_script::{Script, ScriptFault, ScriptKind};
 use std::alloc::{AllocError, Global};
 use std::test::Fail;
@@ -64,16 +64,16 @@ fn good_lines_are_printed_plainly(rt: HostRuntime) -> Result<(), Fail> {
     Ok(())
 }
 
-// As many requests as there may be.
+// A script with as many requests as there may be.
 fn full(alloc: Global) -> Result<String, AllocError> {
     let mut full = String::new(alloc);
-    for _ in 0..65536 {
+    for _ in 0..MOST_REQUESTS {
         full.push_str("0 inc8 0 0\n")?;
     }
     Ok(full)
 }
 
-// Whether a full script with these lines behind it has this fault.
+// Whether a full script with these lines appended has this fault.
 fn is_refused(
     alloc: Global,
     full: &str,
@@ -88,13 +88,13 @@ fn is_refused(
 fn a_request_past_the_last_is_one_too_many(rt: HostRuntime) -> Result<(), Fail> {
     let full = full(rt.alloc())?;
     let script = Script::parse(rt.alloc(), full.as_str(), 1, 1)?;
-    assert!(rt; script.len() == 65536, "a full script");
+    assert!(rt; script.len() == MOST_REQUESTS, "a full script");
     for (lines, fault) in [
         (
             "0 fence\n# more\n0 poison inc8 0 0",
-            at(65539, ScriptKind::TooMany),
+            at(MOST_REQUESTS + 3, ScriptKind::TooMany),
         ),
-        ("\n0 inc8 0 0 0", at(65538, ScriptKind::Words)),
+        ("\n0 inc8 0 0 0", at(MOST_REQUESTS + 2, ScriptKind::Words)),
     ] {
         assert!(rt;
             is_refused(rt.alloc(), full.as_str(), lines, fault)?,
@@ -105,7 +105,7 @@ fn a_request_past_the_last_is_one_too_many(rt: HostRuntime) -> Result<(), Fail> 
 }
 
 // A read of cube 3.
-#[tactic(auto, unfolding(hmc_codes::specs::Table::line_of))]
+#[tactic(auto, unfolding(hmc_codes::specs::Table::table_line))]
 fn read() -> Request {
     Request {
         command: Command::Rd16,
@@ -135,7 +135,7 @@ fn requests_are_added(rt: HostRuntime) -> Result<(), Fail> {
     Ok(())
 }
 
-fn is_told(alloc: Global, kind: ScriptKind, word: &str) -> Result<bool, AllocError> {
+fn has_word(alloc: Global, kind: ScriptKind, word: &str) -> Result<bool, AllocError> {
     Ok(format!(in alloc; "{kind}")?.as_str() == word)
 }
 
@@ -150,7 +150,7 @@ fn kinds_have_words(rt: HostRuntime) -> Result<(), Fail> {
         (ScriptKind::Payload, "payload"),
         (ScriptKind::TooMany, "toomany"),
     ] {
-        assert!(rt; is_told(rt.alloc(), kind, word)?, "the word {word}");
+        assert!(rt; has_word(rt.alloc(), kind, word)?, "the word {word}");
     }
     Ok(())
 }

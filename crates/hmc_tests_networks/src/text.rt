@@ -17,7 +17,7 @@ fn add_line(barred: &mut Vec<u8>, lines: &mut Lines, at: u32) -> Result<bool, Al
     Ok(true)
 }
 
-// The lines of a text, of which there are at most four, each with a bar behind it. A fifth would be seen.
+// The lines of a text, at most four, each with a bar after it. A fifth line would be seen.
 fn barred(alloc: Global, text: &str) -> Result<Vec<u8>, AllocError> {
     let mut lines = Lines::of(text);
     let mut barred = Vec::new(alloc);
@@ -51,7 +51,7 @@ fn a_line_feed_ends_a_line(rt: HostRuntime) -> Result<(), Fail> {
     Ok(())
 }
 
-// Lines, their first word and what is behind it, and whether they are passed over.
+// Lines, their first word and the rest, and whether they are passed over.
 const WORDS: [(&str, Option<(&str, &str)>, bool); 9] = [
     ("one", Some(("one", "")), false),
     ("one two", Some(("one", " two")), false),
@@ -66,8 +66,8 @@ const WORDS: [(&str, Option<(&str, &str)>, bool); 9] = [
 
 fn is_first(line: &str, word: &Option<(&str, &str)>) -> bool {
     match (first_word(line.as_bytes()), word) {
-        (Some((first, rest)), Some((word, behind))) => {
-            first == word.as_bytes() && rest == behind.as_bytes()
+        (Some((first, rest)), Some((word, after))) => {
+            first == word.as_bytes() && rest == after.as_bytes()
         }
         (None, None) => true,
         _ => false,

@@ -16,7 +16,7 @@ const BYTES: [u8; 16] = [1, 2, 3, 4, 5, 6, 7, 8, 9, 10, 11, 12, 13, 14, 15, 16];
 const ADDRESS: u64 = 0x100;
 
 // A request of host 5 to a bank.
-#[tactic(auto, unfolding(hmc_codes::specs::Table::line_of, hmc_packet::specs::Transactions::asked))]
+#[tactic(auto, unfolding(hmc_codes::specs::Table::table_line, hmc_packet::specs::Transactions::request_packet))]
 fn write(payload: Payload) -> Packet
     requires { length payload ≡ 16 }
     ensures { IsForBanks result }
@@ -30,7 +30,7 @@ fn write(payload: Payload) -> Packet
     ask(&request, 3, 5, false)
 }
 
-#[tactic(auto, unfolding(hmc_codes::specs::Table::line_of, hmc_packet::specs::Transactions::asked))]
+#[tactic(auto, unfolding(hmc_codes::specs::Table::table_line, hmc_packet::specs::Transactions::request_packet))]
 fn read() -> Packet
     ensures { IsForBanks result }
 {
@@ -72,6 +72,7 @@ fn two_banks() -> Shape
         vault_bits: 0,
         bank_bits: 1,
         rows: 1,
+        block: 256,
     }
 }
 
@@ -119,7 +120,7 @@ fn is_written(banks: &Banks) -> bool {
     ADDRESS < banks.shape().capacity() && banks.get16(ADDRESS) == BYTES
 }
 
-// A write enters, and a read behind it waits for room in the queue of the bank.
+// A write enters, and a read after it waits for room in the queue of the bank.
 fn assert_spread(rt: &impl Abort, vault: &mut Vault, payload: Payload)
     requires banks { length vault.old.banks ≡ 2 }
     requires bytes { length payload ≡ 16 }

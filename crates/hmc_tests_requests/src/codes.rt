@@ -1,4 +1,4 @@
-//! Shared data: commands, payloads, shapes, texts, and the sizes of a link.
+//! Shared data: commands, payloads, shapes, texts, and the setup of a link.
 
 mod command;
 mod link_setup;

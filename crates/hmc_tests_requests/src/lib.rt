@@ -1,5 +1,6 @@
-//! Tests of what the crates below promise for one request: commands and texts, checks, memory, registers, and what a request
-//! does. All are tests of public calls. They stand here since a crate with tests is proved twice: with them, and without.
+//! Tests of the crates below for one request: commands and texts, checks, memory, registers, and
+//! what a request does. All are tests of public calls. They are in a crate of their own, since a
+//! crate with tests is proved twice: with them, and without.
 #![tactic(auto)]
 
 #[cfg(test)]

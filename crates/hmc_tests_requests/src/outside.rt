@@ -1,4 +1,5 @@
-//! Expected bytes, answers and counts are written out by hand, from what each object was made to do.
+//! Expected bytes, answers and counts are written out by hand, from what each object was made to
+//! do.
 
 use hmc_outside::{Failed, MemorySink, MemorySource, Sink, Source, StdSink, StdSource};
 use std::io::{self, ErrorKind, Read, Write};
@@ -121,7 +122,7 @@ fn pieces_go_from_any_source_to_any_sink(rt: HostRuntime) -> Result<(), Fail> {
 }
 
 #[test]
-fn standard_input_and_output_can_be_had(rt: HostRuntime) {
+fn standard_input_and_output_exist(rt: HostRuntime) {
     let none = copy(
         &mut StdSource::new(io::empty()),
         &mut StdSink::new(io::writer(&rt)),
@@ -140,12 +141,16 @@ fn a_reader_gives_its_bytes(rt: HostRuntime) {
 }
 
 #[test]
-fn a_reader_is_asked_again_after_a_signal_and_may_fail(rt: HostRuntime) {
+fn a_reader_is_asked_again_after_two_signals_and_fails_where_it_would_block(rt: HostRuntime) {
     let mut source = StdSource::new(Stuttering {
         input: b"quick",
         output: Vec::new(rt.alloc()),
         turn: 0,
-        errors: &[(1, ErrorKind::Interrupted), (3, ErrorKind::BrokenPipe)],
+        errors: &[
+            (1, ErrorKind::Interrupted),
+            (2, ErrorKind::Interrupted),
+            (4, ErrorKind::WouldBlock),
+        ],
     });
     let mut piece = [b'.'; 8];
     let rows = [(Ok(3), "qui....."), (Err(Failed), "qui.....")];
@@ -167,7 +172,7 @@ fn a_writer_takes_the_bytes(rt: HostRuntime) {
     );
 }
 
-// Writes five bytes, five that fail behind the third, and three.
+// Writes five bytes, five that fail after the third, and three.
 fn assert_writes_and_a_fault<O: Write + Drop>(rt: &impl Abort, writer: O) {
     let mut sink = StdSink::new(writer);
     assert_writes(rt, &mut sink, &[("quick", Ok(())), ("brown", Err(Failed))]);
@@ -177,12 +182,16 @@ fn assert_writes_and_a_fault<O: Write + Drop>(rt: &impl Abort, writer: O) {
 }
 
 #[test]
-fn a_writer_is_asked_again_after_a_signal_and_may_fail(rt: HostRuntime) {
+fn a_writer_is_asked_again_after_two_signals_and_fails_where_it_would_block(rt: HostRuntime) {
     let mut writer = Stuttering {
         input: b"",
         output: Vec::new(rt.alloc()),
         turn: 0,
-        errors: &[(2, ErrorKind::Interrupted), (5, ErrorKind::BrokenPipe)],
+        errors: &[
+            (2, ErrorKind::Interrupted),
+            (3, ErrorKind::Interrupted),
+            (6, ErrorKind::WouldBlock),
+        ],
     };
     assert_writes_and_a_fault(&rt, &mut writer);
     let output = writer.output.as_slice();
@@ -236,5 +245,7 @@ fn a_sink_in_memory_fails_at_listed_calls_and_without_room(rt: HostRuntime) -> R
         assert!(rt; is_held(&mut sink, row), "the write of {}", row.0);
     }
     assert!(rt; sink.faults() == 4, "faults");
+    assert!(rt; sink.writes() == 6, "writes");
+    assert!(rt; sink.lengths() == [3, 2, 1].as_slice(), "pieces");
     Ok(())
 }

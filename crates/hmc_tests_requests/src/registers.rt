@@ -3,16 +3,17 @@
 use hmc_codes::Shape;
 use hmc_registers::{RegisterFault, Registers};
 
-// Writes to registers, and what they answer.
-const WRITTEN: [(u64, u32, Result<(), RegisterFault>); 4] = [
+// Writes to registers, and their results.
+const WRITES: [(u64, u32, Result<(), RegisterFault>); 5] = [
+    (0, 1, Err(RegisterFault::ReadOnly)),
     (15, 0xffff_ffff, Ok(())),
     (4, 7, Ok(())),
     (3, 1, Err(RegisterFault::ReadOnly)),
     (16, 1, Err(RegisterFault::NoRegister)),
 ];
 
-// What registers hold then.
-const HELD: [(u64, Option<u32>); 8] = [
+// The values of registers after these.
+const VALUES: [(u64, Option<u32>); 8] = [
     (0, Some(5)),
     (1, Some(3)),
     (2, Some(2)),
@@ -23,22 +24,23 @@ const HELD: [(u64, Option<u32>); 8] = [
     (16, None),
 ];
 
-// A cube of number 5 with 8 vaults of 4 banks of 300 rows.
+// Cube 5 of 8 vaults of 4 banks of 300 rows.
 #[test]
 fn numbers_and_shape(rt: HostRuntime) {
     let shape = Shape {
         vault_bits: 3,
         bank_bits: 2,
         rows: 300,
+        block: 128,
     };
     let mut registers = Registers::new(5, shape);
-    for (number, value, want) in &WRITTEN {
+    for (number, value, want) in &WRITES {
         assert!(rt;
             registers.write(*number, *value) == *want,
             "written {number}"
         );
     }
-    for (number, want) in &HELD {
+    for (number, want) in &VALUES {
         assert!(rt; registers.read(*number) == *want, "read {number}");
     }
 }

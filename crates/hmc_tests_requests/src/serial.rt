@@ -1,4 +1,4 @@
-//! Requests whose answers and effects the table of commands gives.
+//! Answers and effects of requests, by the table of commands.
 
 use crate::request::{register_write, request};
 use hmc_codes::{Answer, Command, Memory, Request, Shape};
@@ -10,8 +10,8 @@ use std::test::Fail;
 // A block of fives, with one added to its high half.
 const RAISED: [u8; 16] = [5, 5, 5, 5, 5, 5, 5, 5, 6, 5, 5, 5, 5, 5, 5, 5];
 
-// Applies what is a request.
-fn applied(plain: &mut Plain, request: Option<Request>) -> Option<Answer> {
+// Applies a request, if there is one and its cube exists.
+fn apply(plain: &mut Plain, request: Option<Request>) -> Option<Answer> {
     let request = request?;
     if usize::from(request.cube) < plain.cubes() {
         Some(plain.apply(&request))
@@ -20,9 +20,9 @@ fn applied(plain: &mut Plain, request: Option<Request>) -> Option<Answer> {
     }
 }
 
-// What a request of cube 0 is answered by.
-fn answered(plain: &mut Plain, command: Command, address: u64, bytes: &[u8]) -> Option<Answer> {
-    applied(plain, request(command, 0, address, bytes))
+// The answer to a request of cube 0.
+fn answer_to(plain: &mut Plain, command: Command, address: u64, bytes: &[u8]) -> Option<Answer> {
+    apply(plain, request(command, 0, address, bytes))
 }
 
 fn refusal(answer: Option<Answer>) -> u8 {
@@ -62,7 +62,7 @@ fn is_done(answer: Option<Answer>, wanted: bool) -> bool {
     }
 }
 
-// The block of a cube at an address, if both are there.
+// The block of a cube at an address, if both exist.
 fn block(plain: &Plain, cube: u8, place: u64) -> Option<[u8; 16]> {
     if usize::from(cube) < plain.cubes() && place % 16 == 0 && place < plain.capacity(cube) {
         Some(plain.get16(cube, place))
@@ -81,6 +81,7 @@ fn four_rows(alloc: Global) -> Result<Plain, Memory> {
         vault_bits: 0,
         bank_bits: 0,
         rows: 4,
+        block: 256,
     };
     Plain::new(alloc, &[shape])
 }
@@ -97,13 +98,14 @@ fn errors_in_order(rt: HostRuntime) -> Result<(), Fail> {
         (request(Command::Unit7, 0, 0, &[0; 16]), 6),
     ];
     for (request, want) in cases {
-        let found = refusal(applied(&mut plain, request));
+        let found = refusal(apply(&mut plain, request));
         assert!(rt; found == want, "error {want}");
     }
     Ok(())
 }
 
-// Addresses that differ in the offset, the vault, the bank, the row, and in all; and the byte that is written there.
+// Addresses that differ in the offset, the vault, the bank, the row, and in all, each with the byte
+// that a test writes there.
 const PLACES: [(u64, u8); 6] = [
     (0x0, 1),
     (0x10, 2),
@@ -113,7 +115,7 @@ const PLACES: [(u64, u8); 6] = [
     (0x17f0, 6),
 ];
 
-// Addresses beside those.
+// Other addresses.
 const OTHERS: [u64; 6] = [0x20, 0xf0, 0x200, 0x500, 0x1000, 0x17e0];
 
 // Two cubes of four vaults of two banks of three rows.
@@ -122,13 +124,14 @@ fn two_cubes(alloc: Global) -> Result<Plain, Memory> {
         vault_bits: 2,
         bank_bits: 1,
         rows: 3,
+        block: 256,
     };
     Plain::new(alloc, &[shape, shape])
 }
 
 fn writes(plain: &mut Plain, cube: u8, place: u64, byte: u8) -> bool {
     let write = request(Command::Wr16, cube, place, &[byte; 16]);
-    is_done(applied(plain, write), false)
+    is_done(apply(plain, write), false)
 }
 
 fn assert_blocks(rt: &impl Abort, plain: &Plain) {
@@ -161,29 +164,29 @@ fn writes_of_several_blocks(rt: HostRuntime) -> Result<(), Fail> {
     let mut plain = four_rows(rt.alloc())?;
     let mut row = [7; 256];
     row[255] = 9;
-    let written = answered(&mut plain, Command::Wr256, 0x100, &row);
+    let written = answer_to(&mut plain, Command::Wr256, 0x100, &row);
     assert!(rt; is_done(written, false), "a row");
-    let read = answered(&mut plain, Command::Rd256, 0x100, &[]);
+    let read = answer_to(&mut plain, Command::Rd256, 0x100, &[]);
     assert!(rt; is_data(&read, false, &row), "the row");
-    let read = answered(&mut plain, Command::Rd32, 0x1e0, &[]);
+    let read = answer_to(&mut plain, Command::Rd32, 0x1e0, &[]);
     assert!(rt; is_data(&read, false, &row[224..]), "its end");
     Ok(())
 }
 
-// Whether a posted write of fives is silent, and leaves this byte all over a block.
+// Whether a posted write of fives is silent, and leaves a block of this byte.
 fn posts(plain: &mut Plain, address: u64, block: u64, byte: u8) -> bool {
-    is_silent(answered(plain, Command::Pwr16, address, &[5; 16]))
+    is_silent(answer_to(plain, Command::Pwr16, address, &[5; 16]))
         && is_block(plain, 0, block, [byte; 16])
 }
 
-// A posted write in a wrong place is silent and changes nothing; in the next place it is silent and writes. Then one is added
-// to the high half alone, and nothing is answered.
+// A posted write to a wrong place is silent and changes nothing. To the next place it is silent and
+// writes. A posted increment of the high half is silent and leaves the low half.
 #[test]
 fn posted_commands(rt: HostRuntime) -> Result<(), Fail> {
     let mut plain = four_rows(rt.alloc())?;
     assert!(rt; posts(&mut plain, 0x8, 0, 0), "a posted write at 8");
     assert!(rt; posts(&mut plain, 0x10, 0x10, 5), "a posted write at 16");
-    let posted = answered(&mut plain, Command::Pinc8, 0x18, &[]);
+    let posted = answer_to(&mut plain, Command::Pinc8, 0x18, &[]);
     assert!(rt; is_silent(posted), "a posted increment");
     assert!(rt;
         is_block(&plain, 0, 0x10, RAISED),
@@ -202,29 +205,68 @@ const SWAPPED: [u8; 16] = [5, 5, 5, 5, 5, 5, 5, 5, 6, 6, 6, 6, 6, 6, 6, 6];
 #[test]
 fn commands_on_a_half(rt: HostRuntime) -> Result<(), Fail> {
     let mut plain = four_rows(rt.alloc())?;
-    let written = answered(&mut plain, Command::Wr16, 0x10, &RAISED);
+    let written = answer_to(&mut plain, Command::Wr16, 0x10, &RAISED);
     assert!(rt; is_done(written, false), "a block");
-    let equal = answered(&mut plain, Command::Eq8, 0x10, &RAISED);
+    let equal = answer_to(&mut plain, Command::Eq8, 0x10, &RAISED);
     assert!(rt; is_done(equal, true), "the low half is equal");
-    let old = answered(&mut plain, Command::Casgt8, 0x18, &[6; 16]);
+    let old = answer_to(&mut plain, Command::Casgt8, 0x18, &[6; 16]);
     assert!(rt; is_data(&old, true, &OLD), "the old half");
     assert!(rt; is_block(&plain, 0, 0x10, SWAPPED), "the greater half");
     Ok(())
 }
 
 fn has_register(plain: &mut Plain, number: u64, value: u32) -> bool {
-    is_value(answered(plain, Command::Mdrd, number, &[]), value)
+    is_value(answer_to(plain, Command::Mdrd, number, &[]), value)
 }
 
 // A scratch register is written and read; register 3 is the number of rows.
 #[test]
 fn registers(rt: HostRuntime) -> Result<(), Fail> {
     let mut plain = four_rows(rt.alloc())?;
-    let stored = applied(&mut plain, register_write(0, 4, [8, 0, 0, 0]));
+    let stored = apply(&mut plain, register_write(0, 4, [8, 0, 0, 0]));
     assert!(rt; is_stored(stored), "a register is written");
     assert!(rt; has_register(&mut plain, 4, 8), "register 4");
     assert!(rt; has_register(&mut plain, 3, 4), "register 3");
     assert!(rt; plain.cubes() == 1, "cubes");
     assert!(rt; plain.register(0, 4) == Some(8), "register 4 at last");
+    Ok(())
+}
+
+// Cube 0 of two vaults of one bank of four blocks of 64 bytes.
+fn small_blocks(alloc: Global) -> Result<Plain, Memory> {
+    let shape = Shape {
+        vault_bits: 1,
+        bank_bits: 0,
+        rows: 4,
+        block: 64,
+    };
+    Plain::new(alloc, &[shape])
+}
+
+// A read past the end of its block, longer than a block, or past the last row is refused.
+#[test]
+fn errors_of_small_blocks(rt: HostRuntime) -> Result<(), Fail> {
+    let mut plain = small_blocks(rt.alloc())?;
+    for (command, address, want) in [
+        (Command::Rd32, 0x30, 2),
+        (Command::Rd128, 0, 2),
+        (Command::Rd16, 0x200, 3),
+    ] {
+        let found = refusal(answer_to(&mut plain, command, address, &[]));
+        assert!(rt; found == want, "error {want}");
+    }
+    Ok(())
+}
+
+// A whole block of 64 bytes is written and read, and nothing else changes.
+#[test]
+fn a_small_block(rt: HostRuntime) -> Result<(), Fail> {
+    let mut plain = small_blocks(rt.alloc())?;
+    let write = answer_to(&mut plain, Command::Wr64, 0x40, &[7; 64]);
+    assert!(rt; is_done(write, false), "a block");
+    let read = answer_to(&mut plain, Command::Rd64, 0x40, &[]);
+    assert!(rt; is_data(&read, false, &[7; 64]), "the block");
+    assert!(rt; is_block(&plain, 0, 0x30, [0; 16]), "before it");
+    assert!(rt; is_block(&plain, 0, 0x80, [0; 16]), "after it");
     Ok(())
 }

@@ -1,7 +1,7 @@
 -- The words of a line, one after another.
 use Rattle.std.proofs.Common.{◌≡◌, ◌∙◌, ℕ, ◌==◌, Bool, true, false, List, [], ◌∷◌, length, take, drop, filter, refl, sym, ap, arith, Some, None, eqb-true}
 use Rattle.std.specs.List.{prefix_len, position_or_len}
-use Rattle.hmc_text.proofs.PartsLemmas.{prefix_len-yes, prefix_len-no, position-yes, position-no, parts_behind, slice_split-first}
+use Rattle.hmc_text.proofs.PartsLemmas.{prefix_len-yes, prefix_len-no, position-yes, position-no, parts_after, slice_split-first}
 use Rattle.hmc_text.specs.Words.{is_blank, is_some, words_of, first_word}
 
 -- a blank in front of the line is passed over
@@ -18,12 +18,12 @@ words_of-blanks (b ∷ bs) = by_first (is_blank b) refl (words_of-blanks bs) whe
       words_of-blank b bs blank ∙ later ∙ ap (λ n. words_of (drop n (b ∷ bs))) (sym (prefix_len-yes is_blank b bs blank))
   by_first false letter later = ap (λ n. words_of (drop n (b ∷ bs))) (sym (prefix_len-no is_blank b bs letter))
 
--- what stands behind the first blank has the words of what stands from it on
-pub words_behind : (line : List ℕ) → filter is_some (parts_behind is_blank (drop (position_or_len is_blank line) line)) ≡ words_of (drop (position_or_len is_blank line) line)
+-- the line after its first blank has the same words as the line from that blank on
+pub words_after : (line : List ℕ) → filter is_some (parts_after is_blank (drop (position_or_len is_blank line) line)) ≡ words_of (drop (position_or_len is_blank line) line)
 unfolding words_of
-words_behind [] = refl
-words_behind (b ∷ bs) = by_first (is_blank b) refl (words_behind bs) where
-  by_first : (first : Bool) → is_blank b ≡ first → filter is_some (parts_behind is_blank (drop (position_or_len is_blank bs) bs)) ≡ words_of (drop (position_or_len is_blank bs) bs) → filter is_some (parts_behind is_blank (drop (position_or_len is_blank (b ∷ bs)) (b ∷ bs))) ≡ words_of (drop (position_or_len is_blank (b ∷ bs)) (b ∷ bs))
+words_after [] = refl
+words_after (b ∷ bs) = by_first (is_blank b) refl (words_after bs) where
+  by_first : (first : Bool) → is_blank b ≡ first → filter is_some (parts_after is_blank (drop (position_or_len is_blank bs) bs)) ≡ words_of (drop (position_or_len is_blank bs) bs) → filter is_some (parts_after is_blank (drop (position_or_len is_blank (b ∷ bs)) (b ∷ bs))) ≡ words_of (drop (position_or_len is_blank (b ∷ bs)) (b ∷ bs))
   by_first true blank later = rw (position-yes is_blank b bs blank) (sym (words_of-blank b bs blank))
   by_first false letter later = rw (position-no is_blank b bs letter) later
 
@@ -33,10 +33,10 @@ unfolding words_of
 words_of-letter b bs letter =
     let n = position_or_len is_blank (b ∷ bs) in
     let some : is_some (take n (b ∷ bs)) ≡ true = ap (λ k. is_some (take k (b ∷ bs))) (position-no is_blank b bs letter) in
-    let kept : filter is_some (take n (b ∷ bs) ∷ parts_behind is_blank (drop n (b ∷ bs))) ≡ take n (b ∷ bs) ∷ filter is_some (parts_behind is_blank (drop n (b ∷ bs))) = rw some refl in
-    ap (filter is_some) (slice_split-first is_blank (b ∷ bs)) ∙ kept ∙ ap (λ ws. take n (b ∷ bs) ∷ ws) (words_behind (b ∷ bs))
+    let kept : filter is_some (take n (b ∷ bs) ∷ parts_after is_blank (drop n (b ∷ bs))) ≡ take n (b ∷ bs) ∷ filter is_some (parts_after is_blank (drop n (b ∷ bs))) = rw some refl in
+    ap (filter is_some) (slice_split-first is_blank (b ∷ bs)) ∙ kept ∙ ap (λ ws. take n (b ∷ bs) ∷ ws) (words_after (b ∷ bs))
 
--- what is left behind the blanks doesn't begin with one
+-- the rest after the blanks doesn't begin with one
 pub begins_with_letter : (line : List ℕ) (b : ℕ) (bs : List ℕ) → drop (prefix_len is_blank line) line ≡ b ∷ bs → is_blank b ≡ false
 begins_with_letter [] b bs is = cc
 begins_with_letter (x ∷ xs) b bs is = by_first (is_blank x) refl (begins_with_letter xs b bs) where

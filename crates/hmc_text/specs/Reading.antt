@@ -14,17 +14,18 @@ abbrev pub or_fault : {A K : Type 0} → K → Option A → Result A K
 or_fault kind None = Err kind
 or_fault kind (Some x) = Ok x
 
--- the first word and those behind it, or else this kind of fault
+-- the first word and the words after it, or else this kind of fault
 abbrev pub next_word : {K : Type 0} → K → List (List ℕ) → Result (List ℕ × List (List ℕ)) K
 next_word missing words = or_fault missing (first_word words)
 
--- no word is left over, or else this kind of fault
+-- no word is left, or else this kind of fault
 abbrev pub no_word : {K : Type 0} → K → List (List ℕ) → Result (Unit {0}) K
 no_word left_over [] = Ok tt
 no_word left_over (w ∷ ws) = Err left_over
 
--- a number below the limit and the words behind it; a kind of fault for each thing that can be wrong
-unfoldable pub number_word : {K : Type 0} → K → K → K → ℕ → List (List ℕ) → Result (ℕ × List (List ℕ)) K
+-- a number below the limit and the words after it; a kind of fault for each thing that can be wrong
+unfoldable pub number_word : {K : Type 0} → K → K → K → ℕ → List (List ℕ)
+    → Result (ℕ × List (List ℕ)) K
 number_word missing unread beyond limit words = do
   first ← next_word missing words
   number ← or_fault unread (number_of first.0)

@@ -11,16 +11,16 @@ abbrev pub is_some : List ℕ → Bool
 is_some [] = false
 is_some (b ∷ bs) = true
 
--- what stands between blanks, but for the empty parts
+-- the parts between blanks, except empty ones
 unfoldable pub words_of : List ℕ → List (List ℕ)
 words_of line = filter is_some (slice_split is_blank line)
 
--- the first word, and those behind it
+-- the first word and the words after it
 abbrev pub first_word : List (List ℕ) → Option (List ℕ × List (List ℕ))
 first_word [] = None
 first_word (w ∷ ws) = Some (w, ws)
 
--- no word, or a comment: its first byte is 35, a `#`
+-- no word, or a comment, which begins with a `#` (35)
 abbrev pub is_passed_over : List (List ℕ) → Bool
 is_passed_over [] = true
 is_passed_over (w ∷ ws) = slice_index w 0 == 35

@@ -6,10 +6,10 @@ ghost use Rattle.hmc_text.specs.declared.fault.TextFault.TheVariants as faults;
 use hmc_codes::Memory;
 use std::alloc::AllocError;
 
-/// Why a text can't be read, whatever kinds of faults its lines may have.
+/// Why a text can't be read. `K` is what can be wrong with a line.
 #[derive(Clone, Copy, Debug, PartialEq, Eq)]
 pub enum TextFault<K> {
-    /// Want of memory.
+    /// Out of memory.
     Memory,
     /// The first fault: its line, counted from 1, and what is wrong there.
     Fault { line: u32, kind: K },

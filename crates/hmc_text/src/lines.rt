@@ -2,12 +2,12 @@
 
 ghost use Rattle.std.specs.Prelude.{◌≡◌, ◌≤◌, ◌∷◌, length};
 ghost use Rattle.std.specs.List.{position_or_len};
-ghost use Rattle.hmc_text.specs.Lines.{is_line_feed, without_return, lines_of, lines_left, lines_behind};
+ghost use Rattle.hmc_text.specs.Lines.{is_line_feed, without_return, lines_of, lines_left, lines_after};
 ghost use Rattle.hmc_text.specs.InTurn.{IsNextLine};
 
 use std::marker::Model;
 
-// How many bytes stand before the first line feed.
+// The number of bytes before the first line feed.
 fn line_len(text: &[u8]) -> usize
     ensures length { result ≡ position_or_len is_line_feed text.now }
     ensures few { result ≤ length text.now }
@@ -24,25 +24,25 @@ fn without_return(line: &[u8]) -> &[u8]
     }
 }
 
-// What stands behind the line feed in front, if there is one.
-fn behind(end: &[u8]) -> Option<&[u8]>
-    ensures { lines_left result ≡ lines_behind end.now }
+// The text after the line feed that `end` begins with, if it begins with one.
+fn after_feed(end: &[u8]) -> Option<&[u8]>
+    ensures { lines_left result ≡ lines_after end.now }
 {
     match end {
-        [_, behind @ ..] => Some(behind),
+        [_, rest @ ..] => Some(rest),
         [] => None,
     }
 }
 
-// The first line, without its end, and what stands behind its line feed, if it has one.
+// The first line, without its end, and the text after its line feed, if it has one.
 fn first_line(text: &[u8]) -> (&[u8], Option<&[u8]>)
     ensures { lines_of text.now ≡ result.0.now ∷ lines_left result.1 }
 {
     let (line, end) = text.split_at(line_len(text));
-    (without_return(line), behind(end))
+    (without_return(line), after_feed(end))
 }
 
-/// The lines of a text that aren't read yet, and the number of the first of them.
+/// The lines of a text that have not been read yet, and the number of the first of them.
 #[derive(Drop)]
 pub struct Lines<'a> {
     left: Option<&'a [u8]>,
@@ -69,13 +69,13 @@ impl<'a> Lines<'a> {
         }
     }
 
-    /// The next line, and its number. Lines behind the 4,294,967,295th have that number too.
+    /// The next line and its number. Lines after line 4,294,967,295 have that number too.
     pub fn next_line(&mut self) -> Option<(u32, &'a [u8])>
         ensures { IsNextLine self.old result self.new }
     {
-        let (line, behind) = first_line(self.left?);
+        let (line, rest) = first_line(self.left?);
         let number = self.number;
-        self.left = behind;
+        self.left = rest;
         self.number = number.saturating_add(1);
         Some((number, line))
     }

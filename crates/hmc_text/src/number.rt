@@ -2,9 +2,9 @@
 
 ghost use Rattle.std.specs.Prelude.{◌≡◌, ◌<◌, ◌≤◌, length, IfSome};
 ghost use Rattle.hex.specs.Hex.{hex_digit_value};
-ghost use Rattle.hmc_text.specs.Number.{below, number_behind, number_in, number_of};
+ghost use Rattle.hmc_text.specs.Number.{below, most_digits, number_after, number_in, number_of};
 
-/// The most digits of a number.
+/// The digits that a number has at most.
 const MOST_DIGITS: usize = 20;
 
 fn hex_digit(byte: u8) -> Option<u8>
@@ -27,11 +27,11 @@ fn digit(base: u8, byte: u8) -> Option<u8>
     if value < base { Some(value) } else { None }
 }
 
-// The number with these digits.
-fn number_behind(base: u8, digits: &[u8]) -> Option<u128>
+// The number that these digits make.
+fn number_after(base: u8, digits: &[u8]) -> Option<u128>
     requires base { base ≤ 16 }
-    requires few { length digits.now ≤ MOST_DIGITS }
-    ensures { result ≡ number_behind base 0 digits.now }
+    requires few { length digits.now ≤ most_digits }
+    ensures { result ≡ number_after base 0 digits.now }
 {
     let mut number = 0;
     'digits: for byte in digits {
@@ -52,11 +52,11 @@ fn number_in(base: u8, digits: &[u8]) -> Option<u128>
     if digits.is_empty() || digits.len() > MOST_DIGITS {
         return None;
     }
-    number_behind(base, digits)
+    number_after(base, digits)
 }
 
-/// The number that a word is: decimal digits, or `0x` and hexadecimal digits, in either case. There are 1 to 20 digits,
-/// and leading zeros may be among them.
+/// The number that a word is: decimal digits, or `0x` and hexadecimal digits in either case. There
+/// are 1 to 20 digits, leading zeros among them.
 #[tactic(auto, unfolding(crate::specs::Number::number_of))]
 pub fn number(word: &[u8]) -> Option<u128>
     ensures { result ≡ number_of word.now }

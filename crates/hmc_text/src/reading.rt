@@ -8,9 +8,10 @@ ghost use Rattle.hmc_text.specs.Reading.{Gives, or_fault, next_word, no_word, nu
 use crate::number::number;
 use crate::words::first_word;
 
-/// The first word, and the line behind it. The fault is `missing` exactly where there is none.
+/// The first word and the rest of the line. The fault is `missing` exactly where there is no word.
 pub fn next_word<K: Copy>(missing: K, line: &[u8]) -> Result<(&[u8], &[u8]), K>
-    ensures { Gives (λ p. (p.0.now, words_of p.1.now)) result (next_word missing (words_of line.now)) }
+    ensures { Gives (λ p. (p.0.now, words_of p.1.now)) result
+        (next_word missing (words_of line.now)) }
 {
     match first_word(line) {
         Some(found) => Ok(found),
@@ -18,7 +19,7 @@ pub fn next_word<K: Copy>(missing: K, line: &[u8]) -> Result<(&[u8], &[u8]), K>
     }
 }
 
-/// Words that are left over are the fault `left_over`.
+/// The fault is `left_over` exactly where a word is left.
 pub fn no_word<K: Copy>(left_over: K, line: &[u8]) -> Result<(), K>
     ensures { result ≡ no_word left_over (words_of line.now) }
 {
@@ -40,8 +41,9 @@ fn fitting<K: Copy>(beyond: K, limit: u64, number: u128) -> Result<u64, K>
     }
 }
 
-/// A number below the limit, and the line behind it. The fault is `missing` exactly where there is no word, `unread` where
-/// the word is no number, and `beyond` where the number isn't below the limit.
+/// A number below the limit, and the rest of the line. The fault is `missing` exactly where there
+/// is no word, `unread` where the word is no number, and `beyond` where the number isn't below the
+/// limit.
 #[tactic(auto, unfolding(crate::specs::Reading::number_word))]
 pub fn number_word<K: Copy>(
     missing: K,
@@ -50,7 +52,8 @@ pub fn number_word<K: Copy>(
     limit: u64,
     line: &[u8],
 ) -> Result<(u64, &[u8]), K>
-    ensures value { Gives (λ p. (p.0, words_of p.1.now)) result (number_word missing unread beyond limit (words_of line.now)) }
+    ensures value { Gives (λ p. (p.0, words_of p.1.now)) result
+        (number_word missing unread beyond limit (words_of line.now)) }
     ensures small { IfOk result (λ p. p.0 < limit) }
 {
     let (word, rest) = next_word(missing, line)?;

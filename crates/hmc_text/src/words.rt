@@ -1,4 +1,4 @@
-//! The words of a line: what stands between spaces and tabs.
+//! The words of a line: the parts between spaces and tabs that aren't empty.
 
 ghost use Rattle.std.specs.Prelude.{◌≡◌, ◌≤◌, length, option_map};
 ghost use Rattle.std.specs.List.{prefix_len, position_or_len};
@@ -10,7 +10,7 @@ fn is_blank(byte: u8) -> bool
     byte == b' ' || byte == b'\t'
 }
 
-// How many blanks the line begins with.
+// The number of blanks that the line begins with.
 fn blanks(line: &[u8]) -> usize
     ensures length { result ≡ prefix_len is_blank line.now }
     ensures few { result ≤ length line.now }
@@ -18,7 +18,7 @@ fn blanks(line: &[u8]) -> usize
     line.iter().take_while(|byte| is_blank(**byte)).count()
 }
 
-// How many bytes stand before the first blank.
+// The number of bytes before the first blank.
 fn letters(line: &[u8]) -> usize
     ensures length { result ≡ position_or_len is_blank line.now }
     ensures few { result ≤ length line.now }
@@ -26,9 +26,10 @@ fn letters(line: &[u8]) -> usize
     line.iter().take_while(|byte| !is_blank(**byte)).count()
 }
 
-/// The first word, and the line behind it, if there is a word.
+/// The first word and the rest of the line, if there is a word.
 pub fn first_word(line: &[u8]) -> Option<(&[u8], &[u8])>
-    ensures { option_map (λ p. (p.0.now, words_of p.1.now)) result ≡ first_word (words_of line.now) }
+    ensures { option_map (λ p. (p.0.now, words_of p.1.now)) result
+        ≡ first_word (words_of line.now) }
 {
     let (_, line) = line.split_at(blanks(line));
     if line.is_empty() {
@@ -37,7 +38,7 @@ pub fn first_word(line: &[u8]) -> Option<(&[u8], &[u8])>
     Some(line.split_at(letters(line)))
 }
 
-/// Whether the line says nothing: it has no word, or is a comment, whose first word begins with `#`.
+/// Whether the line has no meaning: it has no word, or its first word begins with `#`.
 pub fn is_passed_over(line: &[u8]) -> bool
     ensures { result ≡ is_passed_over (words_of line.now) }
 {

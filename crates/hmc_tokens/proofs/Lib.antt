@@ -1,3 +1,4 @@
 pub mod QueueLemmas
 pub mod FlitLemmas
 mod Worked
+pub mod PacketLemmas

@@ -7,7 +7,7 @@ use Rattle.hmc_tokens.specs.declared.flit_buffer.FlitBuffer.{FlitBuffer}
 abbrev pub packets_of : FlitBuffer → List PacketFields
 packets_of buffer = buffer.kept.packets
 
--- how many flits a buffer has room for
+-- the number of flits that a buffer has room for
 abbrev pub size_of : FlitBuffer → ℕ
 size_of buffer = buffer.kept.most
 

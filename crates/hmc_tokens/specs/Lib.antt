@@ -3,3 +3,4 @@ pub mod Intake
 pub mod Queue
 pub mod FlitBuffer
 pub mod Moving
+pub mod Account

@@ -4,7 +4,8 @@ use Rattle.hmc_packet.specs.Packet.{PacketFields}
 use Rattle.hmc_tokens.specs.declared.moving.Moved.{Moved}
 use Rattle.hmc_tokens.specs.declared.moving.Moved.TheVariants.{Empty, Full, Done}
 
--- nothing where there is no packet, else nothing where there is no room for the front, and else the front
+-- nothing where there is no packet, else nothing where there is no room for the front, and else the
+-- front
 abbrev pub moved_by : List PacketFields → (room : PacketFields → Bool) → Moved
 moved_by [] room = Empty
 moved_by (front ∷ rest) room = (if room front then Done front else Full)

@@ -9,7 +9,7 @@ use Rattle.hmc_tokens.specs.declared.queue.Queue.{Queue}
 abbrev pub packets_of : Queue → List PacketFields
 packets_of queue = queue.kept.packets
 
--- how many packets a queue has room for
+-- the number of packets that a queue has room for
 abbrev pub size_of : Queue → ℕ
 size_of queue = queue.kept.most
 

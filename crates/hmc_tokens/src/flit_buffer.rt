@@ -9,7 +9,8 @@ use hmc_codes::Memory;
 use hmc_packet::Packet;
 use std::alloc::Global;
 
-/// The input buffer of a link's end: an intake of a number of flits, of which each packet costs as many as it has.
+/// The input buffer of a link's end: an intake whose size is a number of flits, and in which each
+/// packet costs its own flits.
 #[derive(Drop)]
 pub struct FlitBuffer {
     kept: PacketList,
@@ -57,7 +58,7 @@ impl FlitBuffer {
     ghost use Rattle.std.specs.Prelude.{◌≡◌, [], IfOk};
     ghost use Rattle.hmc_tokens.specs.FlitBuffer.{packets_of, size_of};
 
-    /// A buffer for so many flits. It holds no packet.
+    /// A buffer for `tokens` flits. It holds no packet.
     pub fn new(alloc: Global, tokens: u16) -> Result<Self, Memory>
         ensures empty { IfOk result (λ buffer. packets_of buffer ≡ []) }
         ensures size { IfOk result (λ buffer. size_of buffer ≡ tokens) }

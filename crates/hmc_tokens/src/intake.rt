@@ -5,7 +5,8 @@ ghost use Rattle.hmc_packet.specs.Packet.{PacketFields};
 
 use hmc_packet::Packet;
 
-/// A list of packets that takes in at its end and gives out at its front. Each packet costs some of its size.
+/// A list of packets: they are taken in at its end and taken out at its front, and each costs a
+/// part of its size.
 pub trait Intake: Drop {
     /// The packets, the front first.
     ghost packets: { Self → List PacketFields };
@@ -32,14 +33,16 @@ pub trait Intake: Drop {
     fn front(&self) -> Option<Packet>
         ensures { result ≡ slice_get (packets self.now) 0 };
 
-    /// Takes a packet in behind the others.
+    /// Appends a packet, for which there is room.
     fn take_in(&mut self, packet: Packet)
-        requires { sum_by (cost self.old) (packets self.old) + cost self.old packet ≤ size self.old }
+        requires { sum_by (cost self.old) (packets self.old) + cost self.old packet
+            ≤ size self.old }
         ensures packets { packets self.new ≡ packets self.old ++ packet ∷ [] }
         ensures size { size self.new ≡ size self.old }
         ensures cost { cost self.new ≡ cost self.old };
 
-    /// Removes the front and gives it; `None` exactly where there is no packet, and then nothing changes.
+    /// Removes and returns the front; `None` exactly where there is no packet, and then nothing
+    /// changes.
     fn take_out(&mut self) -> Option<Packet>
         ensures front { result ≡ slice_get (packets self.old) 0 }
         ensures rest { packets self.new ≡ drop 1 (packets self.old) }

@@ -14,13 +14,15 @@ pub enum Moved {
     Empty,
     /// Nothing: there was no room for the front.
     Full,
-    /// This packet left the front of the one and stands at the end of the other.
+    /// This packet left the front of the one and is at the end of the other.
     Done(Packet),
 }
 
 /// Moves the front of one intake to the end of another.
 pub fn move_one<F: Intake, T: Intake>(from: &mut F, to: &mut T) -> Moved
-    ensures answer { result ≡ moved_by (F.packets from.old) (has_room (T.packets to.old) (T.size to.old) (T.cost to.old)) }
+    ensures answer { result
+        ≡ moved_by (F.packets from.old)
+        (has_room (T.packets to.old) (T.size to.old) (T.cost to.old)) }
     ensures out { F.packets from.old ≡ moved_packets result ++ F.packets from.new }
     ensures into { T.packets to.new ≡ T.packets to.old ++ moved_packets result }
 

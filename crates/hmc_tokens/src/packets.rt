@@ -3,40 +3,48 @@
 ghost use Rattle.std.specs.Prelude.{◌≡◌, ◌≤◌, ◌<◌, ◌^◌, ◌↔◌, [], ◌∷◌, ◌++◌, IfOk, IsTrue, length, drop, slice_get, sum_by};
 ghost use Rattle.hmc_packet.specs.Packet.{flits_of};
 
+use crate::ring::append;
+use circular_buffer::HeapCircularBuffer;
 use hmc_codes::Memory;
 use hmc_packet::Packet;
 use std::alloc::Global;
 use std::marker::Model;
 
-/// Packets in their order, for which room is reserved. Contracts see the list of them and how many there is room for.
+/// Packets in their order, for which memory is reserved. Contracts see the list of them and the
+/// number that there is room for.
 #[derive(Drop)]
 pub struct PacketList {
-    packets: Vec<Packet>,
+    packets: HeapCircularBuffer<Packet>,
     most: u16,
+    // The flits of all packets.
+    flits: u32,
 }
 
 impl Model for PacketList {
-    ghost use Rattle.std.specs.Vec.{vec_capacity};
     ghost use Rattle.hmc_tokens.specs.Packets.{PacketListFields, AreKept};
 
     ghost Value = { PacketListFields };
 
     ghost view = { λ l. record { packets = l.packets.items; most = l.most } };
 
-    ghost invariant = { λ l. AreKept l.packets.items l.most (vec_capacity l.packets) };
+    ghost invariant = { λ l. AreKept l.packets.items l.most l.packets.capacity l.flits };
 }
 
 impl PacketList {
-    /// No packets, and room for so many.
+    /// No packets, and room for `most`.
     pub fn new(alloc: Global, most: u16) -> Result<Self, Memory>
         ensures packets { IfOk result (λ list. list.packets ≡ []) }
         ensures most { IfOk result (λ list. list.most ≡ most) }
     {
-        let packets = Vec::with_capacity(alloc, usize::from(most))?;
-        Ok(PacketList { packets, most })
+        let packets = HeapCircularBuffer::with_capacity(alloc, usize::from(most))?;
+        Ok(PacketList {
+            packets,
+            most,
+            flits: 0,
+        })
     }
 
-    /// How many packets there is room for.
+    /// The number of packets that there is room for.
     pub fn most(&self) -> u16
         ensures most { result ≡ self.now.most }
         ensures within { length self.now.packets ≤ self.now.most }
@@ -62,38 +70,34 @@ impl PacketList {
     pub fn flits(&self) -> u32
         ensures { result ≡ sum_by flits_of self.now.packets }
     {
-        let mut flits = 0;
-        for packet in &self.packets {
-            flits += u32::from(packet.flits());
-        }
-        flits
+        self.flits
     }
 
     /// The packet that has been there longest.
     pub fn front(&self) -> Option<Packet>
         ensures { result ≡ slice_get self.now.packets 0 }
     {
-        self.packets.first().copied()
+        self.packets.front().copied()
     }
 
-    /// Adds a packet behind the others.
+    /// Appends a packet, for which there is room.
     pub fn push_back(&mut self, packet: Packet)
         requires { length self.old.packets < self.old.most }
         ensures packets { self.new.packets ≡ self.old.packets ++ packet ∷ [] }
         ensures most { self.new.most ≡ self.old.most }
     {
-        self.packets.push_reserved(packet);
+        self.flits += u32::from(packet.flits());
+        append(&mut self.packets, packet);
     }
 
-    /// Removes the front and gives it.
+    /// Removes and returns the front, if there is one.
     pub fn pop_front(&mut self) -> Option<Packet>
         ensures front { result ≡ slice_get self.old.packets 0 }
         ensures rest { self.new.packets ≡ drop 1 self.old.packets }
         ensures most { self.new.most ≡ self.old.most }
     {
-        if self.packets.is_empty() {
-            return None;
-        }
-        Some(self.packets.remove(0))
+        let packet = self.packets.pop_front()?;
+        self.flits -= u32::from(packet.flits());
+        Some(packet)
     }
 }

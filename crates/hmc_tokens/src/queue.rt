@@ -8,7 +8,7 @@ use hmc_codes::Memory;
 use hmc_packet::Packet;
 use std::alloc::Global;
 
-/// An intake of a number of packets: each costs 1.
+/// An intake whose size is a number of packets: each costs 1.
 #[derive(Drop)]
 pub struct Queue {
     kept: PacketList,
@@ -56,7 +56,7 @@ impl Queue {
     ghost use Rattle.std.specs.Prelude.{◌≡◌, [], IfOk};
     ghost use Rattle.hmc_tokens.specs.Queue.{packets_of, size_of};
 
-    /// A queue for so many packets. It holds none.
+    /// A queue for `packets` packets. It holds none.
     pub fn new(alloc: Global, packets: u8) -> Result<Self, Memory>
         ensures empty { IfOk result (λ queue. packets_of queue ≡ []) }
         ensures size { IfOk result (λ queue. size_of queue ≡ packets) }

@@ -11,15 +11,15 @@ use Rattle.hmc_codes.specs.declared.answer.Answer.{Answer}
 use Rattle.hmc_memory.specs.Banks.{BanksFields, IsBanks}
 use Rattle.hmc_registers.specs.Registers.{IsRegisters}
 use Rattle.hmc_packet.specs.Packet.{PacketFields}
-use Rattle.hmc_packet.specs.Transactions.{CanReply}
-use Rattle.hmc_serial.specs.Cube.{Outcome, IsCube, cube_of, outcome_of}
+use Rattle.hmc_codes.specs.Answer.{CanReply}
+use Rattle.hmc_serial.specs.Cube.{Outcome, IsCube, cube_state_of, outcome_of_parts}
 use Rattle.hmc_serial.specs.Perform.{perform_on}
 use Rattle.hmc_tokens.specs.Queue.{one, all_cost_one}
 use Rattle.hmc_vault.specs.declared.execute.Executed.{Executed}
 use Rattle.hmc_vault.specs.declared.execute.Executed.TheVariants.{Empty, Full, Ran}
 use Rattle.hmc_vault.specs.Vault.{VaultFields, bank_at}
 use Rattle.hmc_vault.specs.Execute.{waiting_after, answers_after, execute_gives}
-use Rattle.hmc_vault.proofs.AnswerLemmas.{performed_is_carried}
+use Rattle.hmc_serial.proofs.AnswerLemmas.{performed_is_carried}
 use Rattle.hmc_vault.proofs.VaultLemmas.{bank_stays}
 
 -- a test of the costs is the test of must_wait
@@ -36,14 +36,14 @@ has_place answers size posted is room =
     let below : length answers < size = not_at_most size (length answers) (ap (λ b. not b && nat_le size (length answers)) (sym is) ∙ room) in
     omega (arith, below, all_cost_one answers)
 
-pub cube_is : (banks : BanksFields) (registers : List ℕ) → IsBanks banks → IsRegisters registers → IsCube (cube_of banks registers)
+pub cube_is : (banks : BanksFields) (registers : List ℕ) → IsBanks banks → IsRegisters registers → IsCube (cube_state_of banks registers)
 cube_is banks registers kept are = record { is_shape = kept.shape; capacity = kept.capacity; bytes = kept.bytes; are_registers = are }
 
 -- the answer to a request that is not posted can be carried
 pub answer_carried : (banks banks' : BanksFields) (registers registers' : List ℕ) (request : RequestFields) (answer : Answer) → IsBanks banks → IsRegisters registers → IsRequest request →
-    outcome_of banks' registers' answer ≡ perform_on (cube_of banks registers) request → is_posted request.command ≡ false → CanReply answer
+    outcome_of_parts banks' registers' answer ≡ perform_on (cube_state_of banks registers) request → is_posted request.command ≡ false → CanReply answer
 answer_carried banks banks' registers registers' request answer kept are is outcome answered =
-    subst CanReply (sym (ap (λ (o : Outcome). o.answer) outcome)) ((performed_is_carried (cube_of banks registers) request (cube_is banks registers kept are) is).carried answered)
+    subst CanReply (sym (ap (λ (o : Outcome). o.answer) outcome)) ((performed_is_carried (cube_state_of banks registers) request (cube_is banks registers kept are) is).carried answered)
 
 -- what holds of all that wait holds of those that are left
 pub waiting_all : (P : PacketFields → Type 0) (result : Executed) (waiting waiting' : List PacketFields) → waiting' ≡ waiting_after result waiting → All P waiting → All P waiting'
@@ -58,7 +58,7 @@ front_is P (packet ∷ rest) front all is = let same : packet ≡ front = cc in 
 
 -- a vault with this queue of a bank and these answers
 abbrev with_answers : VaultFields → ℕ → List PacketFields → List PacketFields → VaultFields
-with_answers now bank waiting answers = record { entering = now.entering; banks = set now.banks bank waiting; answers = answers; size = now.size }
+with_answers now bank waiting answers = record { vault_queue = now.vault_queue; banks = set now.banks bank waiting; answers = answers; size = now.size }
 
 same_answers : (now : VaultFields) (bank : ℕ) (waiting waiting' answers answers' : List PacketFields) → waiting ≡ waiting' → answers ≡ answers' → with_answers now bank waiting answers ≡ with_answers now bank waiting' answers'
 same_answers now bank waiting waiting' answers answers' w a = ap (λ l. with_answers now bank l answers) w ∙ ap (with_answers now bank waiting') a

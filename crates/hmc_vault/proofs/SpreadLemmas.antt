@@ -17,23 +17,23 @@ use Rattle.hmc_vault.specs.declared.spread.Spread.{Spread}
 use Rattle.hmc_vault.specs.declared.spread.Spread.TheVariants as spreads
 use Rattle.hmc_vault.specs.Packets.{IsForBanks}
 use Rattle.hmc_vault.specs.Vault.{VaultFields, bank_at}
-use Rattle.hmc_vault.specs.Spread.{goes_to, front_goes, spread_says, spread_gives, spread_by}
+use Rattle.hmc_vault.specs.Spread.{goes_to, front_goes, spread_says, spread_gives, spread_of_move}
 use Rattle.hmc_vault.specs.Kept.{IsBankQueue}
 use Rattle.hmc_vault.proofs.VaultLemmas.{bank_stays, no_front}
 
 -- nothing waits to be spread
-pub nothing_waits : (now : VaultFields) (shape : ShapeFields) → now.entering ≡ [] → spreads.Empty ≡ spread_says now shape
+pub nothing_waits : (now : VaultFields) (shape : ShapeFields) → now.vault_queue ≡ [] → spreads.Empty ≡ spread_says now shape
 unfolding spread_says
 nothing_waits now shape is = ap (λ packets. front_goes now packets shape) (sym is)
 
 -- there is no front
-pub nothing_in_front : (now : VaultFields) (shape : ShapeFields) (packets : List PacketFields) → packets ≡ now.entering → slice_get packets 0 ≡ None → spreads.Empty ≡ spread_says now shape
+pub nothing_in_front : (now : VaultFields) (shape : ShapeFields) (packets : List PacketFields) → packets ≡ now.vault_queue → slice_get packets 0 ≡ None → spreads.Empty ≡ spread_says now shape
 nothing_in_front now shape packets same is = nothing_waits now shape (sym same ∙ no_front packets is)
 
 -- the bank of an address is one of the shape's
 pub bank_there : (now : VaultFields) (shape : ShapeFields) (address bank place : ℕ) → length now.banks ≡ 2 ^ shape.bank_bits → bank ≡ bank_of shape address → place ≡ bank → place < length now.banks
 bank_there now shape address bank place long is same =
-    omega (arith, mod_below (address / 256 / 2 ^ shape.vault_bits) (2 ^ shape.bank_bits) (pow_pos shape.bank_bits))
+    omega (arith, mod_below (address / shape.block / 2 ^ shape.vault_bits) (2 ^ shape.bank_bits) (pow_pos shape.bank_bits))
 
 -- the test of the move is the test of the spread
 same_test : (packets : List PacketFields) (size size' : ℕ) (bank : List PacketFields) → bank ≡ packets → size' ≡ size → nat_le (sum_by one packets + 1) size ≡ nat_lt (length bank) size'
@@ -41,13 +41,13 @@ same_test packets size size' bank same sized =
     let cost : sum_by one packets + 1 ≡ suc (length bank) = omega (arith, all_cost_one packets, ap length same) in
     ap (λ n. nat_le n size) cost ∙ ap (nat_le (suc (length bank))) (sym sized)
 
-by_test : (b : Bool) (front : PacketFields) (bank : ℕ) → spread_by (if b then Done front else Full) bank ≡ (if b then spreads.Moved bank else spreads.Full)
+by_test : (b : Bool) (front : PacketFields) (bank : ℕ) → spread_of_move (if b then Done front else Full) bank ≡ (if b then spreads.Moved bank else spreads.Full)
 by_test true front bank = refl
 by_test false front bank = refl
 
 -- what the move did is what the spread says
-pub move_is_spread : (now : VaultFields) (shape : ShapeFields) (packets : List PacketFields) (front : PacketFields) (bank place : ℕ) (queue : List PacketFields) (size : ℕ) → packets ≡ now.entering → slice_get packets 0 ≡ Some front → bank ≡ bank_of shape front.address → place ≡ bank →
-    bank_at now place ≡ queue → now.size ≡ size → spread_by (moved_by packets (has_room queue size one)) bank ≡ spread_says now shape
+pub move_is_spread : (now : VaultFields) (shape : ShapeFields) (packets : List PacketFields) (front : PacketFields) (bank place : ℕ) (queue : List PacketFields) (size : ℕ) → packets ≡ now.vault_queue → slice_get packets 0 ≡ Some front → bank ≡ bank_of shape front.address → place ≡ bank →
+    bank_at now place ≡ queue → now.size ≡ size → spread_of_move (moved_by packets (has_room queue size one)) bank ≡ spread_says now shape
 unfolding spread_says
 move_is_spread now shape [] front bank place queue size same is to at queued sized = absurd (cc)
 move_is_spread now shape (packet ∷ rest) front bank place queue size same is to at queued sized =
@@ -59,22 +59,22 @@ move_is_spread now shape (packet ∷ rest) front bank place queue size same is t
 
 -- a vault with these packets and these banks
 abbrev with_packets : VaultFields → List PacketFields → List (List PacketFields) → VaultFields
-with_packets now packets banks = record { entering = packets; banks = banks; answers = now.answers; size = now.size }
+with_packets now packets banks = record { vault_queue = packets; banks = banks; answers = now.answers; size = now.size }
 
 same_packets : (now : VaultFields) (packets packets' : List PacketFields) (banks banks' : List (List PacketFields)) → packets ≡ packets' → banks ≡ banks' → with_packets now packets banks ≡ with_packets now packets' banks'
 same_packets now packets packets' banks banks' p b = ap (λ l. with_packets now l banks) p ∙ ap (with_packets now packets') b
 
-nothing_moved : (now : VaultFields) (bank : ℕ) (packets queue : List PacketFields) → now.entering ≡ packets → queue ≡ bank_at now bank ++ [] → with_packets now packets (set now.banks bank queue) ≡ now
+nothing_moved : (now : VaultFields) (bank : ℕ) (packets queue : List PacketFields) → now.vault_queue ≡ packets → queue ≡ bank_at now bank ++ [] → with_packets now packets (set now.banks bank queue) ≡ now
 nothing_moved now bank packets queue out into =
-    same_packets now packets now.entering (set now.banks bank queue) now.banks (sym out) (ap (set now.banks bank) (into ∙ append-nil (bank_at now bank)) ∙ bank_stays now bank)
+    same_packets now packets now.vault_queue (set now.banks bank queue) now.banks (sym out) (ap (set now.banks bank) (into ∙ append-nil (bank_at now bank)) ∙ bank_stays now bank)
 
 -- what the move left is what the spread gives
-pub move_gives : (m : Moved) (now : VaultFields) (bank : ℕ) (packets queue : List PacketFields) → now.entering ≡ moved_packets m ++ packets → queue ≡ bank_at now bank ++ moved_packets m →
-    with_packets now packets (set now.banks bank queue) ≡ spread_gives (spread_by m bank) now
+pub move_gives : (m : Moved) (now : VaultFields) (bank : ℕ) (packets queue : List PacketFields) → now.vault_queue ≡ moved_packets m ++ packets → queue ≡ bank_at now bank ++ moved_packets m →
+    with_packets now packets (set now.banks bank queue) ≡ spread_gives (spread_of_move m bank) now
 move_gives Empty now bank packets queue out into = nothing_moved now bank packets queue out into
 move_gives Full now bank packets queue out into = nothing_moved now bank packets queue out into
 move_gives (Done packet) now bank packets queue out into =
-    same_packets now packets (drop 1 now.entering) (set now.banks bank queue) (set now.banks bank (bank_at now bank ++ take 1 now.entering))
+    same_packets now packets (drop 1 now.vault_queue) (set now.banks bank queue) (set now.banks bank (bank_at now bank ++ take 1 now.vault_queue))
     (ap (drop 1) (sym out)) (ap (set now.banks bank) (into ∙ ap (λ l. bank_at now bank ++ l) (ap (take 1) (sym out))))
 
 -- requests stay requests where they move
@@ -85,8 +85,8 @@ moved_requests (Done packet) packets rest is all =
     let both : All IsForBanks (packet ∷ rest) = All-same IsForBanks (packet ∷ rest) packets (sym is) all in
     (All-tail IsForBanks packet rest both, All-cons IsForBanks packet [] (All-head IsForBanks packet rest both) (All-nil IsForBanks))
 
-pub bank_queue_after_move : (entering entering' queue queue' : Queue) (moved : List PacketFields) → IsBankQueue entering queue → size_of entering' ≡ size_of entering → size_of queue' ≡ size_of queue → packets_of queue' ≡ packets_of queue ++ moved → All IsForBanks moved → IsBankQueue entering' queue'
-bank_queue_after_move entering entering' queue queue' moved is same sized into requests = record {
+pub bank_queue_after_move : (vault_queue vault_queue' queue queue' : Queue) (moved : List PacketFields) → IsBankQueue vault_queue queue → size_of vault_queue' ≡ size_of vault_queue → size_of queue' ≡ size_of queue → packets_of queue' ≡ packets_of queue ++ moved → All IsForBanks moved → IsBankQueue vault_queue' queue'
+bank_queue_after_move vault_queue vault_queue' queue queue' moved is same sized into requests = record {
   size = sized ∙ is.size ∙ sym same;
   requests = All-same IsForBanks (packets_of queue') (packets_of queue ++ moved) into (All-append IsForBanks (packets_of queue) moved is.requests requests);
 }
@@ -95,7 +95,7 @@ bank_queue_after_move entering entering' queue queue' moved is same sized into r
 pub banks_of_spread : (says : Spread) (now : VaultFields) → length (spread_gives says now).banks ≡ length now.banks
 banks_of_spread spreads.Empty now = refl
 banks_of_spread spreads.Full now = refl
-banks_of_spread (spreads.Moved bank) now = length-set now.banks bank (bank_at now bank ++ take 1 now.entering)
+banks_of_spread (spreads.Moved bank) now = length-set now.banks bank (bank_at now bank ++ take 1 now.vault_queue)
 
 pub size_of_spread : (says : Spread) (now : VaultFields) → (spread_gives says now).size ≡ now.size
 size_of_spread spreads.Empty now = refl

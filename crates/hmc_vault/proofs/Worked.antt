@@ -3,12 +3,12 @@ use Rattle.std.proofs.Common.{◌≡◌, ℕ, List, [], ◌∷◌, true, false, 
 use Rattle.std.specs.Prelude.{map, replicate}
 use Rattle.hmc_codes.specs.Shape.{ShapeFields}
 use Rattle.hmc_codes.specs.Request.{RequestFields}
-use Rattle.hmc_codes.specs.Table.{line_of}
+use Rattle.hmc_codes.specs.Table.{table_line}
 use Rattle.hmc_codes.specs.declared.answer.Answer.TheVariants as answers
 use Rattle.hmc_codes.specs.declared.command.Command.{Command}
 use Rattle.hmc_codes.specs.declared.command.Command.TheVariants.{Rd16, Pinc8, Mdrd, WrRs}
 use Rattle.hmc_packet.specs.Packet.{PacketFields, null_packet}
-use Rattle.hmc_packet.specs.Transactions.{replied, payload_of, request_in}
+use Rattle.hmc_packet.specs.Transactions.{reply_packet, payload_of, request_in}
 use Rattle.hmc_atomics.specs.Operations.{atomic_of}
 use Rattle.hmc_atomics.specs.Act.{acted_of}
 use Rattle.hmc_serial.specs.Actions.{action_of}
@@ -22,7 +22,7 @@ use Rattle.hmc_vault.specs.Spread.{spread_says, spread_gives}
 use Rattle.hmc_vault.specs.Execute.{must_wait, execute_says, replies_to, waiting_after, answers_after, execute_gives}
 
 abbrev two_banks : ShapeFields
-two_banks = record { vault_bits = 1; bank_bits = 1; rows = 1 }
+two_banks = record { vault_bits = 1; bank_bits = 1; rows = 1; block = 256 }
 
 abbrev cube : CubeState
 cube = record { shape = two_banks; memory = replicate 1024 0; registers = 6 ∷ 1 ∷ 1 ∷ 1 ∷ replicate 12 0 }
@@ -41,10 +41,10 @@ read_at address = packet_with Rd16 address
 abbrev done : (tag : ℕ) → PacketFields
 done tag = record null_packet { command = WrRs; tag = tag; cube = 6; slid = 5 }
 
-abbrev vault_with : (entering : List PacketFields) (banks : List (List PacketFields)) (answers : List PacketFields) → VaultFields
-vault_with entering banks answers = record { entering = entering; banks = banks; answers = answers; size = 1 }
+abbrev vault_with : (vault_queue : List PacketFields) (banks : List (List PacketFields)) (answers : List PacketFields) → VaultFields
+vault_with vault_queue banks answers = record { vault_queue = vault_queue; banks = banks; answers = answers; size = 1 }
 
-opening_vault-two_bits : opening_vault 2 7 ≡ record { entering = []; banks = [] ∷ [] ∷ [] ∷ [] ∷ []; answers = []; size = 7 }
+opening_vault-two_bits : opening_vault 2 7 ≡ record { vault_queue = []; banks = [] ∷ [] ∷ [] ∷ [] ∷ []; answers = []; size = 7 }
 opening_vault-two_bits = refl
 
 held_by-each : held_by (vault_with (read_at 0 ∷ []) ((read_at 0 ∷ read_at 0 ∷ []) ∷ [] ∷ (read_at 0 ∷ []) ∷ []) (done 1 ∷ done 2 ∷ done 3 ∷ [])) ≡ 7
@@ -56,6 +56,12 @@ spread_says-by_address : map (λ address. spread_says (vault_with (read_at addre
 unfolding spread_says
 spread_says-by_address = refl
 
+-- with blocks of 64 bytes it is bit 7
+spread_says-small_blocks : map (λ address. spread_says (vault_with (read_at address ∷ []) ([] ∷ [] ∷ []) []) (record two_banks { block = 64 })) (0 ∷ 0x7f ∷ 0x80 ∷ 0xff ∷ 0x100 ∷ []) ≡
+    spreads.Moved 0 ∷ spreads.Moved 0 ∷ spreads.Moved 1 ∷ spreads.Moved 1 ∷ spreads.Moved 0 ∷ []
+unfolding spread_says
+spread_says-small_blocks = refl
+
 -- a full bank holds back what goes there, and nothing else; where nothing entered it isn't asked
 spread_says-full : map (λ address. spread_says (vault_with (read_at address ∷ []) ([] ∷ (read_at 0x200 ∷ []) ∷ []) []) two_banks) (0x200 ∷ 0x100 ∷ []) ≡ spreads.Full ∷ spreads.Moved 0 ∷ []
 unfolding spread_says
@@ -65,7 +71,7 @@ spread_says-empty : spread_says (vault_with [] ((read_at 0 ∷ []) ∷ (read_at 
 unfolding spread_says
 spread_says-empty = refl
 
--- the front stands behind the packets of its bank
+-- the front is last in the queue of its bank
 spread_gives-moved : spread_gives (spreads.Moved 1) (vault_with (read_at 0x200 ∷ read_at 0 ∷ []) ((read_at 1 ∷ []) ∷ (read_at 0x201 ∷ []) ∷ []) (done 1 ∷ [])) ≡
     vault_with (read_at 0 ∷ []) ((read_at 1 ∷ []) ∷ (read_at 0x201 ∷ read_at 0x200 ∷ []) ∷ []) (done 1 ∷ [])
 spread_gives-moved = refl
@@ -75,11 +81,11 @@ spread_gives-full = refl
 
 -- what is to be answered waits for its place, and what is posted doesn't
 must_wait-read : map (λ size. must_wait (request_with Rd16 0) (done 1 ∷ []) size) (1 ∷ 2 ∷ []) ≡ true ∷ false ∷ []
-unfolding line_of
+unfolding table_line
 must_wait-read = refl
 
 must_wait-posted : must_wait (request_with Pinc8 0) (done 1 ∷ []) 1 ≡ false
-unfolding line_of
+unfolding table_line
 must_wait-posted = refl
 
 -- nothing waits, also where the answers are full
@@ -87,31 +93,31 @@ execute_says-empty : execute_says [] (done 1 ∷ []) 1 cube ≡ Empty
 execute_says-empty = refl
 
 execute_says-full : execute_says (read_at 0 ∷ []) (done 1 ∷ []) 1 cube ≡ Full
-unfolding request_in payload_of line_of
+unfolding request_in payload_of table_line
 execute_says-full = refl
 
 -- the host and the tag are those of the front
 execute_says-register : execute_says (packet_with Mdrd 0 ∷ read_at 0 ∷ []) [] 1 cube ≡ Ran 5 3 (request_with Mdrd 0) (answers.Register 6)
-unfolding request_in payload_of line_of perform_on action_of register_error
+unfolding request_in payload_of table_line perform_on action_of register_error
 execute_says-register = refl
 
 execute_says-posted : execute_says (packet_with Pinc8 0 ∷ []) (done 1 ∷ []) 1 cube ≡ Ran 5 3 (request_with Pinc8 0) answers.Silent
-unfolding request_in payload_of line_of perform_on action_of atomic_of memory_error acted_of
+unfolding request_in payload_of table_line perform_on action_of atomic_of memory_error acted_of
 execute_says-posted = refl
 
 -- a reply goes to the host, under the tag, and names the cube
 replies_to-done : replies_to (request_with Rd16 0) (answers.Done false) 5 3 ≡ done 3 ∷ []
-unfolding line_of replied
+unfolding table_line reply_packet
 replies_to-done = refl
 
 replies_to-posted : replies_to (request_with Pinc8 0) answers.Silent 5 3 ≡ []
-unfolding line_of
+unfolding table_line
 replies_to-posted = refl
 
--- the front has left its bank, and its reply stands behind the answers
+-- the front has left its bank, and its reply is the last answer
 execute_gives-own_bank : execute_gives 1 (Ran 5 3 (request_with Rd16 0x200) (answers.Done false)) (vault_with (read_at 0 ∷ []) ((read_at 1 ∷ []) ∷ (read_at 0x200 ∷ read_at 0x201 ∷ []) ∷ []) (done 1 ∷ [])) ≡
     vault_with (read_at 0 ∷ []) ((read_at 1 ∷ []) ∷ (read_at 0x201 ∷ []) ∷ []) (done 1 ∷ done 3 ∷ [])
-unfolding line_of replied
+unfolding table_line reply_packet
 execute_gives-own_bank = refl
 
 execute_gives-full : execute_gives 0 Full (vault_with [] ((read_at 1 ∷ []) ∷ []) (done 1 ∷ [])) ≡ vault_with [] ((read_at 1 ∷ []) ∷ []) (done 1 ∷ [])
@@ -123,5 +129,5 @@ waiting_after-each = refl
 
 answers_after-each : map (λ executed. answers_after executed (done 1 ∷ [])) (Full ∷ Ran 5 3 (request_with Rd16 0) (answers.Done false) ∷ Ran 5 0 (request_with Pinc8 0) answers.Silent ∷ []) ≡
     (done 1 ∷ []) ∷ (done 1 ∷ done 3 ∷ []) ∷ (done 1 ∷ []) ∷ []
-unfolding line_of replied
+unfolding table_line reply_packet
 answers_after-each = refl

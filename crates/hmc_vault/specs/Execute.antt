@@ -1,40 +1,44 @@
--- What an execution answers, and what it leaves.
+-- What an execution returns, and what it leaves.
 use Rattle.std.specs.Prelude.{ℕ, Bool, not, ◌&&◌, nat_le, if◌then◌else◌, List, [], ◌∷◌, ◌++◌, length, drop, slice_set, Option, Some, None}
 use Rattle.hmc_codes.specs.Commands.{is_posted}
 use Rattle.hmc_codes.specs.Request.{RequestFields}
 use Rattle.hmc_codes.specs.declared.answer.Answer.{Answer}
 use Rattle.hmc_packet.specs.Packet.{PacketFields}
-use Rattle.hmc_packet.specs.Transactions.{replied, request_in}
+use Rattle.hmc_packet.specs.Transactions.{reply_packet, request_in}
 use Rattle.hmc_serial.specs.Cube.{CubeState}
 use Rattle.hmc_serial.specs.Perform.{perform_on}
 use Rattle.hmc_vault.specs.declared.execute.Executed.{Executed}
 use Rattle.hmc_vault.specs.declared.execute.Executed.TheVariants.{Empty, Full, Ran}
 use Rattle.hmc_vault.specs.Vault.{VaultFields, bank_at}
 
--- a request that is to be answered waits where the answers queue is full
+-- a request with an answer waits where the answers queue is full
 abbrev pub must_wait : RequestFields → (answers : List PacketFields) → (size : ℕ) → Bool
 must_wait request answers size = not (is_posted request.command) && nat_le size (length answers)
 
 -- a request of a host and under a tag runs, unless it must wait
-abbrev pub runs : PacketFields → RequestFields → (answers : List PacketFields) → (size : ℕ) → CubeState → Executed
+abbrev pub runs : PacketFields → RequestFields →
+    (answers : List PacketFields) → (size : ℕ) → CubeState → Executed
 runs front request answers size cube =
     (if must_wait request answers size then Full else
     Ran front.slid front.tag request (perform_on cube request).answer)
 
 -- the request that the front carries runs
-abbrev pub carried_runs : PacketFields → Option RequestFields → (answers : List PacketFields) → (size : ℕ) → CubeState → Executed
+abbrev pub carried_runs : PacketFields → Option RequestFields →
+    (answers : List PacketFields) → (size : ℕ) → CubeState → Executed
 carried_runs front None answers size cube = Empty
 carried_runs front (Some request) answers size cube = runs front request answers size cube
 
--- what an execution answers where these requests wait, with these answers before theirs
-abbrev pub execute_says : (waiting answers : List PacketFields) → (size : ℕ) → CubeState → Executed
+-- what an execution returns where these requests wait, with these answers before theirs
+abbrev pub execute_says : (waiting answers : List PacketFields) → (size : ℕ) →
+    CubeState → Executed
 execute_says [] answers size cube = Empty
-execute_says (front ∷ rest) answers size cube = carried_runs front (request_in front) answers size cube
+execute_says (front ∷ rest) answers size cube =
+    carried_runs front (request_in front) answers size cube
 
--- the packets by which a request is answered: none where it is posted
+-- the reply to a request, or none where it is posted
 abbrev pub replies_to : RequestFields → Answer → (host tag : ℕ) → List PacketFields
 replies_to request answer host tag =
-    (if is_posted request.command then [] else replied answer tag host request.cube ∷ [])
+    (if is_posted request.command then [] else reply_packet answer tag host request.cube ∷ [])
 
 -- what an execution leaves of the requests that wait
 abbrev pub waiting_after : Executed → List PacketFields → List PacketFields

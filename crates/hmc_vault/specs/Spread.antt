@@ -1,4 +1,4 @@
--- What a spread answers, and what it leaves.
+-- What a spread returns, and what it leaves.
 use Rattle.std.specs.Prelude.{ℕ, nat_lt, if◌then◌else◌, List, [], ◌∷◌, ◌++◌, length, take, drop, slice_set}
 use Rattle.hmc_codes.specs.Shape.{ShapeFields, bank_of}
 use Rattle.hmc_packet.specs.Packet.{PacketFields}
@@ -12,26 +12,26 @@ use Rattle.hmc_vault.specs.Vault.{VaultFields, bank_at}
 abbrev pub goes_to : VaultFields → (bank : ℕ) → Spread
 goes_to vault bank = (if nat_lt (length (bank_at vault bank)) vault.size then Moved bank else Full)
 
--- nothing goes where no packet has entered, and else the front goes to the bank that its address names
+-- nothing goes from an empty queue; else the front goes to the bank that its address names
 abbrev pub front_goes : VaultFields → List PacketFields → ShapeFields → Spread
 front_goes vault [] shape = Empty
 front_goes vault (front ∷ rest) shape = goes_to vault (bank_of shape front.address)
 
--- what a spread answers
+-- what a spread returns
 unfoldable pub spread_says : VaultFields → ShapeFields → Spread
-spread_says vault shape = front_goes vault vault.entering shape
+spread_says vault shape = front_goes vault vault.vault_queue shape
 
--- what it leaves: the front stands behind the packets of its bank, or nothing changed
+-- what it leaves: the front is last in the queue of its bank, or nothing changed
 abbrev pub spread_gives : Spread → VaultFields → VaultFields
 spread_gives (Moved bank) vault =
     record vault {
-      entering = drop 1 vault.entering;
-      banks = slice_set vault.banks bank (bank_at vault bank ++ take 1 vault.entering);
+      vault_queue = drop 1 vault.vault_queue;
+      banks = slice_set vault.banks bank (bank_at vault bank ++ take 1 vault.vault_queue);
     }
 spread_gives _ vault = vault
 
--- what the move of a packet to the queue of a bank is as a spread
-abbrev pub spread_by : Move → (bank : ℕ) → Spread
-spread_by moves.Empty bank = Empty
-spread_by moves.Full bank = Full
-spread_by (moves.Done packet) bank = Moved bank
+-- the spread that is this move of a packet to the queue of a bank
+abbrev pub spread_of_move : Move → (bank : ℕ) → Spread
+spread_of_move moves.Empty bank = Empty
+spread_of_move moves.Full bank = Full
+spread_of_move (moves.Done packet) bank = Moved bank

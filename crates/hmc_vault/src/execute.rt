@@ -3,11 +3,11 @@
 ghost use Rattle.std.specs.Prelude.{◌≡◌, ◌↔◌, [], ◌++◌, false, slice_get};
 ghost use Rattle.std.specs.Option.{ForSome};
 ghost use Rattle.hmc_codes.specs.Commands.{is_posted};
-ghost use Rattle.hmc_packet.specs.Transactions.{CanReply};
-ghost use Rattle.hmc_serial.specs.Cube.{cube_of, outcome_of};
+ghost use Rattle.hmc_codes.specs.Answer.{CanReply};
+ghost use Rattle.hmc_serial.specs.Cube.{cube_state_of, outcome_of_parts};
 ghost use Rattle.hmc_serial.specs.Perform.{perform_on};
 ghost use Rattle.hmc_tokens.specs.Queue.{packets_of, size_of};
-ghost use Rattle.hmc_vault.specs.Packets.{IsAsk};
+ghost use Rattle.hmc_vault.specs.Packets.{CarriesRequest};
 ghost use Rattle.hmc_vault.specs.Execute.{must_wait, execute_says, replies_to, waiting_after, answers_after, cube_after};
 
 use hmc_codes::{Answer, Request};
@@ -20,11 +20,11 @@ use hmc_tokens::{Intake, Queue};
 /// What an execution did.
 #[derive(Clone, Copy)]
 pub enum Executed {
-    /// Nothing: no request waits.
+    /// Nothing: the queue is empty.
     Empty,
-    /// Nothing: the front is to be answered, and the answers queue is full.
+    /// Nothing: the front has an answer, and the answers queue is full.
     Full,
-    /// The front's request was performed and answered, `Silent` where it is posted.
+    /// The front's request was performed. The answer to a posted one is `Silent`.
     Ran {
         /// The host link that the request came from, below 8.
         host: u8,
@@ -35,18 +35,20 @@ pub enum Executed {
     },
 }
 
-/// Performs the request at the front of a queue, and puts the reply into an answers queue unless the request is posted.
+/// Performs the request at the front of a queue. Unless the request is posted, the reply enters an
+/// answers queue.
 pub fn execute_front(
     waiting: &mut Queue,
     answers: &mut Queue,
     banks: &mut Banks,
     registers: &mut Registers,
 ) -> Executed
-    requires { ForSome (slice_get (packets_of waiting.old) 0) IsAsk }
-    ensures answer { result ≡ execute_says (packets_of waiting.old) (packets_of answers.old) (size_of answers.old)
-        (cube_of banks.old registers.old) }
+    requires { ForSome (slice_get (packets_of waiting.old) 0) CarriesRequest }
+    ensures answer { result ≡ execute_says (packets_of waiting.old) (packets_of answers.old)
+        (size_of answers.old) (cube_state_of banks.old registers.old) }
     ensures empty { (result ≡ Executed.Empty) ↔ (packets_of waiting.old ≡ []) }
-    ensures cube { cube_of banks.new registers.new ≡ cube_after result (cube_of banks.old registers.old) }
+    ensures cube { cube_state_of banks.new registers.new
+        ≡ cube_after result (cube_state_of banks.old registers.old) }
     ensures shape { banks.new.shape ≡ banks.old.shape }
     ensures waiting { packets_of waiting.new ≡ waiting_after result (packets_of waiting.old) }
     ensures answers { packets_of answers.new ≡ answers_after result (packets_of answers.old) }
@@ -73,22 +75,23 @@ pub fn execute_front(
     }
 }
 
-// Whether a request is to be answered and its answer has no room.
+// Whether a request has an answer and there is no room for it.
 fn must_wait(request: &Request, answers: &Queue) -> bool
     ensures { result ≡ must_wait request.now (packets_of answers.now) (size_of answers.now) }
 {
     !request.command.posted() && answers.size() <= answers.used()
 }
 
-// Performs a request. A packet can carry the answer, unless the request is posted.
+// Performs a request. A response can carry the answer, unless the request is posted.
 fn answer_to(request: &Request, banks: &mut Banks, registers: &mut Registers) -> Answer
-    ensures outcome { outcome_of banks.new registers.new result ≡ perform_on (cube_of banks.old registers.old) request.now }
+    ensures outcome { outcome_of_parts banks.new registers.new result
+        ≡ perform_on (cube_state_of banks.old registers.old) request.now }
     ensures shape { banks.new.shape ≡ banks.old.shape }
     ensures carried { is_posted request.now.command ≡ false → CanReply result }
 {
-    request.keeps();
-    banks.keeps();
-    registers.keeps();
+    request.invariant();
+    banks.invariant();
+    registers.invariant();
     perform(banks, registers, request)
 }
 

@@ -1,4 +1,4 @@
-//! What a spread answers.
+//! What a spread returns.
 
 /// What a spread of a vault did.
 #[derive(Clone, Copy, Debug, PartialEq, Eq)]

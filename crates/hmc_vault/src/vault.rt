@@ -1,12 +1,13 @@
 //! One vault.
 
 ghost use Rattle.std.specs.Prelude.{◌≡◌, ◌≤◌, ◌<◌, ◌^◌, ◌↔◌, [], ◌∷◌, ◌++◌, All, IsTrue, IfOk, length, drop, map, replicate, slice_get};
-ghost use Rattle.hmc_serial.specs.Cube.{cube_of};
+ghost use Rattle.hmc_codes.specs.Limits.{most_bank_bits};
+ghost use Rattle.hmc_serial.specs.Cube.{cube_state_of};
 ghost use Rattle.hmc_tokens.specs.Queue.{packets_of, size_of};
 ghost use Rattle.hmc_vault.specs.Packets.{IsForBanks};
 ghost use Rattle.hmc_vault.specs.Kept.{IsOpening, held_in};
 ghost use Rattle.hmc_vault.specs.Vault.{IsVault, opening_vault, bank_at, held_by};
-ghost use Rattle.hmc_vault.specs.Spread.{spread_says, spread_gives, spread_by};
+ghost use Rattle.hmc_vault.specs.Spread.{spread_says, spread_gives, spread_of_move};
 ghost use Rattle.hmc_vault.specs.Execute.{execute_says, execute_gives, cube_after};
 
 use crate::{Executed, Spread, execute_front};
@@ -21,40 +22,41 @@ use std::marker::Model;
 /// The queues of a vault. Contracts see the lists of their packets and their size.
 #[derive(Drop)]
 pub struct Vault {
-    entering: Queue,
+    vault_queue: Queue,
     banks: Vec<Queue>,
     answers: Queue,
 }
 
 impl Model for Vault {
     ghost use Rattle.hmc_vault.specs.Vault.{VaultFields};
-    ghost use Rattle.hmc_vault.specs.Kept.{vault_of, IsKept};
+    ghost use Rattle.hmc_vault.specs.Kept.{vault_of_queues, IsVaultOfQueues};
 
     ghost Value = { VaultFields };
 
-    ghost view = { λ v. vault_of v.entering v.banks.items v.answers };
+    ghost view = { λ v. vault_of_queues v.vault_queue v.banks.items v.answers };
 
-    ghost invariant = { λ v. IsKept v.entering v.banks.items v.answers };
+    ghost invariant = { λ v. IsVaultOfQueues v.vault_queue v.banks.items v.answers };
 }
 
 impl Vault {
-    /// A vault of `2^bank_bits` banks, with 0 to 4 bits, whose queues have room for so many packets each and hold none.
+    /// A vault of `2^bank_bits` banks. Each queue is empty and has room for this number of packets.
+    /// `Memory` if out of memory.
     pub fn new(alloc: Global, bank_bits: u8, queue: u8) -> Result<Self, Memory>
-        requires { bank_bits ≤ 4 }
+        requires { bank_bits ≤ most_bank_bits }
         ensures { IfOk result (λ vault. vault ≡ opening_vault bank_bits queue) }
     {
-        let entering = Queue::new(alloc, queue)?;
+        let vault_queue = Queue::new(alloc, queue)?;
         let answers = Queue::new(alloc, queue)?;
         let banks = empty_queues(alloc, 1 << bank_bits, queue)?;
         Ok(Vault {
-            entering,
+            vault_queue,
             banks,
             answers,
         })
     }
 
-    /// Nothing is done: what each vault keeps is the contract.
-    pub fn keeps(&self)
+    /// Does nothing. Its contract is what every vault keeps.
+    pub fn invariant(&self)
         ensures { IsVault self.now }
     {
         let _ = &self.answers;
@@ -62,21 +64,22 @@ impl Vault {
 
     /// Whether the vault queue has room for a packet.
     pub fn enter_room(&self) -> bool
-        ensures { IsTrue result ↔ (length self.now.entering < self.now.size) }
+        ensures { IsTrue result ↔ (length self.now.vault_queue < self.now.size) }
     {
-        self.entering.used() < self.entering.size()
+        self.vault_queue.used() < self.vault_queue.size()
     }
 
-    /// Takes a request to a bank into the vault queue.
+    /// Appends a request to a bank to the vault queue.
     pub fn enter(&mut self, packet: Packet)
-        requires room { length self.old.entering < self.old.size }
+        requires room { length self.old.vault_queue < self.old.size }
         requires request { IsForBanks packet }
-        ensures { self.new ≡ record self.old { entering = self.old.entering ++ packet ∷ [] } }
+        ensures { self.new ≡ record self.old { vault_queue = self.old.vault_queue ++ packet ∷ [] } }
     {
-        self.entering.take_in(packet);
+        self.vault_queue.take_in(packet);
     }
 
-    /// Moves the front of the vault queue to the queue of the bank that its address names. The shape is that of the cube.
+    /// Moves the front of the vault queue to the queue of the bank that its address names. The
+    /// shape is that of the cube.
     pub fn spread(&mut self, shape: Shape) -> Spread
         requires { length self.old.banks ≡ 2 ^ shape.bank_bits }
         ensures answer { result ≡ spread_says self.old shape }
@@ -86,23 +89,25 @@ impl Vault {
         ensures banks { length self.new.banks ≡ length self.old.banks }
         ensures size { self.new.size ≡ self.old.size }
     {
-        let Some(front) = self.entering.front() else {
+        let Some(front) = self.vault_queue.front() else {
             return Spread::Empty;
         };
         let bank = shape.spot(front.address).bank;
-        spread_by(
-            move_one(&mut self.entering, &mut self.banks[usize::from(bank)]),
+        spread_of_move(
+            move_one(&mut self.vault_queue, &mut self.banks[usize::from(bank)]),
             bank,
         )
     }
 
-    /// Performs the request at the front of a bank's queue on the memory and the registers of the cube.
+    /// Performs the request at the front of a bank's queue on the memory and the registers of the
+    /// cube.
     pub fn execute(&mut self, bank: u8, banks: &mut Banks, registers: &mut Registers) -> Executed
         requires { bank < length self.old.banks }
-        ensures answer { result ≡ execute_says (bank_at self.old bank) self.old.answers self.old.size
-            (cube_of banks.old registers.old) }
+        ensures answer { result ≡ execute_says (bank_at self.old bank) self.old.answers
+            self.old.size (cube_state_of banks.old registers.old) }
         ensures gives { self.new ≡ execute_gives bank result self.old }
-        ensures cube { cube_of banks.new registers.new ≡ cube_after result (cube_of banks.old registers.old) }
+        ensures cube { cube_state_of banks.new registers.new
+            ≡ cube_after result (cube_state_of banks.old registers.old) }
         ensures shape { banks.new.shape ≡ banks.old.shape }
         ensures empty { (result ≡ Executed.Empty) ↔ (bank_at self.old bank ≡ []) }
 
@@ -121,7 +126,7 @@ impl Vault {
         self.answers.front()
     }
 
-    /// Removes the front of the answers queue and gives it.
+    /// Removes the front of the answers queue and returns it.
     pub fn lift(&mut self) -> Option<Packet>
         ensures front { result ≡ slice_get self.old.answers 0 }
         ensures rest { self.new ≡ record self.old { answers = drop 1 self.old.answers } }
@@ -134,13 +139,13 @@ impl Vault {
         ensures held { result ≡ held_by self.now }
         ensures few { result < 2 ^ 13 }
     {
-        self.entering.used() + held_in(&self.banks) + self.answers.used()
+        self.vault_queue.used() + held_in(&self.banks) + self.answers.used()
     }
 }
 
-// What the move of a packet to the queue of a bank is as a spread.
-fn spread_by(moved: Moved, bank: u8) -> Spread
-    ensures { result ≡ spread_by moved bank }
+// The spread that is this move of a packet to the queue of a bank.
+fn spread_of_move(moved: Moved, bank: u8) -> Spread
+    ensures { result ≡ spread_of_move moved bank }
 {
     match moved {
         Moved::Empty => Spread::Empty,
@@ -149,7 +154,7 @@ fn spread_by(moved: Moved, bank: u8) -> Spread
     }
 }
 
-// So many empty queues of a size.
+// This number of empty queues of a size.
 fn empty_queues(alloc: Global, count: usize, size: u8) -> Result<Vec<Queue>, Memory>
     ensures empty { IfOk result (λ queues. map packets_of queues.items ≡ replicate count []) }
     ensures opening { IfOk result (λ queues. All (IsOpening size) queues.items) }
@@ -163,7 +168,7 @@ fn empty_queues(alloc: Global, count: usize, size: u8) -> Result<Vec<Queue>, Mem
 
 // The number of packets in the queues of banks.
 fn held_in(queues: &[Queue]) -> u32
-    requires few { length queues.now ≤ 16 }
+    requires few { length queues.now ≤ 2 ^ most_bank_bits }
     requires small { All (λ queue. size_of queue < 2 ^ 8) queues.now }
     ensures held { result ≡ held_in queues.now }
     ensures small { result < 2 ^ 12 }

@@ -1,11 +1,10 @@
 //! The steps of cubes.
 
-ghost use Rattle.std.specs.Prelude.{◌≡◌, ◌<◌, ◌^◌, MatchOption};
+ghost use Rattle.std.specs.Prelude.{◌≡◌, ◌<◌, ◌^◌, IfSome};
 ghost use Rattle.hmc_codes.specs.Commands.{is_posted};
-ghost use Rattle.hmc_journal.specs.Next.{choice, tag_of};
-ghost use Rattle.hmc_net.specs.Acts.{ran_by, spread_by};
-ghost use Rattle.hmc_net.specs.After.{after, to_of};
-ghost use Rattle.hmc_net.specs.Held.{topology_of, sight_by};
+ghost use Rattle.hmc_journal.specs.Next.{choice, goal_at, spread_entry, tag_of, ran_entry};
+ghost use Rattle.hmc_net.specs.Apply.{after, to_of};
+ghost use Rattle.hmc_net.specs.NetState.{topology_of, net_view};
 ghost use Rattle.hmc_net.specs.Ready.{IsReady, IsLiftFor};
 
 use crate::Net;
@@ -22,24 +21,25 @@ impl Net {
     pub(crate) fn shift(&mut self, port: u8) -> Entry
         requires there { port ≡ self.old.port }
         requires ready { IsReady self.old }
-        ensures entry { result ≡ choice (topology_of self.old) (sight_by self.old) (Step.Shift 0 port) }
-        ensures held { self.new ≡ after result self.old }
+        ensures entry { result
+            ≡ choice (topology_of self.old) (net_view self.old) (Step.Shift 0 port) }
+        ensures state { self.new ≡ after result self.old }
     {
-        let Some(front) = self.buffer.front() else {
+        let Some(front) = self.port_buffer.front() else {
             return idle(Step::Shift(0, port), Cause::Empty);
         };
         let flits = front.flits();
         let setup = self.setup;
         let to = To::of(setup.shape, &front);
-        let Some(goal) = goal_of(to) else {
-            let _ = self.buffer.take_out();
+        let Some(goal) = goal_at(to) else {
+            let _ = self.port_buffer.take_out();
             self.forth.leave(flits);
             return Entry::Dropped { cube: 0, port };
         };
         if !self.cube.room(to) {
             return idle(Step::Shift(0, port), Cause::Full);
         }
-        let _ = self.buffer.take_out();
+        let _ = self.port_buffer.take_out();
         self.forth.leave(flits);
         self.cube.enter(to, front);
         Entry::Shifted {
@@ -52,11 +52,12 @@ impl Net {
     // The front of a vault's queue goes to its bank.
     pub(crate) fn spread(&mut self, vault: u8) -> Entry
         requires { vault < 2 ^ self.old.setup.shape.vault_bits }
-        ensures entry { result ≡ choice (topology_of self.old) (sight_by self.old) (Step.Spread 0 vault) }
-        ensures held { self.new ≡ after result self.old }
+        ensures entry { result
+            ≡ choice (topology_of self.old) (net_view self.old) (Step.Spread 0 vault) }
+        ensures state { self.new ≡ after result self.old }
     {
-        self.cube.keeps();
-        spread_by(vault, self.cube.spread(vault))
+        self.cube.invariant();
+        spread_entry(vault, self.cube.spread(vault))
     }
 
     // A bank executes the front of its queue.
@@ -64,35 +65,38 @@ impl Net {
         requires vault { vault < 2 ^ self.old.setup.shape.vault_bits }
         requires bank { bank < 2 ^ self.old.setup.shape.bank_bits }
         requires ready { IsReady self.old }
-        ensures entry { result ≡ choice (topology_of self.old) (sight_by self.old) (Step.Bank 0 vault bank) }
-        ensures held { self.new ≡ after result self.old }
+        ensures entry { result
+            ≡ choice (topology_of self.old) (net_view self.old) (Step.Bank 0 vault bank) }
+        ensures state { self.new ≡ after result self.old }
     {
-        self.cube.keeps();
+        self.cube.invariant();
         let unit = Unit::Bank {
             cube: 0,
             vault,
             bank,
         };
         let ran = self.cube.execute(vault, bank);
-        ran_by(unit, Step::Bank(0, vault, bank), &ran)
+        ran_entry(unit, Step::Bank(0, vault, bank), &ran)
     }
 
     // The registers execute the front of their queue.
     pub(crate) fn registers(&mut self) -> Entry
         requires { IsReady self.old }
-        ensures entry { result ≡ choice (topology_of self.old) (sight_by self.old) (Step.Registers 0) }
-        ensures held { self.new ≡ after result self.old }
+        ensures entry { result
+            ≡ choice (topology_of self.old) (net_view self.old) (Step.Registers 0) }
+        ensures state { self.new ≡ after result self.old }
     {
         let ran = self.cube.registers();
-        ran_by(Unit::Registers { cube: 0 }, Step::Registers(0), &ran)
+        ran_entry(Unit::Registers { cube: 0 }, Step::Registers(0), &ran)
     }
 
     // An answer goes to the output queue of the port.
     pub(crate) fn lift(&mut self, from: Lift) -> Entry
         requires there { IsLiftFor (topology_of self.old) 0 from }
         requires ready { IsReady self.old }
-        ensures entry { result ≡ choice (topology_of self.old) (sight_by self.old) (Step.Lift 0 from) }
-        ensures held { self.new ≡ after result self.old }
+        ensures entry { result
+            ≡ choice (topology_of self.old) (net_view self.old) (Step.Lift 0 from) }
+        ensures state { self.new ≡ after result self.old }
     {
         let Some(front) = self.cube.lift_front(from) else {
             return idle(Step::Lift(0, from), Cause::Empty);
@@ -111,8 +115,9 @@ impl Net {
 }
 
 // The goal that this place is, unless it is nowhere.
-fn goal_of(to: To) -> Option<Goal>
-    ensures { MatchOption result (to ≡ To.Nowhere) (λ goal. to ≡ to_of goal) }
+fn goal_at(to: To) -> Option<Goal>
+    ensures goal { result ≡ goal_at to }
+    ensures place { IfSome result (λ goal. to ≡ to_of goal) }
 {
     match to {
         To::Vault(vault) => Some(Goal::Vault(vault)),
@@ -122,9 +127,9 @@ fn goal_of(to: To) -> Option<Goal>
     }
 }
 
-// What a spread did, as an entry.
-fn spread_by(vault: u8, spread: Spread) -> Entry
-    ensures { result ≡ spread_by vault spread }
+// The entry of a spread.
+fn spread_entry(vault: u8, spread: Spread) -> Entry
+    ensures { result ≡ spread_entry 0 vault spread }
 {
     match spread {
         Spread::Empty => idle(Step::Spread(0, vault), Cause::Empty),
@@ -137,9 +142,9 @@ fn spread_by(vault: u8, spread: Spread) -> Entry
     }
 }
 
-// What an execution did, as an entry.
-fn ran_by(unit: Unit, step: Step, ran: &Executed) -> Entry
-    ensures { result ≡ ran_by unit step ran.now }
+// The entry of an execution.
+fn ran_entry(unit: Unit, step: Step, ran: &Executed) -> Entry
+    ensures { result ≡ ran_entry unit step ran.now }
 {
     match ran {
         Executed::Empty => idle(step, Cause::Empty),

@@ -1,10 +1,10 @@
 //! The steps of hosts.
 
 ghost use Rattle.std.specs.Prelude.{◌≡◌};
-ghost use Rattle.hmc_journal.specs.Next.{choice, gave, took};
-ghost use Rattle.hmc_net.specs.Acts.{IsGiven, given_to};
-ghost use Rattle.hmc_net.specs.After.{after};
-ghost use Rattle.hmc_net.specs.Held.{topology_of, sight_by};
+ghost use Rattle.hmc_journal.specs.Next.{choice, gave_entry, took_entry};
+ghost use Rattle.hmc_net.specs.Gives.{IsGiven, given_to};
+ghost use Rattle.hmc_net.specs.Apply.{after};
+ghost use Rattle.hmc_net.specs.NetState.{topology_of, net_view};
 ghost use Rattle.hmc_net.specs.Ready.{IsReady};
 
 use crate::net::idle;
@@ -17,20 +17,20 @@ use hmc_tokens::Intake;
 impl Net {
     // The host gives its next request to the link.
     pub(crate) fn give(&mut self) -> Entry
-        ensures entry { result ≡ choice (topology_of self.old) (sight_by self.old) (Step.Give 0) }
-        ensures held { self.new ≡ after result self.old }
+        ensures entry { result ≡ choice (topology_of self.old) (net_view self.old) (Step.Give 0) }
+        ensures state { self.new ≡ after result self.old }
     {
         let room = self.forth.room();
         let given = self.host.give(room);
         hand_given(&mut self.forth, &given);
-        gave(&given)
+        gave_entry(&given)
     }
 
     // The host takes the answer of the packet that came first, or drops that.
     pub(crate) fn take(&mut self) -> Entry
         requires { IsReady self.old }
-        ensures entry { result ≡ choice (topology_of self.old) (sight_by self.old) (Step.Take 0) }
-        ensures held { self.new ≡ after result self.old }
+        ensures entry { result ≡ choice (topology_of self.old) (net_view self.old) (Step.Take 0) }
+        ensures state { self.new ≡ after result self.old }
     {
         let Some(front) = self.host_buffer.front() else {
             return idle(Step::Take(0), Cause::Empty);
@@ -38,7 +38,7 @@ impl Net {
         let _ = self.host_buffer.take_out();
         self.back.leave(front.flits());
         let settled = self.host.settle(&front);
-        took(&settled)
+        took_entry(&settled)
     }
 }
 
@@ -53,14 +53,14 @@ fn hand_given(forth: &mut Wire, given: &Given)
         ..
     } = given
     {
-        request.keeps();
+        request.invariant();
         forth.hand(*packet);
     }
 }
 
-// What the host gave, as an entry.
-fn gave(given: &Given) -> Entry
-    ensures { result ≡ gave 0 given.now }
+// The entry of a give.
+fn gave_entry(given: &Given) -> Entry
+    ensures { result ≡ gave_entry 0 given.now }
 {
     match given {
         Given::Ended => idle(Step::Give(0), Cause::Ended),
@@ -81,9 +81,9 @@ fn gave(given: &Given) -> Entry
     }
 }
 
-// What the host took, as an entry.
-fn took(settled: &Settled) -> Entry
-    ensures { result ≡ took 0 settled.now }
+// The entry of a take.
+fn took_entry(settled: &Settled) -> Entry
+    ensures { result ≡ took_entry 0 settled.now }
 {
     match settled {
         Settled::Discarded => Entry::Discarded { host: 0 },

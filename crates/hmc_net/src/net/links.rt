@@ -5,9 +5,9 @@ ghost use Rattle.hmc_tokens.specs.FlitBuffer.{packets_of, size_of};
 ghost use Rattle.hmc_schedule.specs.declared.step.Step.TheVariants.{Send, Land};
 ghost use Rattle.hmc_journal.specs.Next.{choice};
 ghost use Rattle.hmc_journal.specs.Wires.{flits_in};
-ghost use Rattle.hmc_net.specs.Acts.{packets_in};
-ghost use Rattle.hmc_net.specs.After.{after};
-ghost use Rattle.hmc_net.specs.Held.{topology_of, sight_by};
+ghost use Rattle.hmc_net.specs.Gives.{packets_in};
+ghost use Rattle.hmc_net.specs.Apply.{after};
+ghost use Rattle.hmc_net.specs.NetState.{topology_of, net_view};
 ghost use Rattle.hmc_net.specs.Ready.{IsReady};
 
 use crate::Net;
@@ -20,15 +20,16 @@ impl Net {
     // A flit is sent in a direction.
     pub(crate) fn send(&mut self, direction: u8) -> Entry
         requires { direction < 2 }
-        ensures entry { result ≡ choice (topology_of self.old) (sight_by self.old) (Send direction) }
-        ensures held { self.new ≡ after result self.old }
+        ensures entry { result
+            ≡ choice (topology_of self.old) (net_view self.old) (Send direction) }
+        ensures state { self.new ≡ after result self.old }
     {
         if direction == 0 {
-            let returned = self.back.accepted();
-            self.forth.send(0, returned)
+            let return_pointer = self.back.accepted();
+            self.forth.send(0, return_pointer)
         } else {
-            let returned = self.forth.accepted();
-            self.back.send(1, returned)
+            let return_pointer = self.forth.accepted();
+            self.back.send(1, return_pointer)
         }
     }
 
@@ -36,12 +37,13 @@ impl Net {
     pub(crate) fn land(&mut self, direction: u8, mask: Flit) -> Entry
         requires there { direction < 2 }
         requires ready { IsReady self.old }
-        ensures entry { result ≡ choice (topology_of self.old) (sight_by self.old) (Land direction mask) }
-        ensures held { self.new ≡ after result self.old }
+        ensures entry { result
+            ≡ choice (topology_of self.old) (net_view self.old) (Land direction mask) }
+        ensures state { self.new ≡ after result self.old }
     {
         if direction == 0 {
             let landing = self.forth.land(0, mask);
-            take_in(&mut self.buffer, &landing.packet);
+            take_in(&mut self.port_buffer, &landing.packet);
             landing.entry
         } else {
             let landing = self.back.land(1, mask);

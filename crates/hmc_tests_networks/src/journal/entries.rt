@@ -1,4 +1,4 @@
-//! What was noted, in its order.
+//! The entries of a journal, in their order.
 
 use hmc_codes::Memory;
 use hmc_journal::{Entry, Journal};
@@ -17,7 +17,7 @@ fn are_printed(alloc: Global, journal: &Journal, lines: &str) -> Result<bool, Me
 fn entries_come_in_order(rt: HostRuntime) -> Result<(), Fail> {
     let mut journal = Journal::new(rt.alloc(), 3)?;
     assert!(rt; journal.len() == 0, "none");
-    assert!(rt; journal.entries().is_empty(), "nothing is noted yet");
+    assert!(rt; journal.entries().is_empty(), "nothing has happened yet");
     journal.note(Entry::Discarded { host: 2 });
     journal.note(Entry::Dropped { cube: 1, port: 3 });
     assert!(rt; journal.len() == 2, "two");

@@ -11,7 +11,7 @@ const FLIT: Flit = [
     0xb0, 0, 0, 0x40, 0, 0, 0, 0, 0, 0x02, 0x04, 0, 0x0d, 0x2e, 0xe0, 0x99,
 ];
 
-// Whether entries have these lines, one behind another.
+// Whether entries have these lines, one after another.
 fn are_lines(alloc: Global, entries: &[Entry], wanted: &str) -> Result<bool, Memory> {
     let mut lines = String::new(alloc);
     for entry in entries {
@@ -20,7 +20,7 @@ fn are_lines(alloc: Global, entries: &[Entry], wanted: &str) -> Result<bool, Mem
     Ok(lines.as_str() == wanted)
 }
 
-#[tactic(auto, unfolding(hmc_codes::specs::Table::line_of))]
+#[tactic(auto, unfolding(hmc_codes::specs::Table::table_line))]
 fn read() -> Request {
     Request {
         command: Command::Rd16,
@@ -30,7 +30,7 @@ fn read() -> Request {
     }
 }
 
-#[tactic(auto, unfolding(hmc_codes::specs::Table::line_of))]
+#[tactic(auto, unfolding(hmc_codes::specs::Table::table_line))]
 fn posted() -> Request {
     Request {
         command: Command::Pinc8,
@@ -40,7 +40,7 @@ fn posted() -> Request {
     }
 }
 
-#[tactic(auto, unfolding(hmc_codes::specs::Table::line_of))]
+#[tactic(auto, unfolding(hmc_codes::specs::Table::table_line))]
 fn load() -> Request {
     Request {
         command: Command::Mdrd,
@@ -260,21 +260,21 @@ fn idle_steps(rt: HostRuntime) -> Result<(), Fail> {
     Ok(())
 }
 
-// The text with the entry's line behind it.
-fn printed_behind(alloc: Global, text: &str, entry: &Entry) -> Result<String, Memory> {
+// The text with the entry's line appended.
+fn printed_after(alloc: Global, text: &str, entry: &Entry) -> Result<String, Memory> {
     let mut text = String::from_str(alloc, text)?;
     entry.print(alloc, &mut text)?;
     Ok(text)
 }
 
 #[test]
-fn a_line_is_printed_behind_what_was_there(rt: HostRuntime) -> Result<(), Fail> {
+fn a_line_is_printed_after_what_was_there(rt: HostRuntime) -> Result<(), Fail> {
     let entry = Entry::Took {
         host: 0,
         tag: 0,
         answer: Answer::Stored,
     };
-    let text = printed_behind(rt.alloc(), "before\n", &entry)?;
+    let text = printed_after(rt.alloc(), "before\n", &entry)?;
     assert!(rt; text.as_str() == "before\ntook 0 0 stored\n", "{text}");
     Ok(())
 }

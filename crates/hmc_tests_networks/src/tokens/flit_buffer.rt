@@ -7,7 +7,7 @@ use std::process::Abort;
 use std::test::Fail;
 
 // A write of 16 bytes under this tag.
-#[tactic(auto, unfolding(hmc_codes::specs::Table::line_of))]
+#[tactic(auto, unfolding(hmc_codes::specs::Table::table_line))]
 fn write(payload: Payload, tag: u16) -> Packet
     requires bytes { length payload ≡ 16 }
     requires tag { tag < 2 ^ 11 }

@@ -6,8 +6,8 @@ use hmc_tokens::{Intake, Moved, Queue, move_one};
 use std::process::Abort;
 use std::test::Fail;
 
-// A read that its tag tells from others.
-#[tactic(auto, unfolding(hmc_codes::specs::Table::line_of))]
+// A read with a tag of its own.
+#[tactic(auto, unfolding(hmc_codes::specs::Table::table_line))]
 fn read_with(tag: u16) -> Packet
     requires { tag < 2 ^ 11 }
 {
@@ -71,5 +71,38 @@ fn moves(rt: HostRuntime) -> Result<(), Fail> {
     assert_moves(&rt, &mut from, &mut to);
     assert!(rt; from.used() == 1, "left");
     assert_leaves(&rt, &mut to);
+    Ok(())
+}
+
+// Two packets come, and the first leaves; two more fill the queue, and a fifth has no room.
+fn fills(queue: &mut Queue, tag: u16) -> bool
+    requires { tag < 2 ^ 10 }
+{
+    put(queue, read_with(tag))
+        && put(queue, read_with(tag + 1))
+        && leaves(queue, Some(tag))
+        && put(queue, read_with(tag + 2))
+        && put(queue, read_with(tag + 3))
+        && !put(queue, read_with(tag))
+}
+
+// The other three leave in their order.
+fn empties(queue: &mut Queue, tag: u16) -> bool
+    requires { tag < 2 ^ 10 }
+{
+    leaves(queue, Some(tag + 1))
+        && leaves(queue, Some(tag + 2))
+        && leaves(queue, Some(tag + 3))
+        && leaves(queue, None)
+}
+
+// A queue of three keeps the order ten times round, from a further place each time.
+#[test]
+fn ten_times_round(rt: HostRuntime) -> Result<(), Fail> {
+    let mut queue = Queue::new(rt.alloc(), 3)?;
+    for tag in 0..10 {
+        assert!(rt; fills(&mut queue, tag), "round {tag} fills");
+        assert!(rt; empties(&mut queue, tag), "round {tag} empties");
+    }
     Ok(())
 }

@@ -34,24 +34,24 @@ Eq8 Eq8 half
 Swap16 Swap16 block
 ";
 
-fn add_line(told: &mut String, command: Command, op: Atomic) -> Result<(), AllocError> {
+fn add_line(lines: &mut String, command: Command, op: Atomic) -> Result<(), AllocError> {
     let part = if op.by_halves() { "half" } else { "block" };
-    writeln!(told, "{command:?} {op:?} {part}")
+    writeln!(lines, "{command:?} {op:?} {part}")
 }
 
 fn operations(alloc: Global) -> Result<String, AllocError> {
-    let mut told = String::new(alloc);
+    let mut lines = String::new(alloc);
     for command in COMMANDS {
         if let Some(op) = Atomic::of(command) {
-            add_line(&mut told, command, op)?;
+            add_line(&mut lines, command, op)?;
         }
     }
-    Ok(told)
+    Ok(lines)
 }
 
 #[test]
 fn operations_of_commands(rt: HostRuntime) -> Result<(), Fail> {
-    let told = operations(rt.alloc())?;
-    assert!(rt; told.as_str() == OPERATIONS, "{told}");
+    let lines = operations(rt.alloc())?;
+    assert!(rt; lines.as_str() == OPERATIONS, "{lines}");
     Ok(())
 }

@@ -6,9 +6,9 @@ mod halves;
 use hmc_atomics::{Atomic, act};
 use std::process::Abort;
 
-// An operation, whether the high half is acted on, block and operand; the new block, the answer and the flag. All are
-// numbers of 128 bits, lowest byte first. The last three were worked out in whole numbers of any size, by a script that
-// follows the table of operations.
+// An operation, whether it acts on the high half, block and operand; then the new block, the answer
+// and the flag. Blocks are numbers of 128 bits, lowest byte first. The last three were computed in
+// whole numbers of any size, by a script that follows the table of operations.
 type Row = (Atomic, bool, u128, u128, u128, u128, bool);
 
 fn is_acted(op: Atomic, high: bool, numbers: [u128; 4], flag: bool) -> bool {

@@ -12,7 +12,7 @@ const CODES: [u8; 71] = [
     119, 120,
 ];
 
-// Whether the code is that of a command, if it is in the list, and of none if not.
+// Whether the code is that of a command if it is in the list, and of no command if not.
 fn is_listed(code: u8) -> bool {
     match Command::from_code(code) {
         Some(command) => CODES.contains(&code) && command.code() == code,
@@ -27,7 +27,8 @@ fn codes_of_commands_and_no_others(rt: HostRuntime) {
     }
 }
 
-// Commands of every kind: code, name, word, family and layout, the word of the answer, and how many flits packets have.
+// Commands of every kind: code, name, word, family and layout, the word of the response, and the
+// lengths of packets in flits.
 const LINES: &str = "\
 0 Null null Flow Null - 1
 1 Pret pret Flow Pret - 1
@@ -96,7 +97,7 @@ fn command_of(line: &str) -> Option<Command> {
     Command::from_code(code)
 }
 
-fn is_told(alloc: Global, line: &str) -> Result<bool, AllocError> {
+fn is_line(alloc: Global, line: &str) -> Result<bool, AllocError> {
     match command_of(line) {
         Some(command) => Ok(line_of(alloc, command)?.as_str() == line),
         None => Ok(false),
@@ -106,7 +107,7 @@ fn is_told(alloc: Global, line: &str) -> Result<bool, AllocError> {
 #[test]
 fn commands_of_every_kind(rt: HostRuntime) -> Result<(), Fail> {
     for line in LINES.lines() {
-        assert!(rt; is_told(rt.alloc(), line)?, "{line}");
+        assert!(rt; is_line(rt.alloc(), line)?, "{line}");
     }
     Ok(())
 }
@@ -128,7 +129,8 @@ const PAYLOADS: [(Command, usize); 14] = [
     (Command::MdRdRs, 16),
 ];
 
-// What a request carries; of a command that asks nothing, what its packets do where they have one length.
+// The payload of a request. Of a command that isn't a request's, the payload of its packets if they
+// have one length.
 #[test]
 fn payloads(rt: HostRuntime) {
     for (command, len) in &PAYLOADS {

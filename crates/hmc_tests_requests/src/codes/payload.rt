@@ -2,8 +2,8 @@
 
 use hmc_codes::Payload;
 
-// Whether these bytes make a payload, which has them.
-fn is_held(bytes: &[u8]) -> bool {
+// Whether these bytes are a payload of these bytes.
+fn is_payload(bytes: &[u8]) -> bool {
     match Payload::from_slice(bytes) {
         Some(payload) => {
             payload.as_slice() == bytes
@@ -21,7 +21,7 @@ fn at_most_256_bytes(rt: HostRuntime) {
         *byte = (255 - at % 251) as u8;
     }
     for len in [0, 1, 16, 255, 256] {
-        assert!(rt; is_held(&bytes[..len]), "{len} bytes");
+        assert!(rt; is_payload(&bytes[..len]), "{len} bytes");
     }
     assert!(rt; Payload::from_slice(&bytes).is_none(), "257 bytes");
     assert!(rt; Payload::empty().len() == 0, "no bytes");

@@ -9,7 +9,7 @@ const BYTES: [u8; 16] = [
     0x78, 0x56, 0x34, 0x12, 0x00, 0x0f, 0xf0, 0xff, 0xab, 0xcd, 0xef, 0x01, 0x09, 0x90, 0xa0, 0x0a,
 ];
 
-fn is_told(alloc: Global, request: Option<Request>, text: &str) -> Result<bool, Memory> {
+fn has_text(alloc: Global, request: Option<Request>, text: &str) -> Result<bool, Memory> {
     match request {
         Some(request) => Ok(request.text(alloc)?.as_str() == text),
         None => Ok(false),
@@ -34,7 +34,7 @@ const REQUESTS: [(Command, u8, u64, &[u8], &str); 4] = [
 fn requests(rt: HostRuntime) -> Result<(), Fail> {
     for (command, cube, address, bytes, text) in &REQUESTS {
         let request = request(*command, *cube, *address, bytes);
-        assert!(rt; is_told(rt.alloc(), request, text)?, "the text {text}");
+        assert!(rt; has_text(rt.alloc(), request, text)?, "the text {text}");
     }
     Ok(())
 }
@@ -43,13 +43,13 @@ fn requests(rt: HostRuntime) -> Result<(), Fail> {
 fn register_writes(rt: HostRuntime) -> Result<(), Fail> {
     let store = register_write(2, 4, [0x78, 0x56, 0x34, 0x12]);
     assert!(rt;
-        is_told(rt.alloc(), store, "mdwr 2 0x4 305419896")?,
+        has_text(rt.alloc(), store, "mdwr 2 0x4 305419896")?,
         "a store"
     );
     Ok(())
 }
 
-fn is_answered(alloc: Global, answer: &Answer, text: &str) -> Result<bool, Memory> {
+fn has_answer_text(alloc: Global, answer: &Answer, text: &str) -> Result<bool, Memory> {
     Ok(answer.text(alloc)?.as_str() == text)
 }
 
@@ -66,7 +66,10 @@ const ANSWERS: [(Answer, &str); 7] = [
 #[test]
 fn answers(rt: HostRuntime) -> Result<(), Fail> {
     for (answer, text) in &ANSWERS {
-        assert!(rt; is_answered(rt.alloc(), answer, text)?, "the text {text}");
+        assert!(rt;
+            has_answer_text(rt.alloc(), answer, text)?,
+            "the text {text}"
+        );
     }
     Ok(())
 }
@@ -79,7 +82,10 @@ fn answers_with_bytes(rt: HostRuntime) -> Result<(), Fail> {
         (true, "read 1 78563412000ff0ffabcdef010990a00a"),
     ] {
         let answer = Answer::Read { flag, payload };
-        assert!(rt; is_answered(rt.alloc(), &answer, text)?, "the text {text}");
+        assert!(rt;
+            has_answer_text(rt.alloc(), &answer, text)?,
+            "the text {text}"
+        );
     }
     Ok(())
 }

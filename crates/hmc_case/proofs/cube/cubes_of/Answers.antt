@@ -1,13 +1,13 @@
 use Rattle.std.proofs.Common.{◌∙◌, sym, ap, Vec, Global, get_or, arith}
 use Rattle.hmc_case.proofs.InTurnLemmas.{in_turn-ok, in_turn-err, in_turn-end, Gains-length}
 use Rattle.hmc_case.specs.Cubes.{next_cube, cubes_of}
-use Rattle.hmc_case.specs.Setup.{CubeFields}
+use Rattle.hmc_case.specs.Setup.{CubeSetupFields}
 use Rattle.toml.specs.View.{view, array_view}
 use Rattle.hmc_case.proofs.cube.cubes_of.Goals as goal
 
 pub returns-in-Err-clause-value : goal.returns-in-Err-clause-value
 returns-in-Err-clause-value c =
-    in_turn-err (λ (cubes : Vec CubeFields Global). cubes.items) next_cube c.args.values.now.items c.values.value-index c.value-item.result c.values.cubes.items c.read_cube.new.cubes.items c.in-Err.fault (cubes_of (array_view c.args.values.now))
+    in_turn-err (λ (cubes : Vec CubeSetupFields Global). cubes.items) next_cube c.args.values.now.items c.values.value-index c.value-item.result c.values.cubes.items c.read_cube.new.cubes.items c.in-Err.fault (cubes_of (array_view c.args.values.now))
     (omega arith) (c.value-item.is ∙ ap (λ vs. get_or vs c.values.value-index c.value-item.result) c.deref-value-items.ensures.value) c.in-Err.ensures c.values.invariant.so_far
 
 pub values-preserved : goal.values-preserved

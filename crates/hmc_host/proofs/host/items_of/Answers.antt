@@ -12,4 +12,4 @@ loop-at-preserved c =
     ]
 
 pub returns-clause-few : goal.returns-clause-few
-returns-clause-few c = few_items c.args.number c.args.script.now _ _ c.loop-at.invariant c.keeps.ensures.few
+returns-clause-few c = few_items c.args.number c.args.script.now _ _ c.loop-at.invariant c.invariant.ensures.few

@@ -12,4 +12,4 @@ pub returns-clause-few : goal.returns-clause-few
 returns-clause-few c = λ p is. (flits_of-few p is).1
 
 pub returns-clause-flits : goal.returns-clause-flits
-returns-clause-flits c = λ p rrp k is lt. AreFlits-spelling p rrp is k lt
+returns-clause-flits c = λ profile p rrp k is lt. AreFlits-spelling profile p rrp is k lt

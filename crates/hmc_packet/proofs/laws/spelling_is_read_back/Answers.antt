@@ -6,7 +6,7 @@ pub returns-clause-read : goal.returns-clause-read
 returns-clause-read c = read_of-spelling
 
 pub returns-clause-packet : goal.returns-clause-packet
-returns-clause-packet c = λ p q r s is-p pointer-p is-q pointer-q same. (spelling-injective p q r s is-p pointer-p is-q pointer-q same).0
+returns-clause-packet c = λ profile p q r s is-p pointer-p is-q pointer-q same. (spelling-injective profile p q r s is-p pointer-p is-q pointer-q same).0
 
 pub returns-clause-pointer : goal.returns-clause-pointer
-returns-clause-pointer c = λ p q r s is-p pointer-p is-q pointer-q same. (spelling-injective p q r s is-p pointer-p is-q pointer-q same).1
+returns-clause-pointer c = λ profile p q r s is-p pointer-p is-q pointer-q same. (spelling-injective profile p q r s is-p pointer-p is-q pointer-q same).1

@@ -9,7 +9,7 @@ use Rattle.hmc_packet.proofs.reading.read_all.Goals as goal
 
 pub returns-then-is_null_alone-clause-found : goal.returns-then-is_null_alone-clause-found
 returns-then-is_null_alone-clause-found c =
-    subst (λ (p : PacketFields). IsSpelled c.args.flits.now (record { packet = p; rrp = 0 })) (sym c.null.ensures) (null_is_spelled c.args.flits.now (sym c.if-is_null_alone.ensures))
+    subst (λ (p : PacketFields). IsSpelled c.args.profile c.args.flits.now (record { packet = p; rrp = 0 })) (sym c.null.ensures) (null_is_spelled c.args.profile c.args.flits.now (sym c.if-is_null_alone.ensures))
 
 pub joined-requires : goal.joined-requires
 joined-requires c = (has_length-few c.args.flits.now c.told-flits (sym c.if-not-has_length.ensures)).1
@@ -26,4 +26,4 @@ bytes_read-requires-clause-whole c =
 
 pub returns-clause-found : goal.returns-clause-found
 returns-clause-found c =
-    bytes-spelled c.args.flits.now c.as_slice.result.now c.bytes_read.result c.told-flits (c.as_slice.ensures.value ∙ c.joined.ensures.bytes) c.bytes_read.ensures.found
+    bytes-spelled c.args.profile c.args.flits.now c.as_slice.result.now c.bytes_read.result c.told-flits (c.as_slice.ensures.value ∙ c.joined.ensures.bytes) c.bytes_read.ensures.found

@@ -11,4 +11,4 @@ pack-header-requires c =
 
 pub pack-tail-requires : goal.pack-tail-requires
 pack-tail-requires c =
-    subst IsTail (sym c.tail_of_packet.ensures) (IsTail-fields c.args.packet.now c.args.rrp (subst IsPacket c.packet.view_is c.packet.invariant) c.requires)
+    subst (IsTail c.args.profile) (sym c.tail_of_packet.ensures) (IsTail-fields c.args.profile c.args.packet.now c.args.rrp (subst IsPacket c.packet.view_is c.packet.invariant) c.requires)

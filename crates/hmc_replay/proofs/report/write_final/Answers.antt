@@ -1,12 +1,11 @@
-use Rattle.std.proofs.Common.{refl}
-use Rattle.hmc_replay.proofs.Writing.{on_err, on_ok_by, on_err_by, front_of_first, front_of_second, both_written}
+use Rattle.hmc_replay.proofs.Writing.{passed_on, Err-more, Writes-after}
 use Rattle.hmc_replay.proofs.report.write_final.Goals as goal
 
-pub returns-in_err-write_memory-clause-front : goal.returns-in_err-write_memory-clause-front
-returns-in_err-write_memory-clause-front g c = on_err _ (front_of_first _ _ _ _ _ refl c.in_err-write_memory.ensures.front)
+pub returns-in_err-write_registers : goal.returns-in_err-write_registers
+returns-in_err-write_registers g c = Writes-after _ _ _ _ _ c.from_residual-in_err-write_registers.result c.in_ok-write_memory.ensures
+    (passed_on _ _ _ c.in_err-write_registers.field-0.0 c.from_residual-in_err-write_registers.result c.from_residual-in_err-write_registers.ensures.1
+    (Err-more _ _ _ _ c.in_err-write_registers.field-0.0 c.in_err-write_registers.ensures))
 
-pub returns-clause-written : goal.returns-clause-written
-returns-clause-written g c = on_ok_by _ (both_written _ _ _ _ _ _ refl c.in_ok-write_memory.ensures.written) c.write_registers_and_counts.ensures.written
-
-pub returns-clause-front : goal.returns-clause-front
-returns-clause-front g c = on_err_by _ (front_of_second _ _ _ _ _ _ refl c.in_ok-write_memory.ensures.written) c.write_registers_and_counts.ensures.front
+pub returns : goal.returns
+returns g c = Writes-after _ _ _ _ _ c.write_ending.result c.in_ok-write_memory.ensures
+    (Writes-after _ _ _ _ _ c.write_ending.result c.in_ok-write_registers.ensures c.write_ending.ensures)

@@ -1,10 +1,10 @@
--- Where the words are no defined form, nothing comes.
-use Rattle.std.proofs.Common.{◌∙◌, Err, ap}
-use Rattle.hmc_replay.proofs.Outputs.{came_none, answered_none}
+-- By the words, and then by the result of the run.
+use Rattle.std.proofs.Common.{◌∙◌, sym}
+use Rattle.hmc_replay.proofs.Replays.{replayed_none, replayed_of}
 use Rattle.hmc_replay.proofs.top.replay.Goals as goal
 
-pub returns-then-not-is_run-clause-first_part : goal.returns-then-not-is_run-clause-first_part
-returns-then-not-is_run-clause-first_part g c = answered_none _ _ _ (came_none _ _)
+pub returns-then-not-is_run : goal.returns-then-not-is_run
+returns-then-not-is_run g c = replayed_none g.S.Source.shows g.O.Sink.shows _ _ _ (sym c.is_run.ensures ∙ c.if-not-is_run.true)
 
-pub returns-in-Err-TooLong-clause-too_long : goal.returns-in-Err-TooLong-clause-too_long
-returns-in-Err-TooLong-clause-too_long g c = λ five. c.run.ensures.too_long (c.in-Err-TooLong.is ∙ ap Err c.in-Err-TooLong.field-0-is)
+pub returns : goal.returns
+returns g c = replayed_of g.S.Source.shows g.O.Sink.shows _ _ _ _ _ c.run.result _ (sym c.is_run.ensures ∙ c.if-not-is_run.false) c.status_of.ensures c.run.ensures

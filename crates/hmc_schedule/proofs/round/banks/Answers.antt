@@ -1,6 +1,6 @@
 use Rattle.std.proofs.Common.{ℕ, map}
 use Rattle.hmc_schedule.specs.declared.step.Step.TheVariants.{Bank}
-use Rattle.hmc_schedule.specs.Round.{upto}
+use Rattle.hmc_codes.specs.Numbers.{upto}
 use Rattle.hmc_schedule.proofs.RoundLemmas.{one_more}
 use Rattle.hmc_schedule.proofs.round.banks.Goals as goal
 

@@ -1,7 +1,7 @@
 use Rattle.std.proofs.Common.{◌≡◌, map}
 use Rattle.std.specs.List.{flat_map}
 use Rattle.hmc_schedule.specs.declared.step.Step.TheVariants.{Bank}
-use Rattle.hmc_schedule.specs.Round.{upto}
+use Rattle.hmc_codes.specs.Numbers.{upto}
 use Rattle.hmc_schedule.proofs.round.banks.Given as goal
 
 abbrev pub invariant-loop-vault : goal.invariant-loop-vault

@@ -1,5 +1,5 @@
 use Rattle.std.proofs.Common.{◌∙◌, length, take, ap, sym, arith}
-use Rattle.hmc_codes.specs.Bytes.{padded}
+use Rattle.hmc_codes.specs.Bytes.{padded_bytes}
 use Rattle.hmc_codes.specs.Padding.{take-padded}
 use Rattle.hmc_codes.proofs.payload.Payload.from_slice.Goals as goal
 
@@ -10,4 +10,4 @@ returns-clause-bytes c =
 pub invariant_of-result : goal.invariant_of-result
 invariant_of-result c =
     let front = ap (take (length c.args.bytes.now)) c.array_of.ensures.bytes ∙ take-padded 256 c.args.bytes.now in
-    (omega arith, c.array_of.ensures.bytes ∙ ap (padded 256) (sym front), c.array_of.ensures.are_bytes)
+    (omega arith, c.array_of.ensures.bytes ∙ ap (padded_bytes 256) (sym front), c.array_of.ensures.are_bytes)

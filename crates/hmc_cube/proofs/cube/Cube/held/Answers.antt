@@ -7,16 +7,16 @@ use Rattle.hmc_cube.proofs.CubeLemmas.{few_vaults, few_used}
 use Rattle.hmc_cube.proofs.cube.Cube.held.Goals as goal
 
 pub held_in-requires : goal.held_in-requires
-held_in-requires c = omega (arith, ap length c.deref.ensures.value, few_vaults c.self.inside.banks.shape c.self.inside.vaults.items c.self.inside.waiting c.self.inside.answers c.self.invariant)
+held_in-requires c = omega (arith, ap length c.deref.ensures.value, few_vaults c.self.inside.banks.shape c.self.inside.vaults.items c.self.inside.register_queue c.self.inside.answers c.self.invariant)
 
 pub overflow_add-result : goal.overflow_add-result
-overflow_add-result c = omega (arith, few_used c.self.inside.waiting c.used.result c.used.ensures c.self.invariant.small, c.held_in.ensures.few)
+overflow_add-result c = omega (arith, few_used c.self.inside.register_queue c.used.result c.used.ensures c.self.invariant.small, c.held_in.ensures.few)
 
 pub overflow_add-result-2 : goal.overflow_add-result-2
 overflow_add-result-2 c =
     let last : c.used-2.result ≤ 255 = few_used c.self.inside.answers c.used-2.result c.used-2.ensures (omega (arith, c.self.invariant.answers_size, c.self.invariant.small)) in
-    omega (arith, few_used c.self.inside.waiting c.used.result c.used.ensures c.self.invariant.small, c.held_in.ensures.few)
+    omega (arith, few_used c.self.inside.register_queue c.used.result c.used.ensures c.self.invariant.small, c.held_in.ensures.few)
 
 pub returns : goal.returns
 returns c =
-    omega (arith, all_cost_one (packets_of c.self.inside.waiting), all_cost_one (packets_of c.self.inside.answers), c.used.ensures, c.used-2.ensures, c.held_in.ensures.held, ap (sum_by held_by) c.deref.ensures.value, ap held_in_cube c.self.view_is)
+    omega (arith, all_cost_one (packets_of c.self.inside.register_queue), all_cost_one (packets_of c.self.inside.answers), c.used.ensures, c.used-2.ensures, c.held_in.ensures.held, ap (sum_by held_by) c.deref.ensures.value, ap held_in_cube c.self.view_is)

@@ -1,6 +1,11 @@
-use Rattle.std.proofs.Common.{◌∙◌}
+use Rattle.std.proofs.Common.{◌∙◌, arith}
+use Rattle.hmc_memory.proofs.KeptLemmas.{slot_inside}
 use Rattle.hmc_memory.proofs.Calls.{Found, block_fits, block_is}
 use Rattle.hmc_memory.proofs.banks.Banks.get16.Goals as goal
+
+pub index-requires : goal.index-requires
+index-requires c =
+    omega (arith, slot_inside c.self.inside.shape c.self.inside.banks.items c.args.place c.self.invariant.are_banks, c.of-slot.ensures.bank, c.self.inside.banks.ok.0)
 
 pub get16-requires : goal.get16-requires
 get16-requires c =

@@ -1,17 +1,17 @@
 -- An execution by a bank is an entry.
 use Rattle.std.proofs.Common.{◌≡◌, ◌∙◌, ap, subst}
 use Rattle.hmc_cube.specs.After.{bank_says, after_execute}
-use Rattle.hmc_net.specs.Held.{NetFields}
+use Rattle.hmc_net.specs.NetState.{NetState}
 use Rattle.hmc_net.proofs.CubeChoices.{bank_entry, bank_held}
 use Rattle.hmc_net.proofs.net.Net.bank.Goals as goal
 
 pub returns-clause-entry : goal.returns-clause-entry
 returns-clause-entry c =
-    bank_entry c.args.self.now c.args.vault c.args.bank c.execute-ran.result c.ran_by.result (subst (λ (n : NetFields). n.cube.size ≡ n.setup.queue) c.self.view_is c.self.invariant.queue) c.requires.ready
-    (c.execute-ran.ensures.answer ∙ ap (λ (n : NetFields). bank_says n.cube c.args.vault c.args.bank) c.self.view_is) c.ran_by.ensures
+    bank_entry c.args.self.now c.args.vault c.args.bank c.execute-ran.result c.ran_entry.result (subst (λ (n : NetState). n.cube.size ≡ n.setup.queue) c.self.view_is c.self.invariant.queue) c.requires.ready
+    (c.execute-ran.ensures.answer ∙ ap (λ (n : NetState). bank_says n.cube c.args.vault c.args.bank) c.self.view_is) c.ran_entry.ensures
 
-pub returns-clause-held : goal.returns-clause-held
-returns-clause-held c =
-    ap (λ (n : NetFields). record n { cube = c.execute-ran.new.self }) c.self.view_is ∙
-    bank_held c.args.self.now c.args.vault c.args.bank c.execute-ran.new.self c.execute-ran.result c.ran_by.result
-    (c.execute-ran.ensures.leaves ∙ ap (λ (n : NetFields). after_execute c.args.vault c.args.bank c.execute-ran.result n.cube) c.self.view_is) c.ran_by.ensures
+pub returns-clause-state : goal.returns-clause-state
+returns-clause-state c =
+    ap (λ (n : NetState). record n { cube = c.execute-ran.new.self }) c.self.view_is ∙
+    bank_held c.args.self.now c.args.vault c.args.bank c.execute-ran.new.self c.execute-ran.result c.ran_entry.result
+    (c.execute-ran.ensures.leaves ∙ ap (λ (n : NetState). after_execute c.args.vault c.args.bank c.execute-ran.result n.cube) c.self.view_is) c.ran_entry.ensures

@@ -3,4 +3,4 @@ use Rattle.hmc_net.proofs.Stillness.{drained_test}
 use Rattle.hmc_net.proofs.net.Net.drained.Goals as goal
 
 pub returns : goal.returns
-returns c = λ setup stands. drained_test c.args.self.now setup c.is_still.result stands c.is_still.ensures
+returns c = λ setup stands. drained_test c.args.self.now setup c.is_quiescent.result stands c.is_quiescent.ensures

@@ -2,23 +2,23 @@
 use Rattle.std.proofs.Common.{◌∙◌, ap, sym}
 use Rattle.std.specs.Prelude.{drop, slice_get}
 use Rattle.hmc_tokens.specs.FlitBuffer.{packets_of}
-use Rattle.hmc_net.specs.Held.{NetFields}
+use Rattle.hmc_net.specs.NetState.{NetState}
 use Rattle.hmc_host.specs.Settle.{after_settle}
-use Rattle.hmc_net.specs.Wire.{released}
+use Rattle.hmc_net.specs.Wire.{without_flits}
 use Rattle.hmc_net.proofs.Choices.{take_entry, take_held, take_none}
 use Rattle.hmc_net.proofs.net.Net.take.Goals as goal
 
 pub returns-in_default-clause-entry : goal.returns-in_default-clause-entry
-returns-in_default-clause-entry c = take_none c.args.self.now c.idle.result (ap (λ (n : NetFields). slice_get n.host_buffer 0) (sym c.self.view_is) ∙ sym c.front.ensures ∙ c.in_default.is) c.idle.ensures
+returns-in_default-clause-entry c = take_none c.args.self.now c.idle.result (ap (λ (n : NetState). slice_get n.host_buffer 0) (sym c.self.view_is) ∙ sym c.front.ensures ∙ c.in_default.is) c.idle.ensures
 
 pub returns-clause-entry : goal.returns-clause-entry
-returns-clause-entry c = take_entry c.args.self.now c.in-Some.front c.settle-settled.result c.took.result (ap (λ (n : NetFields). slice_get n.host_buffer 0) (sym c.self.view_is) ∙ sym c.front.ensures ∙ c.in-Some.is) c.settle-settled.ensures.answer c.took.ensures
+returns-clause-entry c = take_entry c.args.self.now c.in-Some.front c.settle-settled.result c.took_entry.result (ap (λ (n : NetState). slice_get n.host_buffer 0) (sym c.self.view_is) ∙ sym c.front.ensures ∙ c.in-Some.is) c.settle-settled.ensures.answer c.took_entry.ensures
 
-pub returns-clause-held : goal.returns-clause-held
-returns-clause-held c =
-    ap (λ (n : NetFields). record n { host = c.settle-settled.new.self; host_buffer = packets_of c.take_out.new.self; back = c.leave.new.self }) c.self.view_is ∙
-    take_held c.args.self.now c.settle-settled.new.self (packets_of c.take_out.new.self) c.leave.new.self c.in-Some.front c.flits.result c.settle-settled.result c.took.result
-    (ap (λ (n : NetFields). slice_get n.host_buffer 0) (sym c.self.view_is) ∙ sym c.front.ensures ∙ c.in-Some.is)
-    (c.settle-settled.ensures.leaves ∙ ap (λ (n : NetFields). after_settle c.settle-settled.result n.host) c.self.view_is)
-    (c.take_out.ensures.rest ∙ ap (λ (n : NetFields). drop 1 n.host_buffer) c.self.view_is) c.flits.ensures.value
-    (c.leave.ensures ∙ ap (λ (n : NetFields). released c.flits.result n.back) c.self.view_is) c.took.ensures
+pub returns-clause-state : goal.returns-clause-state
+returns-clause-state c =
+    ap (λ (n : NetState). record n { host = c.settle-settled.new.self; host_buffer = packets_of c.take_out.new.self; back = c.leave.new.self }) c.self.view_is ∙
+    take_held c.args.self.now c.settle-settled.new.self (packets_of c.take_out.new.self) c.leave.new.self c.in-Some.front c.flits.result c.settle-settled.result c.took_entry.result
+    (ap (λ (n : NetState). slice_get n.host_buffer 0) (sym c.self.view_is) ∙ sym c.front.ensures ∙ c.in-Some.is)
+    (c.settle-settled.ensures.leaves ∙ ap (λ (n : NetState). after_settle c.settle-settled.result n.host) c.self.view_is)
+    (c.take_out.ensures.rest ∙ ap (λ (n : NetState). drop 1 n.host_buffer) c.self.view_is) c.flits.ensures.value
+    (c.leave.ensures ∙ ap (λ (n : NetState). without_flits c.flits.result n.back) c.self.view_is) c.took_entry.ensures

@@ -1,5 +1,6 @@
 use Rattle.std.proofs.Common.{◌≡◌, ◌≤◌, [], length}
 use Rattle.std.specs.List.{All}
+use Rattle.hmc_codes.specs.Limits.{most_steps}
 use Rattle.hmc_text.proofs.InTurnLemmas.{after_left}
 use Rattle.hmc_text.specs.InTurn.{after_lines}
 use Rattle.hmc_text.specs.Lines.{lines_of}
@@ -10,7 +11,7 @@ use Rattle.hmc_schedule.proofs.schedule.Schedule.parse.Given as goal
 abbrev pub invariant-lines : goal.invariant-lines
 invariant-lines l = record {
   rest : after_left (after_line l.plan) l.steps.items l.left ≡ after_lines (after_line l.plan) 1 [] (lines_of l.fn.text);
-  few : length l.steps.items ≤ 1000000;
+  few : length l.steps.items ≤ most_steps;
   works : All (IsWorking l.plan) l.steps.items;
 }
 

@@ -11,7 +11,7 @@ loop-number-preserved c =
     let made : c.push.new.self.items ≡ cubes ++ c.in_ok-cube.cube ∷ [] = pushed (c.in_ok-cube.cube ∷ []) refl c.in_ok-push.was c.push.ensures.items in (
       made ∙ ap (λ x. cubes ++ x ∷ []) c.in_ok-cube.ensures
           ∙ one_more_cube c.args.shapes.now cubes c.loop-number.number c.index-shapes-number.result c.loop-number-test.true c.index-shapes-number.is c.loop-number.invariant.0,
-      All-same IsCube _ _ made (All-push IsCube cubes c.in_ok-cube.cube c.loop-number.invariant.1 c.keeps.ensures),
+      All-same IsCube _ _ made (All-push IsCube cubes c.in_ok-cube.cube c.loop-number.invariant.1 c.invariant.ensures),
     )
 
 pub invariant_of-result : goal.invariant_of-result

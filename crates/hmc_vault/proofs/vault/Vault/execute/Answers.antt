@@ -1,6 +1,6 @@
 -- The execution of the front of a bank's queue.
 use Rattle.std.proofs.Common.{◌≡◌, ◌<◌, ◌∙◌, length, set, refl, sym, ap, subst}
-use Rattle.hmc_vault.specs.Kept.{vault_of}
+use Rattle.hmc_vault.specs.Kept.{vault_of_queues}
 use Rattle.hmc_tokens.specs.Queue.{packets_of}
 use Rattle.hmc_vault.specs.Packets.{IsForBanks}
 use Rattle.hmc_vault.specs.Vault.{VaultFields, bank_at}
@@ -10,7 +10,7 @@ use Rattle.hmc_vault.proofs.ExecuteLemmas.{waiting_all, execution_gives, banks_o
 use Rattle.hmc_vault.proofs.vault.Vault.execute.Goals as goal
 
 -- the queue of the bank
-read : (c : goal.After-self-1) → IsRead c.self.inside.entering c.self.inside.banks.items c.self.inside.answers c.args.self.now c.from.result c.index_mut-waiting.result.now
+read : (c : goal.After-self-1) → IsRead c.self.inside.vault_queue c.self.inside.banks.items c.self.inside.answers c.args.self.now c.from.result c.index_mut-waiting.result.now
 read c = record {
   kept = c.self.invariant;
   view_is = c.self.view_is;
@@ -20,22 +20,22 @@ read c = record {
 
 pub invariant_of-self : goal.invariant_of-self
 invariant_of-self c =
-    let queue = read_is_bank_queue c.self.inside.entering c.self.inside.banks.items c.self.inside.answers c.args.self.now c.from.result c.index_mut-waiting.result.now (read c) in
-    kept_bank c.self.inside.entering c.self.inside.banks.items c.self.inside.answers c.execute_front.new.answers c.from.result c.execute_front.new.waiting c.self.invariant c.execute_front.ensures.answers_size
+    let queue = read_is_bank_queue c.self.inside.vault_queue c.self.inside.banks.items c.self.inside.answers c.args.self.now c.from.result c.index_mut-waiting.result.now (read c) in
+    kept_bank c.self.inside.vault_queue c.self.inside.banks.items c.self.inside.answers c.execute_front.new.answers c.from.result c.execute_front.new.waiting c.self.invariant c.execute_front.ensures.answers_size
     (record {
       size = c.execute_front.ensures.waiting_size ∙ queue.size;
       requests = waiting_all IsForBanks c.execute_front.result (packets_of c.index_mut-waiting.result.now) (packets_of c.execute_front.new.waiting) c.execute_front.ensures.waiting queue.requests;
     })
 
-gives : (c : goal.After-self-1) → vault_of c.self.inside.entering (set c.self.inside.banks.items c.from.result c.execute_front.new.waiting) c.execute_front.new.answers ≡ execute_gives c.args.bank c.execute_front.result c.args.self.now
+gives : (c : goal.After-self-1) → vault_of_queues c.self.inside.vault_queue (set c.self.inside.banks.items c.from.result c.execute_front.new.waiting) c.execute_front.new.answers ≡ execute_gives c.args.bank c.execute_front.result c.args.self.now
 gives c =
     let now = c.args.self.now in
     let place = c.from.result in
     let waiting = packets_of c.execute_front.new.waiting in
     let answers = packets_of c.execute_front.new.answers in
-    let bank_is = read_packets c.self.inside.entering c.self.inside.banks.items c.self.inside.answers now place c.index_mut-waiting.result.now (read c) in
-    vault_with c.self.inside.entering c.self.inside.banks.items c.self.inside.answers now place c.self.inside.entering c.execute_front.new.waiting c.execute_front.new.answers now.entering waiting answers
-    c.self.view_is refl (ap (λ (v : VaultFields). v.entering) c.self.view_is) refl refl
+    let bank_is = read_packets c.self.inside.vault_queue c.self.inside.banks.items c.self.inside.answers now place c.index_mut-waiting.result.now (read c) in
+    vault_with c.self.inside.vault_queue c.self.inside.banks.items c.self.inside.answers now place c.self.inside.vault_queue c.execute_front.new.waiting c.execute_front.new.answers now.vault_queue waiting answers
+    c.self.view_is refl (ap (λ (v : VaultFields). v.vault_queue) c.self.view_is) refl refl
     ∙ execution_gives c.execute_front.result now place waiting answers (c.execute_front.ensures.waiting ∙ ap (waiting_after c.execute_front.result) (sym bank_is))
     (c.execute_front.ensures.answers ∙ ap (λ (v : VaultFields). answers_after c.execute_front.result v.answers) c.self.view_is)
     ∙ ap (λ b. execute_gives b c.execute_front.result now) c.from.ensures
@@ -43,7 +43,7 @@ gives c =
 pub returns-clause-empty : goal.returns-clause-empty
 returns-clause-empty c =
     let now = c.args.self.now in
-    let bank_is = read_packets c.self.inside.entering c.self.inside.banks.items c.self.inside.answers now c.from.result c.index_mut-waiting.result.now (read c) in
+    let bank_is = read_packets c.self.inside.vault_queue c.self.inside.banks.items c.self.inside.answers now c.from.result c.index_mut-waiting.result.now (read c) in
     (λ is. ap (bank_at now) (sym c.from.ensures) ∙ bank_is ∙ c.execute_front.ensures.empty.0 is, λ none. c.execute_front.ensures.empty.1 (sym bank_is ∙ ap (bank_at now) c.from.ensures ∙ none))
 
 pub returns-clause-banks : goal.returns-clause-banks

@@ -1,0 +1,26 @@
+-- What the journal of a case guarantees.
+use Rattle.std.specs.Prelude.{◌≡◌, ◌++◌, true, List}
+use Rattle.hmc_serial.specs.Machine.{opening_state}
+use Rattle.hmc_journal.specs.declared.entry.Entry.{Entry}
+use Rattle.hmc_journal.specs.Delivered.{IsScripted, DeliveredInOrder, AllServed}
+use Rattle.hmc_journal.specs.Drained.{is_drained}
+use Rattle.hmc_journal.specs.Lawful.{IsWhole}
+use Rattle.hmc_journal.specs.Serial.{IsSerial}
+use Rattle.hmc_journal.specs.Setup.{Setup, shapes_of}
+
+-- A journal has its newest entry first, so an earlier journal is its end.
+pub record Guarantees (setup : Setup) (journal : List Entry) : Type 0 where
+  -- there is an entry for each step of the schedule, and each is the one that its step gives after
+  -- the entries before it
+  pub whole : IsWhole setup journal
+  -- the requests that each host gave are a prefix of those that the script has for it
+  pub scripted : IsScripted setup.script journal
+  -- the executions, run in order on a plain machine, give every answer
+  pub serial : IsSerial (opening_state (shapes_of setup.topology)) journal
+  -- at every moment: what was executed was carried there, and what was answered was carried back,
+  -- in order and under its tag
+  pub delivered : (later past : List Entry) → journal ≡ later ++ past →
+      DeliveredInOrder setup.topology past
+  -- where the report says `drained`, all requests that weren't poisoned were executed, and all
+  -- under a tag were answered
+  pub served : is_drained setup.topology journal ≡ true → AllServed setup.topology journal

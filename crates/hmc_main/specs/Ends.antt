@@ -1,0 +1,20 @@
+-- What the program does.
+use Rattle.std.specs.Prelude.{◌≡◌, ◌⊎◌, ℕ, List, [], ◌∷◌}
+use Rattle.hmc_outside.specs.Views.{SourceView, SinkView}
+use Rattle.hmc_replay.specs.Top.{OneOf, Replayed}
+
+-- The words of the command line can't be had: out of memory (1), or a word isn't UTF-8 text (2).
+-- Nothing is read or written.
+pub record IsWithoutWords {S O : Type 0} (source source' : S) (sink sink' : O)
+    (status : ℕ) : Type 0 where
+  pub is_one : OneOf (1 ∷ 2 ∷ []) status
+  pub source_same : source' ≡ source
+  pub sink_same : sink' ≡ sink
+
+-- Some words were replayed, or there were none to be had.
+abbrev pub Ends : {S O : Type 0} → (S → SourceView) → (O → SinkView) → (source source' : S) →
+    (sink sink' : O) → (status : ℕ) → Type 0
+Ends source_view sink_view source source' sink sink' status =
+    ((words : List (List ℕ)) ×
+    Replayed source_view sink_view words source source' sink sink' status)
+    ⊎ IsWithoutWords source source' sink sink' status

@@ -1,0 +1,110 @@
+//! What the program does: the words of the command line, a source and a sink go to `replay`.
+//!
+//! `hmc_prog` is the program, which has standard input and output. A second program,
+//! `hmc_prog_refused`, does the same, and is there for a stored run that ends with another status.
+#![tactic(auto)]
+
+ghost use Rattle.std.specs.Prelude.{◌≡◌, ◌≢◌, ◌⊎◌, drop, map, string_bytes, IfOk, IfErr};
+ghost use Rattle.std.specs.Vec.Iter.{into_iter_items};
+ghost use Rattle.hmc_main.specs.Ends.{Ends};
+ghost use Rattle.hmc_replay.specs.Top.{Replayed};
+
+use hmc_outside::{Sink, Source};
+use hmc_replay::replay;
+use std::alloc::Global;
+use std::env;
+use std::env::{Args, Env};
+use std::io::ErrorKind;
+
+/// The status of `replay` for "out of memory".
+const OUT_OF_MEMORY: u8 = 1;
+
+/// The status of `replay` for words that are no defined form.
+const USAGE: u8 = 2;
+
+// The status where the words of the command line can't be had. A word that isn't UTF-8 text is in
+// no form.
+fn status_of(kind: ErrorKind) -> u8
+    ensures memory { kind ≡ ErrorKind.OutOfMemory → result ≡ 1 }
+    ensures usage { kind ≢ ErrorKind.OutOfMemory → result ≡ 2 }
+{
+    match kind {
+        ErrorKind::OutOfMemory => OUT_OF_MEMORY,
+        _ => USAGE,
+    }
+}
+
+// All words, unless memory runs out.
+fn collected(alloc: Global, args: Args) -> Result<Vec<String>, u8>
+    ensures words { IfOk result (λ words. words.items ≡ into_iter_items args) }
+    ensures memory { IfErr result (λ status. status ≡ 1) }
+{
+    // This call brings the law of what such an iterator yields, which the clause on words needs.
+    let none: Vec<String> = Vec::new(alloc);
+    let _ = none.into_iter();
+    match args.collect(alloc) {
+        Ok(words) => Ok(words),
+        Err(_) => Err(OUT_OF_MEMORY),
+    }
+}
+
+// All words except the first one, which is the program's name.
+fn without_name(words: Vec<String>) -> Vec<String>
+    ensures { result.items ≡ drop 1 words.items }
+{
+    let mut words = words;
+    if !words.is_empty() {
+        let _ = words.remove(0);
+    }
+    words
+}
+
+// The words after the program's name.
+fn words_after_name(alloc: Global, args: Args) -> Result<Vec<String>, u8>
+    ensures words { IfOk result (λ words. words.items ≡ drop 1 (into_iter_items args)) }
+    ensures memory { IfErr result (λ status. status ≡ 1) }
+{
+    match collected(alloc, args) {
+        Ok(words) => Ok(without_name(words)),
+        Err(status) => Err(status),
+    }
+}
+
+// The words of the command line after the program's name; else the status to end with.
+fn words(rt: &(impl Env + AllocGlobal)) -> Result<Vec<String>, u8>
+    ensures { IfErr result (λ status. (status ≡ 1) ⊎ (status ≡ 2)) }
+{
+    match env::args(rt) {
+        Ok(args) => words_after_name(rt.alloc(), args),
+        Err(error) => Err(status_of(error.kind())),
+    }
+}
+
+// Replays where the words can be had, and returns the status of that; else theirs.
+fn end<S: Source, O: Sink>(
+    alloc: Global,
+    words: Result<Vec<String>, u8>,
+    source: &mut S,
+    sink: &mut O,
+) -> u8
+    ensures replayed { IfOk words (λ words. Replayed S.shows O.shows
+        (map string_bytes words.items) source.old source.new sink.old sink.new result) }
+    ensures without_words { IfErr words (λ status.
+        (result ≡ status) × (source.new ≡ source.old) × (sink.new ≡ sink.old)) }
+{
+    match words {
+        Ok(words) => replay(alloc, &words, source, sink),
+        Err(status) => status,
+    }
+}
+
+/// Replays by the words of the command line, and returns the status to end with.
+pub fn run_program<S: Source, O: Sink>(
+    rt: &(impl Env + AllocGlobal),
+    source: &mut S,
+    sink: &mut O,
+) -> u8
+    ensures { Ends S.shows O.shows source.old source.new sink.old sink.new result }
+{
+    end(rt.alloc(), words(rt), source, sink)
+}

@@ -1,0 +1,24 @@
+-- What a give hands to the link.
+use Rattle.std.specs.Prelude.{◌≡◌, true, List, [], ◌∷◌, Option, Some, None}
+use Rattle.hmc_packet.specs.Packet.{PacketFields}
+use Rattle.hmc_packet.specs.Transactions.{request_packet}
+use Rattle.hmc_host.specs.declared.given.Given.{Given}
+use Rattle.hmc_host.specs.declared.given.Given.TheVariants.{Gave}
+use Rattle.hmc_journal.specs.Queues.{tag_number}
+use Rattle.hmc_net.specs.Wire.{DirectionState, has_room, with_handed}
+
+-- the packet, if there is one
+abbrev pub packets_in : Option PacketFields → List PacketFields
+packets_in None = []
+packets_in (Some packet) = packet ∷ []
+
+-- what a give leaves of the wire: a packet waits where one is given
+abbrev pub given_to : Given → DirectionState → DirectionState
+given_to (Gave packet request tag poisoned) wire = with_handed packet wire
+given_to _ wire = wire
+
+-- what is given has room, and is the packet of its request
+abbrev pub IsGiven : Given → DirectionState → Type 0
+IsGiven (Gave packet request tag poisoned) wire =
+    (has_room wire ≡ true) × (packet ≡ request_packet request (tag_number tag) 0 poisoned)
+IsGiven _ wire = Unit {0}

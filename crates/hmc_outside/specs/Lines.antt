@@ -1,0 +1,40 @@
+-- Lines that are written one after another, each by one write.
+use Rattle.std.specs.Prelude.{◌≡◌, true, ℕ, List, ◌∷◌, ◌++◌, length}
+use Rattle.hmc_outside.specs.Raised.{raised, raised_by}
+use Rattle.hmc_outside.specs.Pieces.{pieces_of, with_pieces}
+use Rattle.hmc_outside.specs.Views.{SinkView}
+
+-- each line was written, by one write that did not fail
+pub record WritesLines (old new : SinkView) (lines : List (List ℕ)) : Type 0 where
+  -- the pieces written are exactly the lines
+  pub pieces : new.pieces ≡ with_pieces old.pieces lines
+  -- there was one write a line
+  pub writes : new.writes ≡ raised_by (length lines) old.writes
+  -- none failed
+  pub faults : new.faults ≡ old.faults
+
+-- a prefix of the lines was written, and no write failed
+pub record WritesSome (old new : SinkView) (lines : List (List ℕ)) : Type 0 where
+  pub whole : List (List ℕ)
+  pub rest : List (List ℕ)
+  pub parts : lines ≡ whole ++ rest
+  pub written : WritesLines old new whole
+
+-- lines were written until a write failed
+pub record BreaksOff (old new : SinkView) (lines : List (List ℕ)) : Type 0 where
+  -- the lines written whole, and the line whose write failed
+  pub whole : List (List ℕ)
+  pub line : List ℕ
+  pub rest : List (List ℕ)
+  pub parts : lines ≡ whole ++ line ∷ rest
+  -- the failed write took a prefix of its line
+  pub prefix : List ℕ
+  pub cut : List ℕ
+  pub halves : line ≡ prefix ++ cut
+  -- these are the pieces written
+  pub pieces : new.pieces ≡ with_pieces old.pieces (whole ++ pieces_of prefix)
+  -- the failed write was the last one
+  pub writes : new.writes ≡ raised (raised_by (length whole) old.writes)
+  pub failed : new.failed ≡ true
+  -- it is the one fault
+  pub faults : new.faults ≡ raised old.faults

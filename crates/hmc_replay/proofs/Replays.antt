@@ -1,0 +1,289 @@
+-- What a run does is what the top call promises.
+use Rattle.std.proofs.Common.{inl, inr, ◌≡◌, ◌≤◌, ◌<◌, ◌+◌, ◌∙◌, ◌⊎◌, ℕ, suc, Bool, true, false, List, [], ◌∷◌, length, Option, None, Some, IfSome, Result, Ok, Err, refl, sym, ap, subst, arith, leb-false, length-append, append-nil}
+use Rattle.std.specs.Prelude.{nat_le, if◌then◌else◌}
+use Rattle.std.specs.Io.KnownBytes.{Consumes}
+use Rattle.std.proofs.KnownBytes.{Consumes-nil, Consumes-whole}
+use Rattle.hmc_codes.specs.Limits.{most_input}
+use Rattle.hmc_case.specs.Case.{CaseFields, case_of}
+use Rattle.hmc_case.specs.Reading.{Fault}
+use Rattle.hmc_outside.specs.Lines.{WritesLines, WritesSome, BreaksOff}
+use Rattle.hmc_outside.specs.Raised.{raised}
+use Rattle.hmc_outside.specs.Views.{SourceView, SinkView}
+use Rattle.hmc_outside.proofs.LinesLemmas.{WritesLines-none, WritesSome-of_lines}
+use Rattle.hmc_replay.specs.Causes.{cause_of_input, status_of}
+use Rattle.hmc_replay.specs.Input.{BytesRead, IsTooLong, ReadsWhole, ReadsPart, ReadsFault, ReadsTooLong}
+use Rattle.hmc_replay.specs.Runs.{Answers, Runs}
+use Rattle.hmc_replay.specs.Top.{is_run, OneOf, bad_line, report_of, lines_for, lines_to_write, IsCaseText, IsFaulty, IsReportOf, IsRefusalOf, IsAnswered, Replayed}
+use Rattle.hmc_replay.specs.declared.input.InputError.{InputError}
+use Rattle.hmc_replay.specs.declared.input.InputError.TheVariants as inputs
+use Rattle.hmc_replay.specs.declared.run.RunError.{RunError}
+use Rattle.hmc_replay.specs.declared.run.RunError.TheVariants as runs
+
+-- ---- what was read
+
+true_false : (test : Bool) → test ≡ true → test ≡ false → ⊥
+true_false test is other = cc
+
+case_fault : (result : Result CaseFields Fault) (case : CaseFields) (fault : Fault) → result ≡ Ok case → result ≡ Err fault → ⊥
+case_fault result case fault is other = cc
+
+always : (shown : Option (List ℕ)) (P : List ℕ → Type 0) → ((x : List ℕ) → P x) → IfSome shown P
+always None P p = tt
+always (Some x) P p = p x
+
+-- an input that was read as too long is too long
+too_long_some : (source source' : SourceView) (P : List ℕ → Type 0) → IsTooLong source source' → ((input : List ℕ) → most_input < length input → P input) → IfSome source.left P
+too_long_some source source' P long p = by_left source.left source'.left long.read.consumed
+  where
+    by_left : (left left' : Option (List ℕ)) → Consumes left left' long.read.input → IfSome left P
+    by_left None left' consumed = tt
+    by_left (Some all) None consumed = absurd consumed
+    by_left (Some all) (Some rest) consumed =
+        let whole : length all ≡ length long.read.input + length rest = ap length consumed ∙ length-append long.read.input rest in
+        p all (omega (arith, whole, long.full))
+
+-- an input that was read whole is all that was left
+whole_some : (source source' : SourceView) (input : List ℕ) (P : List ℕ → Type 0) → ReadsWhole source source' input → P input → IfSome source.left P
+whole_some source source' input P whole p = Consumes-whole source.left source'.left input P whole.consumed whole.ended p
+
+-- ---- what was written
+
+-- the lines for an input that is not too long
+lines_within : (input : List ℕ) → length input ≤ most_input → lines_to_write input ≡ lines_for (case_of input)
+lines_within input few = by_test (nat_le (length input) most_input) refl
+  where
+    by_test : (test : Bool) → nat_le (length input) most_input ≡ test → (if test then lines_for (case_of input) else []) ≡ lines_for (case_of input)
+    by_test true is = refl
+    by_test false is = let more = leb-false (length input) most_input is in absurd (omega (arith, few))
+
+-- nothing was written
+answered_none : (source source' : SourceView) (sink sink' : SinkView) (status : ℕ) → (status ≡ 4 → ⊥) → sink' ≡ sink → BytesRead (suc most_input) source.left source'.left → IsAnswered source source' sink sink' status
+answered_none source source' sink sink' status other same read =
+    let none : WritesLines sink sink' [] = subst (λ v. WritesLines sink v []) (sym same) (WritesLines-none sink) in
+    record {
+      read = read;
+      whole_lines = λ _. WritesSome-of_lines sink sink' [] (lines_to_write read.input) none;
+      written_prefix = λ is. absurd (other is);
+      not_early = inl none;
+    }
+
+-- an input that was read whole was answered
+answered_whole : (source source' : SourceView) (sink sink' : SinkView) (status : ℕ) (input : List ℕ) → ReadsWhole source source' input → ((status ≡ 4 → ⊥) → WritesSome sink sink' (lines_for (case_of input)))
+    → (status ≡ 4 → BreaksOff sink sink' (lines_for (case_of input))) → IsAnswered source source' sink sink' status
+answered_whole source source' sink sink' status input whole some broken =
+    let lines : lines_for (case_of input) ≡ lines_to_write input = sym (lines_within input whole.few) in
+    record {
+      read = record { input = input; few = omega (arith, whole.few); consumed = whole.consumed };
+      whole_lines = λ other. subst (WritesSome sink sink') lines (some other);
+      written_prefix = λ is. subst (BreaksOff sink sink') lines (broken is);
+      not_early = inr whole.ended;
+    }
+
+-- all lines were written
+all_lines : (sink sink' : SinkView) (lines all : List (List ℕ)) → lines ≡ all → WritesLines sink sink' lines → WritesSome sink sink' all
+all_lines sink sink' lines all is written = record { whole = lines; rest = []; parts = sym is ∙ sym (append-nil lines); written = written }
+
+module _ {S O : Type 0} (source_view : S → SourceView) (sink_view : O → SinkView) (words : List (List ℕ)) where
+  -- ---- the words are no defined form
+
+  pub replayed_none : (source : S) (sink : O) → is_run words ≡ false → Replayed source_view sink_view words source source sink sink 2
+  replayed_none source sink none = record {
+    range = omega arith;
+    reported = λ is. absurd (omega (arith, is));
+    refused = λ is. absurd (omega (arith, is));
+    too_long = λ is. absurd (omega (arith, is));
+    usage = (λ is. none, λ is. refl);
+    untouched = λ is. (refl, refl);
+    read_fault = λ is. absurd (omega (arith, is));
+    no_read_fault = inr refl;
+    write_fault = λ is. absurd (omega (arith, is));
+    no_write_fault = inr refl;
+    read_whole = λ is. absurd (grind (arith, is));
+    stops = λ is. absurd (grind (arith, is));
+    no_stop = λ is. refl;
+    few_stops = λ is. inl refl;
+    unwritten = λ is. refl;
+    answered = answered_none _ _ _ _ 2 (λ is. omega (arith, is)) refl
+        (record { input = []; few = omega arith; consumed = Consumes-nil (source_view source).left });
+    case_reports = λ run. absurd (true_false (is_run words) run none);
+    fault_refuses = λ run. absurd (true_false (is_run words) run none);
+    excess_stops = λ run. absurd (true_false (is_run words) run none);
+  }
+
+  -- ---- the input was read whole
+
+  replayed_report : (source source' : S) (sink sink' : O) (input : List ℕ) → is_run words ≡ true → ReadsWhole (source_view source) (source_view source') input → IsReportOf input (sink_view sink) (sink_view sink')
+      → Replayed source_view sink_view words source source' sink sink' 0
+  replayed_report source source' sink sink' input run whole report = record {
+    range = omega arith;
+    reported = λ is. record { read = record { input = input; few = whole.few; consumed = whole.consumed }; report = report };
+    refused = λ is. absurd (omega (arith, is));
+    too_long = λ is. absurd (omega (arith, is));
+    usage = (λ is. absurd (omega (arith, is)), λ is. absurd (true_false (is_run words) run is));
+    untouched = λ is. absurd (omega (arith, is));
+    read_fault = λ is. absurd (omega (arith, is));
+    no_read_fault = inr whole.faults;
+    write_fault = λ is. absurd (omega (arith, is));
+    no_write_fault = inr report.written.faults;
+    read_whole = λ is. whole.ended;
+    stops = λ is. whole.stops;
+    no_stop = λ is. absurd (grind (arith, is));
+    few_stops = λ is. absurd (omega (arith, is));
+    unwritten = λ is. absurd (grind (arith, is));
+    answered = answered_whole _ _ _ _ 0 input whole (λ other. all_lines _ _ (report_of report.case) _ (ap lines_for (sym report.is_case)) report.written) (λ is. absurd (omega (arith, is)));
+    case_reports = λ _. always _ (λ x. length x ≤ most_input → IsCaseText x → OneOf (0 ∷ 1 ∷ 3 ∷ 4 ∷ []) 0) (λ x few case. inl refl);
+    fault_refuses = λ _. whole_some _ _ input (λ x. length x ≤ most_input → IsFaulty x → OneOf (6 ∷ 1 ∷ 3 ∷ 4 ∷ []) 0) whole
+        (λ few fault. absurd (case_fault (case_of input) report.case fault.0 report.is_case fault.1));
+    excess_stops = λ _. whole_some _ _ input (λ x. most_input < length x → OneOf (5 ∷ 1 ∷ 3 ∷ []) 0) whole (λ more. absurd (omega (arith, more, whole.few)));
+  }
+
+  replayed_refusal : (source source' : S) (sink sink' : O) (input : List ℕ) → is_run words ≡ true → ReadsWhole (source_view source) (source_view source') input → IsRefusalOf input (sink_view sink) (sink_view sink')
+      → Replayed source_view sink_view words source source' sink sink' 6
+  replayed_refusal source source' sink sink' input run whole refusal = record {
+    range = omega arith;
+    reported = λ is. absurd (omega (arith, is));
+    refused = λ is. record { read = record { input = input; few = whole.few; consumed = whole.consumed }; refusal = refusal };
+    too_long = λ is. absurd (omega (arith, is));
+    usage = (λ is. absurd (omega (arith, is)), λ is. absurd (true_false (is_run words) run is));
+    untouched = λ is. absurd (omega (arith, is));
+    read_fault = λ is. absurd (omega (arith, is));
+    no_read_fault = inr whole.faults;
+    write_fault = λ is. absurd (omega (arith, is));
+    no_write_fault = inr refusal.written.faults;
+    read_whole = λ is. whole.ended;
+    stops = λ is. whole.stops;
+    no_stop = λ is. absurd (grind (arith, is));
+    few_stops = λ is. absurd (omega (arith, is));
+    unwritten = λ is. absurd (grind (arith, is));
+    answered = answered_whole _ _ _ _ 6 input whole (λ other. all_lines _ _ (bad_line refusal.fault ∷ []) _ (ap lines_for (sym refusal.is_fault)) refusal.written) (λ is. absurd (omega (arith, is)));
+    case_reports = λ _. whole_some _ _ input (λ x. length x ≤ most_input → IsCaseText x → OneOf (0 ∷ 1 ∷ 3 ∷ 4 ∷ []) 6) whole
+        (λ few case. absurd (case_fault (case_of input) case.0 refusal.fault case.1 refusal.is_fault));
+    fault_refuses = λ _. always _ (λ x. length x ≤ most_input → IsFaulty x → OneOf (6 ∷ 1 ∷ 3 ∷ 4 ∷ []) 6) (λ x few fault. inl refl);
+    excess_stops = λ _. whole_some _ _ input (λ x. most_input < length x → OneOf (5 ∷ 1 ∷ 3 ∷ []) 6) whole (λ more. absurd (omega (arith, more, whole.few)));
+  }
+
+  replayed_broken : (source source' : S) (sink sink' : O) (input : List ℕ) → is_run words ≡ true → ReadsWhole (source_view source) (source_view source') input → BreaksOff (sink_view sink) (sink_view sink') (lines_for (case_of input))
+      → Replayed source_view sink_view words source source' sink sink' 4
+  replayed_broken source source' sink sink' input run whole broken = record {
+    range = omega arith;
+    reported = λ is. absurd (omega (arith, is));
+    refused = λ is. absurd (omega (arith, is));
+    too_long = λ is. absurd (omega (arith, is));
+    usage = (λ is. absurd (omega (arith, is)), λ is. absurd (true_false (is_run words) run is));
+    untouched = λ is. absurd (omega (arith, is));
+    read_fault = λ is. absurd (omega (arith, is));
+    no_read_fault = inr whole.faults;
+    write_fault = λ is. broken.faults;
+    no_write_fault = inl refl;
+    read_whole = λ is. whole.ended;
+    stops = λ is. whole.stops;
+    no_stop = λ is. absurd (grind (arith, is));
+    few_stops = λ is. absurd (omega (arith, is));
+    unwritten = λ is. absurd (grind (arith, is));
+    answered = answered_whole _ _ _ _ 4 input whole (λ other. absurd (other refl)) (λ is. broken);
+    case_reports = λ _. always _ (λ x. length x ≤ most_input → IsCaseText x → OneOf (0 ∷ 1 ∷ 3 ∷ 4 ∷ []) 4) (λ x few case. inr (inr (inr (inl refl))));
+    fault_refuses = λ _. always _ (λ x. length x ≤ most_input → IsFaulty x → OneOf (6 ∷ 1 ∷ 3 ∷ 4 ∷ []) 4) (λ x few fault. inr (inr (inr (inl refl))));
+    excess_stops = λ _. whole_some _ _ input (λ x. most_input < length x → OneOf (5 ∷ 1 ∷ 3 ∷ []) 4) whole (λ more. absurd (omega (arith, more, whole.few)));
+  }
+
+  -- ---- out of memory
+
+  replayed_memory : (source source' : S) (sink sink' : O) → is_run words ≡ true → (source_view source').faults ≡ (source_view source).faults → (sink_view sink').faults ≡ (sink_view sink).faults
+      → ((source_view source').stops ≡ (source_view source).stops) ⊎ ((source_view source').stops ≡ raised (source_view source).stops)
+      → IsAnswered (source_view source) (source_view source') (sink_view sink) (sink_view sink') 1 → Replayed source_view sink_view words source source' sink sink' 1
+  replayed_memory source source' sink sink' run reads writes stops answered = record {
+    range = omega arith;
+    reported = λ is. absurd (omega (arith, is));
+    refused = λ is. absurd (omega (arith, is));
+    too_long = λ is. absurd (omega (arith, is));
+    usage = (λ is. absurd (omega (arith, is)), λ is. absurd (true_false (is_run words) run is));
+    untouched = λ is. absurd (omega (arith, is));
+    read_fault = λ is. absurd (omega (arith, is));
+    no_read_fault = inr reads;
+    write_fault = λ is. absurd (omega (arith, is));
+    no_write_fault = inr writes;
+    read_whole = λ is. absurd (grind (arith, is));
+    stops = λ is. absurd (grind (arith, is));
+    no_stop = λ is. absurd (grind (arith, is));
+    few_stops = λ is. stops;
+    unwritten = λ is. absurd (grind (arith, is));
+    answered = answered;
+    case_reports = λ _. always _ (λ x. length x ≤ most_input → IsCaseText x → OneOf (0 ∷ 1 ∷ 3 ∷ 4 ∷ []) 1) (λ x few case. inr (inl refl));
+    fault_refuses = λ _. always _ (λ x. length x ≤ most_input → IsFaulty x → OneOf (6 ∷ 1 ∷ 3 ∷ 4 ∷ []) 1) (λ x few fault. inr (inl refl));
+    excess_stops = λ _. always _ (λ x. most_input < length x → OneOf (5 ∷ 1 ∷ 3 ∷ []) 1) (λ x more. inr (inl refl));
+  }
+
+  -- ---- reading ended early
+
+  replayed_read_fault : (source source' : S) (sink sink' : O) → is_run words ≡ true → ReadsFault (source_view source) (source_view source') → sink' ≡ sink → Replayed source_view sink_view words source source' sink sink' 3
+  replayed_read_fault source source' sink sink' run part same = record {
+    range = omega arith;
+    reported = λ is. absurd (omega (arith, is));
+    refused = λ is. absurd (omega (arith, is));
+    too_long = λ is. absurd (omega (arith, is));
+    usage = (λ is. absurd (omega (arith, is)), λ is. absurd (true_false (is_run words) run is));
+    untouched = λ is. absurd (omega (arith, is));
+    read_fault = λ is. part.faults;
+    no_read_fault = inl refl;
+    write_fault = λ is. absurd (omega (arith, is));
+    no_write_fault = inr (ap (λ k. (sink_view k).faults) same);
+    read_whole = λ is. absurd (grind (arith, is));
+    stops = λ is. part.stops;
+    no_stop = λ is. absurd (grind (arith, is));
+    few_stops = λ is. absurd (omega (arith, is));
+    unwritten = λ is. same;
+    answered = answered_none _ _ _ _ 3 (λ is. omega (arith, is)) (ap sink_view same) part.read;
+    case_reports = λ _. always _ (λ x. length x ≤ most_input → IsCaseText x → OneOf (0 ∷ 1 ∷ 3 ∷ 4 ∷ []) 3) (λ x few case. inr (inr (inl refl)));
+    fault_refuses = λ _. always _ (λ x. length x ≤ most_input → IsFaulty x → OneOf (6 ∷ 1 ∷ 3 ∷ 4 ∷ []) 3) (λ x few fault. inr (inr (inl refl)));
+    excess_stops = λ _. always _ (λ x. most_input < length x → OneOf (5 ∷ 1 ∷ 3 ∷ []) 3) (λ x more. inr (inr (inl refl)));
+  }
+
+  replayed_too_long : (source source' : S) (sink sink' : O) → is_run words ≡ true → ReadsTooLong (source_view source) (source_view source') → sink' ≡ sink → Replayed source_view sink_view words source source' sink sink' 5
+  replayed_too_long source source' sink sink' run part same = record {
+    range = omega arith;
+    reported = λ is. absurd (omega (arith, is));
+    refused = λ is. absurd (omega (arith, is));
+    too_long = λ is. part.too_long;
+    usage = (λ is. absurd (omega (arith, is)), λ is. absurd (true_false (is_run words) run is));
+    untouched = λ is. absurd (omega (arith, is));
+    read_fault = λ is. absurd (omega (arith, is));
+    no_read_fault = inr part.faults;
+    write_fault = λ is. absurd (omega (arith, is));
+    no_write_fault = inr (ap (λ k. (sink_view k).faults) same);
+    read_whole = λ is. absurd (grind (arith, is));
+    stops = λ is. absurd (grind (arith, is));
+    no_stop = λ is. part.stops;
+    few_stops = λ is. absurd (omega (arith, is));
+    unwritten = λ is. same;
+    answered = answered_none _ _ _ _ 5 (λ is. omega (arith, is)) (ap sink_view same) part.too_long.read;
+    case_reports = λ _. too_long_some _ _ (λ x. length x ≤ most_input → IsCaseText x → OneOf (0 ∷ 1 ∷ 3 ∷ 4 ∷ []) 5) part.too_long (λ x more few case. absurd (omega (arith, more, few)));
+    fault_refuses = λ _. too_long_some _ _ (λ x. length x ≤ most_input → IsFaulty x → OneOf (6 ∷ 1 ∷ 3 ∷ 4 ∷ []) 5) part.too_long (λ x more few fault. absurd (omega (arith, more, few)));
+    excess_stops = λ _. always _ (λ x. most_input < length x → OneOf (5 ∷ 1 ∷ 3 ∷ []) 5) (λ x more. inl refl);
+  }
+
+  -- ---- by the result of the run
+
+  replayed_whole : (source source' : S) (sink sink' : O) (input : List ℕ) (result : Result (Unit {0}) RunError) → is_run words ≡ true → ReadsWhole (source_view source) (source_view source') input
+      → Answers input result (sink_view sink) (sink_view sink') → Replayed source_view sink_view words source source' sink sink' (status_of result)
+  replayed_whole source source' sink sink' input (Ok done) run whole answer = replayed_report source source' sink sink' input run whole answer
+  replayed_whole source source' sink sink' input (Err runs.Memory) run whole answer =
+      replayed_memory source source' sink sink' run whole.faults answer.written.faults (inr whole.stops.counted)
+      (answered_whole _ _ _ _ 1 input whole (λ other. answer) (λ is. absurd (omega (arith, is))))
+  replayed_whole source source' sink sink' input (Err runs.ReadFault) run whole answer = absurd answer
+  replayed_whole source source' sink sink' input (Err runs.WriteFault) run whole answer = replayed_broken source source' sink sink' input run whole answer
+  replayed_whole source source' sink sink' input (Err runs.TooLong) run whole answer = absurd answer
+  replayed_whole source source' sink sink' input (Err runs.BadCase) run whole answer = replayed_refusal source source' sink sink' input run whole answer
+
+  replayed_part : (source source' : S) (sink sink' : O) (error : InputError) → is_run words ≡ true → ReadsPart error (source_view source) (source_view source') → sink' ≡ sink
+      → Replayed source_view sink_view words source source' sink sink' (status_of (Err (cause_of_input error)))
+  replayed_part source source' sink sink' inputs.Memory run part same =
+      replayed_memory source source' sink sink' run part.faults (ap (λ k. (sink_view k).faults) same) part.stops (answered_none _ _ _ _ 1 (λ is. omega (arith, is)) (ap sink_view same) part.read)
+  replayed_part source source' sink sink' inputs.Fault run part same = replayed_read_fault source source' sink sink' run part same
+  replayed_part source source' sink sink' inputs.TooLong run part same = replayed_too_long source source' sink sink' run part same
+
+  pub replayed_of : (source source' : S) (sink sink' : O) (result : Result (Unit {0}) RunError) (status : ℕ) → is_run words ≡ true → status ≡ status_of result → Runs source_view sink_view source source' sink sink' result
+      → Replayed source_view sink_view words source source' sink sink' status
+  replayed_of source source' sink sink' result status run is (inl whole) =
+      subst (Replayed source_view sink_view words source source' sink sink') (sym is) (replayed_whole source source' sink sink' whole.input result run whole.whole whole.answer)
+  replayed_of source source' sink sink' result status run is (inr (stopped, same)) =
+      subst (Replayed source_view sink_view words source source' sink sink') (sym (is ∙ ap status_of stopped.cause)) (replayed_part source source' sink sink' stopped.error run stopped.part same)

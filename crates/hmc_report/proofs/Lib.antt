@@ -1,0 +1,2 @@
+pub mod SomeLemmas
+mod Worked

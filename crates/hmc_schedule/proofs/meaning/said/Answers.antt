@@ -1,4 +1,0 @@
-use Rattle.hmc_schedule.proofs.meaning.said.Goals as goal
-
-pub returns-then-eq-clause-works : goal.returns-then-eq-clause-works
-returns-then-eq-clause-works c = c.rounds.ensures.works c.args.plan.now
