@@ -38,11 +38,11 @@ use Rattle.hmc_journal.specs.Wires.{packets_by, flits_in}
 use Rattle.hmc_net.specs.Gives.{IsGiven, given_to, packets_in}
 use Rattle.hmc_net.specs.Apply.{after, without_host_front}
 use Rattle.hmc_net.specs.NetState.{NetState, topology_of, net_view}
-use Rattle.hmc_net.specs.Wire.{DirectionState, IsTransaction, wire_view, has_room, with_handed, without_flits, read_with, after_send, after_land, whole_by, whole_in}
+use Rattle.hmc_net.specs.Wire.{DirectionState, IsTransaction, wire_view, has_output_room, with_handed, without_flits, read_with, after_send, after_land, whole_by, whole_in}
 
 -- ---- give
 
-pub choice_give : (net : NetState) → net.forth.sizes ≡ net.sizes → choice (topology_of net) (net_view net) (steps.Give 0) ≡ gave_entry 0 (give_says net.host (has_room net.forth))
+pub choice_give : (net : NetState) → net.forth.sizes ≡ net.sizes → choice (topology_of net) (net_view net) (steps.Give 0) ≡ gave_entry 0 (give_says net.host (has_output_room net.forth))
 unfolding choice direction_from direction_among
 choice_give net sizes = ap (λ (z : LinkFields). gave_entry 0 (give_says net.host (not (nat_le z.output (length net.forth.output))))) (sym sizes)
 
@@ -50,18 +50,18 @@ tag_is : (tag : Option ℕ) → unwrap_or tag 0 ≡ tag_number tag
 tag_is None = refl
 tag_is (Some tag) = refl
 
-given_item : (host : HostFields) (item : ItemFields) (forth : DirectionState) (fence lacks room : Bool) (tag : Option ℕ) → has_room forth ≡ room → host.number ≡ 0
+given_item : (host : HostFields) (item : ItemFields) (forth : DirectionState) (fence lacks room : Bool) (tag : Option ℕ) → has_output_room forth ≡ room → host.number ≡ 0
     → IsGiven (if fence then givens.Fence else if lacks then givens.Tags else if not room then givens.Full else gave_request host.number item tag) forth
 given_item host item forth true lacks room tag has zero_is = tt
 given_item host item forth false true room tag has zero_is = tt
 given_item host item forth false false false tag has zero_is = tt
 given_item host item forth false false true tag has zero_is = (has, ap₂ (λ (t n : ℕ). request_packet item.request t n item.poisoned) (tag_is tag) zero_is)
 
-given_next : (host : HostFields) (forth : DirectionState) (found : Option ItemFields) → host.number ≡ 0 → IsGiven (next_says host found (has_room forth)) forth
+given_next : (host : HostFields) (forth : DirectionState) (found : Option ItemFields) → host.number ≡ 0 → IsGiven (next_says host found (has_output_room forth)) forth
 given_next host forth None zero_is = tt
-given_next host forth (Some item) zero_is = given_item host item forth _ (lacks_tag item host.tags) (has_room forth) (tag_for item host.tags) refl zero_is
+given_next host forth (Some item) zero_is = given_item host item forth _ (lacks_tag item host.tags) (has_output_room forth) (tag_for item host.tags) refl zero_is
 
-pub given_is : (host : HostFields) (forth : DirectionState) (given : Given) → given ≡ give_says host (has_room forth) → host.number ≡ 0 → IsGiven given forth
+pub given_is : (host : HostFields) (forth : DirectionState) (given : Given) → given ≡ give_says host (has_output_room forth) → host.number ≡ 0 → IsGiven given forth
 unfolding give_says
 given_is host forth given is zero_is = subst (λ g. IsGiven g forth) (sym is) (given_next host forth (next_item host) zero_is)
 
@@ -73,7 +73,7 @@ unfolding request_packet table_line
 asked_transaction request packet tag slid poisoned is packet_is =
     ap (λ (p : PacketFields). is_flow (layout_of p.command)) packet_is ∙ ask_flow (layout_of request.command) (asks-layout (layout_of request.command) is.asks)
 
-pub give_entry : (net : NetState) (given : Given) (entry : Entry) → net.forth.sizes ≡ net.sizes → given ≡ give_says net.host (has_room net.forth) → entry ≡ gave_entry 0 given → entry ≡ choice (topology_of net) (net_view net) (steps.Give 0)
+pub give_entry : (net : NetState) (given : Given) (entry : Entry) → net.forth.sizes ≡ net.sizes → given ≡ give_says net.host (has_output_room net.forth) → entry ≡ gave_entry 0 given → entry ≡ choice (topology_of net) (net_view net) (steps.Give 0)
 give_entry net given entry sizes given_is entry_is = entry_is ∙ ap (gave_entry 0) given_is ∙ sym (choice_give net sizes)
 
 gave_after : (net : NetState) (given : Given) → IsGiven given net.forth → record net { host = after_give given net.host; forth = given_to given net.forth } ≡ after (gave_entry 0 given) net

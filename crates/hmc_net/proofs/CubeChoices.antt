@@ -53,7 +53,7 @@ use Rattle.hmc_journal.specs.Setup.{port_towards}
 use Rattle.hmc_net.specs.Apply.{after, to_of}
 use Rattle.hmc_net.specs.NetState.{NetState, topology_of, net_view, answers_in, machine_of}
 use Rattle.hmc_net.specs.Ready.{IsReady}
-use Rattle.hmc_net.specs.Wire.{IsTransaction, has_room}
+use Rattle.hmc_net.specs.Wire.{IsTransaction, has_output_room}
 use Rattle.hmc_net.proofs.WireLemmas.{below_is_room}
 use Rattle.hmc_net.proofs.Fits.{own_cube, port_back}
 use Rattle.hmc_net.proofs.Queues.{buffer_is, port_direction}
@@ -220,7 +220,7 @@ choice_lift net from = ap (λ l. with_front (steps.Lift 0 from) l (λ front. lif
 pub lift_none : (net : NetState) (from : Lift) (entry : Entry) → slice_get (answers_at net.cube from) 0 ≡ None → entry ≡ Idle (steps.Lift 0 from) causes.Empty → entry ≡ choice (topology_of net) (net_view net) (steps.Lift 0 from)
 lift_none net from entry none is = is ∙ sym (front_none (steps.Lift 0 from) (answers_at net.cube from) None (λ front. lifted_entry (topology_of net) (net_view net) 0 from (port_towards (topology_of net) 0 front.slid)) none) ∙ sym (choice_lift net from)
 
-lift_by : (net : NetState) (from : Lift) (front : PacketFields) (room : Bool) → net.back.sizes ≡ net.sizes → front.slid ≡ 0 → room ≡ has_room net.back
+lift_by : (net : NetState) (from : Lift) (front : PacketFields) (room : Bool) → net.back.sizes ≡ net.sizes → front.slid ≡ 0 → room ≡ has_output_room net.back
     → lifted_entry (topology_of net) (net_view net) 0 from (port_towards (topology_of net) 0 front.slid) ≡ unless_full (steps.Lift 0 from) (not room) (entries.Lifted 0 from net.port)
 lift_by net from front room sizes slid same_queue_is =
     ap (lifted_entry (topology_of net) (net_view net) 0 from) (port_back net front.slid slid) ∙
@@ -228,7 +228,7 @@ lift_by net from front room sizes slid same_queue_is =
     ap (λ (z : LinkFields). unless_full (steps.Lift 0 from) (nat_le z.output (length net.back.output)) (entries.Lifted 0 from net.port)) (sym sizes) ∙
     ap (λ t. unless_full (steps.Lift 0 from) t (entries.Lifted 0 from net.port)) (sym (not_not (nat_le net.back.sizes.output (length net.back.output))) ∙ ap not (sym same_queue_is))
 
-pub lift_entry : (net : NetState) (from : Lift) (front : PacketFields) (room : Bool) → net.back.sizes ≡ net.sizes → All IsHostAnswer (answers_at net.cube from) → slice_get (answers_at net.cube from) 0 ≡ Some front → room ≡ has_room net.back
+pub lift_entry : (net : NetState) (from : Lift) (front : PacketFields) (room : Bool) → net.back.sizes ≡ net.sizes → All IsHostAnswer (answers_at net.cube from) → slice_get (answers_at net.cube from) 0 ≡ Some front → room ≡ has_output_room net.back
     → unless_full (steps.Lift 0 from) (not room) (entries.Lifted 0 from net.port) ≡ choice (topology_of net) (net_view net) (steps.Lift 0 from)
 lift_entry net from front room sizes replies some same_queue_is =
     sym (lift_by net from front room sizes (front_all IsHostAnswer (answers_at net.cube from) front some replies).host same_queue_is) ∙

@@ -4,7 +4,7 @@ use Rattle.std.specs.Prelude.{nat_le, nat_lt, is_some, IsTrue}
 use Rattle.std.proofs.lemmas.Bool.Decides.{nat_tests}
 use Rattle.hmc_packet.specs.Packet.{PacketFields}
 use Rattle.hmc_tokens.specs.Queue.{one, all_cost_one}
-use Rattle.hmc_net.specs.Wire.{DirectionState, has_room}
+use Rattle.hmc_net.specs.Wire.{DirectionState, has_output_room}
 
 pub below_is_room : (used size : ℕ) → nat_lt used size ≡ not (nat_le size used)
 below_is_room used size = grind (arith, nat_tests)
@@ -13,13 +13,13 @@ pub room_is_below : (used size : ℕ) → not (nat_le size used) ≡ true → us
 room_is_below used size queue = grind (arith, nat_tests)
 
 -- a test of the costs is the test of room
-pub tests_room : (packets : List PacketFields) (used size : ℕ) (wire : DirectionState) → packets ≡ wire.output → size ≡ wire.sizes.output → used ≡ sum_by one packets → nat_lt used size ≡ has_room wire
+pub tests_room : (packets : List PacketFields) (used size : ℕ) (wire : DirectionState) → packets ≡ wire.output → size ≡ wire.sizes.output → used ≡ sum_by one packets → nat_lt used size ≡ has_output_room wire
 tests_room packets used size wire is same cost =
     let few : used ≡ length wire.output = cost ∙ all_cost_one packets ∙ ap length is in
     below_is_room used size ∙ ap (λ n. not (nat_le n used)) same ∙ ap (λ n. not (nat_le wire.sizes.output n)) few
 
 -- where there is room, one more packet has place
-pub place_for : (packets : List PacketFields) (size : ℕ) (wire : DirectionState) → packets ≡ wire.output → size ≡ wire.sizes.output → has_room wire ≡ true → sum_by one packets + 1 ≤ size
+pub place_for : (packets : List PacketFields) (size : ℕ) (wire : DirectionState) → packets ≡ wire.output → size ≡ wire.sizes.output → has_output_room wire ≡ true → sum_by one packets + 1 ≤ size
 place_for packets size wire is same queue =
     let below : length wire.output < wire.sizes.output = room_is_below (length wire.output) wire.sizes.output queue in
     omega (arith, all_cost_one packets, ap length is)

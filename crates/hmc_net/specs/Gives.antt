@@ -5,7 +5,7 @@ use Rattle.hmc_packet.specs.Transactions.{request_packet}
 use Rattle.hmc_host.specs.declared.given.Given.{Given}
 use Rattle.hmc_host.specs.declared.given.Given.TheVariants.{Gave}
 use Rattle.hmc_journal.specs.Queues.{tag_number}
-use Rattle.hmc_net.specs.Wire.{DirectionState, has_room, with_handed}
+use Rattle.hmc_net.specs.Wire.{DirectionState, has_output_room, with_handed}
 
 -- the packet, if there is one
 abbrev pub packets_in : Option PacketFields → List PacketFields
@@ -20,5 +20,5 @@ given_to _ wire = wire
 -- what is given has room, and is the packet of its request
 abbrev pub IsGiven : Given → DirectionState → Type 0
 IsGiven (Gave packet request tag poisoned) wire =
-    (has_room wire ≡ true) × (packet ≡ request_packet request (tag_number tag) 0 poisoned)
+    (has_output_room wire ≡ true) × (packet ≡ request_packet request (tag_number tag) 0 poisoned)
 IsGiven _ wire = Unit {0}

@@ -63,8 +63,8 @@ abbrev pub IsTransaction : PacketFields → Type 0
 IsTransaction packet = is_flow (layout_of packet.command) ≡ false
 
 -- the output queue has room for a packet
-abbrev pub has_room : DirectionState → Bool
-has_room wire = not (nat_le wire.sizes.output (length wire.output))
+abbrev pub has_output_room : DirectionState → Bool
+has_output_room wire = not (nat_le wire.sizes.output (length wire.output))
 
 -- a packet waits after the others
 abbrev pub with_handed : PacketFields → DirectionState → DirectionState

@@ -8,7 +8,7 @@ ghost use Rattle.hmc_case.specs.Setup.{only_profile};
 ghost use Rattle.hmc_journal.specs.Next.{begun_with, sent_flit, sent_entry, landed_entry, outcome_read, outcome_of};
 ghost use Rattle.hmc_journal.specs.Wires.{packet_in};
 ghost use Rattle.hmc_net.specs.Quiescent.{IsIdle};
-ghost use Rattle.hmc_net.specs.Wire.{opening_wire, wire_view, IsTransaction, has_room, with_handed, without_flits, first_by, advanced_by, after_send, read_with, after_gathering, after_land, whole_by, whole_in};
+ghost use Rattle.hmc_net.specs.Wire.{opening_wire, wire_view, IsTransaction, has_output_room, with_handed, without_flits, first_by, advanced_by, after_send, read_with, after_gathering, after_land, whole_by, whole_in};
 
 use crate::sending::{Sending, begin};
 use arrayvec::ArrayVec;
@@ -119,14 +119,14 @@ impl Wire {
 
     /// Whether the output queue has room for a packet.
     pub fn room(&self) -> bool
-        ensures { result ≡ has_room self.now }
+        ensures { result ≡ has_output_room self.now }
     {
         self.output.used() < self.output.size()
     }
 
     /// Puts a packet at the end of the output queue.
     pub fn hand(&mut self, packet: Packet)
-        requires room { has_room self.old ≡ true }
+        requires room { has_output_room self.old ≡ true }
         requires transaction { IsTransaction packet }
         ensures { self.new ≡ with_handed packet self.old }
     {

@@ -3,7 +3,7 @@ use Rattle.std.proofs.Common.{◌≡◌, ◌∙◌, ap, subst}
 use Rattle.hmc_host.specs.Give.{give_says, after_give}
 use Rattle.hmc_net.specs.Gives.{IsGiven, given_to}
 use Rattle.hmc_net.specs.NetState.{NetState}
-use Rattle.hmc_net.specs.Wire.{has_room}
+use Rattle.hmc_net.specs.Wire.{has_output_room}
 use Rattle.hmc_net.proofs.Choices.{given_is, give_entry, give_held}
 use Rattle.hmc_net.proofs.net.Net.give.Goals as goal
 
@@ -13,7 +13,7 @@ hand_given-requires c = given_is c.self.inside.host c.self.inside.forth c.give-g
 pub returns-clause-entry : goal.returns-clause-entry
 returns-clause-entry c =
     give_entry c.args.self.now c.give-given.result c.gave_entry.result (subst (λ (n : NetState). n.forth.sizes ≡ n.sizes) c.self.view_is c.self.invariant.forth)
-    (c.give-given.ensures.answer ∙ ap (give_says c.self.inside.host) c.room-room.ensures ∙ ap (λ (n : NetState). give_says n.host (has_room n.forth)) c.self.view_is) c.gave_entry.ensures
+    (c.give-given.ensures.answer ∙ ap (give_says c.self.inside.host) c.room-room.ensures ∙ ap (λ (n : NetState). give_says n.host (has_output_room n.forth)) c.self.view_is) c.gave_entry.ensures
 
 pub returns-clause-state : goal.returns-clause-state
 returns-clause-state c =

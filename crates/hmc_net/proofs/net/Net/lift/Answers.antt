@@ -6,7 +6,7 @@ use Rattle.hmc_schedule.specs.declared.step.Step.TheVariants as steps
 use Rattle.hmc_journal.specs.declared.entry.Entry.TheVariants as entries
 use Rattle.hmc_journal.specs.Next.{unless_full}
 use Rattle.hmc_net.specs.NetState.{NetState}
-use Rattle.hmc_net.specs.Wire.{has_room}
+use Rattle.hmc_net.specs.Wire.{has_output_room}
 use Rattle.hmc_net.proofs.Stepping.{lift_there}
 use Rattle.hmc_net.proofs.CubeChoices.{lift_none, lift_entry, reply_transaction}
 use Rattle.hmc_net.proofs.net.Net.lift.Goals as goal
@@ -24,7 +24,7 @@ pub returns-then-not-room-clause-entry : goal.returns-then-not-room-clause-entry
 returns-then-not-room-clause-entry c =
     c.idle-then-not-room.ensures ∙ ap (λ t. unless_full (steps.Lift 0 c.args.from) (not t) (entries.Lifted 0 c.args.from c.args.self.now.port)) (sym c.if-not-room.true) ∙
     lift_entry c.args.self.now c.args.from c.in-Some.front c.room.result (subst (λ (n : NetState). n.back.sizes ≡ n.sizes) c.self.view_is c.self.invariant.back) (c.requires.ready.answers c.args.from) (ap (λ (n : NetState). slice_get (answers_at n.cube c.args.from) 0) (sym c.self.view_is) ∙ sym c.lift_front.ensures ∙ c.in-Some.is)
-    (c.room.ensures ∙ ap (λ (n : NetState). has_room n.back) c.self.view_is)
+    (c.room.ensures ∙ ap (λ (n : NetState). has_output_room n.back) c.self.view_is)
 
 pub hand-requires-clause-transaction : goal.hand-requires-clause-transaction
 hand-requires-clause-transaction c = reply_transaction (answers_at c.args.self.now.cube c.args.from) c.in-Some.front (c.requires.ready.answers c.args.from) (ap (λ (n : NetState). slice_get (answers_at n.cube c.args.from) 0) (sym c.self.view_is) ∙ sym c.lift_front.ensures ∙ c.in-Some.is)
@@ -33,4 +33,4 @@ pub returns-clause-entry : goal.returns-clause-entry
 returns-clause-entry c =
     ap (λ (n : NetState). entries.Lifted 0 c.args.from n.port) c.self.view_is ∙ ap (λ t. unless_full (steps.Lift 0 c.args.from) (not t) (entries.Lifted 0 c.args.from c.args.self.now.port)) (sym c.if-not-room.false) ∙
     lift_entry c.args.self.now c.args.from c.in-Some.front c.room.result (subst (λ (n : NetState). n.back.sizes ≡ n.sizes) c.self.view_is c.self.invariant.back) (c.requires.ready.answers c.args.from) (ap (λ (n : NetState). slice_get (answers_at n.cube c.args.from) 0) (sym c.self.view_is) ∙ sym c.lift_front.ensures ∙ c.in-Some.is)
-    (c.room.ensures ∙ ap (λ (n : NetState). has_room n.back) c.self.view_is)
+    (c.room.ensures ∙ ap (λ (n : NetState). has_output_room n.back) c.self.view_is)
