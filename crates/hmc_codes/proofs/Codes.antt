@@ -105,3 +105,27 @@ command_of-code code c is = find-code code all_commands c is
 pub command_of-found : (found : Option Command) (code : ℕ) → found ≡ command_of code → IfSome found (λ c. code_of c ≡ code)
 command_of-found None code is = tt
 command_of-found (Some c) code is = command_of-code code c (sym is)
+
+-- T, and the code is that of none of the commands
+abbrev pub AndNone : List Command → ℕ → Type 0 → Type 0
+AndNone [] code T = T
+AndNone (c ∷ cs) code T = AndNone cs code (T × (code ≡ code_of c → ⊥))
+
+and_none-first : (cs : List Command) (code : ℕ) (T : Type 0) → AndNone cs code T → T
+and_none-first [] code T is = is
+and_none-first (c ∷ cs) code T is = (and_none-first cs code (T × (code ≡ code_of c → ⊥)) is).0
+
+not_first : (code : ℕ) (c : Command) (later : Option Command) (b : Bool) → eqb (code_of c) code ≡ b → (code ≡ code_of c → ⊥) → None ≡ later → None ≡ cond b (Some c) later
+not_first code c later true test other none = absurd (other (sym (eqb-true _ _ test)))
+not_first code c later false test other none = none
+
+find-none : (cs : List Command) (code : ℕ) (T : Type 0) → AndNone cs code T → None ≡ find (λ d. code_of d == code) cs
+find-none [] code T is = refl
+find-none (c ∷ cs) code T is =
+    let More = T × (code ≡ code_of c → ⊥) in
+    not_first code c (find (λ d. code_of d == code) cs) (eqb (code_of c) code) refl (and_none-first cs code More is).1 (find-none cs code More is)
+
+-- nothing is found for the code of no command
+pub command_of-none : (code : ℕ) → AndNone all_commands code (Unit {0}) → None ≡ command_of code
+unfolding command_of
+command_of-none code is = find-none all_commands code (Unit {0}) is

@@ -1,4 +1,6 @@
 pub mod Codes
 pub mod BytesLemmas
 pub mod Blocks
+pub mod Digits
+pub mod Words
 mod Worked

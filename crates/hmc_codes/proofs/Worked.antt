@@ -8,7 +8,7 @@ use Rattle.hmc_codes.specs.declared.command.Command.TheVariants as commands
 use Rattle.hmc_codes.specs.Bytes.{padded_bytes}
 use Rattle.hmc_codes.specs.Table.{table_line}
 use Rattle.hmc_codes.specs.Commands.{code_of, reply_of, allows_of, is_posted, payload_len_of}
-use Rattle.hmc_codes.specs.Text.{line}
+use Rattle.hmc_codes.specs.Text.{line, operand_words}
 use Rattle.hmc_codes.specs.Codes.{all_commands, command_of}
 use Rattle.hmc_codes.specs.Shape.{ShapeFields, is_block, capacity_of, offset_of, vault_of, bank_of, row_of}
 use Rattle.hmc_codes.specs.Profile.{modulus_of, most_retry}
@@ -246,3 +246,7 @@ setup-two_past is = let few : 1025 ≤ 1024 = is.retry in omega arith
 
 setup-short : IsLinkSetup (setup_with 16 One) → ⊥
 setup-short is = let many : 17 ≤ 16 = is.some_retry in omega arith
+
+-- a word that may be missing brings its space
+operand_words-both : operand_words None ++ (35 ∷ operand_words (Some (codes "17"))) ≡ codes "# 17"
+operand_words-both = refl

@@ -21,6 +21,10 @@ code_of command = (table_line command).code
 abbrev pub layout_of : Command → Layout
 layout_of command = (table_line command).layout
 
+-- the flits of a packet with the command
+abbrev pub length_of : Command → Length
+length_of command = (table_line command).flits
+
 -- the command of the response to a request
 abbrev pub reply_of : Command → Option Command
 reply_of command = (table_line command).reply
@@ -45,7 +49,7 @@ permits Data flits = (nat_le 2 flits && nat_le flits 9) || flits == 17
 
 -- the table permits this number of flits
 abbrev pub allows_of : Command → ℕ → Bool
-allows_of command flits = permits (table_line command).flits flits
+allows_of command flits = permits (length_of command) flits
 
 -- the fields are those of a request
 abbrev pub is_ask : Layout → Bool
@@ -69,4 +73,4 @@ payload_of_length Data = 0
 
 -- the bytes of payload that a request with this command carries
 abbrev pub payload_len_of : Command → ℕ
-payload_len_of command = payload_of_length (table_line command).flits
+payload_len_of command = payload_of_length (length_of command)

@@ -1,6 +1,5 @@
 pub mod Bytes
 pub mod Table
-pub mod Line
 pub mod Commands
 pub mod Codes
 pub mod Padding

@@ -54,6 +54,11 @@ request_with r operands =
 unfoldable pub request_text : RequestFields → List ℕ
 request_text r = request_with r (option_to_list (operand_of (is_mdwr r.command) r.payload))
 
+-- one more word, or none: a space before it
+abbrev pub operand_words : Option (List ℕ) → List ℕ
+operand_words None = []
+operand_words (Some word) = 32 ∷ word
+
 -- an answer as a report has it
 unfoldable pub answer_text : Answer → List ℕ
 answer_text Silent = codes "silent"

@@ -5,8 +5,7 @@ ghost use Rattle.hmc_codes.specs.declared.command.Command.{Command};
 ghost use Rattle.hmc_codes.specs.Codes.{command_of};
 ghost use Rattle.hmc_codes.specs.Commands.{code_of, word_of, layout_of, family_of, reply_of, permits, allows_of, is_posted, payload_len_of};
 
-use crate::table::{COMMANDS, table_line};
-use crate::{Family, Layout, Length};
+use crate::{Family, Layout, Length, table};
 
 /// The command of a packet: a variant for each code of the table.
 ///
@@ -89,17 +88,6 @@ pub enum Command {
     Error,
 }
 
-// The first command with this code.
-#[tactic(auto, unfolding(crate::specs::Codes::command_of, crate::specs::Codes::all_commands))]
-fn at_code(code: u8) -> Option<Command>
-    ensures { result ≡ command_of code }
-{
-    COMMANDS
-        .iter()
-        .copied()
-        .find(|command| command.code() == code)
-}
-
 impl Command {
     /// The command with this code, if the table has one.
     pub fn from_code(code: u8) -> Option<Self>
@@ -107,35 +95,35 @@ impl Command {
         ensures found { IfSome result (λ command. code_of command ≡ code) }
         ensures only { (command : Command) → code_of command ≡ code → result ≡ Some command }
     {
-        at_code(code)
+        table::with_code(code)
     }
 
     /// The code in a packet's header, 0 to 120.
     pub fn code(self) -> u8
         ensures { result ≡ code_of self }
     {
-        table_line(self).code
+        table::code(self)
     }
 
     /// The word of a script line and of a report. Scripts have only those of requests.
     pub fn word(self) -> &'static str
         ensures { result.now ≡ word_of self }
     {
-        table_line(self).word
+        table::word(self)
     }
 
     /// The fields of a packet with this command.
     pub fn layout(self) -> Layout
         ensures { result ≡ layout_of self }
     {
-        table_line(self).layout
+        table::layout(self)
     }
 
     /// The family: flow packets, requests or responses.
     pub fn family(self) -> Family
         ensures { result ≡ family_of self }
     {
-        match table_line(self).layout {
+        match self.layout() {
             Layout::Null | Layout::Pret | Layout::Tret | Layout::Irtry => Family::Flow,
             Layout::Ask => Family::Ask,
             Layout::Reply => Family::Reply,
@@ -147,29 +135,28 @@ impl Command {
     pub fn reply(self) -> Option<Self>
         ensures { result ≡ reply_of self }
     {
-        table_line(self).reply
+        table::reply(self)
     }
 
     /// Whether it is a request without a response.
     pub fn posted(self) -> bool
         ensures { result ≡ is_posted self }
     {
-        let line = table_line(self);
-        line.layout == Layout::Ask && line.reply.is_none()
+        self.layout() == Layout::Ask && self.reply().is_none()
     }
 
     /// Whether the table permits packets of this many flits, with header and tail.
     pub fn allows(self, flits: u8) -> bool
         ensures { result ≡ allows_of self flits }
     {
-        table_line(self).flits.permits(flits)
+        table::length(self).permits(flits)
     }
 
     /// The payload bytes of a request with this command: 0, 16 to 128 in steps of 16, or 256.
     pub fn payload_len(self) -> usize
         ensures { result ≡ payload_len_of self }
     {
-        match table_line(self).flits {
+        match table::length(self) {
             Length::Fixed(flits) => 16 * usize::from(flits.saturating_sub(1)),
             Length::Data => 0,
         }

@@ -1,6 +1,6 @@
 //! Plain data of all layers: commands and their table, payloads, requests, answers, the shape of a
 //! cube's memory with its address map, the setup of a link and its ends, the graph of links,
-//! counts, and the limits of cases. Only `text` allocates.
+//! counts, the limits of cases, and the pieces of lines. Only `text` allocates.
 //!
 //! Contracts see a payload as the list of its bytes, and a request, a shape, a graph and a link's
 //! setup as records of their fields. A request, a shape and a setup keep the ranges of their
@@ -22,6 +22,7 @@ mod limits;
 mod link_setup;
 mod memory;
 mod payload;
+mod pieces;
 mod place;
 mod profile;
 mod request;
@@ -47,6 +48,9 @@ pub use limits::{
 pub use link_setup::LinkSetup;
 pub use memory::Memory;
 pub use payload::Payload;
+pub use pieces::{
+    LineText, append_bytes, append_decimal, append_hex_number, append_sixteen, append_spaced,
+};
 pub use place::{Join, Place};
 pub use profile::Profile;
 pub use request::Request;

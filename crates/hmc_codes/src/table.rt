@@ -1,78 +1,15 @@
 //! The command table: one row per command.
 
 ghost use Rattle.std.specs.Prelude.{◌≡◌};
-ghost use Rattle.hmc_codes.specs.Codes.{all_commands};
-ghost use Rattle.hmc_codes.specs.Line.{IsLine};
-ghost use Rattle.hmc_codes.specs.Table.{table_line, flow_packet, answered_request, posted_request, response_packet};
+ghost use Rattle.hmc_codes.specs.Codes.{all_commands, command_of};
+ghost use Rattle.hmc_codes.specs.Commands.{code_of, word_of, layout_of, length_of, reply_of};
+ghost use Rattle.hmc_codes.specs.declared.command.Command.{Command};
 
 use crate::{Command, Layout, Length};
 
-/// A line of the table.
-#[derive(Clone, Copy)]
-pub struct Line {
-    /// The word of a script line and of a report.
-    pub word: &'static str,
-    /// The code in a packet's header.
-    pub code: u8,
-    /// The fields of a packet.
-    pub layout: Layout,
-    /// The flits of a packet, with header and tail.
-    pub flits: Length,
-    /// The command of the response.
-    pub reply: Option<Command>,
-}
-
-impl Line {
-    fn flow_packet(word: &'static str, code: u8, layout: Layout) -> Self
-        ensures { IsLine result (flow_packet word.now code layout) }
-    {
-        Line {
-            word,
-            code,
-            layout,
-            flits: Length::Fixed(1),
-            reply: None,
-        }
-    }
-
-    fn answered_request(word: &'static str, code: u8, flits: Length, reply: Command) -> Self
-        ensures { IsLine result (answered_request word.now code flits reply) }
-    {
-        Line {
-            word,
-            code,
-            layout: Layout::Ask,
-            flits,
-            reply: Some(reply),
-        }
-    }
-
-    fn posted_request(word: &'static str, code: u8, flits: Length) -> Self
-        ensures { IsLine result (posted_request word.now code flits) }
-    {
-        Line {
-            word,
-            code,
-            layout: Layout::Ask,
-            flits,
-            reply: None,
-        }
-    }
-
-    fn response_packet(word: &'static str, code: u8, flits: Length) -> Self
-        ensures { IsLine result (response_packet word.now code flits) }
-    {
-        Line {
-            word,
-            code,
-            layout: Layout::Reply,
-            flits,
-            reply: None,
-        }
-    }
-}
-
-// The table. The macro `rows` makes something of its rows.
+// The table. A row has the word of a script line and of a report, the code in a packet's header,
+// the fields of a packet or the command of the response, and the flits of a packet, with header and
+// tail. The macro `rows` makes something of the rows.
 macro_rules! table {
     ($rows:ident $($command:expr)?) => {
         $rows! {
@@ -152,23 +89,130 @@ macro_rules! table {
     };
 }
 
-macro_rules! row_of {
-    ($command:expr; $($variant:ident => $kind:ident $values:tt,)*) => {
-        match $command { $(Command::$variant => Line::$kind $values,)* }
+macro_rules! variants {
+    ($($variant:ident => $kind:ident $values:tt,)*) => { [$(Command::$variant,)*] };
+}
+
+macro_rules! with_code {
+    (
+        $code:expr;
+        $($variant:ident => $kind:ident ($word:literal, $number:literal, $($rest:tt)*),)*
+    ) => {
+        match $code { $($number => Some(Command::$variant),)* _ => None }
     };
 }
 
-macro_rules! variants {
-    ($($variant:ident => $kind:ident $values:tt,)*) => { [$(Command::$variant,)*] };
+macro_rules! words {
+    (
+        $command:expr;
+        $($variant:ident => $kind:ident ($word:literal, $($rest:tt)*),)*
+    ) => {
+        match $command { $(Command::$variant => $word,)* }
+    };
+}
+
+macro_rules! numbers {
+    (
+        $command:expr;
+        $($variant:ident => $kind:ident ($word:literal, $number:literal, $($rest:tt)*),)*
+    ) => {
+        match $command { $(Command::$variant => $number,)* }
+    };
+}
+
+macro_rules! layouts {
+    (
+        $command:expr;
+        $($variant:ident => $kind:ident ($word:literal, $number:literal, $($rest:tt)*),)*
+    ) => {
+        match $command { $(Command::$variant => layout!($kind $($rest)*),)* }
+    };
+}
+
+macro_rules! layout {
+    (flow_packet $layout:expr) => { $layout };
+    (answered_request $($rest:tt)*) => { Layout::Ask };
+    (posted_request $($rest:tt)*) => { Layout::Ask };
+    (response_packet $($rest:tt)*) => { Layout::Reply };
+}
+
+macro_rules! lengths {
+    (
+        $command:expr;
+        $($variant:ident => $kind:ident ($word:literal, $number:literal, $($rest:tt)*),)*
+    ) => {
+        match $command { $(Command::$variant => length!($kind $($rest)*),)* }
+    };
+}
+
+macro_rules! length {
+    (flow_packet $layout:expr) => { Length::Fixed(1) };
+    (answered_request $flits:expr, $reply:expr) => { $flits };
+    (posted_request $flits:expr) => { $flits };
+    (response_packet $flits:expr) => { $flits };
+}
+
+macro_rules! replies {
+    (
+        $command:expr;
+        $($variant:ident => $kind:ident ($word:literal, $number:literal, $($rest:tt)*),)*
+    ) => {
+        match $command { $(Command::$variant => reply!($kind $($rest)*),)* }
+    };
+}
+
+macro_rules! reply {
+    (answered_request $flits:expr, $reply:expr) => { Some($reply) };
+    ($kind:ident $($rest:tt)*) => { None };
 }
 
 /// All commands, in the order of the table.
 pub const COMMANDS: [Command; 71] = table!(variants);
 
-/// The row of a command.
-#[tactic(auto, unfolding(crate::specs::Table::table_line))]
-pub fn table_line(command: Command) -> Line
-    ensures { IsLine result (table_line command) }
+/// The command with this code, if the table has one.
+#[tactic(auto, unfolding(crate::specs::Codes::command_of, crate::specs::Codes::all_commands, crate::specs::Table::table_line))]
+pub fn with_code(code: u8) -> Option<Command>
+    ensures { result ≡ command_of code }
 {
-    table!(row_of command)
+    table!(with_code code)
+}
+
+/// The code in a packet's header.
+#[tactic(auto, unfolding(crate::specs::Table::table_line))]
+pub fn code(command: Command) -> u8
+    ensures { result ≡ code_of command }
+{
+    table!(numbers command)
+}
+
+/// The word of a script line and of a report.
+#[tactic(auto, unfolding(crate::specs::Table::table_line))]
+pub fn word(command: Command) -> &'static str
+    ensures { result.now ≡ word_of command }
+{
+    table!(words command)
+}
+
+/// The fields of a packet.
+#[tactic(auto, unfolding(crate::specs::Table::table_line))]
+pub fn layout(command: Command) -> Layout
+    ensures { result ≡ layout_of command }
+{
+    table!(layouts command)
+}
+
+/// The flits of a packet, with header and tail.
+#[tactic(auto, unfolding(crate::specs::Table::table_line))]
+pub fn length(command: Command) -> Length
+    ensures { result ≡ length_of command }
+{
+    table!(lengths command)
+}
+
+/// The command of the response.
+#[tactic(auto, unfolding(crate::specs::Table::table_line))]
+pub fn reply(command: Command) -> Option<Command>
+    ensures { result ≡ reply_of command }
+{
+    table!(replies command)
 }

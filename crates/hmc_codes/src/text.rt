@@ -1,10 +1,12 @@
 //! The texts of requests and answers in scripts and reports.
 
-ghost use Rattle.std.specs.Prelude.{◌≡◌, ◌≤◌, ◌∷◌, [], length, codes, option_map, IfOk, string_bytes};
+ghost use Rattle.std.specs.Prelude.{◌≡◌, ◌≤◌, ◌+◌, ◌∷◌, [], ◌++◌, length, codes, IfOk, string_bytes};
 ghost use Rattle.std.specs.Int.{w32, to_be_bytes};
 ghost use Rattle.hex.specs.Hex.{encode_lower};
-ghost use Rattle.hmc_codes.specs.Text.{spaced_words, flag_text, is_mdwr, value_in, operand_of, request_with, request_text, answer_text};
+ghost use Rattle.hmc_codes.specs.Commands.{word_of};
+ghost use Rattle.hmc_codes.specs.Text.{spaced_words, flag_text, is_mdwr, value_in, operand_of, operand_words, request_with, request_text, answer_text};
 
+use crate::pieces::{LineText, append_bytes, append_hex_number, append_spaced};
 use crate::{Answer, Command, Memory, Payload, Request};
 use std::alloc::Global;
 
@@ -27,57 +29,67 @@ impl Payload {
     }
 }
 
+// The word of a command has at most nine letters.
+#[tactic(auto, using(crate::proofs::Words::word_length))]
+fn push_command(into: &mut LineText, command: Command)
+    requires room { length into.old.bytes + 9 ≤ 2048 }
+    ensures text { into.new.bytes ≡ into.old.bytes ++ word_of command }
+    ensures few { length into.new.bytes ≤ length into.old.bytes + 9 }
+{
+    into.push_str(command.word());
+}
+
 // A request with no payload.
-fn bare(alloc: Global, request: &Request) -> Result<String, Memory>
-    ensures { IfOk result (λ text. string_bytes text ≡ request_with request.now []) }
+fn push_bare(into: &mut LineText, request: &Request)
+    requires room { length into.old.bytes + 49 ≤ 2048 }
+    ensures text { into.new.bytes ≡ into.old.bytes ++ request_with request.now [] }
+    ensures few { length into.new.bytes ≤ length into.old.bytes + 49 }
 {
-    let word = request.command.word();
-    let cube = request.cube;
-    let address = request.address;
-    Ok(format!(in alloc; "{word} {cube} 0x{address:x}")?)
+    push_command(into, request.command);
+    append_spaced(into, u64::from(request.cube));
+    into.push_str(" ");
+    append_hex_number(into, request.address);
 }
 
-// A request and the one word after its address.
-fn with_operand(alloc: Global, request: &Request, operand: &str) -> Result<String, Memory>
-    ensures { IfOk result (λ text.
-        string_bytes text ≡ request_with request.now (operand.now ∷ [])) }
-{
-    let head = bare(alloc, request)?;
-    Ok(format!(in alloc; "{head} {operand}")?)
-}
-
-// The word after the address, if there is one.
-fn operand(alloc: Global, request: &Request) -> Result<Option<String>, Memory>
-    ensures { IfOk result (λ word.
-        option_map string_bytes word ≡
-        operand_of (is_mdwr request.now.command) request.now.payload) }
+// The word after the address, if there is one, with a space before it.
+fn push_operand(into: &mut LineText, request: &Request)
+    requires room { length into.old.bytes + 513 ≤ 2048 }
+    ensures text { into.new.bytes ≡ into.old.bytes ++ operand_words
+        (operand_of (is_mdwr request.now.command) request.now.payload) }
+    ensures few { length into.new.bytes ≤ length into.old.bytes + 513 }
 {
     request.invariant();
     let payload = &request.payload;
     if request.command.is_mdwr() {
-        let value = payload.value();
-        return Ok(Some(format!(in alloc; "{value}")?));
+        append_spaced(into, u64::from(payload.value()));
+    } else if !payload.is_empty() {
+        into.push_str(" ");
+        append_bytes(into, payload.as_slice());
     }
-    if payload.is_empty() {
-        return Ok(None);
-    }
-    Ok(Some(hex::encode(alloc, payload.as_slice())?))
 }
 
 impl Request {
-    /// The request as a script has it, without the host and without a line feed: the command's
-    /// word, the cube in decimal, `0x` and the address in hexadecimal, and the payload in
-    /// lower-case hexadecimal. An `mdwr` has its value in decimal in place of the payload. If there
-    /// is no payload, the address is the last word. `Memory` if out of memory.
-    #[tactic(auto, unfolding(crate::specs::Text::request_text))]
+    /// Appends the request as a script has it, without the host and without a line feed: the
+    /// command's word, the cube in decimal, `0x` and the address in hexadecimal, and the payload
+    /// in lower-case hexadecimal. An `mdwr` has its value in decimal in place of the payload. If
+    /// there is no payload, the address is the last word. It has at most 562 bytes.
+    pub fn print(&self, into: &mut LineText)
+        requires room { length into.old.bytes + 562 ≤ 2048 }
+        ensures text { into.new.bytes ≡ into.old.bytes ++ request_text self.now }
+        ensures few { length into.new.bytes ≤ length into.old.bytes + 562 }
+    {
+        push_bare(into, self);
+        push_operand(into, self);
+    }
+
+    /// What `print` appends, as a text of its own. `Memory` if out of memory.
     pub fn text(&self, alloc: Global) -> Result<String, Memory>
         ensures { IfOk result (λ text. string_bytes text ≡ request_text self.now) }
     {
-        let word = operand(alloc, self)?;
-        match &word {
-            Some(word) => with_operand(alloc, self, word.as_str()),
-            None => bare(alloc, self),
-        }
+        let mut line = LineText::new();
+        self.print(&mut line);
+        let text = line.as_str();
+        Ok(format!(in alloc; "{text}")?)
     }
 }
 
@@ -87,43 +99,53 @@ fn flag_digit(flag: bool) -> &'static str
     if flag { "1" } else { "0" }
 }
 
-fn read_text(alloc: Global, flag: bool, payload: &Payload) -> Result<String, Memory>
-    ensures { IfOk result (λ text.
-        string_bytes text ≡ spaced_words
-        (codes "read" ∷ flag_text flag ∷ encode_lower payload.now ∷ [])) }
+// The answer to a read.
+fn push_read(into: &mut LineText, flag: bool, payload: &Payload)
+    requires room { length into.old.bytes + 519 ≤ 2048 }
+    ensures text { into.new.bytes ≡ into.old.bytes ++ spaced_words
+        (codes "read" ∷ flag_text flag ∷ encode_lower payload.now ∷ []) }
+    ensures few { length into.new.bytes ≤ length into.old.bytes + 519 }
 {
-    let flag = flag_digit(flag);
-    let bytes = hex::encode(alloc, payload.as_slice())?;
-    Ok(format!(in alloc; "read {flag} {bytes}")?)
+    into.push_str("read ");
+    into.push_str(flag_digit(flag));
+    into.push_str(" ");
+    append_bytes(into, payload.as_slice());
 }
 
-fn register_text(alloc: Global, value: u32) -> Result<String, Memory>
-    ensures { IfOk result (λ text.
-        string_bytes text ≡ spaced_words
-        (codes "register" ∷ encode_lower (to_be_bytes w32 value) ∷ [])) }
+// The value of a register.
+fn push_register(into: &mut LineText, value: u32)
+    requires room { length into.old.bytes + 17 ≤ 2048 }
+    ensures text { into.new.bytes ≡ into.old.bytes ++ spaced_words
+        (codes "register" ∷ encode_lower (to_be_bytes w32 value) ∷ []) }
+    ensures few { length into.new.bytes ≤ length into.old.bytes + 17 }
 {
-    let digits = hex::encode(alloc, value.to_be_bytes().as_slice())?;
-    Ok(format!(in alloc; "register {digits}")?)
+    into.push_str("register ");
+    append_bytes(into, &value.to_be_bytes());
 }
 
 impl Answer {
-    /// The answer as a report has it, without a line feed: its word, then the flag as 0 or 1 and
-    /// the bytes in lower-case hexadecimal, the register's value in eight digits, or the error's
-    /// number in decimal. `Memory` if out of memory.
+    /// Appends the answer as a report has it, without a line feed: its word, then the flag as 0 or
+    /// 1 and the bytes in lower-case hexadecimal, the register's value in eight digits, or the
+    /// error's number in decimal. It has at most 519 bytes.
     #[tactic(auto, unfolding(crate::specs::Text::answer_text))]
-    pub fn text(&self, alloc: Global) -> Result<String, Memory>
-        ensures { IfOk result (λ text. string_bytes text ≡ answer_text self.now) }
+    pub fn print(&self, into: &mut LineText)
+        requires room { length into.old.bytes + 519 ≤ 2048 }
+        ensures text { into.new.bytes ≡ into.old.bytes ++ answer_text self.now }
+        ensures few { length into.new.bytes ≤ length into.old.bytes + 519 }
     {
         match self {
-            Answer::Silent => Ok(format!(in alloc; "silent")?),
+            Answer::Silent => into.push_str("silent"),
             Answer::Done { flag } => {
-                let flag = flag_digit(*flag);
-                Ok(format!(in alloc; "done {flag}")?)
+                into.push_str("done ");
+                into.push_str(flag_digit(*flag));
             }
-            Answer::Read { flag, payload } => read_text(alloc, *flag, payload),
-            Answer::Register { value } => register_text(alloc, *value),
-            Answer::Stored => Ok(format!(in alloc; "stored")?),
-            Answer::Refused { errstat } => Ok(format!(in alloc; "error {errstat}")?),
+            Answer::Read { flag, payload } => push_read(into, *flag, payload),
+            Answer::Register { value } => push_register(into, *value),
+            Answer::Stored => into.push_str("stored"),
+            Answer::Refused { errstat } => {
+                into.push_str("error");
+                append_spaced(into, u64::from(*errstat));
+            }
         }
     }
 }

@@ -2,7 +2,7 @@
 use Rattle.std.proofs.Common.{◌≡◌, ℕ, zero, suc, ◌+◌, ◌-◌, ◌*◌, ◌/◌, ◌%◌, ◌^◌, ◌<◌, ◌≤◌, Bool, true, false, cond, eqb, List, [], ◌∷◌, ◌++◌, length, refl, sym, ap, ◌∙◌, arith, add-zero}
 use Rattle.std.specs.Int.Bits.{bit_xor}
 use Rattle.std.specs.Int.{bit_at}
-use Rattle.std.proofs.lemmas.Nat.{shl-shr, shr-shr, field_of, mod-pow-add}
+use Rattle.std.proofs.lemmas.Nat.{shl-shr, shr-shr, field_of, mod-pow-add, div-mul-add, mod-mul-add}
 use Rattle.std.proofs.lemmas.Nat.Bits.{bit_at_xor, bit_at-lt, bit_at_cat_low, bit_at-zero}
 use Rattle.std.proofs.Math.Pow.{mod-mod-pow}
 use Rattle.std.proofs.Math.Nat.{mod-eq_of_lt, mod-one, pow-suc}
@@ -84,3 +84,29 @@ number_of-lt (true ∷ rest) = rw (pow-suc 2 (length rest)) (omega (arith, numbe
 -- a number is the one that its bits spell
 pub number_from_bits : (width n : ℕ) (bits : List Bool) → n < 2 ^ width → bits_below width n ≡ bits → n ≡ number_of bits
 number_from_bits width n bits fits same = sym (mod-eq_of_lt fits) ∙ sym (number_of-bits_below width n) ∙ ap number_of same
+
+-- a highest bit and the number below it
+bits_below-highest : (width d n : ℕ) → d < 2 → n < 2 ^ width → bits_below (suc width) (d * 2 ^ width + n) ≡ eqb d 1 ∷ bits_below width n
+unfolding bits_below
+bits_below-highest width d n small below =
+    let head : (d * 2 ^ width + n) / 2 ^ width % 2 ≡ d = ap (λ m. m % 2) (div-mul-add d (2 ^ width) n below) ∙ omega arith in
+    let rest : bits_below width (d * 2 ^ width + n) ≡ bits_below width n =
+    sym (bits_below-mod width width (d * 2 ^ width + n) (omega arith)) ∙ ap (bits_below width) (mod-mul-add d (2 ^ width) n below) in
+    λ i. eqb (head i) 1 ∷ rest i
+
+bits_below-none : (n : ℕ) → bits_below 0 n ≡ []
+unfolding bits_below
+bits_below-none n = refl
+
+-- bits are those of the number that they spell
+pub bits_below-number_of : (bits : List Bool) → bits_below (length bits) (number_of bits) ≡ bits
+unfolding number_of
+bits_below-number_of [] = bits_below-none 0
+bits_below-number_of (false ∷ rest) =
+    let width = length rest in
+    let e : 0 + number_of rest ≡ 0 * 2 ^ width + number_of rest = omega arith in
+    ap (bits_below (suc width)) e ∙ bits_below-highest width 0 (number_of rest) (omega arith) (number_of-lt rest) ∙ ap (λ (l : List Bool). false ∷ l) (bits_below-number_of rest)
+bits_below-number_of (true ∷ rest) =
+    let width = length rest in
+    let e : 2 ^ width + number_of rest ≡ 1 * 2 ^ width + number_of rest = omega arith in
+    ap (bits_below (suc width)) e ∙ bits_below-highest width 1 (number_of rest) (omega arith) (number_of-lt rest) ∙ ap (λ (l : List Bool). true ∷ l) (bits_below-number_of rest)

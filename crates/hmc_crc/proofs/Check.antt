@@ -68,12 +68,18 @@ remainder_from-more register byte next rest step =
     sized (omega (arith, length-divisor)) long in
     rw (length-append (bits_below 8 byte) (bits_of rest), append_assoc (bits_below 8 byte) (bits_of rest) (zeros 32), fed, eight, step) refl
 
--- after the last byte the register holds the remainder's bits
+-- after the last byte the register holds these bits
+pub remainder_from-last : (register : ℕ) (bits : List Bool) → register < 2 ^ 32 →
+    remainder_from register [] ≡ bits → register ≡ number_of bits
+unfolding bits_of divide
+remainder_from-last register bits fits whole =
+    let sized : 32 ≤ length (bits_below 32 register) = omega (arith, length-bits_below 32 register) in
+    let same : bits_below 32 register ≡ plus (bits_below 32 register) (zeros 32) =
+    sym (zeros-plus 32 (bits_below 32 register) sized) ∙ plus_comm (zeros 32) (bits_below 32 register) in
+    number_from_bits 32 register bits fits (same ∙ whole)
+
+-- and so the check, where they are the remainder's
 pub remainder_from-end : (register : ℕ) (bytes : List ℕ) → register < 2 ^ 32 →
     remainder_from register [] ≡ remainder bytes → register ≡ crc_of bytes
-unfolding crc_of bits_of divide
-remainder_from-end register bytes fits whole =
-    let sized : 32 ≤ length (bits_below 32 register) = omega (arith, length-bits_below 32 register) in
-    let bits : bits_below 32 register ≡ plus (bits_below 32 register) (zeros 32) =
-    sym (zeros-plus 32 (bits_below 32 register) sized) ∙ plus_comm (zeros 32) (bits_below 32 register) in
-    number_from_bits 32 register (remainder bytes) fits (bits ∙ whole)
+unfolding crc_of
+remainder_from-end register bytes = remainder_from-last register (remainder bytes)

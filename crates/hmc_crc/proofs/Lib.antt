@@ -4,4 +4,5 @@ pub mod Bits
 mod Register
 pub mod Check
 mod TableLemmas
+mod Update
 mod Worked

@@ -3,7 +3,7 @@
 use Rattle.std.proofs.Common.{◌≡◌, [], ◌∷◌, refl}
 use mathlib.Core.Bool.{xor}
 use Rattle.hmc_crc.specs.Bits.{bits_below, bits_of, number_of}
-use Rattle.hmc_crc.specs.Remainder.{coefficients, divisor, zeros, plus, divide, remainder, crc_of}
+use Rattle.hmc_crc.specs.Remainder.{coefficients, divisor, zeros, plus, divide, remainder, crc_of, crc_update}
 
 pub number_of-divisor : number_of divisor ≡ 0x741B_8CD7
 unfolding divisor coefficients number_of
@@ -65,3 +65,20 @@ pub crc_of_sixty_bytes : crc_of (
     ) ≡ 0x5EE3_CF2F
 unfolding crc_of remainder divide plus zeros divisor coefficients bits_of bits_below number_of xor
 crc_of_sixty_bytes = refl
+
+-- checks that go on over more bytes
+pub crc_update_by_nothing : crc_update 0xFFFF_FFFF [] ≡ 0xFFFF_FFFF
+unfolding crc_update divide plus zeros divisor coefficients bits_of bits_below number_of xor
+crc_update_by_nothing = refl
+
+pub crc_update_by_zeros : crc_update 0 (0x00 ∷ 0x00 ∷ 0x00 ∷ 0x00 ∷ []) ≡ 0
+unfolding crc_update divide plus zeros divisor coefficients bits_of bits_below number_of xor
+crc_update_by_zeros = refl
+
+pub crc_update_by_three_bytes : crc_update 0xE0D4_954A (0x7b ∷ 0x2e ∷ 0xd9 ∷ []) ≡ 0xEF29_2D67
+unfolding crc_update divide plus zeros divisor coefficients bits_of bits_below number_of xor
+crc_update_by_three_bytes = refl
+
+pub crc_of_five_bytes : crc_of (0xca ∷ 0x18 ∷ 0x7b ∷ 0x2e ∷ 0xd9 ∷ []) ≡ 0xEF29_2D67
+unfolding crc_of remainder divide plus zeros divisor coefficients bits_of bits_below number_of xor
+crc_of_five_bytes = refl

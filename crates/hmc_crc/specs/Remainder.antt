@@ -3,7 +3,7 @@
 use Rattle.std.specs.Prelude.{ℕ, zero, suc, ◌==◌, Bool, true, false, List, [], ◌∷◌, ◌++◌, length}
 use Rattle.std.specs.Bool.{xor}
 use Rattle.std.specs.List.{list_any}
-use Rattle.hmc_crc.specs.Bits.{bits_of, number_of}
+use Rattle.hmc_crc.specs.Bits.{bits_below, bits_of, number_of}
 
 -- the powers of x in the divisor, below its leading x ^ 32
 abbrev pub powers_of_divisor : List ℕ
@@ -46,3 +46,10 @@ remainder bytes = divide divisor (length (bits_of bytes)) (bits_of bytes ++ zero
 -- the check of the bytes, as a number of 32 bits
 unfoldable pub crc_of : List ℕ → ℕ
 crc_of bytes = number_of (remainder bytes)
+
+-- the check once more bytes follow those that it is of: its coefficients are added onto the front
+-- of what is still to be divided
+unfoldable pub crc_update : (check : ℕ) → List ℕ → ℕ
+crc_update check bytes =
+    number_of (divide divisor (length (bits_of bytes))
+    (plus (bits_below 32 check) (bits_of bytes ++ zeros 32)))

@@ -5,8 +5,9 @@
 //! is the remainder of that polynomial times x^32. Nothing is reflected, added before or inverted
 //! after.
 //!
-//! [`crc`] returns `crc_of` of the bytes, and [`check_is_a_word`] states that `crc_of` fits 32 bits
-//! whatever the bytes are. Which bytes of a packet are covered, and where the check is in it, is
+//! [`crc`] and [`crc_fast`] return `crc_of` of the bytes. [`crc_update`] carries the check of some
+//! bytes on over more of them. [`check_is_a_word`] states that `crc_of` fits 32 bits whatever the
+//! bytes are. Which bytes of a packet are covered, and where the check is in it, is
 //! defined by the packet layer.
 #![tactic(auto)]
 
@@ -14,4 +15,4 @@ mod remainder;
 mod table;
 
 pub use remainder::{POLYNOMIAL, check_is_a_word, crc};
-pub use table::crc_fast;
+pub use table::{crc_fast, crc_update};

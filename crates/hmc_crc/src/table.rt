@@ -1,8 +1,8 @@
 //! The division, a byte at a time, by a table of the remainders of all bytes.
 
-ghost use Rattle.std.specs.Prelude.{◌≡◌, ◌++◌, slice_index};
+ghost use Rattle.std.specs.Prelude.{◌≡◌, ℕ, List, ◌++◌, slice_index};
 ghost use Rattle.hmc_crc.specs.Bits.{bits_below};
-ghost use Rattle.hmc_crc.specs.Remainder.{plus, divide, divisor, zeros, crc_of};
+ghost use Rattle.hmc_crc.specs.Remainder.{plus, divide, divisor, zeros, crc_of, crc_update};
 
 /// The remainder of each byte, by its number.
 const REMAINDERS: [u32; 256] = [
@@ -268,8 +268,19 @@ const REMAINDERS: [u32; 256] = [
 pub fn crc_fast(bytes: &[u8]) -> u32
     ensures { result ≡ crc_of bytes.now }
 {
-    let mut register = 0;
-    for byte in bytes {
+    crc_update(0, bytes)
+}
+
+/// The check of some bytes and of `more` after them, given the check of those before, by the table.
+///
+/// The check of no bytes is 0. So bytes that come in pieces are read once, with no buffer.
+pub fn crc_update(check: u32, more: &[u8]) -> u32
+    ensures exact { result ≡ crc_update check more.now }
+    ensures joined { (before : List ℕ) → check ≡ crc_of before →
+        result ≡ crc_of (before ++ more.now) }
+{
+    let mut register = check;
+    for byte in more {
         register = with_byte(register, *byte);
     }
     register

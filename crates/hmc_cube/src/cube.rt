@@ -144,6 +144,22 @@ impl Cube {
         vault.execute(bank, &mut self.banks, &mut self.registers)
     }
 
+    /// Whether the queue of a bank is empty, and an execution by it would do nothing.
+    pub fn bank_is_empty(&self, vault: u8, bank: u8) -> bool
+        requires vault { vault < 2 ^ self.now.state.shape.vault_bits }
+        requires bank { bank < 2 ^ self.now.state.shape.bank_bits }
+        ensures { IsTrue result ↔ (bank_at (vault_at self.now vault) bank ≡ []) }
+    {
+        self.vaults[usize::from(vault)].bank_is_empty(bank)
+    }
+
+    /// Whether the queue of the registers is empty, and an execution by them would do nothing.
+    pub fn register_queue_is_empty(&self) -> bool
+        ensures { IsTrue result ↔ (self.now.register_queue ≡ []) }
+    {
+        self.register_queue.is_empty()
+    }
+
     /// Performs the request at the front of the registers' queue.
     pub fn registers(&mut self) -> Executed
         ensures answer { result ≡ registers_say self.old }
@@ -157,6 +173,17 @@ impl Cube {
             &mut self.banks,
             &mut self.registers,
         )
+    }
+
+    /// Whether there are no answers of a vault, or of the registers.
+    pub fn answers_are_empty(&self, from: Lift) -> bool
+        requires { IsLift self.now from }
+        ensures { IsTrue result ↔ (answers_at self.now from ≡ []) }
+    {
+        match from {
+            Lift::Vault(vault) => self.vaults[usize::from(vault)].answers_are_empty(),
+            Lift::Registers => self.answers.is_empty(),
+        }
     }
 
     /// The front of the answers of a vault, or of the registers.

@@ -11,10 +11,11 @@ use Rattle.hmc_packet.specs.Transactions.{request_packet, answer_by, answer_in}
 use Rattle.hmc_script.specs.Items.{ItemFields}
 use Rattle.hmc_host.specs.declared.given.Given.{Given}
 use Rattle.hmc_host.specs.declared.given.Given.TheVariants.{Ended, Fence, Tags, Full, Gave}
+use Rattle.hmc_host.specs.declared.given.Hindrance.TheVariants as hindrances
 use Rattle.hmc_host.specs.declared.settled.Settled.TheVariants.{Discarded, Took}
 use Rattle.hmc_host.specs.Tags.{none_out, lowest_free, number_out, IsFree, IsOut}
 use Rattle.hmc_host.specs.Host.{HostFields, items_of}
-use Rattle.hmc_host.specs.Give.{wants_tag, give_says, after_give}
+use Rattle.hmc_host.specs.Give.{wants_tag, give_says, after_give, hindrance_of, nothing_given}
 use Rattle.hmc_host.specs.Settle.{settle_says, after_settle}
 
 abbrev request_with : Command → RequestFields
@@ -126,6 +127,14 @@ give_says-full = refl
 give_says-second : give_says (record (host_with (read ∷ posted ∷ []) two_out) { given = 1 }) true ≡ goes_out Pinc8 0 None false
 unfolding give_says table_line
 give_says-second = refl
+
+-- the reason where nothing is given, and none where something is
+hindrance_of-each : map hindrance_of (Ended ∷ Fence ∷ Tags ∷ Full ∷ goes_out Rd16 1 (Some 1) false ∷ []) ≡
+    Some hindrances.Ended ∷ Some hindrances.Fence ∷ Some hindrances.Tags ∷ Some hindrances.Full ∷ None ∷ []
+hindrance_of-each = refl
+
+nothing_given-each : map nothing_given (hindrances.Ended ∷ hindrances.Fence ∷ hindrances.Tags ∷ hindrances.Full ∷ []) ≡ Ended ∷ Fence ∷ Tags ∷ Full ∷ []
+nothing_given-each = refl
 
 -- one more was given, and its tag is out
 after_give-tag : after_give (goes_out Rd16 1 (Some 1) false) (host_with (read ∷ posted ∷ []) two_out) ≡ record (host_with (read ∷ posted ∷ []) all_out) { given = 1 }

@@ -6,6 +6,8 @@ use Rattle.hmc_script.specs.Items.{ItemFields}
 use Rattle.hmc_packet.specs.Transactions.{request_packet}
 use Rattle.hmc_host.specs.declared.given.Given.{Given}
 use Rattle.hmc_host.specs.declared.given.Given.TheVariants.{Ended, Fence, Tags, Full, Gave}
+use Rattle.hmc_host.specs.declared.given.Hindrance.{Hindrance}
+use Rattle.hmc_host.specs.declared.given.Hindrance.TheVariants as hindrances
 use Rattle.hmc_host.specs.Tags.{is_some_out, lowest_free, with_out}
 use Rattle.hmc_host.specs.Host.{HostFields}
 
@@ -47,6 +49,21 @@ next_says host (Some item) room = item_says host item room
 -- what the host answers
 unfoldable pub give_says : HostFields → (room : Bool) → Given
 give_says host room = next_says host (next_item host) room
+
+-- why nothing is given, if nothing is
+abbrev pub hindrance_of : Given → Option Hindrance
+hindrance_of Ended = Some hindrances.Ended
+hindrance_of Fence = Some hindrances.Fence
+hindrance_of Tags = Some hindrances.Tags
+hindrance_of Full = Some hindrances.Full
+hindrance_of (Gave packet request tag poisoned) = None
+
+-- nothing is given, for this reason
+abbrev pub nothing_given : Hindrance → Given
+nothing_given hindrances.Ended = Ended
+nothing_given hindrances.Fence = Fence
+nothing_given hindrances.Tags = Tags
+nothing_given hindrances.Full = Full
 
 -- what it leaves: one more request was given, and its tag is out; or nothing changed
 abbrev pub after_give : Given → HostFields → HostFields

@@ -27,3 +27,16 @@ pub enum Given {
         poisoned: bool,
     },
 }
+
+/// Why a host gives nothing. The first of several causes counts.
+#[derive(Clone, Copy, Debug, PartialEq, Eq)]
+pub enum Hindrance {
+    /// No request is left.
+    Ended,
+    /// The next request is after a fence, and some tag is out.
+    Fence,
+    /// The next request needs a tag, and all are out.
+    Tags,
+    /// The link has no room.
+    Full,
+}

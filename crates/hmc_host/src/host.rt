@@ -5,11 +5,11 @@ ghost use Rattle.std.specs.Option.{ForSome};
 ghost use Rattle.hmc_codes.specs.Limits.{most_hosts, most_requests, tags as all_tags};
 ghost use Rattle.hmc_host.specs.Tags.{number_out, IsFree, IsOut, IsLowestFree};
 ghost use Rattle.hmc_host.specs.Host.{opening_host, items_of, IsHost};
-ghost use Rattle.hmc_host.specs.Give.{wants_tag, tag_for, gave_request, give_says, after_give, taken_tag};
+ghost use Rattle.hmc_host.specs.Give.{wants_tag, tag_for, gave_request, give_says, after_give, taken_tag, hindrance_of, nothing_given};
 ghost use Rattle.hmc_host.specs.Settle.{IsAwaited, settle_says, after_settle};
 
 use crate::tags::Tags;
-use crate::{Given, Settled};
+use crate::{Given, Hindrance, Settled};
 use hmc_codes::Memory;
 use hmc_packet::{Packet, answer_of, ask};
 use hmc_script::{Item, Script};
@@ -77,6 +77,26 @@ impl Host {
         self.tags.out()
     }
 
+    /// Why `give` would give nothing now, if it would give nothing. The link has room or not.
+    #[tactic(auto, unfolding(crate::specs::Give::give_says))]
+    pub fn hindrance(&self, room: bool) -> Option<Hindrance>
+        ensures { result ≡ hindrance_of (give_says self.now room) }
+    {
+        let Some(item) = self.items.get(self.given as usize) else {
+            return Some(Hindrance::Ended);
+        };
+        if item.fenced && self.tags.is_some_out() {
+            return Some(Hindrance::Fence);
+        }
+        if wants_tag(item) && self.tags.lowest_free().is_none() {
+            return Some(Hindrance::Tags);
+        }
+        if !room {
+            return Some(Hindrance::Full);
+        }
+        None
+    }
+
     /// Gives the next request to the link, which has room or not.
     pub fn give(&mut self, room: bool) -> Given
         ensures answer { result ≡ give_says self.old room }
@@ -117,20 +137,13 @@ impl Host {
     fn next_given(&self, room: bool) -> Given
         ensures { result ≡ give_says self.now room }
     {
+        if let Some(hindrance) = self.hindrance(room) {
+            return nothing_given(hindrance);
+        }
         let Some(item) = self.items.get(self.given as usize) else {
             return Given::Ended;
         };
-        if item.fenced && self.tags.is_some_out() {
-            return Given::Fence;
-        }
-        let tag = tag_for(item, &self.tags);
-        if wants_tag(item) && tag.is_none() {
-            return Given::Tags;
-        }
-        if !room {
-            return Given::Full;
-        }
-        gave_request(self.number, item, tag)
+        gave_request(self.number, item, tag_for(item, &self.tags))
     }
 
     // A request was given, or nothing.
@@ -161,6 +174,18 @@ fn tag_for(item: &Item, tags: &Tags) -> Option<u16>
         tags.lowest_free()
     } else {
         None
+    }
+}
+
+// Nothing, for this reason.
+fn nothing_given(hindrance: Hindrance) -> Given
+    ensures { result ≡ nothing_given hindrance }
+{
+    match hindrance {
+        Hindrance::Ended => Given::Ended,
+        Hindrance::Fence => Given::Fence,
+        Hindrance::Tags => Given::Tags,
+        Hindrance::Full => Given::Full,
     }
 }
 

@@ -4,7 +4,8 @@
 //! a flag for each of its tags, true where the tag is out (`HostFields`). [`Host::give`] returns
 //! `give_says`, with the tag that `lowest_free` names, and leaves `after_give`; [`Host::settle`]
 //! returns `settle_says` and leaves `after_settle`. At `Ended`, `Fence`, `Tags`, `Full` and
-//! `Discarded` nothing changes. The layer above cites these words alone.
+//! `Discarded` nothing changes. [`Host::hindrance`] is the reason where a give gives nothing: it
+//! asks without making a packet. The layer above cites these words alone.
 //!
 //! A [`HostBuffer`] is the input buffer of a host's end of its link.
 #![tactic(auto)]
@@ -14,7 +15,7 @@ mod host;
 mod settled;
 mod tags;
 
-pub use given::Given;
+pub use given::{Given, Hindrance};
 pub use hmc_tokens::FlitBuffer as HostBuffer;
 pub use host::Host;
 pub use settled::Settled;

@@ -15,7 +15,7 @@ use Rattle.hmc_packet.specs.Parts.{word_of, half_of, lng_of}
 use Rattle.hmc_packet.specs.Reading.{is_null, is_null_alone, has_length, fitting, command_in, is_clean, poison_in, packet_from, seen_in, judgement_of, bytes_read, read_of}
 use Rattle.hmc_packet.specs.Spelling.{word_bytes, half_bytes, covered, check_of, bytes_of, cut, flits_with, spelling}
 use Rattle.hmc_packet.specs.Tail.{tail_word, tail_is_clean, tail_of}
-use Rattle.hmc_irtry.specs.Burst.{next_of}
+use Rattle.hmc_irtry.specs.Burst.{empty_burst, is_empty, next_of}
 use Rattle.hmc_irtry.specs.declared.runs.Counted.TheVariants.{Below, Now, After}
 use Rattle.hmc_irtry.specs.Runs.{RunFields, after_seen, counted_of}
 use Rattle.hmc_irtry.specs.Train.{TrainFields, after_flit, ends_training}
@@ -99,3 +99,13 @@ next-last = refl
 
 next-none : next_of Clear 0 ≡ None
 next-none = refl
+
+-- one that is empty gives none, and one with a single IRTRY left isn't empty
+next-empty : next_of empty_burst.kind empty_burst.left ≡ None
+next-empty = refl
+
+empty-none : is_empty empty_burst ≡ true
+empty-none = refl
+
+empty-one : is_empty (record { kind = Start; left = 1 }) ≡ false
+empty-one = refl

@@ -1,6 +1,7 @@
 -- Bursts of IRTRYs.
-use Rattle.std.specs.Prelude.{◌≤◌, ℕ, zero, suc, Option, Some, None}
+use Rattle.std.specs.Prelude.{◌≤◌, ℕ, zero, suc, Bool, ◌==◌, Option, Some, None}
 use Rattle.hmc_packet.specs.declared.kind.Kind.{Kind}
+use Rattle.hmc_packet.specs.declared.kind.Kind.TheVariants.{Clear}
 
 -- the IRTRYs of a burst
 abbrev pub whole_burst : ℕ
@@ -10,6 +11,13 @@ whole_burst = 32
 pub record BurstFields : Type 0 where
   pub kind : Kind
   pub left : ℕ
+
+-- a burst of which all were sent; its kind doesn't matter
+abbrev pub empty_burst : BurstFields
+empty_burst = record { kind = Clear; left = 0 }
+
+abbrev pub is_empty : BurstFields → Bool
+is_empty burst = burst.left == 0
 
 -- what each burst keeps
 pub record IsBurst (burst : BurstFields) : Type 0 where

@@ -1,13 +1,9 @@
 -- Runs of IRTRYs of one kind.
-use Rattle.std.specs.Prelude.{◌≤◌, ℕ, ◌+◌, ◌==◌, nat_lt, min, Bool, true, false, if◌then◌else◌, Option, Some, None}
+use Rattle.std.specs.Prelude.{◌≤◌, ℕ, ◌+◌, ◌==◌, nat_lt, min, if◌then◌else◌, Option, Some, None}
 use Rattle.hmc_packet.specs.declared.kind.Kind.{Kind}
-use Rattle.hmc_packet.specs.declared.kind.Kind.TheVariants.{Start, Clear}
+pub use Rattle.hmc_packet.specs.Landings.{whole_run, same_kind}
 use Rattle.hmc_irtry.specs.declared.runs.Counted.{Counted}
 use Rattle.hmc_irtry.specs.declared.runs.Counted.TheVariants.{Below, Now, After}
-
--- the IRTRYs of a run that count
-abbrev pub whole_run : ℕ
-whole_run = 24
 
 -- a kind, and how many IRTRYs of it came in a row, counted up to a whole run
 pub record RunFields : Type 0 where
@@ -17,12 +13,6 @@ pub record RunFields : Type 0 where
 -- what each run keeps
 pub record IsRun (run : RunFields) : Type 0 where
   pub count : run.count ≤ whole_run
-
--- the two are one kind
-abbrev pub same_kind : Kind → Kind → Bool
-same_kind Start Start = true
-same_kind Clear Clear = true
-same_kind _ _ = false
 
 -- how many of a kind came in a row
 abbrev pub run_of : Kind → RunFields → ℕ

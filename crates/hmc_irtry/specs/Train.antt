@@ -1,13 +1,8 @@
 -- Training.
-use Rattle.std.specs.Prelude.{◌≤◌, ℕ, ◌+◌, ◌==◌, ◌&&◌, ◌||◌, min, Bool, if◌then◌else◌, List, is_some}
-use Rattle.std.specs.Str.{bytes_eq}
+use Rattle.std.specs.Prelude.{◌≤◌, ℕ, ◌+◌, ◌==◌, ◌&&◌, min, Bool, if◌then◌else◌}
 use Rattle.hmc_codes.specs.declared.profile.Profile.{Profile}
-use Rattle.hmc_packet.specs.Irtry.{irtry_in}
-use Rattle.hmc_packet.specs.Spelling.{training_flit}
-
--- the flits in a row that train a receiver
-abbrev pub whole_training : ℕ
-whole_training = 8
+pub use Rattle.hmc_packet.specs.Landings.{whole_training}
+unfoldable pub use Rattle.hmc_packet.specs.Landings.{is_training}
 
 -- the profile of the link, and how many training flits came in a row, counted up to a whole
 -- training
@@ -18,10 +13,6 @@ pub record TrainFields : Type 0 where
 -- what each training keeps
 pub record IsTraining (train : TrainFields) : Type 0 where
   pub count : train.count ≤ whole_training
-
--- the training flit, or one that reads alone as an IRTRY
-unfoldable pub is_training : Profile → List ℕ → Bool
-is_training profile flit = bytes_eq flit training_flit || is_some (irtry_in profile flit)
 
 -- a flit that trains is one more, and any other begins the count anew
 abbrev pub after_flit : (trains : Bool) → TrainFields → TrainFields

@@ -1,7 +1,7 @@
 //! Bursts of IRTRYs.
 
 ghost use Rattle.std.specs.Prelude.{◌≡◌, ◌-◌};
-ghost use Rattle.hmc_irtry.specs.Burst.{whole_burst, next_of};
+ghost use Rattle.hmc_irtry.specs.Burst.{whole_burst, empty_burst, is_empty, next_of};
 
 use hmc_packet::Kind;
 use std::marker::Model;
@@ -32,6 +32,23 @@ impl Burst {
         ensures { result ≡ record { kind = kind; left = whole_burst } }
     {
         Burst { kind, left: BURST }
+    }
+
+    /// A burst of which all were sent.
+    pub fn empty() -> Self
+        ensures { result ≡ empty_burst }
+    {
+        Burst {
+            kind: Kind::Clear,
+            left: 0,
+        }
+    }
+
+    /// Whether all were sent.
+    pub fn is_empty(&self) -> bool
+        ensures { result ≡ is_empty self.now }
+    {
+        self.left == 0
     }
 
     /// The next IRTRY's kind; `None` exactly after 32.

@@ -15,4 +15,4 @@ pub use burst::Burst;
 pub use flit::{irtry, irtry_of};
 pub use hmc_packet::Kind;
 pub use runs::{Counted, Runs};
-pub use train::Train;
+pub use train::{Train, is_training};

@@ -29,9 +29,9 @@ impl Model for Train {
     ghost invariant = { λ t. IsTraining (record { profile = t.profile; count = t.count }) };
 }
 
-// Whether a flit is the training flit or an IRTRY.
-#[tactic(auto, unfolding(crate::specs::Train::is_training, hmc_packet::specs::Spelling::training_flit))]
-fn is_training(flit: &Flit, profile: Profile) -> bool
+/// Whether a flit trains a receiver: the training flit, or one that alone reads as an IRTRY.
+#[tactic(auto, unfolding(hmc_packet::specs::Landings::is_training, hmc_packet::specs::Spelling::training_flit))]
+pub fn is_training(flit: &Flit, profile: Profile) -> bool
     ensures { result ≡ is_training profile flit.now }
 {
     flit.as_slice() == TRAINING_FLIT.as_slice() || irtry_of(flit, profile).is_some()

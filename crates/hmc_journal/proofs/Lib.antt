@@ -28,5 +28,7 @@ pub mod Returning
 pub mod Delivering
 pub mod DrainedTest
 pub mod Guaranteeing
+pub mod ZeroDigits
 mod Worked
 mod Edges
+mod WorkedLines

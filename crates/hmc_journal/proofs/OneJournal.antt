@@ -35,7 +35,7 @@ same_entry setup past entry i (Some step) at follows =
 same_entry setup past entry i None at follows = absurd follows
 
 -- what is after a lawful journal is what is after the empty one
-behind : (setup : Setup) (past : List Entry) → Lawful setup past → journal_behind setup [] setup.schedule ≡ journal_behind setup past (drop (length past) setup.schedule)
+pub behind : (setup : Setup) (past : List Entry) → Lawful setup past → journal_behind setup [] setup.schedule ≡ journal_behind setup past (drop (length past) setup.schedule)
 unfolding Lawful
 behind setup [] lawful = refl
 behind setup (entry ∷ past) lawful =

@@ -23,3 +23,5 @@ pub mod Counts
 pub mod Final
 pub mod Text
 pub mod Journal
+pub mod Event
+pub mod LastEntry

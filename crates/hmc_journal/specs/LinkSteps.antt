@@ -22,7 +22,8 @@ use Rattle.hmc_journal.specs.Waiting.{unless_full}
 -- send: the next flit of a packet that was begun, or the first of the front that there are tokens
 -- for, or a NULL
 abbrev pub flit_of : PacketFields → (return_pointer at : ℕ) → List ℕ
-flit_of packet return_pointer at = slice_index_or (spelling only_profile packet return_pointer) at []
+flit_of packet return_pointer at =
+    slice_index_or (spelling only_profile packet return_pointer) at []
 
 -- the first flit of the front that there are tokens for, else a NULL
 abbrev pub begun_with : (direction tokens : ℕ) → DirectionView → List PacketFields → Entry

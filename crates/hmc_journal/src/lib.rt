@@ -6,13 +6,17 @@
 #![tactic(auto)]
 
 mod entry;
+mod event;
 mod journal;
+mod last_entry;
 mod laws;
 mod line;
 mod outcome;
 
 pub use entry::Entry;
+pub use event::Event;
 pub use journal::Journal;
+pub use last_entry::LastEntry;
 pub use laws::{
     journal_guarantees, lawful_delivers, lawful_is_scripted, lawful_is_serial, lawful_keeps_queues,
     lines_are_in_order, one_journal,

@@ -1,224 +1,371 @@
-//! The line of each entry.
+//! The line of each entry, written into an empty text of fixed size. No line takes memory.
 
-ghost use Rattle.std.specs.Prelude.{◌≡◌, ◌∷◌, [], ◌++◌, codes, IfOk, OnOk, OnErr, string_bytes};
+ghost use Rattle.std.specs.Prelude.{◌≡◌, ◌<◌, ◌≤◌, ◌+◌, ◌∷◌, [], ◌++◌, length, codes, OnOk, OnErr, string_bytes};
 ghost use Rattle.std.specs.Fmt.{decimal};
 ghost use Rattle.hex.specs.Hex.{encode_lower};
 ghost use Rattle.hmc_codes.specs.Text.{line, spaced_words, request_text, answer_text};
 ghost use Rattle.hmc_journal.specs.Lines.{line_of, tag_text, request_words, unit_text, what_text, outcome_text, goal_text, lift_text, cause_text, step_words};
 
 use crate::{Cause, Entry, Goal, Outcome};
-use hmc_codes::{Answer, Flit, Lift, Memory, Request, Unit};
-use hmc_packet::What;
+use hmc_codes::{
+    Answer, Flit, Lift, LineText, Memory, Request, Unit, append_decimal, append_sixteen,
+    append_spaced,
+};
+use hmc_packet::{What, is_null};
 use hmc_schedule::Step;
 use std::alloc::Global;
 
-fn tag_word(alloc: Global, tag: Option<u16>) -> Result<String, Memory>
-    ensures { IfOk result (λ text. string_bytes text ≡ tag_text tag) }
+// The helpers append a word with the space before it.
+
+fn push_tag(into: &mut LineText, tag: Option<u16>)
+    requires room { length into.old.bytes + 21 ≤ 2048 }
+    ensures text { into.new.bytes ≡ into.old.bytes ++ (32 ∷ tag_text tag) }
+    ensures few { length into.new.bytes ≤ length into.old.bytes + 21 }
 {
     match tag {
-        Some(tag) => Ok(format!(in alloc; "{tag}")?),
-        None => Ok(format!(in alloc; "-")?),
+        Some(tag) => append_spaced(into, u64::from(tag)),
+        None => into.push_str(" -"),
     }
 }
 
-fn unit_words(alloc: Global, unit: Unit) -> Result<String, Memory>
-    ensures { IfOk result (λ text. string_bytes text ≡ unit_text unit) }
+fn push_unit(into: &mut LineText, unit: Unit)
+    requires room { length into.old.bytes + 63 ≤ 2048 }
+    ensures text { into.new.bytes ≡ into.old.bytes ++ (32 ∷ unit_text unit) }
+    ensures few { length into.new.bytes ≤ length into.old.bytes + 63 }
 {
     match unit {
-        Unit::Bank { cube, vault, bank } => Ok(format!(in alloc; "{cube} {vault} {bank}")?),
-        Unit::Registers { cube } => Ok(format!(in alloc; "{cube} r")?),
+        Unit::Bank { cube, vault, bank } => {
+            append_spaced(into, u64::from(cube));
+            append_spaced(into, u64::from(vault));
+            append_spaced(into, u64::from(bank));
+        }
+        Unit::Registers { cube } => {
+            append_spaced(into, u64::from(cube));
+            into.push_str(" r");
+        }
     }
 }
 
-fn lift_word(alloc: Global, from: Lift) -> Result<String, Memory>
-    ensures { IfOk result (λ text. string_bytes text ≡ lift_text from) }
+fn push_lift(into: &mut LineText, from: Lift)
+    requires room { length into.old.bytes + 21 ≤ 2048 }
+    ensures text { into.new.bytes ≡ into.old.bytes ++ (32 ∷ lift_text from) }
+    ensures few { length into.new.bytes ≤ length into.old.bytes + 21 }
 {
     match from {
-        Lift::Vault(vault) => Ok(format!(in alloc; "{vault}")?),
-        Lift::Registers => Ok(format!(in alloc; "r")?),
+        Lift::Vault(vault) => append_spaced(into, u64::from(vault)),
+        Lift::Registers => into.push_str(" r"),
     }
 }
 
-fn goal_word(alloc: Global, goal: Goal) -> Result<String, Memory>
-    ensures { IfOk result (λ text. string_bytes text ≡ goal_text goal) }
+fn push_goal(into: &mut LineText, goal: Goal)
+    requires room { length into.old.bytes + 22 ≤ 2048 }
+    ensures text { into.new.bytes ≡ into.old.bytes ++ (32 ∷ goal_text goal) }
+    ensures few { length into.new.bytes ≤ length into.old.bytes + 22 }
 {
     match goal {
-        Goal::Vault(vault) => Ok(format!(in alloc; "v{vault}")?),
-        Goal::Registers => Ok(format!(in alloc; "r")?),
-        Goal::Port(port) => Ok(format!(in alloc; "p{port}")?),
+        Goal::Vault(vault) => {
+            into.push_str(" v");
+            append_decimal(into, u64::from(vault));
+        }
+        Goal::Registers => into.push_str(" r"),
+        Goal::Port(port) => {
+            into.push_str(" p");
+            append_decimal(into, u64::from(port));
+        }
+    }
+}
+
+// Most flits are NULLs, whose digits are known.
+#[tactic(auto, using(crate::proofs::ZeroDigits::zero_digits))]
+fn push_flit(into: &mut LineText, flit: &Flit)
+    requires room { length into.old.bytes + 33 ≤ 2048 }
+    ensures text { into.new.bytes ≡ into.old.bytes ++ (32 ∷ encode_lower flit.now) }
+    ensures len { length into.new.bytes ≡ length into.old.bytes + 33 }
+{
+    if is_null(flit) {
+        into.push_str(" 00000000000000000000000000000000");
+    } else {
+        into.push_str(" ");
+        append_sixteen(into, flit);
     }
 }
 
 fn what_word(what: What) -> &'static str
-    ensures { result.now ≡ what_text what }
+    ensures word { result.now ≡ 32 ∷ what_text what }
+    ensures few { length result.now ≤ 6 }
 {
     match what {
-        What::Train => "train",
-        What::Clear => "clear",
-        What::Start => "start",
-        What::Null => "null",
-        What::Pret => "pret",
-        What::Tret => "tret",
-        What::New => "new",
-        What::Again => "again",
+        What::Train => " train",
+        What::Clear => " clear",
+        What::Start => " start",
+        What::Null => " null",
+        What::Pret => " pret",
+        What::Tret => " tret",
+        What::New => " new",
+        What::Again => " again",
     }
 }
 
-fn outcome_word(outcome: Outcome) -> &'static str
-    ensures { result.now ≡ outcome_text outcome }
+// The outcome ends the line.
+fn outcome_end(outcome: Outcome) -> &'static str
+    ensures word { result.now ≡ 32 ∷ (outcome_text outcome ++ (10 ∷ [])) }
+    ensures few { length result.now ≤ 10 }
 {
     match outcome {
-        Outcome::Quiet => "quiet",
-        Outcome::Gathered => "gathered",
-        Outcome::Accepted => "accepted",
-        Outcome::Poisoned => "poisoned",
+        Outcome::Quiet => " quiet\n",
+        Outcome::Gathered => " gathered\n",
+        Outcome::Accepted => " accepted\n",
+        Outcome::Poisoned => " poisoned\n",
     }
 }
 
-fn cause_word(cause: Cause) -> &'static str
-    ensures { result.now ≡ cause_text cause }
+// The cause ends the line.
+fn cause_end(cause: Cause) -> &'static str
+    ensures word { result.now ≡ 32 ∷ (cause_text cause ++ (10 ∷ [])) }
+    ensures few { length result.now ≤ 7 }
 {
     match cause {
-        Cause::Ended => "ended",
-        Cause::Fence => "fence",
-        Cause::Tags => "tags",
-        Cause::Empty => "empty",
-        Cause::Full => "full",
+        Cause::Ended => " ended\n",
+        Cause::Fence => " fence\n",
+        Cause::Tags => " tags\n",
+        Cause::Empty => " empty\n",
+        Cause::Full => " full\n",
     }
+}
+
+// The request ends the line.
+fn push_request_end(into: &mut LineText, poisoned: bool, request: &Request)
+    requires room { length into.old.bytes + 571 ≤ 2048 }
+    ensures text { into.new.bytes ≡
+        into.old.bytes ++ (32 ∷ line (request_words poisoned request.now)) }
+    ensures few { length into.new.bytes ≤ length into.old.bytes + 571 }
+{
+    if poisoned {
+        into.push_str(" poison");
+    }
+    into.push_str(" ");
+    request.print(into);
+    into.push_str("\n");
 }
 
 // The words of a step, without a mask.
-fn step_words(alloc: Global, step: &Step) -> Result<String, Memory>
-    ensures { IfOk result (λ text. string_bytes text ≡ spaced_words (step_words step.now)) }
+fn push_step(into: &mut LineText, step: &Step)
+    requires room { length into.old.bytes + 68 ≤ 2048 }
+    ensures text { into.new.bytes ≡ into.old.bytes ++ (32 ∷ spaced_words (step_words step.now)) }
+    ensures few { length into.new.bytes ≤ length into.old.bytes + 68 }
 {
     match step {
-        Step::Give(host) => Ok(format!(in alloc; "give {host}")?),
-        Step::Send(direction) => Ok(format!(in alloc; "send {direction}")?),
-        Step::Land(direction, _) => Ok(format!(in alloc; "land {direction}")?),
-        Step::Shift(cube, port) => Ok(format!(in alloc; "shift {cube} {port}")?),
-        Step::Spread(cube, vault) => Ok(format!(in alloc; "spread {cube} {vault}")?),
-        Step::Bank(cube, vault, bank) => Ok(format!(in alloc; "bank {cube} {vault} {bank}")?),
-        Step::Registers(cube) => Ok(format!(in alloc; "registers {cube}")?),
-        Step::Lift(cube, from) => {
-            let from = lift_word(alloc, *from)?;
-            Ok(format!(in alloc; "lift {cube} {from}")?)
+        Step::Give(host) => push_numbered(into, " give", *host),
+        Step::Send(direction) => push_numbered(into, " send", *direction),
+        Step::Land(direction, _) => push_numbered(into, " land", *direction),
+        Step::Shift(cube, port) => push_twice_numbered(into, " shift", *cube, *port),
+        Step::Spread(cube, vault) => push_twice_numbered(into, " spread", *cube, *vault),
+        Step::Bank(cube, vault, bank) => {
+            push_twice_numbered(into, " bank", *cube, *vault);
+            append_spaced(into, u64::from(*bank));
         }
-        Step::Take(host) => Ok(format!(in alloc; "take {host}")?),
-        Step::Through(cube, port) => Ok(format!(in alloc; "through {cube} {port}")?),
-        Step::Unlock(direction) => Ok(format!(in alloc; "unlock {direction}")?),
-        Step::Retire(slot) => Ok(format!(in alloc; "retire {slot}")?),
+        Step::Registers(cube) => push_numbered(into, " registers", *cube),
+        Step::Lift(cube, from) => {
+            push_numbered(into, " lift", *cube);
+            push_lift(into, *from);
+        }
+        Step::Take(host) => push_numbered(into, " take", *host),
+        Step::Through(cube, port) => push_twice_numbered(into, " through", *cube, *port),
+        Step::Unlock(direction) => push_numbered(into, " unlock", *direction),
+        Step::Retire(slot) => push_numbered(into, " retire", *slot),
     }
 }
 
-fn gave_line(
-    alloc: Global,
+// A word and a number.
+fn push_numbered(into: &mut LineText, word: &str, number: u8)
+    requires room { length into.old.bytes + length word.now + 21 ≤ 2048 }
+    ensures text { into.new.bytes ≡ into.old.bytes ++ (word.now ++ (32 ∷ decimal number)) }
+    ensures few { length into.new.bytes ≤ length into.old.bytes + length word.now + 21 }
+{
+    into.push_str(word);
+    append_spaced(into, u64::from(number));
+}
+
+// A word and two numbers.
+fn push_twice_numbered(into: &mut LineText, word: &str, first: u8, second: u8)
+    requires room { length into.old.bytes + length word.now + 42 ≤ 2048 }
+    ensures text { into.new.bytes ≡
+        into.old.bytes ++ (word.now ++ (32 ∷ (decimal first ++ (32 ∷ decimal second)))) }
+    ensures few { length into.new.bytes ≤ length into.old.bytes + length word.now + 42 }
+{
+    push_numbered(into, word, first);
+    append_spaced(into, u64::from(second));
+}
+
+/// The line of a request that a host gave.
+pub(crate) fn gave_line(
+    into: &mut LineText,
     host: u8,
     tag: Option<u16>,
     poisoned: bool,
     request: &Request,
-) -> Result<String, Memory>
-    ensures { IfOk result
-        (λ text. string_bytes text
-        ≡ line (codes "gave" ∷ decimal host ∷ tag_text tag ∷ request_words poisoned request.now)) }
+)
+    requires empty { into.old.bytes ≡ [] }
+    ensures text { into.new.bytes ≡
+        line (codes "gave" ∷ decimal host ∷ tag_text tag ∷ request_words poisoned request.now) }
+    ensures short { length into.new.bytes < 2048 }
 {
-    let tag = tag_word(alloc, tag)?;
-    let request = request.text(alloc)?;
-    if poisoned {
-        Ok(format!(in alloc; "gave {host} {tag} poison {request}\n")?)
-    } else {
-        Ok(format!(in alloc; "gave {host} {tag} {request}\n")?)
-    }
+    push_numbered(into, "gave", host);
+    push_tag(into, tag);
+    push_request_end(into, poisoned, request);
 }
 
-fn sent_line(alloc: Global, direction: u8, what: What, flit: &Flit) -> Result<String, Memory>
-    ensures { IfOk result
-        (λ text. string_bytes text
-        ≡ line (codes "sent" ∷ decimal direction ∷ what_text what ∷ encode_lower flit.now ∷ [])) }
+/// The line of a flit that was sent.
+pub(crate) fn sent_line(into: &mut LineText, direction: u8, what: What, flit: &Flit)
+    requires empty { into.old.bytes ≡ [] }
+    ensures text { into.new.bytes ≡
+        line (codes "sent" ∷ decimal direction ∷ what_text what ∷ encode_lower flit.now ∷ []) }
+    ensures short { length into.new.bytes < 2048 }
 {
-    let what = what_word(what);
-    let flit = hex::encode(alloc, flit.as_slice())?;
-    Ok(format!(in alloc; "sent {direction} {what} {flit}\n")?)
+    push_numbered(into, "sent", direction);
+    into.push_str(what_word(what));
+    push_flit(into, flit);
+    into.push_str("\n");
 }
 
-fn landed_line(
-    alloc: Global,
-    direction: u8,
-    flit: &Flit,
-    outcome: Outcome,
-) -> Result<String, Memory>
-    ensures { IfOk result
-        (λ text. string_bytes text
-        ≡ line (codes "landed" ∷ decimal direction ∷ encode_lower flit.now ∷ outcome_text outcome ∷
-        [])) }
+/// The line of a flit that landed.
+pub(crate) fn landed_line(into: &mut LineText, direction: u8, flit: &Flit, outcome: Outcome)
+    requires empty { into.old.bytes ≡ [] }
+    ensures text { into.new.bytes ≡
+        line (codes "landed" ∷ decimal direction ∷ encode_lower flit.now ∷ outcome_text outcome ∷
+        []) }
+    ensures short { length into.new.bytes < 2048 }
 {
-    let flit = hex::encode(alloc, flit.as_slice())?;
-    let outcome = outcome_word(outcome);
-    Ok(format!(in alloc; "landed {direction} {flit} {outcome}\n")?)
+    push_numbered(into, "landed", direction);
+    push_flit(into, flit);
+    into.push_str(outcome_end(outcome));
 }
 
-fn shifted_line(alloc: Global, cube: u8, port: u8, goal: Goal) -> Result<String, Memory>
-    ensures { IfOk result
-        (λ text. string_bytes text
-        ≡ line (codes "shifted" ∷ decimal cube ∷ decimal port ∷ goal_text goal ∷ [])) }
+/// The line of a packet that moved on.
+pub(crate) fn shifted_line(into: &mut LineText, cube: u8, port: u8, goal: Goal)
+    requires empty { into.old.bytes ≡ [] }
+    ensures text { into.new.bytes ≡
+        line (codes "shifted" ∷ decimal cube ∷ decimal port ∷ goal_text goal ∷ []) }
+    ensures short { length into.new.bytes < 2048 }
 {
-    let goal = goal_word(alloc, goal)?;
-    Ok(format!(in alloc; "shifted {cube} {port} {goal}\n")?)
+    push_twice_numbered(into, "shifted", cube, port);
+    push_goal(into, goal);
+    into.push_str("\n");
 }
 
-fn executed_line(
-    alloc: Global,
+/// The line of a packet that a cube dropped.
+pub(crate) fn dropped_line(into: &mut LineText, cube: u8, port: u8)
+    requires empty { into.old.bytes ≡ [] }
+    ensures text { into.new.bytes ≡ line (codes "dropped" ∷ decimal cube ∷ decimal port ∷ []) }
+    ensures short { length into.new.bytes < 2048 }
+{
+    push_twice_numbered(into, "dropped", cube, port);
+    into.push_str("\n");
+}
+
+/// The line of a request that went to its bank.
+pub(crate) fn spread_line(into: &mut LineText, cube: u8, vault: u8, bank: u8)
+    requires empty { into.old.bytes ≡ [] }
+    ensures text { into.new.bytes ≡
+        line (codes "spread" ∷ decimal cube ∷ decimal vault ∷ decimal bank ∷ []) }
+    ensures short { length into.new.bytes < 2048 }
+{
+    push_twice_numbered(into, "spread", cube, vault);
+    append_spaced(into, u64::from(bank));
+    into.push_str("\n");
+}
+
+/// The line of a request that was executed.
+pub(crate) fn executed_line(
+    into: &mut LineText,
     unit: Unit,
     host: u8,
     tag: Option<u16>,
     request: &Request,
     answer: &Answer,
-) -> Result<String, Memory>
-    ensures { IfOk result
-        (λ text. string_bytes text
-        ≡ line (codes "executed" ∷ unit_text unit ∷ decimal host ∷ tag_text tag ∷
-        request_text request.now ∷ answer_text answer.now ∷ [])) }
+)
+    requires empty { into.old.bytes ≡ [] }
+    ensures text { into.new.bytes ≡
+        line (codes "executed" ∷ unit_text unit ∷ decimal host ∷ tag_text tag ∷
+        request_text request.now ∷ answer_text answer.now ∷ []) }
+    ensures short { length into.new.bytes < 2048 }
 {
-    let unit = unit_words(alloc, unit)?;
-    let tag = tag_word(alloc, tag)?;
-    let request = request.text(alloc)?;
-    let answer = answer.text(alloc)?;
-    Ok(format!(in alloc; "executed {unit} {host} {tag} {request} {answer}\n")?)
+    into.push_str("executed");
+    push_unit(into, unit);
+    append_spaced(into, u64::from(host));
+    push_tag(into, tag);
+    into.push_str(" ");
+    request.print(into);
+    push_answer_end(into, answer);
 }
 
-fn lifted_line(alloc: Global, cube: u8, from: Lift, port: u8) -> Result<String, Memory>
-    ensures { IfOk result
-        (λ text. string_bytes text
-        ≡ line (codes "lifted" ∷ decimal cube ∷ lift_text from ∷ (codes "p" ++ decimal port) ∷
-        [])) }
+// The answer ends the line.
+fn push_answer_end(into: &mut LineText, answer: &Answer)
+    requires room { length into.old.bytes + 521 ≤ 2048 }
+    ensures text { into.new.bytes ≡
+        into.old.bytes ++ (32 ∷ (answer_text answer.now ++ (10 ∷ []))) }
+    ensures few { length into.new.bytes ≤ length into.old.bytes + 521 }
 {
-    let from = lift_word(alloc, from)?;
-    Ok(format!(in alloc; "lifted {cube} {from} p{port}\n")?)
+    into.push_str(" ");
+    answer.print(into);
+    into.push_str("\n");
 }
 
-fn took_line(alloc: Global, host: u8, tag: u16, answer: &Answer) -> Result<String, Memory>
-    ensures { IfOk result
-        (λ text. string_bytes text
-        ≡ line (codes "took" ∷ decimal host ∷ decimal tag ∷ answer_text answer.now ∷ [])) }
+/// The line of an answer that moved to a port.
+pub(crate) fn lifted_line(into: &mut LineText, cube: u8, from: Lift, port: u8)
+    requires empty { into.old.bytes ≡ [] }
+    ensures text { into.new.bytes ≡
+        line (codes "lifted" ∷ decimal cube ∷ lift_text from ∷ (codes "p" ++ decimal port) ∷ []) }
+    ensures short { length into.new.bytes < 2048 }
 {
-    let answer = answer.text(alloc)?;
-    Ok(format!(in alloc; "took {host} {tag} {answer}\n")?)
+    push_numbered(into, "lifted", cube);
+    push_lift(into, from);
+    into.push_str(" p");
+    append_decimal(into, u64::from(port));
+    into.push_str("\n");
 }
 
-fn idle_line(alloc: Global, step: &Step, cause: Cause) -> Result<String, Memory>
-    ensures { IfOk result
-        (λ text. string_bytes text
-        ≡ line (codes "idle" ∷ spaced_words (step_words step.now) ∷ cause_text cause ∷ [])) }
+/// The line of an answer that a host took.
+pub(crate) fn took_line(into: &mut LineText, host: u8, tag: u16, answer: &Answer)
+    requires empty { into.old.bytes ≡ [] }
+    ensures text { into.new.bytes ≡
+        line (codes "took" ∷ decimal host ∷ decimal tag ∷ answer_text answer.now ∷ []) }
+    ensures short { length into.new.bytes < 2048 }
 {
-    let step = step_words(alloc, step)?;
-    let cause = cause_word(cause);
-    Ok(format!(in alloc; "idle {step} {cause}\n")?)
+    push_numbered(into, "took", host);
+    append_spaced(into, u64::from(tag));
+    push_answer_end(into, answer);
+}
+
+/// The line of a packet that a host dropped.
+pub(crate) fn discarded_line(into: &mut LineText, host: u8)
+    requires empty { into.old.bytes ≡ [] }
+    ensures text { into.new.bytes ≡ line (codes "discarded" ∷ decimal host ∷ []) }
+    ensures short { length into.new.bytes < 2048 }
+{
+    push_numbered(into, "discarded", host);
+    into.push_str("\n");
+}
+
+/// The line of a step that did nothing.
+pub(crate) fn idle_line(into: &mut LineText, step: &Step, cause: Cause)
+    requires empty { into.old.bytes ≡ [] }
+    ensures text { into.new.bytes ≡
+        line (codes "idle" ∷ spaced_words (step_words step.now) ∷ cause_text cause ∷ []) }
+    ensures short { length into.new.bytes < 2048 }
+{
+    into.push_str("idle");
+    push_step(into, step);
+    into.push_str(cause_end(cause));
 }
 
 impl Entry {
-    /// The line of the entry, with a line feed at its end.
+    /// Writes the line of the entry into an empty text, with a line feed at its end.
     #[tactic(auto, unfolding(crate::specs::Lines::line_of))]
-    pub fn line(&self, alloc: Global) -> Result<String, Memory>
-        ensures { IfOk result (λ text. string_bytes text ≡ line_of self.now) }
+    pub fn line(&self, into: &mut LineText)
+        requires empty { into.old.bytes ≡ [] }
+        ensures text { into.new.bytes ≡ line_of self.now }
+        ensures short { length (line_of self.now) < 2048 }
     {
         match self {
             Entry::Gave {
@@ -226,43 +373,43 @@ impl Entry {
                 tag,
                 poisoned,
                 request,
-            } => gave_line(alloc, *host, *tag, *poisoned, request),
+            } => gave_line(into, *host, *tag, *poisoned, request),
             Entry::Sent {
                 direction,
                 what,
                 flit,
-            } => sent_line(alloc, *direction, *what, flit),
+            } => sent_line(into, *direction, *what, flit),
             Entry::Landed {
                 direction,
                 flit,
                 outcome,
-            } => landed_line(alloc, *direction, flit, *outcome),
-            Entry::Shifted { cube, port, goal } => shifted_line(alloc, *cube, *port, *goal),
-            Entry::Dropped { cube, port } => Ok(format!(in alloc; "dropped {cube} {port}\n")?),
-            Entry::Spread { cube, vault, bank } => {
-                Ok(format!(in alloc; "spread {cube} {vault} {bank}\n")?)
-            }
+            } => landed_line(into, *direction, flit, *outcome),
+            Entry::Shifted { cube, port, goal } => shifted_line(into, *cube, *port, *goal),
+            Entry::Dropped { cube, port } => dropped_line(into, *cube, *port),
+            Entry::Spread { cube, vault, bank } => spread_line(into, *cube, *vault, *bank),
             Entry::Executed {
                 unit,
                 host,
                 tag,
                 request,
                 answer,
-            } => executed_line(alloc, *unit, *host, *tag, request, answer),
-            Entry::Lifted { cube, from, port } => lifted_line(alloc, *cube, *from, *port),
-            Entry::Took { host, tag, answer } => took_line(alloc, *host, *tag, answer),
-            Entry::Discarded { host } => Ok(format!(in alloc; "discarded {host}\n")?),
-            Entry::Idle { step, cause } => idle_line(alloc, step, *cause),
+            } => executed_line(into, *unit, *host, *tag, request, answer),
+            Entry::Lifted { cube, from, port } => lifted_line(into, *cube, *from, *port),
+            Entry::Took { host, tag, answer } => took_line(into, *host, *tag, answer),
+            Entry::Discarded { host } => discarded_line(into, *host),
+            Entry::Idle { step, cause } => idle_line(into, step, *cause),
         }
     }
 
-    /// Appends the line, or nothing.
+    /// Appends the line, or nothing. `Memory` if out of memory.
     pub fn print(&self, alloc: Global, into: &mut String) -> Result<(), Memory>
         ensures printed { OnOk result
             (string_bytes into.new ≡ string_bytes into.old ++ line_of self.now) }
         ensures unchanged { OnErr result (string_bytes into.new ≡ string_bytes into.old) }
     {
-        let line = self.line(alloc)?;
+        let _ = alloc;
+        let mut line = LineText::new();
+        self.line(&mut line);
         into.push_str(line.as_str())?;
         Ok(())
     }

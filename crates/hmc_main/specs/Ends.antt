@@ -18,3 +18,8 @@ Ends source_view sink_view source source' sink sink' status =
     ((words : List (List ℕ)) ×
     Replayed source_view sink_view words source source' sink sink' status)
     ⊎ IsWithoutWords source source' sink sink' status
+
+-- There is no memory for the sink. Nothing is read.
+pub record IsWithoutSink {S : Type 0} (source source' : S) (status : ℕ) : Type 0 where
+  pub memory : status ≡ 1
+  pub source_same : source' ≡ source

@@ -1,4 +1,5 @@
-//! What the program does: the words of the command line, a source and a sink go to `replay`.
+//! What the program does: the words of the command line, a source and a sink go to `replay`, where
+//! the words and the sink can be had.
 //!
 //! `hmc_prog` is the program, which has standard input and output. A second program,
 //! `hmc_prog_refused`, does the same, and is there for a stored run that ends with another status.
@@ -6,9 +7,10 @@
 
 ghost use Rattle.std.specs.Prelude.{◌≡◌, ◌≢◌, ◌⊎◌, drop, map, string_bytes, IfOk, IfErr};
 ghost use Rattle.std.specs.Vec.Iter.{into_iter_items};
-ghost use Rattle.hmc_main.specs.Ends.{Ends};
+ghost use Rattle.hmc_main.specs.Ends.{Ends, IsWithoutSink};
 ghost use Rattle.hmc_replay.specs.Top.{Replayed};
 
+use hmc_codes::Memory;
 use hmc_outside::{Sink, Source};
 use hmc_replay::replay;
 use std::alloc::Global;
@@ -98,13 +100,26 @@ fn end<S: Source, O: Sink>(
     }
 }
 
-/// Replays by the words of the command line, and returns the status to end with.
-pub fn run_program<S: Source, O: Sink>(
-    rt: &(impl Env + AllocGlobal),
-    source: &mut S,
-    sink: &mut O,
-) -> u8
+// Replays by the words of the command line.
+fn run_words<S: Source, O: Sink>(rt: &(impl Env + AllocGlobal), source: &mut S, sink: &mut O) -> u8
     ensures { Ends S.shows O.shows source.old source.new sink.old sink.new result }
 {
     end(rt.alloc(), words(rt), source, sink)
+}
+
+/// Replays by the words of the command line, and returns the status to end with. `sink` is what
+/// making the sink gave: out of memory is 1, before the words are looked at or anything is read.
+pub fn run_program<S: Source, O: Sink + Drop>(
+    rt: &(impl Env + AllocGlobal),
+    source: &mut S,
+    sink: Result<O, Memory>,
+) -> u8
+    ensures ended { IfOk sink (λ sink. (sink' : O) ×
+        Ends S.shows O.shows source.old source.new sink sink' result) }
+    ensures without_sink { IfErr sink (λ _. IsWithoutSink source.old source.new result) }
+{
+    match sink {
+        Ok(mut sink) => run_words(rt, source, &mut sink),
+        Err(_) => OUT_OF_MEMORY,
+    }
 }

@@ -16,16 +16,17 @@ use Rattle.hmc_packet.proofs.TransactionLemmas.{asks-layout}
 use Rattle.hmc_script.specs.Items.{ItemFields}
 use Rattle.hmc_host.specs.declared.given.Given.{Given}
 use Rattle.hmc_host.specs.declared.given.Given.TheVariants as givens
+use Rattle.hmc_host.specs.declared.given.Hindrance.{Hindrance}
+use Rattle.hmc_host.specs.declared.given.Hindrance.TheVariants as hindrances
 use Rattle.hmc_host.specs.declared.settled.Settled.{Settled}
 use Rattle.hmc_host.specs.declared.settled.Settled.TheVariants as settles
 use Rattle.hmc_host.specs.Host.{HostFields}
-use Rattle.hmc_host.specs.Give.{give_says, next_says, next_item, lacks_tag, tag_for, after_give, gave_request}
+use Rattle.hmc_host.specs.Give.{give_says, next_says, next_item, lacks_tag, tag_for, after_give, gave_request, hindrance_of}
 use Rattle.hmc_host.specs.Settle.{settle_says, after_settle}
 use Rattle.hmc_schedule.specs.declared.step.Step.{Step}
 use Rattle.hmc_schedule.specs.declared.step.Step.TheVariants as steps
+use Rattle.hmc_journal.specs.declared.outcome.Cause.{Cause}
 use Rattle.hmc_journal.specs.declared.outcome.Cause.TheVariants as causes
-use Rattle.hmc_journal.specs.declared.outcome.Outcome.{Outcome}
-use Rattle.hmc_journal.specs.declared.outcome.Outcome.TheVariants as outcomes
 use Rattle.hmc_journal.specs.declared.entry.Entry.{Entry}
 use Rattle.hmc_journal.specs.declared.entry.Entry.TheVariants.{Sent, Idle}
 use Rattle.hmc_packet.specs.declared.what.What.TheVariants.{New, Null}
@@ -34,11 +35,11 @@ use Rattle.hmc_journal.specs.Next.{choice, gave_entry, unless_full, sent_entry, 
 use Rattle.hmc_journal.specs.Queues.{tag_number, front_of}
 use Rattle.hmc_journal.specs.Setup.{direction_from, direction_among}
 use Rattle.hmc_journal.specs.StepView.{Sending, DirectionView}
-use Rattle.hmc_journal.specs.Wires.{packets_by, flits_in}
-use Rattle.hmc_net.specs.Gives.{IsGiven, given_to, packets_in}
+use Rattle.hmc_journal.specs.Wires.{flits_in}
+use Rattle.hmc_net.specs.Gives.{IsGiven, given_to, cause_by}
 use Rattle.hmc_net.specs.Apply.{after, without_host_front}
 use Rattle.hmc_net.specs.NetState.{NetState, topology_of, net_view}
-use Rattle.hmc_net.specs.Wire.{DirectionState, IsTransaction, wire_view, has_output_room, with_handed, without_flits, read_with, after_send, after_land, whole_by, whole_in}
+use Rattle.hmc_net.specs.Wire.{DirectionState, IsTransaction, wire_view, has_output_room, with_handed, without_flits, after_send, after_land, landed_packets}
 
 -- ---- give
 
@@ -76,6 +77,18 @@ asked_transaction request packet tag slid poisoned is packet_is =
 pub give_entry : (net : NetState) (given : Given) (entry : Entry) → net.forth.sizes ≡ net.sizes → given ≡ give_says net.host (has_output_room net.forth) → entry ≡ gave_entry 0 given → entry ≡ choice (topology_of net) (net_view net) (steps.Give 0)
 give_entry net given entry sizes given_is entry_is = entry_is ∙ ap (gave_entry 0) given_is ∙ sym (choice_give net sizes)
 
+-- where nothing is given, the entry is idle for that cause
+hindered_entry : (given : Given) (hindrance : Hindrance) → hindrance_of given ≡ Some hindrance → gave_entry 0 given ≡ Idle (steps.Give 0) (cause_by hindrance)
+hindered_entry givens.Ended hindrance is = let same : hindrances.Ended ≡ hindrance = cc in ap (λ h. Idle (steps.Give 0) (cause_by h)) same
+hindered_entry givens.Fence hindrance is = let same : hindrances.Fence ≡ hindrance = cc in ap (λ h. Idle (steps.Give 0) (cause_by h)) same
+hindered_entry givens.Tags hindrance is = let same : hindrances.Tags ≡ hindrance = cc in ap (λ h. Idle (steps.Give 0) (cause_by h)) same
+hindered_entry givens.Full hindrance is = let same : hindrances.Full ≡ hindrance = cc in ap (λ h. Idle (steps.Give 0) (cause_by h)) same
+hindered_entry (givens.Gave packet request tag poisoned) hindrance is = absurd (cc)
+
+pub give_nothing : (net : NetState) (hindrance : Hindrance) (cause : Cause) (entry : Entry) → net.forth.sizes ≡ net.sizes → hindrance_of (give_says net.host (has_output_room net.forth)) ≡ Some hindrance → cause ≡ cause_by hindrance → entry ≡ Idle (steps.Give 0) cause
+    → entry ≡ choice (topology_of net) (net_view net) (steps.Give 0)
+give_nothing net hindrance cause entry sizes held cause_is is = is ∙ ap (Idle (steps.Give 0)) cause_is ∙ sym (hindered_entry _ hindrance held) ∙ sym (choice_give net sizes)
+
 gave_after : (net : NetState) (given : Given) → IsGiven given net.forth → record net { host = after_give given net.host; forth = given_to given net.forth } ≡ after (gave_entry 0 given) net
 gave_after net givens.Ended is = refl
 gave_after net givens.Fence is = refl
@@ -97,6 +110,9 @@ front_some step (packet ∷ rest) front does is = let same : packet ≡ front = 
 pub front_none : (step : Step) (packets : List PacketFields) (found : Option PacketFields) (does : PacketFields → Entry) → slice_get packets 0 ≡ None → with_front step packets does ≡ Idle step causes.Empty
 front_none step [] found does is = refl
 front_none step (packet ∷ rest) found does is = absurd (cc)
+
+pub no_front : (packets : List PacketFields) → packets ≡ [] → slice_get packets 0 ≡ None
+no_front packets none = ap (λ (l : List PacketFields). slice_get l 0) none
 
 pub front_here : (packets : List PacketFields) (front : PacketFields) → slice_get packets 0 ≡ Some front → front_of packets ≡ front
 front_here [] front is = absurd (cc)
@@ -183,30 +199,24 @@ back_entry net direction return_pointer entry one_is sizes same is =
 
 -- ---- land
 
-whole_packets : (outcome : Outcome) (packet : PacketFields) → packets_in (whole_by outcome packet) ≡ packets_by outcome packet
-whole_packets outcomes.Accepted packet = refl
-whole_packets outcomes.Poisoned packet = refl
-whole_packets outcomes.Quiet packet = refl
-whole_packets outcomes.Gathered packet = refl
-
-forth_landed : (net : NetState) (mask : List ℕ) (line pending : List (List ℕ)) → record net { forth = after_land (landed_entry 0 mask line pending) net.forth; port_buffer = net.port_buffer ++ packets_in (whole_in (landed_entry 0 mask line pending) net.forth) } ≡ after (landed_entry 0 mask line pending) net
+forth_landed : (net : NetState) (mask : List ℕ) (line pending : List (List ℕ)) → record net { forth = after_land (landed_entry 0 mask line pending) net.forth; port_buffer = net.port_buffer ++ landed_packets (landed_entry 0 mask line pending) net.forth } ≡ after (landed_entry 0 mask line pending) net
 forth_landed net mask [] pending = ap (λ b. record net { port_buffer = b }) (append-nil net.port_buffer)
-forth_landed net mask (flit ∷ rest) pending = ap (λ p. record net { forth = after_land (landed_entry 0 mask (flit ∷ rest) pending) net.forth; port_buffer = net.port_buffer ++ p }) (whole_packets _ (read_with flit net.forth))
+forth_landed net mask (flit ∷ rest) pending = refl
 
-back_landed : (net : NetState) (mask : List ℕ) (line pending : List (List ℕ)) → record net { back = after_land (landed_entry 1 mask line pending) net.back; host_buffer = net.host_buffer ++ packets_in (whole_in (landed_entry 1 mask line pending) net.back) } ≡ after (landed_entry 1 mask line pending) net
+back_landed : (net : NetState) (mask : List ℕ) (line pending : List (List ℕ)) → record net { back = after_land (landed_entry 1 mask line pending) net.back; host_buffer = net.host_buffer ++ landed_packets (landed_entry 1 mask line pending) net.back } ≡ after (landed_entry 1 mask line pending) net
 back_landed net mask [] pending = ap (λ b. record net { host_buffer = b }) (append-nil net.host_buffer)
-back_landed net mask (flit ∷ rest) pending = ap (λ p. record net { back = after_land (landed_entry 1 mask (flit ∷ rest) pending) net.back; host_buffer = net.host_buffer ++ p }) (whole_packets _ (read_with flit net.back))
+back_landed net mask (flit ∷ rest) pending = refl
 
-pub forth_land_held : (net : NetState) (mask : List ℕ) (forth : DirectionState) (buffer : List PacketFields) (packet : Option PacketFields) (entry : Entry) → entry ≡ landed_entry 0 mask net.forth.line net.forth.pending → packet ≡ whole_in entry net.forth
-    → forth ≡ after_land entry net.forth → buffer ≡ net.port_buffer ++ packets_in packet → record net { forth = forth; port_buffer = buffer } ≡ after entry net
-forth_land_held net mask forth buffer packet entry is packet_is forth_is buffer_is =
-    ap₂ (λ (w : DirectionState) (b : List PacketFields). record net { forth = w; port_buffer = b }) (forth_is ∙ ap (λ e. after_land e net.forth) is) (buffer_is ∙ ap (λ p. net.port_buffer ++ packets_in p) (packet_is ∙ ap (λ e. whole_in e net.forth) is)) ∙
+pub forth_land_held : (net : NetState) (mask : List ℕ) (forth : DirectionState) (buffer : List PacketFields) (entry : Entry) → entry ≡ landed_entry 0 mask net.forth.line net.forth.pending
+    → forth ≡ after_land entry net.forth → buffer ≡ net.port_buffer ++ landed_packets entry net.forth → record net { forth = forth; port_buffer = buffer } ≡ after entry net
+forth_land_held net mask forth buffer entry is forth_is buffer_is =
+    ap₂ (λ (w : DirectionState) (b : List PacketFields). record net { forth = w; port_buffer = b }) (forth_is ∙ ap (λ e. after_land e net.forth) is) (buffer_is ∙ ap (λ e. net.port_buffer ++ landed_packets e net.forth) is) ∙
     forth_landed net mask net.forth.line net.forth.pending ∙ ap (λ e. after e net) (sym is)
 
-pub back_land_held : (net : NetState) (mask : List ℕ) (back : DirectionState) (buffer : List PacketFields) (packet : Option PacketFields) (entry : Entry) → entry ≡ landed_entry 1 mask net.back.line net.back.pending → packet ≡ whole_in entry net.back
-    → back ≡ after_land entry net.back → buffer ≡ net.host_buffer ++ packets_in packet → record net { back = back; host_buffer = buffer } ≡ after entry net
-back_land_held net mask back buffer packet entry is packet_is back_is buffer_is =
-    ap₂ (λ (w : DirectionState) (b : List PacketFields). record net { back = w; host_buffer = b }) (back_is ∙ ap (λ e. after_land e net.back) is) (buffer_is ∙ ap (λ p. net.host_buffer ++ packets_in p) (packet_is ∙ ap (λ e. whole_in e net.back) is)) ∙
+pub back_land_held : (net : NetState) (mask : List ℕ) (back : DirectionState) (buffer : List PacketFields) (entry : Entry) → entry ≡ landed_entry 1 mask net.back.line net.back.pending
+    → back ≡ after_land entry net.back → buffer ≡ net.host_buffer ++ landed_packets entry net.back → record net { back = back; host_buffer = buffer } ≡ after entry net
+back_land_held net mask back buffer entry is back_is buffer_is =
+    ap₂ (λ (w : DirectionState) (b : List PacketFields). record net { back = w; host_buffer = b }) (back_is ∙ ap (λ e. after_land e net.back) is) (buffer_is ∙ ap (λ e. net.host_buffer ++ landed_packets e net.back) is) ∙
     back_landed net mask net.back.line net.back.pending ∙ ap (λ e. after e net) (sym is)
 
 pub forth_land_entry : (net : NetState) (direction : ℕ) (mask : List ℕ) (entry : Entry) → direction ≡ 0 → entry ≡ landed_entry 0 mask net.forth.line net.forth.pending → entry ≡ choice (topology_of net) (net_view net) (steps.Land direction mask)

@@ -165,6 +165,16 @@ run_front : (net : NetState) (unit : RequestUnit) (step : Step) (waiting answers
 run_front net unit step [] answers size same asks = refl
 run_front net unit step (front ∷ rest) answers size same asks = run_found net unit step front answers size (request_in front) refl same (All-head IsCubeRequest front rest asks)
 
+pub bank_none : (net : NetState) (vault bank : ℕ) (entry : Entry) → bank_at (vault_at net.cube vault) bank ≡ [] → entry ≡ Idle (steps.Bank 0 vault bank) causes.Empty → entry ≡ choice (topology_of net) (net_view net) (steps.Bank 0 vault bank)
+unfolding choice
+bank_none net vault bank entry none is =
+    is ∙ ap (λ (l : List PacketFields). with_front (steps.Bank 0 vault bank) l (λ front. execution_entry (units.Bank 0 vault bank) (steps.Bank 0 vault bank) front (vault_at net.cube vault).answers net.setup.queue (machine_of net) (request_in front))) (sym none)
+
+pub registers_none : (net : NetState) (entry : Entry) → net.cube.register_queue ≡ [] → entry ≡ Idle (steps.Registers 0) causes.Empty → entry ≡ choice (topology_of net) (net_view net) (steps.Registers 0)
+unfolding choice
+registers_none net entry none is =
+    is ∙ ap (λ (l : List PacketFields). with_front (steps.Registers 0) l (λ front. execution_entry (units.Registers 0) (steps.Registers 0) front net.cube.answers net.setup.queue (machine_of net) (request_in front))) (sym none)
+
 pub bank_entry : (net : NetState) (vault bank : ℕ) (ran : Execution) (entry : Entry) → net.cube.size ≡ net.setup.queue → IsReady net → ran ≡ bank_says net.cube vault bank → entry ≡ ran_entry (units.Bank 0 vault bank) (steps.Bank 0 vault bank) ran
     → entry ≡ choice (topology_of net) (net_view net) (steps.Bank 0 vault bank)
 unfolding choice

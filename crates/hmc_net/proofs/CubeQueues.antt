@@ -48,14 +48,14 @@ banks_after vaults v b x there same bank =
     let e : length (vault_in (slice_set vaults v x) v).banks ≡ length (vault_in vaults v).banks = ap (λ (y : VaultFields). length y.banks) (get_or-set_same vaults v x no_vault there) ∙ ap length same in
     omega arith
 
-pub spread_moves : (net : NetState) (vault bank : ℕ) → AreTold net → IsEntryOf net (Spread 0 vault bank) → IsMove net (Spread 0 vault bank) (Some (Vault 0 vault))
+pub spread_moves : (net : NetState) (past : List Entry) (vault bank : ℕ) → AreTold net past → IsEntryOf net (Spread 0 vault bank) → IsMove net past (Spread 0 vault bank) (Some (Vault 0 vault))
 unfolding leaves enters
-spread_moves net vault bank told is = record {
+spread_moves net past vault bank told is = record {
   leaves_is = refl;
-  left_is = left_of net (Vault 0 vault) told is.1;
+  left_is = left_of net past (Vault 0 vault) told is.1;
   leaves_there = (refl, is.0.1);
   enters_there = (refl, vault_after net.cube.vaults vault _ is.0.1, banks_after net.cube.vaults vault bank _ is.0.1 refl is.2);
-  holding = ap (λ l. record (queues_in net) { vaults = l }) (spread_vaults net.cube.vaults vault bank is.1.front is.1.rest _ is.0.1 is.1.is (sym (front_told net (Vault 0 vault) told) ∙ ap front_of is.1.is));
+  holding = ap (λ l. record (queues_in net) { vaults = l }) (spread_vaults net.cube.vaults vault bank is.1.front is.1.rest _ is.0.1 is.1.is (sym (front_told net past (Vault 0 vault) told) ∙ ap front_of is.1.is));
 }
 
 -- a unit's front is answered, unless it is posted
@@ -73,20 +73,20 @@ bank_answered : (vaults : List VaultFields) (v b : ℕ) (p : PacketFields) → v
     ≡ slice_set (slice_set vaults v (without_waiting (vault_in vaults v) b)) v (record (vault_in (slice_set vaults v (without_waiting (vault_in vaults v) b)) v) { answers = (vault_in (slice_set vaults v (without_waiting (vault_in vaults v) b)) v).answers ++ p ∷ [] })
 bank_answered vaults v b p there = sym (changed_again vaults v (without_waiting (vault_in vaults v) b) (λ x. record x { answers = x.answers ++ p ∷ [] }) there)
 
-bank_moves : (net : NetState) (vault bank host : ℕ) (tag : Option ℕ) (request : RequestFields) (answer : Answer) (posted : Bool) → is_posted request.command ≡ posted → AreTold net → IsEntryOf net (Executed (units.Bank 0 vault bank) host tag request answer)
-    → IsMove net (Executed (units.Bank 0 vault bank) host tag request answer) (Some (Bank 0 vault bank))
+bank_moves : (net : NetState) (past : List Entry) (vault bank host : ℕ) (tag : Option ℕ) (request : RequestFields) (answer : Answer) (posted : Bool) → is_posted request.command ≡ posted → AreTold net past → IsEntryOf net (Executed (units.Bank 0 vault bank) host tag request answer)
+    → IsMove net past (Executed (units.Bank 0 vault bank) host tag request answer) (Some (Bank 0 vault bank))
 unfolding leaves enters
-bank_moves net vault bank host tag request answer true posted told is = record {
+bank_moves net past vault bank host tag request answer true posted told is = record {
   leaves_is = refl;
-  left_is = left_of net (Bank 0 vault bank) told is.1;
+  left_is = left_of net past (Bank 0 vault bank) told is.1;
   leaves_there = is.0;
   enters_there = subst (λ t. IsGoing (without (queues_in net) (Some (Bank 0 vault bank))) (arrival_in (unless_posted t (Answers 0 (lifts.Vault vault))) (λ _. reply_packet answer (tag_number tag) host request.cube))) (sym posted) tt;
   holding = ap (λ l. record (queues_in net) { vaults = slice_set net.cube.vaults vault (record (without_waiting (vault_in net.cube.vaults vault) bank) { answers = l }) }) (posted_replies request answer host (tag_number tag) (vault_in net.cube.vaults vault).answers posted)
       ∙ ap (λ t. with_arrival (without (queues_in net) (Some (Bank 0 vault bank))) (arrival_in (unless_posted t (Answers 0 (lifts.Vault vault))) (λ _. reply_packet answer (tag_number tag) host request.cube))) (sym posted);
 }
-bank_moves net vault bank host tag request answer false posted told is = record {
+bank_moves net past vault bank host tag request answer false posted told is = record {
   leaves_is = refl;
-  left_is = left_of net (Bank 0 vault bank) told is.1;
+  left_is = left_of net past (Bank 0 vault bank) told is.1;
   leaves_there = is.0;
   enters_there = subst (λ t. IsGoing (without (queues_in net) (Some (Bank 0 vault bank))) (arrival_in (unless_posted t (Answers 0 (lifts.Vault vault))) (λ _. reply_packet answer (tag_number tag) host request.cube))) (sym posted) (refl, vault_after net.cube.vaults vault _ is.0.1);
   holding = ap (λ l. record (queues_in net) { vaults = slice_set net.cube.vaults vault (record (without_waiting (vault_in net.cube.vaults vault) bank) { answers = l }) }) (answered_replies request answer host (tag_number tag) (vault_in net.cube.vaults vault).answers posted)
@@ -94,20 +94,20 @@ bank_moves net vault bank host tag request answer false posted told is = record 
       ∙ ap (λ t. with_arrival (without (queues_in net) (Some (Bank 0 vault bank))) (arrival_in (unless_posted t (Answers 0 (lifts.Vault vault))) (λ _. reply_packet answer (tag_number tag) host request.cube))) (sym posted);
 }
 
-registers_moves : (net : NetState) (host : ℕ) (tag : Option ℕ) (request : RequestFields) (answer : Answer) (posted : Bool) → is_posted request.command ≡ posted → AreTold net → IsEntryOf net (Executed (units.Registers 0) host tag request answer)
-    → IsMove net (Executed (units.Registers 0) host tag request answer) (Some (Registers 0))
+registers_moves : (net : NetState) (past : List Entry) (host : ℕ) (tag : Option ℕ) (request : RequestFields) (answer : Answer) (posted : Bool) → is_posted request.command ≡ posted → AreTold net past → IsEntryOf net (Executed (units.Registers 0) host tag request answer)
+    → IsMove net past (Executed (units.Registers 0) host tag request answer) (Some (Registers 0))
 unfolding leaves enters
-registers_moves net host tag request answer true posted told is = record {
+registers_moves net past host tag request answer true posted told is = record {
   leaves_is = refl;
-  left_is = left_of net (Registers 0) told is.1;
+  left_is = left_of net past (Registers 0) told is.1;
   leaves_there = refl;
   enters_there = subst (λ t. IsGoing (without (queues_in net) (Some (Registers 0))) (arrival_in (unless_posted t (Answers 0 lifts.Registers)) (λ _. reply_packet answer (tag_number tag) host request.cube))) (sym posted) tt;
   holding = ap (λ l. record (queues_in net) { register_queue = drop 1 net.cube.register_queue; answers = l }) (posted_replies request answer host (tag_number tag) net.cube.answers posted)
       ∙ ap (λ t. with_arrival (without (queues_in net) (Some (Registers 0))) (arrival_in (unless_posted t (Answers 0 lifts.Registers)) (λ _. reply_packet answer (tag_number tag) host request.cube))) (sym posted);
 }
-registers_moves net host tag request answer false posted told is = record {
+registers_moves net past host tag request answer false posted told is = record {
   leaves_is = refl;
-  left_is = left_of net (Registers 0) told is.1;
+  left_is = left_of net past (Registers 0) told is.1;
   leaves_there = refl;
   enters_there = subst (λ t. IsGoing (without (queues_in net) (Some (Registers 0))) (arrival_in (unless_posted t (Answers 0 lifts.Registers)) (λ _. reply_packet answer (tag_number tag) host request.cube))) (sym posted) refl;
   holding = ap (λ l. record (queues_in net) { register_queue = drop 1 net.cube.register_queue; answers = l }) (answered_replies request answer host (tag_number tag) net.cube.answers posted)
@@ -115,65 +115,65 @@ registers_moves net host tag request answer false posted told is = record {
 }
 
 -- an answer is lifted to the port
-lifted_moves : (net : NetState) (from : Lift) → AreTold net → IsEntryOf net (Lifted 0 from net.port) → IsMove net (Lifted 0 from net.port) (Some (Answers 0 from))
+lifted_moves : (net : NetState) (past : List Entry) (from : Lift) → AreTold net past → IsEntryOf net (Lifted 0 from net.port) → IsMove net past (Lifted 0 from net.port) (Some (Answers 0 from))
 unfolding leaves enters
-lifted_moves net (lifts.Vault vault) told is = record {
+lifted_moves net past (lifts.Vault vault) told is = record {
   leaves_is = refl;
-  left_is = left_of net (Answers 0 (lifts.Vault vault)) told is.2;
+  left_is = left_of net past (Answers 0 (lifts.Vault vault)) told is.2;
   leaves_there = is.0;
-  enters_there = subst (λ d. IsGoing (without (queues_in net) (Some (Answers 0 (lifts.Vault vault)))) (arrival_in (option_map Output d) (λ _. front_of (contents (topology_of net) net.journal.past (Answers 0 (lifts.Vault vault)))))) (sym (port_direction net)) (omega arith);
-  holding = ap (λ p. with_arrival (without (queues_in net) (Some (Answers 0 (lifts.Vault vault)))) (Some (record { queue = Output 1; packet = λ _. p }))) (front_told net (Answers 0 (lifts.Vault vault)) told)
-      ∙ ap (λ d. with_arrival (without (queues_in net) (Some (Answers 0 (lifts.Vault vault)))) (arrival_in (option_map Output d) (λ _. front_of (contents (topology_of net) net.journal.past (Answers 0 (lifts.Vault vault)))))) (sym (port_direction net));
+  enters_there = subst (λ d. IsGoing (without (queues_in net) (Some (Answers 0 (lifts.Vault vault)))) (arrival_in (option_map Output d) (λ _. front_of (contents (topology_of net) past (Answers 0 (lifts.Vault vault)))))) (sym (port_direction net)) (omega arith);
+  holding = ap (λ p. with_arrival (without (queues_in net) (Some (Answers 0 (lifts.Vault vault)))) (Some (record { queue = Output 1; packet = λ _. p }))) (front_told net past (Answers 0 (lifts.Vault vault)) told)
+      ∙ ap (λ d. with_arrival (without (queues_in net) (Some (Answers 0 (lifts.Vault vault)))) (arrival_in (option_map Output d) (λ _. front_of (contents (topology_of net) past (Answers 0 (lifts.Vault vault)))))) (sym (port_direction net));
 }
-lifted_moves net lifts.Registers told is = record {
+lifted_moves net past lifts.Registers told is = record {
   leaves_is = refl;
-  left_is = left_of net (Answers 0 lifts.Registers) told is.2;
+  left_is = left_of net past (Answers 0 lifts.Registers) told is.2;
   leaves_there = is.0;
-  enters_there = subst (λ d. IsGoing (without (queues_in net) (Some (Answers 0 lifts.Registers))) (arrival_in (option_map Output d) (λ _. front_of (contents (topology_of net) net.journal.past (Answers 0 lifts.Registers))))) (sym (port_direction net)) (omega arith);
-  holding = ap (λ p. with_arrival (without (queues_in net) (Some (Answers 0 lifts.Registers))) (Some (record { queue = Output 1; packet = λ _. p }))) (front_told net (Answers 0 lifts.Registers) told)
-      ∙ ap (λ d. with_arrival (without (queues_in net) (Some (Answers 0 lifts.Registers))) (arrival_in (option_map Output d) (λ _. front_of (contents (topology_of net) net.journal.past (Answers 0 lifts.Registers))))) (sym (port_direction net));
+  enters_there = subst (λ d. IsGoing (without (queues_in net) (Some (Answers 0 lifts.Registers))) (arrival_in (option_map Output d) (λ _. front_of (contents (topology_of net) past (Answers 0 lifts.Registers))))) (sym (port_direction net)) (omega arith);
+  holding = ap (λ p. with_arrival (without (queues_in net) (Some (Answers 0 lifts.Registers))) (Some (record { queue = Output 1; packet = λ _. p }))) (front_told net past (Answers 0 lifts.Registers) told)
+      ∙ ap (λ d. with_arrival (without (queues_in net) (Some (Answers 0 lifts.Registers))) (arrival_in (option_map Output d) (λ _. front_of (contents (topology_of net) past (Answers 0 lifts.Registers))))) (sym (port_direction net));
 }
 
-lifted_at : (net : NetState) (from : Lift) (port : ℕ) → port ≡ net.port → AreTold net → IsEntryOf net (Lifted 0 from port) → IsMove net (Lifted 0 from port) (Some (Answers 0 from))
-lifted_at net from port same told is =
-    subst (λ p. IsMove net (Lifted 0 from p) (Some (Answers 0 from))) (sym same) (lifted_moves net from told (subst (λ p. IsEntryOf net (Lifted 0 from p)) same is))
+lifted_at : (net : NetState) (past : List Entry) (from : Lift) (port : ℕ) → port ≡ net.port → AreTold net past → IsEntryOf net (Lifted 0 from port) → IsMove net past (Lifted 0 from port) (Some (Answers 0 from))
+lifted_at net past from port same told is =
+    subst (λ p. IsMove net past (Lifted 0 from p) (Some (Answers 0 from))) (sym same) (lifted_moves net past from told (subst (λ p. IsEntryOf net (Lifted 0 from p)) same is))
 
 -- the front of the host's buffer leaves
-took_moves : (net : NetState) (tag : ℕ) (answer : Answer) → AreTold net → IsEntryOf net (Took 0 tag answer) → IsMove net (Took 0 tag answer) (Some (Host 0))
+took_moves : (net : NetState) (past : List Entry) (tag : ℕ) (answer : Answer) → AreTold net past → IsEntryOf net (Took 0 tag answer) → IsMove net past (Took 0 tag answer) (Some (Host 0))
 unfolding leaves enters
-took_moves net tag answer told is = record { leaves_is = refl; left_is = left_of net (Host 0) told is.1; leaves_there = refl; enters_there = tt; holding = refl }
+took_moves net past tag answer told is = record { leaves_is = refl; left_is = left_of net past (Host 0) told is.1; leaves_there = refl; enters_there = tt; holding = refl }
 
-discarded_moves : (net : NetState) → AreTold net → IsEntryOf net (Discarded 0) → IsMove net (Discarded 0) (Some (Host 0))
+discarded_moves : (net : NetState) (past : List Entry) → AreTold net past → IsEntryOf net (Discarded 0) → IsMove net past (Discarded 0) (Some (Host 0))
 unfolding leaves enters
-discarded_moves net told is = record { leaves_is = refl; left_is = left_of net (Host 0) told is.1; leaves_there = refl; enters_there = tt; holding = refl }
+discarded_moves net past told is = record { leaves_is = refl; left_is = left_of net past (Host 0) told is.1; leaves_there = refl; enters_there = tt; holding = refl }
 
-idle_moves : (net : NetState) (step : Step) (cause : Cause) → IsMove net (Idle step cause) None
+idle_moves : (net : NetState) (past : List Entry) (step : Step) (cause : Cause) → IsMove net past (Idle step cause) None
 unfolding leaves enters
-idle_moves net step cause = record { leaves_is = refl; left_is = tt; leaves_there = tt; enters_there = tt; holding = refl }
+idle_moves net past step cause = record { leaves_is = refl; left_is = tt; leaves_there = tt; enters_there = tt; holding = refl }
 
 -- Each entry moves a packet as its place in the table says.
-pub moves_of : (net : NetState) (entry : Entry) → AreTold net → IsEntryOf net entry → (leaving : Option QueueId) × IsMove net entry leaving
-moves_of net (Gave zero tag poisoned request) told is = (None, gave_moves net tag poisoned request)
-moves_of net (Gave (suc host) tag poisoned request) told is = absurd (omega arith)
-moves_of net (Sent direction what flit) told is = sent_moves net direction what flit told is
-moves_of net (Landed zero flit outcome) told is = (None, landed_forth net flit outcome told)
-moves_of net (Landed (suc zero) flit outcome) told is = (None, landed_back net flit outcome told)
-moves_of net (Landed (suc (suc direction)) flit outcome) told is = absurd (omega (arith, is.0))
-moves_of net (Shifted zero port goal) told is = (Some (Port 0 port), shifted_moves net port goal told is)
-moves_of net (Shifted (suc cube) port goal) told is = absurd (omega (arith, is.0))
-moves_of net (Dropped zero port) told is = (Some (Port 0 port), dropped_moves net port told is)
-moves_of net (Dropped (suc cube) port) told is = absurd (omega (arith, is.0))
-moves_of net (Spread zero vault bank) told is = (Some (Vault 0 vault), spread_moves net vault bank told is)
-moves_of net (Spread (suc cube) vault bank) told is = absurd (omega (arith, is.0.0))
-moves_of net (Executed (units.Bank zero vault bank) host tag request answer) told is = (Some (Bank 0 vault bank), bank_moves net vault bank host tag request answer (is_posted request.command) refl told is)
-moves_of net (Executed (units.Bank (suc cube) vault bank) host tag request answer) told is = absurd (omega (arith, is.0.0))
-moves_of net (Executed (units.Registers zero) host tag request answer) told is = (Some (Registers 0), registers_moves net host tag request answer (is_posted request.command) refl told is)
-moves_of net (Executed (units.Registers (suc cube)) host tag request answer) told is = absurd (omega (arith, is.0))
-moves_of net (Lifted zero from port) told is = (Some (Answers 0 from), lifted_at net from port is.1 told is)
-moves_of net (Lifted (suc cube) (lifts.Vault vault) port) told is = absurd (omega (arith, is.0.0))
-moves_of net (Lifted (suc cube) lifts.Registers port) told is = absurd (omega (arith, is.0))
-moves_of net (Took zero tag answer) told is = (Some (Host 0), took_moves net tag answer told is)
-moves_of net (Took (suc host) tag answer) told is = absurd (omega (arith, is.0))
-moves_of net (Discarded zero) told is = (Some (Host 0), discarded_moves net told is)
-moves_of net (Discarded (suc host)) told is = absurd (omega (arith, is.0))
-moves_of net (Idle step cause) told is = (None, idle_moves net step cause)
+pub moves_of : (net : NetState) (past : List Entry) (entry : Entry) → AreTold net past → IsEntryOf net entry → (leaving : Option QueueId) × IsMove net past entry leaving
+moves_of net past (Gave zero tag poisoned request) told is = (None, gave_moves net past tag poisoned request)
+moves_of net past (Gave (suc host) tag poisoned request) told is = absurd (omega arith)
+moves_of net past (Sent direction what flit) told is = sent_moves net past direction what flit told is
+moves_of net past (Landed zero flit outcome) told is = (None, landed_forth net past flit outcome told)
+moves_of net past (Landed (suc zero) flit outcome) told is = (None, landed_back net past flit outcome told)
+moves_of net past (Landed (suc (suc direction)) flit outcome) told is = absurd (omega (arith, is.0))
+moves_of net past (Shifted zero port goal) told is = (Some (Port 0 port), shifted_moves net past port goal told is)
+moves_of net past (Shifted (suc cube) port goal) told is = absurd (omega (arith, is.0))
+moves_of net past (Dropped zero port) told is = (Some (Port 0 port), dropped_moves net past port told is)
+moves_of net past (Dropped (suc cube) port) told is = absurd (omega (arith, is.0))
+moves_of net past (Spread zero vault bank) told is = (Some (Vault 0 vault), spread_moves net past vault bank told is)
+moves_of net past (Spread (suc cube) vault bank) told is = absurd (omega (arith, is.0.0))
+moves_of net past (Executed (units.Bank zero vault bank) host tag request answer) told is = (Some (Bank 0 vault bank), bank_moves net past vault bank host tag request answer (is_posted request.command) refl told is)
+moves_of net past (Executed (units.Bank (suc cube) vault bank) host tag request answer) told is = absurd (omega (arith, is.0.0))
+moves_of net past (Executed (units.Registers zero) host tag request answer) told is = (Some (Registers 0), registers_moves net past host tag request answer (is_posted request.command) refl told is)
+moves_of net past (Executed (units.Registers (suc cube)) host tag request answer) told is = absurd (omega (arith, is.0))
+moves_of net past (Lifted zero from port) told is = (Some (Answers 0 from), lifted_at net past from port is.1 told is)
+moves_of net past (Lifted (suc cube) (lifts.Vault vault) port) told is = absurd (omega (arith, is.0.0))
+moves_of net past (Lifted (suc cube) lifts.Registers port) told is = absurd (omega (arith, is.0))
+moves_of net past (Took zero tag answer) told is = (Some (Host 0), took_moves net past tag answer told is)
+moves_of net past (Took (suc host) tag answer) told is = absurd (omega (arith, is.0))
+moves_of net past (Discarded zero) told is = (Some (Host 0), discarded_moves net past told is)
+moves_of net past (Discarded (suc host)) told is = absurd (omega (arith, is.0))
+moves_of net past (Idle step cause) told is = (None, idle_moves net past step cause)

@@ -18,3 +18,4 @@ pub mod Stepping
 pub mod Opening
 pub mod Stillness
 pub mod Cases
+mod Worked

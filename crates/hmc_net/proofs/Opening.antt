@@ -15,6 +15,7 @@ use Rattle.hmc_serial.specs.Cube.{opening}
 use Rattle.hmc_serial.specs.Machine.{opening_state}
 use Rattle.hmc_case.specs.declared.setup.CubeSetup.{CubeSetup}
 use Rattle.hmc_case.specs.declared.setup.LinkRow.{LinkRow}
+use Rattle.hmc_journal.specs.declared.entry.Entry.{Entry}
 use Rattle.hmc_journal.specs.Hosts.{host_of, given_count, tags_out}
 use Rattle.hmc_journal.specs.Network.{IsOneCube}
 use Rattle.hmc_journal.specs.Lawful.{Lawful}
@@ -58,15 +59,15 @@ new_vault : (n bank_bits size at : ℕ) → IsNew (vault_in (replicate n (openin
 new_vault n bank_bits size at = replicate_at IsNew n at (opening_vault bank_bits size) no_vault
     (refl, (λ bank. replicate_at (λ (l : List PacketFields). l ≡ []) (2 ^ bank_bits) bank [] [] refl refl), refl) (refl, (λ bank. refl), refl)
 
-nothing_inside : (setup : CubeSetup) (sizes : LinkFields) (port : ℕ) (script : List ItemFields) (steps : ℕ) (room : QueueId) → inside (opening_net setup sizes port script steps) room ≡ []
-nothing_inside setup sizes port script steps (Output direction) = no_first direction
-nothing_inside setup sizes port script steps (Port cube other) = if_none _
-nothing_inside setup sizes port script steps (Host host) = only_none host [] refl
-nothing_inside setup sizes port script steps (Vault cube vault) = only_none cube _ (new_vault (2 ^ setup.shape.vault_bits) setup.shape.bank_bits setup.queue vault).0
-nothing_inside setup sizes port script steps (Bank cube vault bank) = only_none cube _ ((new_vault (2 ^ setup.shape.vault_bits) setup.shape.bank_bits setup.queue vault).1 bank)
-nothing_inside setup sizes port script steps (Registers cube) = only_none cube [] refl
-nothing_inside setup sizes port script steps (Answers cube (lifts.Vault vault)) = only_none cube _ (new_vault (2 ^ setup.shape.vault_bits) setup.shape.bank_bits setup.queue vault).2
-nothing_inside setup sizes port script steps (Answers cube lifts.Registers) = only_none cube [] refl
+nothing_inside : (setup : CubeSetup) (sizes : LinkFields) (port : ℕ) (script : List ItemFields) (last : Entry) (room : QueueId) → inside (opening_net setup sizes port script last) room ≡ []
+nothing_inside setup sizes port script last (Output direction) = no_first direction
+nothing_inside setup sizes port script last (Port cube other) = if_none _
+nothing_inside setup sizes port script last (Host host) = only_none host [] refl
+nothing_inside setup sizes port script last (Vault cube vault) = only_none cube _ (new_vault (2 ^ setup.shape.vault_bits) setup.shape.bank_bits setup.queue vault).0
+nothing_inside setup sizes port script last (Bank cube vault bank) = only_none cube _ ((new_vault (2 ^ setup.shape.vault_bits) setup.shape.bank_bits setup.queue vault).1 bank)
+nothing_inside setup sizes port script last (Registers cube) = only_none cube [] refl
+nothing_inside setup sizes port script last (Answers cube (lifts.Vault vault)) = only_none cube _ (new_vault (2 ^ setup.shape.vault_bits) setup.shape.bank_bits setup.queue vault).2
+nothing_inside setup sizes port script last (Answers cube lifts.Registers) = only_none cube [] refl
 
 nothing_in : (topology : Topology) (room : QueueId) → contents topology [] room ≡ []
 unfolding contents left entered
@@ -88,29 +89,28 @@ nothing_begun : (topology : Topology) (direction : ℕ) → begun topology [] di
 unfolding begun left entered
 nothing_begun topology direction = refl
 
-opening_host_is : (setup : Setup) (cube : CubeSetup) (sizes : LinkFields) (port steps : ℕ) → (opening_net cube sizes port setup.script steps).host ≡ host_of setup [] 0
+opening_host_is : (setup : Setup) (cube : CubeSetup) (sizes : LinkFields) (port : ℕ) (last : Entry) → (opening_net cube sizes port setup.script last).host ≡ host_of setup [] 0
 unfolding host_of given_count tags_out
-opening_host_is setup cube sizes port steps = refl
+opening_host_is setup cube sizes port last = refl
 
-opening_state_is : (cube : CubeSetup) (sizes : LinkFields) (port : ℕ) (script : List ItemFields) (steps : ℕ) → machine_of (opening_net cube sizes port script steps) ≡ state_of (topology_of (opening_net cube sizes port script steps)) []
+opening_state_is : (cube : CubeSetup) (sizes : LinkFields) (port : ℕ) (script : List ItemFields) (last : Entry) → machine_of (opening_net cube sizes port script last) ≡ state_of (topology_of (opening_net cube sizes port script last)) []
 unfolding state_of state_after opening_state
-opening_state_is cube sizes port script steps = refl
+opening_state_is cube sizes port script last = refl
 
-pub opening_stands : (setup : Setup) (cube : CubeSetup) (sizes : LinkFields) (port steps : ℕ) → IsOneCube setup → All (IsStepFor setup.topology) setup.schedule → setup.topology ≡ topology_of (opening_net cube sizes port setup.script steps) → length setup.schedule ≤ steps
-    → StandsFor (opening_net cube sizes port setup.script steps) setup
-opening_stands setup cube sizes port steps one steps_there topology most = record {
+pub opening_stands : (setup : Setup) (cube : CubeSetup) (sizes : LinkFields) (port : ℕ) (last : Entry) → IsOneCube setup → All (IsStepFor setup.topology) setup.schedule → setup.topology ≡ topology_of (opening_net cube sizes port setup.script last)
+    → StandsFor (opening_net cube sizes port setup.script last) setup []
+opening_stands setup cube sizes port last one steps_there topology = record {
   one_cube = one;
   steps = steps_there;
   topology = topology;
   lawful = lawful_nothing setup;
-  queues = λ room. nothing_inside cube sizes port setup.script steps room ∙ sym (nothing_in _ room);
+  queues = λ room. nothing_inside cube sizes port setup.script last room ∙ sym (nothing_in _ room);
   moves = λ room. within_nothing _ room;
   forth = opening_way _ 0 sizes;
   back = opening_way _ 1 sizes;
   others = λ direction. nothing_begun _ (2 + direction);
-  host = opening_host_is setup cube sizes port steps;
-  state = opening_state_is cube sizes port setup.script steps;
-  most = most;
+  host = opening_host_is setup cube sizes port last;
+  state = opening_state_is cube sizes port setup.script last;
 }
 
 -- the topology of one cube and one link is that of the network built from them
@@ -119,24 +119,24 @@ one_link_row setup one link link_is =
     ap₂ (λ (a b : Place). record { join = record { a = a; b = b }; setup = one.link.setup }) one.host_end one.cube_end ∙
     ap (λ (r : LinkRow). record { join = record { a = places.Host 0; b = places.Port 0 one.port }; setup = r.setup }) (sym link_is)
 
-pub one_topology : (setup : Setup) (one : OneCube setup) (cube : CubeSetup) (link : LinkRow) (port steps : ℕ) → cube ≡ one.cube → link ≡ one.link → port ≡ one.port
-    → setup.topology ≡ topology_of (opening_net cube link.setup port setup.script steps)
-one_topology setup one cube link port steps cube_is link_is port_is =
+pub one_topology : (setup : Setup) (one : OneCube setup) (cube : CubeSetup) (link : LinkRow) (port : ℕ) (last : Entry) → cube ≡ one.cube → link ≡ one.link → port ≡ one.port
+    → setup.topology ≡ topology_of (opening_net cube link.setup port setup.script last)
+one_topology setup one cube link port last cube_is link_is port_is =
     ap₂ (λ (cubes : List CubeSetup) (links : List LinkRow). record { cubes = cubes; links = links }) (one.cubes ∙ ap (λ (c : CubeSetup). c ∷ []) (sym cube_is)) (one.links ∙ ap (λ (r : LinkRow). r ∷ []) (one_link_row setup one link link_is)) ∙
-    ap (λ n. topology_of (opening_net cube link.setup n setup.script steps)) (sym port_is)
+    ap (λ n. topology_of (opening_net cube link.setup n setup.script last)) (sym port_is)
 
 -- what holds of each value holds of a good answer
 pub ok_then : {A E : Type 0} (P Q : A → Type 0) (result : Result A E) → ((x : A) → P x → Q x) → IfOk result P → IfOk result Q
 ok_then P Q (Ok x) more is = more x is
 ok_then P Q (Err e) more is = tt
 
-pub built_stands : (setup : Setup) (one : IsOneCube setup) (parts : OneCube setup) (cube : CubeSetup) (link : LinkRow) (port steps : ℕ) (script : List ItemFields) → All (IsStepFor setup.topology) setup.schedule → cube ≡ parts.cube → link ≡ parts.link → port_number link.join.b ≡ Some port
-    → script ≡ setup.script → steps ≡ length setup.schedule → StandsFor (opening_net cube link.setup port script steps) setup
-built_stands setup one parts cube link port steps script steps_there cube_is link_is port_is script_is steps_is =
+pub built_stands : (setup : Setup) (one : IsOneCube setup) (parts : OneCube setup) (cube : CubeSetup) (link : LinkRow) (port : ℕ) (last : Entry) (script : List ItemFields) → All (IsStepFor setup.topology) setup.schedule → cube ≡ parts.cube → link ≡ parts.link → port_number link.join.b ≡ Some port
+    → script ≡ setup.script → StandsFor (opening_net cube link.setup port script last) setup []
+built_stands setup one parts cube link port last script steps_there cube_is link_is port_is script_is =
     let found : Some port ≡ Some parts.port = sym port_is ∙ ap (λ (r : LinkRow). port_number r.join.b) link_is ∙ ap port_number parts.cube_end in
     let port_one : port ≡ parts.port = cc in
-    subst (λ s. StandsFor (opening_net cube link.setup port s steps) setup) (sym script_is)
-    (opening_stands setup cube link.setup port steps one steps_there (one_topology setup parts cube link port steps cube_is link_is port_one) (omega (arith, steps_is)))
+    subst (λ s. StandsFor (opening_net cube link.setup port s last) setup []) (sym script_is)
+    (opening_stands setup cube link.setup port last one steps_there (one_topology setup parts cube link port last cube_is link_is port_one))
 
 -- the only element
 pub only_at : {X : Type 0} (xs ys : List X) (x one : X) → xs ≡ ys → ys ≡ one ∷ [] → x ≡ slice_index_or xs 0 x → x ≡ one

@@ -63,13 +63,13 @@ back_way net past forth back = let l = back.line in let s = back.sending in let 
 abbrev told_view : Setup → List Entry → Topology → StepView
 told_view setup past topology = sees (contents topology past) (state_of topology past) (host_of setup past) (direction_view topology past)
 
-pub choice_seen : (net : NetState) (setup : Setup) (step : Step) → StandsFor net setup → IsStepFor (topology_of net) step → choice (topology_of net) (net_view net) step ≡ next setup net.journal.past step
+pub choice_seen : (net : NetState) (past : List Entry) (setup : Setup) (step : Step) → StandsFor net setup past → IsStepFor (topology_of net) step → choice (topology_of net) (net_view net) step ≡ next setup past step
 unfolding next view_of
-choice_seen net setup step stands there =
-    ap₂ (λ (r : QueueId → List PacketFields) (s : State). choice (topology_of net) (sees r s (host_by net) (net_direction net)) step) (same_function (inside net) (contents (topology_of net) net.journal.past) stands.queues) stands.state ∙
-    same_choice (topology_of net) (contents (topology_of net) net.journal.past) (state_of (topology_of net) net.journal.past) (host_by net) (host_of setup net.journal.past) (net_direction net) (direction_view (topology_of net) net.journal.past) step there
-    stands.host (forth_way net net.journal.past stands.forth stands.back) (back_way net net.journal.past stands.forth stands.back) ∙
-    ap (λ t. choice t (told_view setup net.journal.past t) step) (sym stands.topology)
+choice_seen net past setup step stands there =
+    ap₂ (λ (r : QueueId → List PacketFields) (s : State). choice (topology_of net) (sees r s (host_by net) (net_direction net)) step) (same_function (inside net) (contents (topology_of net) past) stands.queues) stands.state ∙
+    same_choice (topology_of net) (contents (topology_of net) past) (state_of (topology_of net) past) (host_by net) (host_of setup past) (net_direction net) (direction_view (topology_of net) past) step there
+    stands.host (forth_way net past stands.forth stands.back) (back_way net past stands.forth stands.back) ∙
+    ap (λ t. choice t (told_view setup past t) step) (sym stands.topology)
 
 -- ---- the step
 
@@ -78,8 +78,8 @@ step_at P [] at step all is = absurd (cc)
 step_at P (first ∷ rest) zero step all is = let same : first ≡ step = cc in subst P same (All-head P first rest all)
 step_at P (first ∷ rest) (suc at) step all is = step_at P rest at step (All-tail P first rest all) is
 
-pub step_there : (net : NetState) (setup : Setup) (step : Step) → IsNext net setup step → IsStepFor (topology_of net) step
-step_there net setup step is = subst (λ t. IsStepFor t step) is.stands.topology (step_at (IsStepFor setup.topology) setup.schedule (length net.journal.past) step is.stands.steps is.step_is)
+pub step_there : (net : NetState) (past : List Entry) (setup : Setup) (step : Step) → IsNext net setup past step → IsStepFor (topology_of net) step
+step_there net past setup step is = subst (λ t. IsStepFor t step) is.stands.topology (step_at (IsStepFor setup.topology) setup.schedule (length past) step is.stands.steps is.step_is)
 
 -- ---- what the laws promise
 
@@ -95,32 +95,32 @@ flits_within (x ∷ all) (f ∷ front) rest is =
 abbrev IsUnderWay : Topology → List Entry → (direction : ℕ) → List PacketFields → Type 0
 IsUnderWay topology past direction buffer = (rest : List ℕ) × (map flits_of (drop (left past (landing_buffer topology direction)) (begun topology past direction)) ≡ map flits_of buffer ++ rest)
 
-buffer_told : (net : NetState) (setup : Setup) → StandsFor net setup → contents (topology_of net) net.journal.past (Port 0 net.port) ≡ net.port_buffer
-buffer_told net setup stands = sym (stands.queues (Port 0 net.port)) ∙ buffer_is net net.port refl
+buffer_told : (net : NetState) (past : List Entry) (setup : Setup) → StandsFor net setup past → contents (topology_of net) past (Port 0 net.port) ≡ net.port_buffer
+buffer_told net past setup stands = sym (stands.queues (Port 0 net.port)) ∙ buffer_is net net.port refl
 
-forth_under : (net : NetState) (setup : Setup) → StandsFor net setup → QueueInvariant setup net.journal.past → IsUnderWay (topology_of net) net.journal.past 0 net.port_buffer
-forth_under net setup stands housed =
-    subst (IsUnderWay (topology_of net) net.journal.past 0) (buffer_told net setup stands)
-    (subst (λ t. IsUnderWay t net.journal.past 0 (contents t net.journal.past (landing_buffer t 0))) stands.topology (housed.in_flight_flits 0 (omega arith)))
+forth_under : (net : NetState) (past : List Entry) (setup : Setup) → StandsFor net setup past → QueueInvariant setup past → IsUnderWay (topology_of net) past 0 net.port_buffer
+forth_under net past setup stands housed =
+    subst (IsUnderWay (topology_of net) past 0) (buffer_told net past setup stands)
+    (subst (λ t. IsUnderWay t past 0 (contents t past (landing_buffer t 0))) stands.topology (housed.in_flight_flits 0 (omega arith)))
 
-back_under : (net : NetState) (setup : Setup) → StandsFor net setup → QueueInvariant setup net.journal.past → IsUnderWay (topology_of net) net.journal.past 1 net.host_buffer
-back_under net setup stands housed =
-    subst (IsUnderWay (topology_of net) net.journal.past 1) (sym (stands.queues (Host 0)))
-    (subst (λ t. IsUnderWay t net.journal.past 1 (contents t net.journal.past (landing_buffer t 1))) stands.topology (housed.in_flight_flits 1 (omega arith)))
+back_under : (net : NetState) (past : List Entry) (setup : Setup) → StandsFor net setup past → QueueInvariant setup past → IsUnderWay (topology_of net) past 1 net.host_buffer
+back_under net past setup stands housed =
+    subst (IsUnderWay (topology_of net) past 1) (sym (stands.queues (Host 0)))
+    (subst (λ t. IsUnderWay t past 1 (contents t past (landing_buffer t 1))) stands.topology (housed.in_flight_flits 1 (omega arith)))
 
 first_by : (topology : Topology) (past : List Entry) (direction : ℕ) (buffer : List PacketFields) → IsUnderWay topology past direction buffer → (front : PacketFields) (rest : List PacketFields) → buffer ≡ front ∷ rest
     → (others : List ℕ) × (map flits_of (drop (left past (landing_buffer topology direction)) (begun topology past direction)) ≡ flits_of front ∷ others)
 first_by topology past direction buffer under front rest is = (map flits_of rest ++ under.0, under.1 ∙ ap (λ (b : List PacketFields). map flits_of b ++ under.0) is)
 
-pub first_of : (net : NetState) (setup : Setup) → StandsFor net setup → QueueInvariant setup net.journal.past → AreFirst net
-first_of net setup stands housed = record {
-  forth = first_by (topology_of net) net.journal.past 0 net.port_buffer (forth_under net setup stands housed);
-  back = first_by (topology_of net) net.journal.past 1 net.host_buffer (back_under net setup stands housed);
+pub first_of : (net : NetState) (past : List Entry) (setup : Setup) → StandsFor net setup past → QueueInvariant setup past → AreFirst net past
+first_of net past setup stands housed = record {
+  forth = first_by (topology_of net) past 0 net.port_buffer (forth_under net past setup stands housed);
+  back = first_by (topology_of net) past 1 net.host_buffer (back_under net past setup stands housed);
 }
 
 -- what holds of all packets of a room by the journal holds of those in it
-all_in : (P : PacketFields → Type 0) (net : NetState) (setup : Setup) (queue : QueueId) → StandsFor net setup → All P (contents setup.topology net.journal.past queue) → All P (inside net queue)
-all_in P net setup queue stands all = subst (All P) (sym (stands.queues queue)) (subst (λ t. All P (contents t net.journal.past queue)) stands.topology all)
+all_in : (P : PacketFields → Type 0) (net : NetState) (past : List Entry) (setup : Setup) (queue : QueueId) → StandsFor net setup past → All P (contents setup.topology past queue) → All P (inside net queue)
+all_in P net past setup queue stands all = subst (All P) (sym (stands.queues queue)) (subst (λ t. All P (contents t past queue)) stands.topology all)
 
 abbrev IsFittingBy : Topology → List Entry → (direction : ℕ) (line : List (List ℕ)) → (buffer : List PacketFields) → (gathered : List (List ℕ)) → Type 0
 IsFittingBy topology past direction line buffer gathered = (flit : List ℕ) (rest : List (List ℕ)) → line ≡ flit ∷ rest →
@@ -131,36 +131,36 @@ fits_told : (setup : Setup) (past : List Entry) (direction : ℕ) → QueueInvar
 unfolding landed_packet
 fits_told setup past direction housed = housed.fits direction
 
-forth_fits : (net : NetState) (setup : Setup) → StandsFor net setup → QueueInvariant setup net.journal.past → IsFitting net.sizes net.forth net.port_buffer
-forth_fits net setup stands housed =
-    let a = subst (λ t. IsFittingBy t net.journal.past 0 (line_flits 0 net.journal.past) (contents t net.journal.past (landing_buffer t 0)) (pending 0 net.journal.past)) stands.topology (fits_told setup net.journal.past 0 housed) in
-    let b = subst (λ l. IsFittingBy (topology_of net) net.journal.past 0 l (contents (topology_of net) net.journal.past (Port 0 net.port)) (pending 0 net.journal.past)) (sym stands.forth.line) a in
-    let c = subst (λ p. IsFittingBy (topology_of net) net.journal.past 0 net.forth.line (contents (topology_of net) net.journal.past (Port 0 net.port)) p) (sym stands.forth.gathered) b in
-    subst (λ l. IsFittingBy (topology_of net) net.journal.past 0 net.forth.line l net.forth.pending) (buffer_told net setup stands) c
+forth_fits : (net : NetState) (past : List Entry) (setup : Setup) → StandsFor net setup past → QueueInvariant setup past → IsFitting net.sizes net.forth net.port_buffer
+forth_fits net past setup stands housed =
+    let a = subst (λ t. IsFittingBy t past 0 (line_flits 0 past) (contents t past (landing_buffer t 0)) (pending 0 past)) stands.topology (fits_told setup past 0 housed) in
+    let b = subst (λ l. IsFittingBy (topology_of net) past 0 l (contents (topology_of net) past (Port 0 net.port)) (pending 0 past)) (sym stands.forth.line) a in
+    let c = subst (λ p. IsFittingBy (topology_of net) past 0 net.forth.line (contents (topology_of net) past (Port 0 net.port)) p) (sym stands.forth.gathered) b in
+    subst (λ l. IsFittingBy (topology_of net) past 0 net.forth.line l net.forth.pending) (buffer_told net past setup stands) c
 
-back_fits : (net : NetState) (setup : Setup) → StandsFor net setup → QueueInvariant setup net.journal.past → IsFitting net.sizes net.back net.host_buffer
-back_fits net setup stands housed =
-    let a = subst (λ t. IsFittingBy t net.journal.past 1 (line_flits 1 net.journal.past) (contents t net.journal.past (landing_buffer t 1)) (pending 1 net.journal.past)) stands.topology (fits_told setup net.journal.past 1 housed) in
-    let b = subst (λ l. IsFittingBy (topology_of net) net.journal.past 1 l (contents (topology_of net) net.journal.past (Host 0)) (pending 1 net.journal.past)) (sym stands.back.line) a in
-    let c = subst (λ p. IsFittingBy (topology_of net) net.journal.past 1 net.back.line (contents (topology_of net) net.journal.past (Host 0)) p) (sym stands.back.gathered) b in
-    subst (λ l. IsFittingBy (topology_of net) net.journal.past 1 net.back.line l net.back.pending) (sym (stands.queues (Host 0))) c
+back_fits : (net : NetState) (past : List Entry) (setup : Setup) → StandsFor net setup past → QueueInvariant setup past → IsFitting net.sizes net.back net.host_buffer
+back_fits net past setup stands housed =
+    let a = subst (λ t. IsFittingBy t past 1 (line_flits 1 past) (contents t past (landing_buffer t 1)) (pending 1 past)) stands.topology (fits_told setup past 1 housed) in
+    let b = subst (λ l. IsFittingBy (topology_of net) past 1 l (contents (topology_of net) past (Host 0)) (pending 1 past)) (sym stands.back.line) a in
+    let c = subst (λ p. IsFittingBy (topology_of net) past 1 net.back.line (contents (topology_of net) past (Host 0)) p) (sym stands.back.gathered) b in
+    subst (λ l. IsFittingBy (topology_of net) past 1 net.back.line l net.back.pending) (sym (stands.queues (Host 0))) c
 
-answers_told : (net : NetState) (setup : Setup) → StandsFor net setup → QueueInvariant setup net.journal.past → (from : Lift) → All IsHostAnswer (answers_at net.cube from)
-answers_told net setup stands housed (lifts.Vault vault) = all_in IsHostAnswer net setup (Answers 0 (lifts.Vault vault)) stands (housed.answers (lifts.Vault vault))
-answers_told net setup stands housed lifts.Registers = all_in IsHostAnswer net setup (Answers 0 lifts.Registers) stands (housed.answers lifts.Registers)
+answers_told : (net : NetState) (past : List Entry) (setup : Setup) → StandsFor net setup past → QueueInvariant setup past → (from : Lift) → All IsHostAnswer (answers_at net.cube from)
+answers_told net past setup stands housed (lifts.Vault vault) = all_in IsHostAnswer net past setup (Answers 0 (lifts.Vault vault)) stands (housed.answers (lifts.Vault vault))
+answers_told net past setup stands housed lifts.Registers = all_in IsHostAnswer net past setup (Answers 0 lifts.Registers) stands (housed.answers lifts.Registers)
 
-pub ready_of : (net : NetState) (setup : Setup) → StandsFor net setup → QueueInvariant setup net.journal.past → IsReady net
-ready_of net setup stands housed =
-    let forth = forth_under net setup stands housed in
-    let back = back_under net setup stands housed in
+pub ready_of : (net : NetState) (past : List Entry) (setup : Setup) → StandsFor net setup past → QueueInvariant setup past → IsReady net
+ready_of net past setup stands housed =
+    let forth = forth_under net past setup stands housed in
+    let back = back_under net past setup stands housed in
     record {
-      port_buffer = subst (All IsCubeRequest) (buffer_is net net.port refl) (all_in IsCubeRequest net setup (Port 0 net.port) stands (housed.ports net.port));
-      banks = λ vault bank. all_in IsCubeRequest net setup (Bank 0 vault bank) stands (housed.banks vault bank);
-      registers = all_in IsCubeRequest net setup (Registers 0) stands housed.registers;
-      answers = answers_told net setup stands housed;
-      hosts = subst (λ h. All (IsAnswerFor h) net.host_buffer) (sym stands.host) (all_in (IsAnswerFor (host_of setup net.journal.past 0)) net setup (Host 0) stands housed.hosts);
-      forth_fits = forth_fits net setup stands housed;
-      back_fits = back_fits net setup stands housed;
+      port_buffer = subst (All IsCubeRequest) (buffer_is net net.port refl) (all_in IsCubeRequest net past setup (Port 0 net.port) stands (housed.ports net.port));
+      banks = λ vault bank. all_in IsCubeRequest net past setup (Bank 0 vault bank) stands (housed.banks vault bank);
+      registers = all_in IsCubeRequest net past setup (Registers 0) stands housed.registers;
+      answers = answers_told net past setup stands housed;
+      hosts = subst (λ h. All (IsAnswerFor h) net.host_buffer) (sym stands.host) (all_in (IsAnswerFor (host_of setup past 0)) net past setup (Host 0) stands housed.hosts);
+      forth_fits = forth_fits net past setup stands housed;
+      back_fits = back_fits net past setup stands housed;
       forth_in_flight = subst (λ n. flits_in net.port_buffer ≤ n) (sym stands.forth.in_flight_flits) (flits_within _ net.port_buffer forth.0 forth.1);
       back_in_flight = subst (λ n. flits_in net.host_buffer ≤ n) (sym stands.back.in_flight_flits) (flits_within _ net.host_buffer back.0 back.1);
     }

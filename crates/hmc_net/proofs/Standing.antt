@@ -36,11 +36,11 @@ use Rattle.hmc_net.proofs.Directions.{begun_same}
 use Rattle.hmc_net.proofs.DirectionsAfter.{AreFirst, AreDirections, IsLast}
 use Rattle.hmc_net.proofs.DirectionsOf.{ways_of}
 
-pub told_of : (net : NetState) (setup : Setup) → StandsFor net setup → AreTold net
-told_of net setup stands = record {
+pub told_of : (net : NetState) (past : List Entry) (setup : Setup) → StandsFor net setup past → AreTold net past
+told_of net past setup stands = record {
   queues = stands.queues;
-  forth_sending = (last_numbered (begun (topology_of net) net.journal.past 0), stands.forth.sending);
-  back_sending = (last_numbered (begun (topology_of net) net.journal.past 1), stands.back.sending);
+  forth_sending = (last_numbered (begun (topology_of net) past 0), stands.forth.sending);
+  back_sending = (last_numbered (begun (topology_of net) past 1), stands.back.sending);
   forth_pending = stands.forth.gathered;
   back_pending = stands.back.gathered;
 }
@@ -89,24 +89,24 @@ state_then net topology past (Lifted cube lifts.Registers port) is same = same
 state_then net topology past _ is same = same
 
 -- what an entry needs to leave a network that stands for the journal with it
-pub record IsRight (net : NetState) (setup : Setup) (step : Step) (entry : Entry) : Type 0 where
-  pub next_is : entry ≡ next setup net.journal.past step
+pub record IsRight (net : NetState) (past : List Entry) (setup : Setup) (step : Step) (entry : Entry) : Type 0 where
+  pub next_is : entry ≡ next setup past step
   pub parts : IsEntryOf net entry
-  pub first : AreFirst net
+  pub first : AreFirst net past
 
-lawful_then : (net : NetState) (setup : Setup) (step : Step) (entry : Entry) → IsNext net setup step → entry ≡ next setup net.journal.past step → Lawful setup (entry ∷ net.journal.past)
+lawful_then : (net : NetState) (past : List Entry) (setup : Setup) (step : Step) (entry : Entry) → IsNext net setup past step → entry ≡ next setup past step → Lawful setup (entry ∷ past)
 unfolding Lawful
-lawful_then net setup step entry is next_is = (subst (λ s. Follows setup net.journal.past s entry) (sym is.step_is) next_is, is.stands.lawful)
+lawful_then net past setup step entry is next_is = (subst (λ s. Follows setup past s entry) (sym is.step_is) next_is, is.stands.lawful)
 
-queues_then : (net : NetState) (entry : Entry) (leaving : Option QueueId) → AreTold net → ((queue : QueueId) → left net.journal.past queue ≤ length (entered (topology_of net) net.journal.past queue)) → IsMove net entry leaving
-    → (queue : QueueId) → inside (after entry net) queue ≡ contents (topology_of net) (entry ∷ net.journal.past) queue
-queues_then net entry leaving told within move queue =
-    let here : IsLeft (topology_of net) net.journal.past (leaves net.journal.past entry) = subst (IsLeft (topology_of net) net.journal.past) (sym move.leaves_is) move.left_is in
-    let there : IsThere (queues_in net) (leaves net.journal.past entry) = subst (IsThere (queues_in net)) (sym move.leaves_is) move.leaves_there in
-    let into : IsGoing (without (queues_in net) (leaves net.journal.past entry)) (arrives (topology_of net) net.journal.past entry) =
-    subst (λ o. IsGoing (without (queues_in net) o) (arrives (topology_of net) net.journal.past entry)) (sym move.leaves_is) move.enters_there in
-    ap (λ h. packets_at h queue) (move.holding ∙ ap (λ o. with_arrival (without (queues_in net) o) (arrives (topology_of net) net.journal.past entry)) (sym move.leaves_is)) ∙
-    queues_step (topology_of net) net.journal.past entry (queues_in net) here there into queue (within queue) (told.queues queue)
+queues_then : (net : NetState) (past : List Entry) (entry : Entry) (leaving : Option QueueId) → AreTold net past → ((queue : QueueId) → left past queue ≤ length (entered (topology_of net) past queue)) → IsMove net past entry leaving
+    → (queue : QueueId) → inside (after entry net) queue ≡ contents (topology_of net) (entry ∷ past) queue
+queues_then net past entry leaving told within move queue =
+    let here : IsLeft (topology_of net) past (leaves past entry) = subst (IsLeft (topology_of net) past) (sym move.leaves_is) move.left_is in
+    let there : IsThere (queues_in net) (leaves past entry) = subst (IsThere (queues_in net)) (sym move.leaves_is) move.leaves_there in
+    let into : IsGoing (without (queues_in net) (leaves past entry)) (arrives (topology_of net) past entry) =
+    subst (λ o. IsGoing (without (queues_in net) o) (arrives (topology_of net) past entry)) (sym move.leaves_is) move.enters_there in
+    ap (λ h. packets_at h queue) (move.holding ∙ ap (λ o. with_arrival (without (queues_in net) o) (arrives (topology_of net) past entry)) (sym move.leaves_is)) ∙
+    queues_step (topology_of net) past entry (queues_in net) here there into queue (within queue) (told.queues queue)
 
 -- no packet leaves the output queue of another direction
 apart_from : (direction number : ℕ) → direction < 2 → (direction == 2 + number) ≡ false
@@ -116,33 +116,32 @@ begins_apart : (count direction number : ℕ) → direction < 2 → is_at (begin
 begins_apart zero direction number few = apart_from direction number few
 begins_apart (suc count) direction number few = refl
 
-leaves_apart : (net : NetState) (entry : Entry) (number : ℕ) → IsEntryOf net entry → is_at (leaves net.journal.past entry) (Output (2 + number)) ≡ false
+leaves_apart : (net : NetState) (past : List Entry) (entry : Entry) (number : ℕ) → IsEntryOf net entry → is_at (leaves past entry) (Output (2 + number)) ≡ false
 unfolding leaves
-leaves_apart net (Sent direction New flit) number is = begins_apart (unsent direction net.journal.past) direction number is.0
-leaves_apart net (Executed (units.Bank cube vault bank) host tag request answer) number is = refl
-leaves_apart net (Executed (units.Registers cube) host tag request answer) number is = refl
-leaves_apart net _ number is = refl
+leaves_apart net past (Sent direction New flit) number is = begins_apart (unsent direction past) direction number is.0
+leaves_apart net past (Executed (units.Bank cube vault bank) host tag request answer) number is = refl
+leaves_apart net past (Executed (units.Registers cube) host tag request answer) number is = refl
+leaves_apart net past _ number is = refl
 
-pub stands_after : (net : NetState) (setup : Setup) (step : Step) (entry : Entry) → IsNext net setup step → IsRight net setup step entry → StandsFor (with_entry entry net) setup
-stands_after net setup step entry is right =
+pub stands_after : (net : NetState) (past : List Entry) (setup : Setup) (step : Step) (entry : Entry) → IsNext net setup past step → IsRight net past setup step entry → StandsFor (with_entry entry net) setup (entry ∷ past)
+stands_after net past setup step entry is right =
     let stands = is.stands in
-    let told : AreTold net = told_of net setup stands in
-    let moves = moves_of net entry told right.parts in
-    let here : IsLeft (topology_of net) net.journal.past (leaves net.journal.past entry) = subst (IsLeft (topology_of net) net.journal.past) (sym moves.1.leaves_is) moves.1.left_is in
-    let last : IsLast net entry = record { leaves_is = refl; left_is = here; within = stands.moves } in
-    let ways : AreDirections net (after entry net) (entry ∷ net.journal.past) = ways_of net entry told right.first last right.parts (record { forth = stands.forth; back = stands.back }) in
+    let told : AreTold net past = told_of net past setup stands in
+    let moves = moves_of net past entry told right.parts in
+    let here : IsLeft (topology_of net) past (leaves past entry) = subst (IsLeft (topology_of net) past) (sym moves.1.leaves_is) moves.1.left_is in
+    let last : IsLast net past entry = record { leaves_is = refl; left_is = here; within = stands.moves } in
+    let ways : AreDirections net (after entry net) (entry ∷ past) = ways_of net past entry told right.first last right.parts (record { forth = stands.forth; back = stands.back }) in
     let same : topology_of net ≡ topology_of (with_entry entry net) = sym (topology_after net entry) in
     record {
       one_cube = stands.one_cube;
       steps = stands.steps;
       topology = stands.topology ∙ same;
-      lawful = lawful_then net setup step entry is right.next_is;
-      queues = λ queue. queues_then net entry moves.0 told stands.moves moves.1 queue ∙ ap (λ t. contents t (entry ∷ net.journal.past) queue) same;
-      moves = λ queue. subst (λ t. left (entry ∷ net.journal.past) queue ≤ length (entered t (entry ∷ net.journal.past) queue)) same (within_step (topology_of net) net.journal.past entry queue here (stands.moves queue));
-      forth = subst (λ t. IsDirection t (entry ∷ net.journal.past) 0 (after entry net).forth) same ways.forth;
-      back = subst (λ t. IsDirection t (entry ∷ net.journal.past) 1 (after entry net).back) same ways.back;
-      others = λ number. ap (λ t. begun t (entry ∷ net.journal.past) (2 + number)) (sym same) ∙ begun_same (topology_of net) net.journal.past entry (leaves net.journal.past entry) (2 + number) last (leaves_apart net entry number right.parts) ∙ stands.others number;
-      host = host_after net setup net.journal.past entry right.parts stands.host;
-      state = state_then net (topology_of net) net.journal.past entry right.parts stands.state ∙ ap (λ t. state_of t (entry ∷ net.journal.past)) same;
-      most = stands.most;
+      lawful = lawful_then net past setup step entry is right.next_is;
+      queues = λ queue. queues_then net past entry moves.0 told stands.moves moves.1 queue ∙ ap (λ t. contents t (entry ∷ past) queue) same;
+      moves = λ queue. subst (λ t. left (entry ∷ past) queue ≤ length (entered t (entry ∷ past) queue)) same (within_step (topology_of net) past entry queue here (stands.moves queue));
+      forth = subst (λ t. IsDirection t (entry ∷ past) 0 (after entry net).forth) same ways.forth;
+      back = subst (λ t. IsDirection t (entry ∷ past) 1 (after entry net).back) same ways.back;
+      others = λ number. ap (λ t. begun t (entry ∷ past) (2 + number)) (sym same) ∙ begun_same (topology_of net) past entry (leaves past entry) (2 + number) last (leaves_apart net past entry number right.parts) ∙ stands.others number;
+      host = host_after net setup past entry right.parts stands.host;
+      state = state_then net (topology_of net) past entry right.parts stands.state ∙ ap (λ t. state_of t (entry ∷ past)) same;
     }

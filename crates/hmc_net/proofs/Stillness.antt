@@ -97,29 +97,29 @@ accepted_begun topology past direction wire way came same empty =
     omega (arith, came, same, ap length empty, length-drop (left past (landing_buffer topology direction)) (entered topology past (landing_buffer topology direction))) in
     way.in_flight_flits ∙ ap flits_in (drop_all (left past (landing_buffer topology direction)) (begun topology past direction) most)
 
-came : (net : NetState) (setup : Setup) (direction : ℕ) → StandsFor net setup → (direction ≡ 0) ⊎ (direction ≡ 1)
-    → length (entered (topology_of net) net.journal.past (landing_buffer (topology_of net) direction)) ≡ length (accepted direction net.journal.past)
-came net setup direction stands real =
-    ap (λ t. length (entered t net.journal.past (landing_buffer t direction))) (sym stands.topology) ∙ ap length (all_arrived setup net.journal.past direction (parts_of setup stands.one_cube) real stands.lawful)
+came : (net : NetState) (past : List Entry) (setup : Setup) (direction : ℕ) → StandsFor net setup past → (direction ≡ 0) ⊎ (direction ≡ 1)
+    → length (entered (topology_of net) past (landing_buffer (topology_of net) direction)) ≡ length (accepted direction past)
+came net past setup direction stands real =
+    ap (λ t. length (entered t past (landing_buffer t direction))) (sym stands.topology) ∙ ap length (all_arrived setup past direction (parts_of setup stands.one_cube) real stands.lawful)
 
-accepted_nothing : (net : NetState) (setup : Setup) (direction : ℕ) → StandsFor net setup → length (begun (topology_of net) net.journal.past (2 + direction)) ≡ length (accepted (2 + direction) net.journal.past)
-accepted_nothing net setup direction stands =
-    let few : length (accepted (2 + direction) net.journal.past) ≤ length (begun setup.topology net.journal.past (2 + direction)) = accepted_few setup (parts_of setup stands.one_cube).port net.journal.past (2 + direction) (kept setup net.journal.past (parts_of setup stands.one_cube) stands.lawful) in
-    omega (arith, ap length (stands.others direction), ap (λ t. length (begun t net.journal.past (2 + direction))) stands.topology)
+accepted_nothing : (net : NetState) (past : List Entry) (setup : Setup) (direction : ℕ) → StandsFor net setup past → length (begun (topology_of net) past (2 + direction)) ≡ length (accepted (2 + direction) past)
+accepted_nothing net past setup direction stands =
+    let few : length (accepted (2 + direction) past) ≤ length (begun setup.topology past (2 + direction)) = accepted_few setup (parts_of setup stands.one_cube).port past (2 + direction) (kept setup past (parts_of setup stands.one_cube) stands.lawful) in
+    omega (arith, ap length (stands.others direction), ap (λ t. length (begun t past (2 + direction))) stands.topology)
 
-still_wires : (net : NetState) (setup : Setup) (direction : ℕ) → StandsFor net setup → IsQuiescent net → length (begun (topology_of net) net.journal.past direction) ≡ length (accepted direction net.journal.past)
-still_wires net setup zero stands still =
-    begun_accepted (topology_of net) net.journal.past 0 net.forth stands.forth (stands.moves (Port 0 net.port)) (came net setup 0 stands (inl refl)) still.forth.in_flight_flits (sym (stands.queues (Port 0 net.port)) ∙ still_inside net (Port 0 net.port) still)
-still_wires net setup (suc zero) stands still =
-    begun_accepted (topology_of net) net.journal.past 1 net.back stands.back (stands.moves (Host 0)) (came net setup 1 stands (inr refl)) still.back.in_flight_flits (sym (stands.queues (Host 0)) ∙ still_inside net (Host 0) still)
-still_wires net setup (suc (suc direction)) stands still =
+still_wires : (net : NetState) (past : List Entry) (setup : Setup) (direction : ℕ) → StandsFor net setup past → IsQuiescent net → length (begun (topology_of net) past direction) ≡ length (accepted direction past)
+still_wires net past setup zero stands still =
+    begun_accepted (topology_of net) past 0 net.forth stands.forth (stands.moves (Port 0 net.port)) (came net past setup 0 stands (inl refl)) still.forth.in_flight_flits (sym (stands.queues (Port 0 net.port)) ∙ still_inside net (Port 0 net.port) still)
+still_wires net past setup (suc zero) stands still =
+    begun_accepted (topology_of net) past 1 net.back stands.back (stands.moves (Host 0)) (came net past setup 1 stands (inr refl)) still.back.in_flight_flits (sym (stands.queues (Host 0)) ∙ still_inside net (Host 0) still)
+still_wires net past setup (suc (suc direction)) stands still =
     let e : 2 + direction ≡ suc (suc direction) = omega arith in
-    subst (λ d. length (begun (topology_of net) net.journal.past d) ≡ length (accepted d net.journal.past)) e (accepted_nothing net setup direction stands)
+    subst (λ d. length (begun (topology_of net) past d) ≡ length (accepted d past)) e (accepted_nothing net past setup direction stands)
 
-pub still_drained : (net : NetState) (setup : Setup) → StandsFor net setup → IsQuiescent net → IsDrained setup.topology net.journal.past
-still_drained net setup stands still = subst (λ t. IsDrained t net.journal.past) (sym stands.topology) (record {
+pub still_drained : (net : NetState) (past : List Entry) (setup : Setup) → StandsFor net setup past → IsQuiescent net → IsDrained setup.topology past
+still_drained net past setup stands still = subst (λ t. IsDrained t past) (sym stands.topology) (record {
   queues = λ queue. sym (stands.queues queue) ∙ still_inside net queue still;
-  wires = λ direction. still_wires net setup direction stands still;
+  wires = λ direction. still_wires net past setup direction stands still;
 })
 
 drained_cube : (net : NetState) → ((queue : QueueId) → inside net queue ≡ []) → held_in_cube net.cube ≡ 0
@@ -131,19 +131,19 @@ drained_cube net none =
       sum_zero held_by no_vault net.cube.vaults (λ i. still_vault (vault_in net.cube.vaults i) (none (Vault 0 i)) (λ bank. none (Bank 0 i bank)) (none (Answers 0 (lifts.Vault i)))),
     )
 
-drained_net : (net : NetState) (setup : Setup) → StandsFor net setup → IsDrained (topology_of net) net.journal.past → IsQuiescent net
-drained_net net setup stands drained =
+drained_net : (net : NetState) (past : List Entry) (setup : Setup) → StandsFor net setup past → IsDrained (topology_of net) past → IsQuiescent net
+drained_net net past setup stands drained =
     let none : (queue : QueueId) → inside net queue ≡ [] = λ queue. stands.queues queue ∙ drained.queues queue in
     record {
-      forth = record { output = none (Output 0); in_flight_flits = accepted_begun (topology_of net) net.journal.past 0 net.forth stands.forth (came net setup 0 stands (inl refl)) (drained.wires 0) (drained.queues (Port 0 net.port)) };
-      back = record { output = none (Output 1); in_flight_flits = accepted_begun (topology_of net) net.journal.past 1 net.back stands.back (came net setup 1 stands (inr refl)) (drained.wires 1) (drained.queues (Host 0)) };
+      forth = record { output = none (Output 0); in_flight_flits = accepted_begun (topology_of net) past 0 net.forth stands.forth (came net past setup 0 stands (inl refl)) (drained.wires 0) (drained.queues (Port 0 net.port)) };
+      back = record { output = none (Output 1); in_flight_flits = accepted_begun (topology_of net) past 1 net.back stands.back (came net past setup 1 stands (inr refl)) (drained.wires 1) (drained.queues (Host 0)) };
       port_buffer = sym (buffer_is net net.port refl) ∙ none (Port 0 net.port);
       host_buffer = none (Host 0);
       cube = drained_cube net none;
     }
 
-pub drained_still : (net : NetState) (setup : Setup) → StandsFor net setup → IsDrained setup.topology net.journal.past → IsQuiescent net
-drained_still net setup stands drained = drained_net net setup stands (subst (λ t. IsDrained t net.journal.past) stands.topology drained)
+pub drained_still : (net : NetState) (past : List Entry) (setup : Setup) → StandsFor net setup past → IsDrained setup.topology past → IsQuiescent net
+drained_still net past setup stands drained = drained_net net past setup stands (subst (λ t. IsDrained t past) stands.topology drained)
 
 same_test : (result test : Bool) → (IsTrue result → test ≡ true) → (test ≡ true → IsTrue result) → result ≡ test
 same_test true test forth back = sym (forth refl)
@@ -151,8 +151,8 @@ same_test false false forth back = refl
 same_test false true forth back = back refl
 
 -- so it is what the test of all rooms says
-pub drained_test : (net : NetState) (setup : Setup) (result : Bool) → StandsFor net setup → IsTrue result ↔ IsQuiescent net → result ≡ is_drained setup.topology net.journal.past
-drained_test net setup result stands is =
-    same_test result (is_drained setup.topology net.journal.past)
-    (λ yes. test_by_drained setup.topology net.journal.past (still_drained net setup stands (is.0 yes)))
-    (λ yes. is.1 (drained_still net setup stands (drained_by_test setup net.journal.past (parts_of setup stands.one_cube) stands.lawful yes)))
+pub drained_test : (net : NetState) (past : List Entry) (setup : Setup) (result : Bool) → StandsFor net setup past → IsTrue result ↔ IsQuiescent net → result ≡ is_drained setup.topology past
+drained_test net past setup result stands is =
+    same_test result (is_drained setup.topology past)
+    (λ yes. test_by_drained setup.topology past (still_drained net past setup stands (is.0 yes)))
+    (λ yes. is.1 (drained_still net past setup stands (drained_by_test setup past (parts_of setup stands.one_cube) stands.lawful yes)))

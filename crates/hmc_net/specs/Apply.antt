@@ -1,5 +1,5 @@
 -- What an entry leaves of the network.
-use Rattle.std.specs.Prelude.{ℕ, zero, suc, ◌+◌, List, ◌∷◌, ◌++◌, drop}
+use Rattle.std.specs.Prelude.{ℕ, zero, suc, ◌+◌, List, ◌++◌, drop}
 use Rattle.hmc_codes.specs.declared.unit.Unit.{Unit as RequestUnit}
 use Rattle.hmc_codes.specs.declared.unit.Unit.TheVariants as units
 use Rattle.hmc_packet.specs.Packet.{flits_of}
@@ -70,7 +70,7 @@ abbrev pub after_unit : RequestUnit → Execution → CubeFields → CubeFields
 after_unit (units.Bank cube vault bank) execution fields = after_execute vault bank execution fields
 after_unit (units.Registers cube) execution fields = after_registers execution fields
 
--- what an entry leaves of the network
+-- what an entry leaves of the parts of the network
 abbrev pub after : Entry → NetState → NetState
 after (Gave host tag poisoned request) net = record net {
   host = record net.host { given = net.host.given + 1; tags = with_out tag net.host.tags };
@@ -98,7 +98,6 @@ after (Took host tag answer) net =
 after (Discarded host) net = without_host_front net
 after _ net = net
 
--- the journal has the entry too
+-- what a step leaves: what its entry leaves of the parts, and the entry itself
 abbrev pub with_entry : Entry → NetState → NetState
-with_entry entry net =
-    record (after entry net) { journal = record net.journal { past = entry ∷ net.journal.past } }
+with_entry entry net = record (after entry net) { last = entry }

@@ -1,16 +1,21 @@
 -- What a give hands to the link.
-use Rattle.std.specs.Prelude.{◌≡◌, true, List, [], ◌∷◌, Option, Some, None}
-use Rattle.hmc_packet.specs.Packet.{PacketFields}
+use Rattle.std.specs.Prelude.{◌≡◌, true}
 use Rattle.hmc_packet.specs.Transactions.{request_packet}
 use Rattle.hmc_host.specs.declared.given.Given.{Given}
 use Rattle.hmc_host.specs.declared.given.Given.TheVariants.{Gave}
+use Rattle.hmc_host.specs.declared.given.Hindrance.{Hindrance}
+use Rattle.hmc_host.specs.declared.given.Hindrance.TheVariants as hindrances
+use Rattle.hmc_journal.specs.declared.outcome.Cause.{Cause}
+use Rattle.hmc_journal.specs.declared.outcome.Cause.TheVariants as causes
 use Rattle.hmc_journal.specs.Queues.{tag_number}
 use Rattle.hmc_net.specs.Wire.{DirectionState, has_output_room, with_handed}
 
--- the packet, if there is one
-abbrev pub packets_in : Option PacketFields → List PacketFields
-packets_in None = []
-packets_in (Some packet) = packet ∷ []
+-- the cause that a host gives nothing
+abbrev pub cause_by : Hindrance → Cause
+cause_by hindrances.Ended = causes.Ended
+cause_by hindrances.Fence = causes.Fence
+cause_by hindrances.Tags = causes.Tags
+cause_by hindrances.Full = causes.Full
 
 -- what a give leaves of the wire: a packet waits where one is given
 abbrev pub given_to : Given → DirectionState → DirectionState

@@ -4,6 +4,7 @@ pub mod NetState
 pub mod Apply
 pub mod Ready
 pub mod Stands
+pub mod Journaled
 pub mod Opening
 pub mod Quiescent
 pub mod Went

@@ -11,7 +11,7 @@ use Rattle.hmc_cube.specs.Cube.{CubeFields, no_vault}
 use Rattle.hmc_host.specs.Host.{HostFields}
 use Rattle.hmc_host.specs.Tags.{none_out}
 use Rattle.hmc_case.specs.declared.setup.CubeSetup.{CubeSetup}
-use Rattle.hmc_journal.specs.Journal.{JournalFields}
+use Rattle.hmc_journal.specs.declared.entry.Entry.{Entry}
 use Rattle.hmc_journal.specs.Queues.{QueueId}
 use Rattle.hmc_journal.specs.Queues.QueueId.{Output, Port, Host, Vault, Bank, Registers, Answers}
 use Rattle.hmc_journal.specs.Setup.{Topology}
@@ -19,7 +19,8 @@ use Rattle.hmc_journal.specs.StepView.{DirectionView, StepView}
 use Rattle.hmc_net.specs.Wire.{DirectionState, opening_wire, wire_view}
 
 -- The link joins host 0 to this port of cube 0. The cube has what the setup says; the buffers are
--- those of the port and of the host; forth goes from the host to the cube.
+-- those of the port and of the host; forth goes from the host to the cube. The last entry is that
+-- of the latest step.
 pub record NetState : Type 0 where
   pub setup : CubeSetup
   pub sizes : LinkFields
@@ -30,7 +31,7 @@ pub record NetState : Type 0 where
   pub host_buffer : List PacketFields
   pub forth : DirectionState
   pub back : DirectionState
-  pub journal : JournalFields
+  pub last : Entry
 
 -- its topology
 abbrev pub topology_of : NetState → Topology

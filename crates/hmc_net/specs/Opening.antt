@@ -5,13 +5,14 @@ use Rattle.hmc_script.specs.Items.{ItemFields}
 use Rattle.hmc_cube.specs.Cube.{opening_cube}
 use Rattle.hmc_host.specs.Host.{opening_host}
 use Rattle.hmc_case.specs.declared.setup.CubeSetup.{CubeSetup}
+use Rattle.hmc_journal.specs.declared.entry.Entry.{Entry}
 use Rattle.hmc_net.specs.NetState.{NetState}
 use Rattle.hmc_net.specs.Wire.{opening_wire}
 
--- nothing happened, and the journal has room for so many steps
+-- nothing happened: the parts are empty, whatever the last entry is
 abbrev pub opening_net : CubeSetup → LinkFields → (port : ℕ) → (script : List ItemFields) →
-    (steps : ℕ) → NetState
-opening_net setup sizes port script steps = record {
+    (last : Entry) → NetState
+opening_net setup sizes port script last = record {
   setup = setup;
   sizes = sizes;
   port = port;
@@ -21,5 +22,5 @@ opening_net setup sizes port script steps = record {
   host_buffer = [];
   forth = opening_wire sizes;
   back = opening_wire sizes;
-  journal = record { past = []; most = steps };
+  last = last;
 }

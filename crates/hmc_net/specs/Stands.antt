@@ -1,4 +1,4 @@
--- When a network stands for a case and its journal.
+-- When a network stands for a case and the journal of its steps.
 use Rattle.std.specs.Prelude.{◌≡◌, ◌≤◌, ◌+◌, ◌%◌, ℕ, List, [], All, length, drop, slice_get, Some}
 use Rattle.hmc_journal.specs.Wires.{pointers}
 use Rattle.hmc_schedule.specs.declared.step.Step.{Step}
@@ -31,25 +31,25 @@ pub record IsDirection (topology : Topology) (past : List Entry) (direction : �
       (begun topology past direction))
   pub gathered : wire.pending ≡ pending direction past
 
--- The parts of the network are as a lawful journal of the case says, and the steps of the case are
--- steps of its parts. Nothing was begun on a direction that isn't there.
-pub record StandsFor (net : NetState) (setup : Setup) : Type 0 where
+-- The parts of the network are as this journal says, which is a lawful journal of the case, and the
+-- steps of the case are steps of its parts. Nothing was begun on a direction that isn't there.
+pub record StandsFor (net : NetState) (setup : Setup) (past : List Entry) : Type 0 where
   pub one_cube : IsOneCube setup
   pub steps : All (IsStepFor setup.topology) setup.schedule
   pub topology : setup.topology ≡ topology_of net
-  pub lawful : Lawful setup net.journal.past
+  pub lawful : Lawful setup past
   pub queues : (queue : QueueId) →
-      inside net queue ≡ contents (topology_of net) net.journal.past queue
+      inside net queue ≡ contents (topology_of net) past queue
   pub moves : (queue : QueueId) →
-      left net.journal.past queue ≤ length (entered (topology_of net) net.journal.past queue)
-  pub forth : IsDirection (topology_of net) net.journal.past 0 net.forth
-  pub back : IsDirection (topology_of net) net.journal.past 1 net.back
-  pub others : (direction : ℕ) → begun (topology_of net) net.journal.past (2 + direction) ≡ []
-  pub host : net.host ≡ host_of setup net.journal.past 0
-  pub state : machine_of net ≡ state_of (topology_of net) net.journal.past
-  pub most : length setup.schedule ≤ net.journal.most
+      left past queue ≤ length (entered (topology_of net) past queue)
+  pub forth : IsDirection (topology_of net) past 0 net.forth
+  pub back : IsDirection (topology_of net) past 1 net.back
+  pub others : (direction : ℕ) → begun (topology_of net) past (2 + direction) ≡ []
+  pub host : net.host ≡ host_of setup past 0
+  pub state : machine_of net ≡ state_of (topology_of net) past
 
 -- and this is the next step of the case's schedule
-pub record IsNext (net : NetState) (setup : Setup) (step : Step) : Type 0 where
-  pub stands : StandsFor net setup
-  pub step_is : slice_get setup.schedule (length net.journal.past) ≡ Some step
+pub record IsNext (net : NetState) (setup : Setup) (past : List Entry)
+    (step : Step) : Type 0 where
+  pub stands : StandsFor net setup past
+  pub step_is : slice_get setup.schedule (length past) ≡ Some step

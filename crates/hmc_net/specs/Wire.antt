@@ -12,7 +12,6 @@ use Rattle.hmc_journal.specs.Wires.{pointers}
 use Rattle.hmc_journal.specs.declared.entry.Entry.{Entry}
 use Rattle.hmc_journal.specs.declared.entry.Entry.TheVariants.{Sent, Landed}
 use Rattle.hmc_journal.specs.declared.outcome.Outcome.{Outcome}
-use Rattle.hmc_journal.specs.declared.outcome.Outcome.TheVariants.{Accepted, Poisoned}
 use Rattle.hmc_journal.specs.Queues.{front_of}
 use Rattle.hmc_journal.specs.StepView.{Sending, DirectionView, numbered, sending_with}
 use Rattle.hmc_journal.specs.Wires.{gathered_by, packet_in, packets_by, flits_in}
@@ -123,13 +122,7 @@ after_land (Landed direction flit outcome) wire =
     record (after_gathering flit outcome wire) { line = drop 1 wire.line }
 after_land _ wire = wire
 
--- the packet that was completed, if one was
-abbrev pub whole_by : Outcome → PacketFields → Option PacketFields
-whole_by Accepted packet = Some packet
-whole_by Poisoned packet = Some packet
-whole_by _ packet = None
-
 -- the packet that a landing completed, if it did
-abbrev pub whole_in : Entry → DirectionState → Option PacketFields
-whole_in (Landed direction flit outcome) wire = whole_by outcome (read_with flit wire)
-whole_in _ wire = None
+abbrev pub landed_packets : Entry → DirectionState → List PacketFields
+landed_packets (Landed direction flit outcome) wire = packets_by outcome (read_with flit wire)
+landed_packets _ wire = []

@@ -1,20 +1,18 @@
 -- What each direction keeps.
-use Rattle.std.specs.Prelude.{◌≡◌, ◌≤◌, ◌<◌, ℕ, List, All, length}
+use Rattle.std.specs.Prelude.{◌≡◌, ◌≤◌, ◌<◌, ℕ, All, length}
 use Rattle.hmc_packet.specs.Packet.{IsPacket, flits_of}
-use Rattle.hmc_packet.specs.Spelling.{spelling}
-use Rattle.hmc_case.specs.Setup.{only_profile}
+use Rattle.hmc_packet.specs.declared.draft.Draft.{Draft}
+use Rattle.hmc_packet.specs.Draft.{draft_of}
 use Rattle.hmc_journal.specs.Wires.{pointers}
 use Rattle.hmc_journal.specs.StepView.{Sending}
 use Rattle.hmc_net.specs.Wire.{DirectionState, IsTransaction}
 
--- a packet of which some flits were sent and some are left, and its spelling with some pointer
-pub record IsBegun (sending : Sending) (flits : List (List ℕ)) : Type 0 where
+-- a packet of which some flits were sent and some are left, and its draft
+pub record IsBegun (sending : Sending) (draft : Draft) : Type 0 where
   pub packet : IsPacket sending.packet
   pub transaction : IsTransaction sending.packet
   pub forward : sending.packet.frp < pointers
-  pub pointer : ℕ
-  pub below : pointer < pointers
-  pub spelled : flits ≡ spelling only_profile sending.packet pointer
+  pub drafted : draft ≡ draft_of sending.packet
   pub some_left : 1 ≤ sending.left
   pub some_sent : sending.left < flits_of sending.packet
 

@@ -1,18 +1,16 @@
 //! A packet that is being sent.
 
-ghost use Rattle.std.specs.Prelude.{◌≡◌, ◌<◌, ◌-◌, ℕ};
+ghost use Rattle.std.specs.Prelude.{◌≡◌, ◌<◌, ◌-◌};
+ghost use Rattle.hmc_packet.specs.Draft.{draft_of};
 ghost use Rattle.hmc_packet.specs.Packet.{flits_of};
 ghost use Rattle.hmc_packet.specs.Parts.{lng_of};
-ghost use Rattle.hmc_packet.specs.Spelling.{spelling};
-ghost use Rattle.hmc_case.specs.Setup.{only_profile};
 ghost use Rattle.hmc_journal.specs.Wires.{pointers};
 ghost use Rattle.hmc_journal.specs.Next.{flit_of};
 ghost use Rattle.hmc_journal.specs.StepView.{numbered, sending_with};
 ghost use Rattle.hmc_net.specs.Wire.{IsTransaction};
 
-use arrayvec::ArrayVec;
 use hmc_codes::{Flit, Profile};
-use hmc_packet::{Packet, spell};
+use hmc_packet::{Draft, Packet};
 use std::marker::Model;
 
 /// A packet of which some flits were sent and some are left. Contracts see the packet and the
@@ -21,8 +19,8 @@ use std::marker::Model;
 pub struct Sending {
     packet: Packet,
     left: u8,
-    // Its flits. Except the last, they don't depend on the return pointer.
-    flits: ArrayVec<Flit, 17>,
+    // What of it was spelled when it began. The return pointer counts in its last flit alone.
+    draft: Draft,
 }
 
 impl Model for Sending {
@@ -33,7 +31,7 @@ impl Model for Sending {
 
     ghost view = { λ s. record { packet = s.packet; left = s.left } };
 
-    ghost invariant = { λ s. IsBegun (record { packet = s.packet; left = s.left }) s.flits.items };
+    ghost invariant = { λ s. IsBegun (record { packet = s.packet; left = s.left }) s.draft };
 }
 
 /// The first flit of a packet, and what is left of it.
@@ -50,12 +48,9 @@ impl Sending {
         ensures { result
             ≡ flit_of self.now.packet return_pointer (flits_of self.now.packet - self.now.left) }
     {
-        let at = usize::from(self.packet.flits() - self.left);
-        if self.left == 1 {
-            spell(&self.packet, return_pointer, Profile::One)[at]
-        } else {
-            self.flits[at]
-        }
+        let at = self.packet.flits() - self.left;
+        self.draft
+            .flit(&self.packet, at, return_pointer, Profile::One)
     }
 
     /// What is left when one more flit was sent.
@@ -68,7 +63,7 @@ impl Sending {
         Some(Sending {
             packet: self.packet,
             left: self.left - 1,
-            flits: self.flits,
+            draft: self.draft,
         })
     }
 }
@@ -86,17 +81,16 @@ pub fn begin(packet: &Packet, frp: u16, seq: u8, return_pointer: u16) -> Begun
 {
     let packet = numbered(packet, frp, seq);
     packet.invariant();
-    let flits = spell(&packet, return_pointer, Profile::One);
+    let draft = Draft::of(&packet);
+    let flit = draft.flit(&packet, 0, return_pointer, Profile::One);
     let left = packet.flits() - 1;
-    let flit = flits[0];
-    let sending = left_of(packet, left, flits);
+    let sending = left_of(packet, left, draft);
     Begun { flit, sending }
 }
 
 // What is left of a packet, if anything is.
-fn left_of(packet: Packet, left: u8, flits: ArrayVec<Flit, 17>) -> Option<Sending>
-    requires spelled { (pointer : ℕ) × (pointer < pointers) ×
-        (flits.items ≡ spelling only_profile packet pointer) }
+fn left_of(packet: Packet, left: u8, draft: Draft) -> Option<Sending>
+    requires drafted { draft ≡ draft_of packet }
     requires transaction { IsTransaction packet }
     requires forward { packet.frp < pointers }
     requires sent { left < flits_of packet }
@@ -108,7 +102,7 @@ fn left_of(packet: Packet, left: u8, flits: ArrayVec<Flit, 17>) -> Option<Sendin
     Some(Sending {
         packet,
         left,
-        flits,
+        draft,
     })
 }
 

@@ -3,7 +3,7 @@
 ghost use Rattle.std.specs.Prelude.{◌≡◌};
 ghost use Rattle.hmc_net.specs.Went.{went_of};
 
-use hmc_journal::{Cause, Entry};
+use hmc_journal::{Cause, LastEntry};
 
 /// How a step went.
 #[derive(Clone, Copy, Debug, PartialEq, Eq)]
@@ -15,11 +15,11 @@ pub enum Went {
 }
 
 // How the step of this entry went.
-pub fn went_of(entry: &Entry) -> Went
-    ensures { result ≡ went_of entry.now }
+pub fn went_of(last: &LastEntry) -> Went
+    ensures { result ≡ went_of last.now }
 {
-    match entry {
-        Entry::Idle { cause, .. } => Went::Idle(*cause),
-        _ => Went::Done,
+    match last.cause() {
+        Some(cause) => Went::Idle(cause),
+        None => Went::Done,
     }
 }

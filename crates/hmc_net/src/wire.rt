@@ -1,23 +1,27 @@
 //! One direction of a link.
 
-ghost use Rattle.std.specs.Prelude.{◌≡◌, ◌≤◌, ◌<◌, ◌↔◌, IsTrue, ◌+◌, ◌-◌, ◌%◌, [], ◌∷◌, ◌++◌, true, IfOk, length};
+ghost use Rattle.std.specs.Prelude.{◌≡◌, ◌≤◌, ◌<◌, ◌↔◌, IsTrue, ◌+◌, ◌-◌, ◌%◌, [], ◌∷◌, ◌++◌, true, IfOk, if◌then◌else◌, length, ℕ, Some};
+ghost use Rattle.hmc_codes.specs.Flit.{zero_flit};
 ghost use Rattle.hmc_journal.specs.Wires.{pointers};
 ghost use Rattle.hmc_journal.specs.declared.entry.Entry.TheVariants.{Sent};
 ghost use Rattle.hmc_packet.specs.Reading.{read_of};
 ghost use Rattle.hmc_case.specs.Setup.{only_profile};
 ghost use Rattle.hmc_journal.specs.Next.{begun_with, sent_flit, sent_entry, landed_entry, outcome_read, outcome_of};
-ghost use Rattle.hmc_journal.specs.Wires.{packet_in};
+ghost use Rattle.hmc_journal.specs.StepView.{Sending};
+ghost use Rattle.hmc_journal.specs.Wires.{packet_in, packets_by, flits_in};
+ghost use Rattle.hmc_tokens.specs.FlitBuffer.{packets_of, size_of};
 ghost use Rattle.hmc_net.specs.Quiescent.{IsIdle};
-ghost use Rattle.hmc_net.specs.Wire.{opening_wire, wire_view, IsTransaction, has_output_room, with_handed, without_flits, first_by, advanced_by, after_send, read_with, after_gathering, after_land, whole_by, whole_in};
+ghost use Rattle.hmc_net.specs.Ready.{IsFitting};
+ghost use Rattle.hmc_net.specs.Wire.{opening_wire, wire_view, IsTransaction, has_output_room, with_handed, without_flits, first_by, advanced_by, after_send, read_with, after_gathering, after_land, landed_packets};
 
 use crate::sending::{Sending, begin};
 use arrayvec::ArrayVec;
 use circular_buffer::HeapCircularBuffer;
 use hmc_codes::{Flit, LinkSetup, Memory, Profile, ZERO_FLIT};
-use hmc_journal::{Cause, Entry, Outcome};
+use hmc_journal::{Cause, LastEntry, Outcome};
 use hmc_packet::{Packet, What, constant_flits, is_null, lng_of, read};
 use hmc_schedule::Step;
-use hmc_tokens::{Intake, Queue, append};
+use hmc_tokens::{FlitBuffer, Intake, Queue, append};
 use std::alloc::Global;
 use std::marker::Model;
 
@@ -76,13 +80,6 @@ impl Model for Wire {
         (size_of w.output) w.line.capacity };
 }
 
-/// A landing: its entry, and the packet that it completed, if it did.
-#[derive(Clone, Copy)]
-pub struct Landing {
-    pub entry: Entry,
-    pub packet: Option<Packet>,
-}
-
 // A flit, and as what it is sent.
 #[derive(Clone, Copy)]
 struct Next {
@@ -90,11 +87,11 @@ struct Next {
     flit: Flit,
 }
 
-// The outcome of a flit, and the packet that it completed.
+// What whole flits were, and the flits of the packet that was accepted, if one was.
 #[derive(Clone, Copy)]
 struct Received {
     outcome: Outcome,
-    packet: Option<Packet>,
+    flits: u16,
 }
 
 impl Wire {
@@ -154,34 +151,29 @@ impl Wire {
     pub fn is_idle(&self) -> bool
         ensures { IsTrue result ↔ IsIdle self.now }
     {
-        let output = self.output.front().is_none();
+        let output = self.output.is_empty();
         let in_flight_flits = self.in_flight_flits == 0;
         output && in_flight_flits
     }
 
-    /// Sends the next flit, with this return pointer where it ends a packet.
-    pub fn send(&mut self, direction: u8, return_pointer: u16) -> Entry
+    /// Sends the next flit, with this return pointer where it ends a packet. The last entry becomes
+    /// that of the send.
+    pub fn send(&mut self, direction: u8, return_pointer: u16, last: &mut LastEntry)
         requires { return_pointer < pointers }
-        ensures entry { result
+        ensures entry { last.new
             ≡ sent_entry self.old.sizes direction
             (wire_view self.old return_pointer) self.old.output }
-        ensures state { self.new ≡ after_send result self.old }
+        ensures state { self.new ≡ after_send last.new self.old }
     {
         let sizes = self.sizes;
         if self.line.len() >= usize::from(sizes.line) {
-            return Entry::Idle {
-                step: Step::Send(direction),
-                cause: Cause::Full,
-            };
+            last.idle(&Step::Send(direction), Cause::Full);
+            return;
         }
         let next = self.advance(direction, return_pointer);
         let flit = next.flit;
         append(&mut self.line, flit);
-        Entry::Sent {
-            direction,
-            what: next.what,
-            flit,
-        }
+        last.sent(direction, next.what, &flit);
     }
 
     // The next flit of the packet that is being sent, or of the next one.
@@ -192,8 +184,26 @@ impl Wire {
             (wire_view self.old return_pointer) self.old.output self.old.sending }
         ensures state { self.new ≡ advanced_by result.what result.flit self.old }
     {
+        if let Some(_) = &self.sending {
+            return self.go_on(return_pointer);
+        }
+        if self.output.is_empty() {
+            return null();
+        }
+        self.begin(return_pointer)
+    }
+
+    // The next flit of the packet that is being sent.
+    fn go_on(&mut self, return_pointer: u16) -> Next
+        requires return_pointer { return_pointer < pointers }
+        requires sending { (sending : Sending) × (self.old.sending ≡ Some sending) }
+        ensures next { (direction : ℕ) → Sent direction result.what result.flit
+            ≡ sent_flit direction self.old.sizes.tokens
+            (wire_view self.old return_pointer) self.old.output self.old.sending }
+        ensures state { self.new ≡ advanced_by result.what result.flit self.old }
+    {
         let Some(sending) = self.sending.take() else {
-            return self.begin(direction, return_pointer);
+            unreachable!()
         };
         let flit = sending.flit(return_pointer);
         self.sending = sending.rest();
@@ -204,26 +214,20 @@ impl Wire {
     }
 
     // The first flit of the front, if there are tokens for it, and else a NULL.
-    fn begin(&mut self, direction: u8, return_pointer: u16) -> Next
+    fn begin(&mut self, return_pointer: u16) -> Next
         requires return_pointer { return_pointer < pointers }
-        ensures next { Sent direction result.what result.flit
+        ensures next { (direction : ℕ) → Sent direction result.what result.flit
             ≡ begun_with direction self.old.sizes.tokens
             (wire_view self.old return_pointer) self.old.output }
         ensures state { self.new ≡ first_by result.what result.flit self.old }
     {
-        constant_flits();
-        let flit = ZERO_FLIT;
-        let null = Next {
-            what: What::Null,
-            flit,
-        };
         let Some(front) = self.output.front() else {
-            return null;
+            return null();
         };
         let flits = u16::from(front.flits());
         let sizes = self.sizes;
         if sizes.tokens < self.in_flight_flits + flits {
-            return null;
+            return null();
         }
         let begun = begin(&front, self.frp, self.seq, return_pointer);
         let flit = begun.flit;
@@ -238,85 +242,107 @@ impl Wire {
         }
     }
 
-    /// Lands the front of the line, if the line holds a flit.
-    pub fn land(&mut self, direction: u8, mask: Flit) -> Landing
-        ensures entry { result.entry ≡ landed_entry direction mask self.old.line self.old.pending }
-        ensures packet { result.packet ≡ whole_in result.entry self.old }
-        ensures state { self.new ≡ after_land result.entry self.old }
+    /// Lands the front of the line, if the line holds a flit. A packet that is whole enters the
+    /// receiving buffer. The last entry becomes that of the landing.
+    pub fn land(
+        &mut self,
+        direction: u8,
+        mask: &Flit,
+        buffer: &mut FlitBuffer,
+        last: &mut LastEntry,
+    )
+        requires size { size_of buffer.old ≡ self.old.sizes.tokens }
+        requires room { IsFitting self.old.sizes self.old (packets_of buffer.old) }
+        ensures entry { last.new
+            ≡ landed_entry direction mask.now self.old.line self.old.pending }
+        ensures packets { packets_of buffer.new
+            ≡ packets_of buffer.old ++ landed_packets last.new self.old }
+        ensures size { size_of buffer.new ≡ size_of buffer.old }
+        ensures state { self.new ≡ after_land last.new self.old }
     {
         // No schedule has a mask that changes a flit yet.
         let _ = &mask;
         constant_flits();
         let Some(flit) = self.line.pop_front() else {
-            return Landing {
-                entry: Entry::Idle {
-                    step: Step::Land(direction, ZERO_FLIT),
-                    cause: Cause::Empty,
-                },
-                packet: None,
-            };
+            last.idle(&Step::Land(direction, ZERO_FLIT), Cause::Empty);
+            return;
         };
-        let received = self.gather(flit);
-        Landing {
-            entry: Entry::Landed {
-                direction,
-                flit,
-                outcome: received.outcome,
-            },
-            packet: received.packet,
-        }
+        let outcome = self.gather(&flit, buffer);
+        last.landed(direction, &flit, outcome);
     }
 
     // Gathers a flit until there are as many as the first one names, and reads them.
-    fn gather(&mut self, flit: Flit) -> Received
-        ensures outcome { result.outcome ≡ outcome_of self.old.pending flit }
-        ensures packet { result.packet ≡ whole_by result.outcome (read_with flit self.old) }
-        ensures state { self.new ≡ after_gathering flit result.outcome self.old }
+    fn gather(&mut self, flit: &Flit, buffer: &mut FlitBuffer) -> Outcome
+        requires { flits_in (packets_of buffer.old
+            ++ packets_by (outcome_of self.old.pending flit.now) (read_with flit.now self.old))
+            ≤ size_of buffer.old }
+        ensures outcome { result ≡ outcome_of self.old.pending flit.now }
+        ensures packets { packets_of buffer.new
+            ≡ packets_of buffer.old ++ packets_by result (read_with flit.now self.old) }
+        ensures size { size_of buffer.new ≡ size_of buffer.old }
+        ensures state { self.new ≡ after_gathering flit.now result self.old }
     {
-        if self.pending.is_empty() && is_null(&flit) {
-            return Received {
-                outcome: Outcome::Quiet,
-                packet: None,
-            };
+        if self.pending.is_empty() && is_null(flit) {
+            return Outcome::Quiet;
         }
-        self.pending.push(flit);
+        self.pending.push(*flit);
         let lng = usize::from(lng_of(&self.pending[0]));
         if self.pending.len() < lng && lng <= 17 {
-            return Received {
-                outcome: Outcome::Gathered,
-                packet: None,
-            };
+            return Outcome::Gathered;
         }
-        let received = outcome_read(&self.pending);
+        let received = receive(&self.pending, buffer);
         self.pending.clear();
-        if let Some(packet) = &received.packet {
-            self.accepted = (self.accepted + u16::from(packet.flits())) % 512;
-        }
-        received
+        self.accepted = (self.accepted + received.flits) % 512;
+        received.outcome
     }
 }
 
-// What whole flits read as.
-fn outcome_read(flits: &[Flit]) -> Received
-    ensures outcome { result.outcome ≡ outcome_read (read_of only_profile flits.now) }
-    ensures packet { result.packet
-        ≡ whole_by result.outcome (packet_in (read_of only_profile flits.now)) }
+// A NULL.
+fn null() -> Next
+    ensures what { result.what ≡ What.Null }
+    ensures flit { result.flit ≡ zero_flit }
 {
-    match read(flits, Profile::One) {
-        Ok(seen) => {
-            let outcome = if seen.packet.poisoned {
-                Outcome::Poisoned
-            } else {
-                Outcome::Accepted
-            };
-            Received {
-                outcome,
-                packet: Some(seen.packet),
-            }
-        }
-        Err(_) => Received {
+    constant_flits();
+    let flit = ZERO_FLIT;
+    Next {
+        what: What::Null,
+        flit,
+    }
+}
+
+// Reads whole flits. The packet that they are enters the receiving buffer.
+fn receive(flits: &[Flit], buffer: &mut FlitBuffer) -> Received
+    requires { flits_in (packets_of buffer.old
+        ++ packets_by (outcome_read (read_of only_profile flits.now))
+        (packet_in (read_of only_profile flits.now))) ≤ size_of buffer.old }
+    ensures outcome { result.outcome ≡ outcome_read (read_of only_profile flits.now) }
+    ensures flits { result.flits
+        ≡ flits_in (packets_by result.outcome (packet_in (read_of only_profile flits.now))) }
+    ensures few { result.flits ≤ 17 }
+    ensures packets { packets_of buffer.new
+        ≡ packets_of buffer.old
+        ++ packets_by result.outcome (packet_in (read_of only_profile flits.now)) }
+    ensures size { size_of buffer.new ≡ size_of buffer.old }
+{
+    let Ok(seen) = read(flits, Profile::One) else {
+        return Received {
             outcome: Outcome::Quiet,
-            packet: None,
-        },
+            flits: 0,
+        };
+    };
+    let flits = u16::from(seen.packet.flits());
+    buffer.take_in(seen.packet);
+    let outcome = accepted_outcome(seen.packet.poisoned);
+    Received { outcome, flits }
+}
+
+// The outcome of a packet that is whole.
+fn accepted_outcome(poisoned: bool) -> Outcome
+    ensures { result ≡ (if poisoned then Outcome.Poisoned else Outcome.Accepted) }
+{
+    if poisoned {
+        Outcome::Poisoned
+    } else {
+        Outcome::Accepted
     }
 }

@@ -1,5 +1,5 @@
 -- Bytes cut into pieces: all of them, their lengths, and one piece more.
-use Rattle.std.proofs.Common.{◌≡◌, ◌≤◌, ◌<◌, ◌∙◌, ℕ, ◌+◌, ◌-◌, List, [], ◌∷◌, ◌++◌, length, take, drop, refl, sym, ap, arith, take-append-drop, length-drop, length-append}
+use Rattle.std.proofs.Common.{◌≡◌, ◌≤◌, ◌<◌, ◌∙◌, ℕ, ◌+◌, List, [], ◌∷◌, ◌++◌, length, take, drop, refl, sym, ap, arith, take-append-drop, length-drop, length-append}
 use Rattle.std.specs.Prelude.{map}
 use Rattle.std.specs.List.{concat}
 use Rattle.std.proofs.lemmas.List.{drop-append-le, take-append-le, length-take-le}

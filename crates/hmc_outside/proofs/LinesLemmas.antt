@@ -1,8 +1,9 @@
 -- What several writings of lines in a row come to.
-use Rattle.std.proofs.Common.{◌≡◌, ◌<◌, ◌∙◌, ℕ, true, List, [], ◌∷◌, ◌++◌, length, Option, None, Some, refl, sym, ap, subst, append-nil, append_assoc, arith}
+use Rattle.std.proofs.Common.{◌≡◌, ◌<◌, ◌∙◌, ℕ, true, false, List, [], ◌∷◌, ◌++◌, length, Option, None, Some, refl, sym, ap, append-nil, append_assoc, arith}
 use Rattle.hmc_outside.specs.Raised.{raised, raised_by}
 use Rattle.hmc_outside.specs.Pieces.{pieces_of, with_pieces, WritesPrefix}
 use Rattle.hmc_outside.specs.Views.{SinkView}
+use Rattle.hmc_outside.specs.Finish.{Finishes, WritesAndFinishes}
 use Rattle.hmc_outside.specs.Lines.{WritesLines, WritesSome, BreaksOff}
 
 -- no pieces more
@@ -29,18 +30,18 @@ raised_by-append (l ∷ first) rest n = raised_by-append first rest (raised n)
 -- no lines were written
 pub WritesLines-none : (a : SinkView) → WritesLines a a []
 unfolding raised_by
-WritesLines-none a = record { pieces = with_pieces-none a.pieces; writes = refl; faults = refl }
+WritesLines-none a = record { pieces = with_pieces-none a.pieces; writes = refl; finishes = refl; faults = refl }
 
 -- one line was written
-pub WritesLines-one : (a b : SinkView) (line : List ℕ) → 0 < length line → b.pieces ≡ with_pieces a.pieces (pieces_of line) → b.writes ≡ raised a.writes → b.faults ≡ a.faults → WritesLines a b (line ∷ [])
+pub WritesLines-one : (a b : SinkView) (line : List ℕ) → 0 < length line → b.pieces ≡ with_pieces a.pieces (pieces_of line) → b.writes ≡ raised a.writes → b.finishes ≡ a.finishes → b.faults ≡ a.faults → WritesLines a b (line ∷ [])
 unfolding raised_by
-WritesLines-one a b line some pieces writes faults =
-    record { pieces = pieces ∙ ap (with_pieces a.pieces) (pieces_of-some line some); writes = writes; faults = faults }
+WritesLines-one a b line some pieces writes finishes faults =
+    record { pieces = pieces ∙ ap (with_pieces a.pieces) (pieces_of-some line some); writes = writes; finishes = finishes; faults = faults }
 
 -- the write of the one line failed
-pub BreaksOff-one : (a b : SinkView) (line : List ℕ) → WritesPrefix a.pieces b.pieces line → b.writes ≡ raised a.writes → b.faults ≡ raised a.faults → b.failed ≡ true → BreaksOff a b (line ∷ [])
+pub BreaksOff-one : (a b : SinkView) (line : List ℕ) → WritesPrefix a.pieces b.pieces line → b.writes ≡ raised a.writes → b.finishes ≡ a.finishes → b.finished ≡ false → b.faults ≡ raised a.faults → b.failed ≡ true → BreaksOff a b (line ∷ [])
 unfolding raised_by
-BreaksOff-one a b line prefix writes faults failed = record {
+BreaksOff-one a b line prefix writes finishes last faults failed = record {
   whole = [];
   line = line;
   rest = [];
@@ -50,6 +51,8 @@ BreaksOff-one a b line prefix writes faults failed = record {
   halves = prefix.parts;
   pieces = prefix.pieces;
   writes = writes;
+  finishes = finishes;
+  last = last;
   failed = failed;
   faults = faults;
 }
@@ -59,6 +62,7 @@ pub WritesLines-after : (a b c : SinkView) (first rest : List (List ℕ)) → Wr
 WritesLines-after a b c first rest p q = record {
   pieces = q.pieces ∙ ap (λ s. with_pieces s rest) p.pieces ∙ with_pieces-append a.pieces first rest;
   writes = q.writes ∙ ap (raised_by (length rest)) p.writes ∙ sym (raised_by-append first rest a.writes);
+  finishes = q.finishes ∙ p.finishes;
   faults = q.faults ∙ p.faults;
 }
 
@@ -84,6 +88,8 @@ BreaksOff-after a b c first rest p q = record {
   pieces = q.pieces ∙ ap (λ s. with_pieces s (q.whole ++ pieces_of q.prefix)) p.pieces ∙ with_pieces-append a.pieces first (q.whole ++ pieces_of q.prefix)
       ∙ ap (with_pieces a.pieces) (sym (append_assoc first q.whole (pieces_of q.prefix)));
   writes = q.writes ∙ ap (λ n. raised (raised_by (length q.whole) n)) p.writes ∙ ap raised (sym (raised_by-append first q.whole a.writes));
+  finishes = q.finishes ∙ p.finishes;
+  last = q.last;
   failed = q.failed;
   faults = q.faults ∙ ap raised p.faults;
 }
@@ -109,6 +115,8 @@ BreaksOff-more a b lines more p = record {
   halves = p.halves;
   pieces = p.pieces;
   writes = p.writes;
+  finishes = p.finishes;
+  last = p.last;
   failed = p.failed;
   faults = p.faults;
 }
@@ -116,3 +124,12 @@ BreaksOff-more a b lines more p = record {
 -- lines that were all written are some of more lines
 pub WritesSome-of_lines : (a b : SinkView) (lines more : List (List ℕ)) → WritesLines a b lines → WritesSome a b (lines ++ more)
 WritesSome-of_lines a b lines more p = record { whole = lines; rest = more; parts = refl; written = p }
+
+-- lines, and then a finish
+pub WritesAndFinishes-after : (a b c : SinkView) (lines : List (List ℕ)) → WritesLines a b lines → Finishes b c → WritesAndFinishes a c lines
+WritesAndFinishes-after a b c lines p q = record {
+  pieces = q.pieces ∙ p.pieces;
+  writes = q.writes ∙ p.writes;
+  finishes = q.finishes ∙ ap raised p.finishes;
+  last = q.last;
+}

@@ -1,10 +1,11 @@
 -- Definitions computed: counts at both ends, stops, and a sink whose second call is listed twice.
 use Rattle.std.proofs.Common.{◌≡◌, [], ◌∷◌, Some, None, true, false, refl}
 use Rattle.std.specs.Prelude.{map}
+use Rattle.hmc_outside.specs.Counts as counts
 use Rattle.hmc_outside.specs.Cut.{cut}
 use Rattle.hmc_outside.specs.Pieces.{pieces_of, with_pieces}
 use Rattle.hmc_outside.specs.Raised.{raised, raised_by}
-use Rattle.hmc_outside.specs.SinkState.{SinkState, opened, limit_of, space_of, after_write, after_failure}
+use Rattle.hmc_outside.specs.SinkState.{SinkState, opened, view_of, limit_of, space_of, after_write, after_failure, after_finish}
 use Rattle.hmc_outside.specs.SourceState as source
 
 raised-ends : map raised (0 ∷ 4294967295 ∷ 18446744073709551614 ∷ 18446744073709551615 ∷ []) ≡
@@ -30,11 +31,25 @@ abbrev after_three : SinkState
 after_three = after_failure (after_write (after_write (opened 6 []) (97 ∷ 98 ∷ 99 ∷ [])) []) (100 ∷ 101 ∷ [])
 
 after_three-state : after_three ≡
-    record { pieces = (97 ∷ 98 ∷ 99 ∷ []) ∷ (100 ∷ 101 ∷ []) ∷ []; room = 6; failing = []; calls = 3; faults = 1; failed = true }
+    record { pieces = (97 ∷ 98 ∷ 99 ∷ []) ∷ (100 ∷ 101 ∷ []) ∷ []; room = 6; failing = []; counts = record { writes = 3; finishes = 0; faults = 1; failed = true; finished = false } }
 after_three-state = refl
 
 space_of-after_three : space_of after_three ≡ 1
 space_of-after_three = refl
+
+-- and finished: the pieces stay, and the last call did not fail
+finished-view : view_of (after_finish after_three) ≡
+    record { pieces = Some ((97 ∷ 98 ∷ 99 ∷ []) ∷ (100 ∷ 101 ∷ []) ∷ []); writes = 3; finishes = 1; faults = 1; failed = false; finished = true }
+finished-view = refl
+
+-- a write after a finish is the last call again
+written_after_finish-view : view_of (after_write (after_finish (opened 6 [])) (97 ∷ [])) ≡
+    record { pieces = Some ((97 ∷ []) ∷ []); writes = 1; finishes = 1; faults = 0; failed = false; finished = false }
+written_after_finish-view = refl
+
+-- a finish that fails counts as a finish and as a fault
+failed_finish-counts : counts.after_finish (counts.after_write counts.opened false) true ≡ record { writes = 1; finishes = 1; faults = 1; failed = true; finished = true }
+failed_finish-counts = refl
 
 -- a source of three bytes after a read of two and a failure
 abbrev after_two : source.SourceState

@@ -1,5 +1,6 @@
 pub mod Counts
 pub mod Cut
+pub mod Finish
 pub mod Lines
 pub mod Pieces
 pub mod Prefix

@@ -1,15 +1,17 @@
 -- Lines that are written one after another, each by one write.
-use Rattle.std.specs.Prelude.{◌≡◌, true, ℕ, List, ◌∷◌, ◌++◌, length}
+use Rattle.std.specs.Prelude.{◌≡◌, true, false, ℕ, List, ◌∷◌, ◌++◌, length}
 use Rattle.hmc_outside.specs.Raised.{raised, raised_by}
 use Rattle.hmc_outside.specs.Pieces.{pieces_of, with_pieces}
 use Rattle.hmc_outside.specs.Views.{SinkView}
 
--- each line was written, by one write that did not fail
+-- each line was written, by one write that did not fail, and nothing else was called
 pub record WritesLines (old new : SinkView) (lines : List (List ℕ)) : Type 0 where
   -- the pieces written are exactly the lines
   pub pieces : new.pieces ≡ with_pieces old.pieces lines
   -- there was one write a line
   pub writes : new.writes ≡ raised_by (length lines) old.writes
+  -- there was no finish
+  pub finishes : new.finishes ≡ old.finishes
   -- none failed
   pub faults : new.faults ≡ old.faults
 
@@ -33,8 +35,10 @@ pub record BreaksOff (old new : SinkView) (lines : List (List ℕ)) : Type 0 whe
   pub halves : line ≡ prefix ++ cut
   -- these are the pieces written
   pub pieces : new.pieces ≡ with_pieces old.pieces (whole ++ pieces_of prefix)
-  -- the failed write was the last one
+  -- the failed write was the last call
   pub writes : new.writes ≡ raised (raised_by (length whole) old.writes)
+  pub finishes : new.finishes ≡ old.finishes
+  pub last : new.finished ≡ false
   pub failed : new.failed ≡ true
   -- it is the one fault
   pub faults : new.faults ≡ raised old.faults

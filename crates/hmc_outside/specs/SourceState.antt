@@ -1,5 +1,5 @@
 -- A source in memory, as its callers see it.
-use Rattle.std.specs.Prelude.{ℕ, Bool, true, false, List, Some, drop, min, length}
+use Rattle.std.specs.Prelude.{ℕ, false, List, Some, drop}
 use Rattle.hmc_outside.specs.Counts.{ReadCounts, after_count, after_fault}
 use Rattle.hmc_outside.specs.Raised.{raised}
 use Rattle.hmc_outside.specs.Views.{SourceView}

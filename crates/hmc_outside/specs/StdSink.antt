@@ -1,13 +1,33 @@
--- A writer of std as a sink.
-use Rattle.std.specs.Prelude.{None}
+-- A writer of std as a sink, which gathers bytes before it hands them on.
+use Rattle.std.specs.Prelude.{ℕ, List, Option, None}
+use Rattle.std.specs.Io.Buffered.{writer_inner, writer_buffer, writer_contents}
+use Rattle.hmc_outside.specs.Counts.{CallCounts}
 use Rattle.hmc_outside.specs.Views.{SinkView}
 use Rattle.hmc_outside.specs.declared.std_sink.StdSink.{StdSink}
 
 -- the writer that the bytes go to
 abbrev pub writer_of : {W : Type 0} → StdSink W → W
-writer_of sink = sink.writer
+writer_of sink = writer_inner sink.writer
 
--- what it shows: no pieces, since a writer knows only its bytes
+-- the bytes gathered and not yet handed on to it
+abbrev pub gathered_bytes : {W : Type 0} → StdSink W → List ℕ
+gathered_bytes sink = writer_buffer sink.writer
+
+-- all bytes that it holds, of which the writer shows those that were handed on
+abbrev pub contents_of : {W : Type 0} → (W → Option (List ℕ)) → StdSink W → Option (List ℕ)
+contents_of contents sink = writer_contents contents sink.writer
+
+-- what these counts show: no pieces, since a writer knows only its bytes
+abbrev pub view_of_counts : CallCounts → SinkView
+view_of_counts counts = record {
+  pieces = None;
+  writes = counts.writes;
+  finishes = counts.finishes;
+  faults = counts.faults;
+  failed = counts.failed;
+  finished = counts.finished;
+}
+
+-- what it shows
 abbrev pub view_of : {W : Type 0} → StdSink W → SinkView
-view_of sink =
-    record { pieces = None; writes = sink.writes; faults = sink.faults; failed = sink.failed }
+view_of sink = view_of_counts sink.counts

@@ -1,5 +1,5 @@
 -- A reader of std as a source.
-use Rattle.std.specs.Prelude.{ℕ, List, Option, Bool}
+use Rattle.std.specs.Prelude.{ℕ, List, Option}
 use Rattle.hmc_outside.specs.Views.{SourceView}
 use Rattle.hmc_outside.specs.declared.std_source.StdSource.{StdSource}
 

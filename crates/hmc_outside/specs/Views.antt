@@ -17,7 +17,11 @@ pub record SinkView : Type 0 where
   pub pieces : Option (List (List ℕ))
   -- how often it was written to
   pub writes : ℕ
-  -- how many writes failed
+  -- how often it was finished
+  pub finishes : ℕ
+  -- how many of these calls failed
   pub faults : ℕ
-  -- the last write failed
+  -- the last call failed
   pub failed : Bool
+  -- the last call was a finish
+  pub finished : Bool

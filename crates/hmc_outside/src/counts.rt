@@ -1,6 +1,6 @@
 //! The one error of the outside, and the counts of calls and faults.
 ghost use Rattle.std.specs.Prelude.{◌≡◌, false};
-ghost use Rattle.hmc_outside.specs.Counts.{after_count, after_fault};
+ghost use Rattle.hmc_outside.specs.Counts.{after_count, after_fault, after_write, after_finish, faults_after, opened};
 ghost use Rattle.hmc_outside.specs.Raised.{raised};
 
 /// A source or a sink failed in this call.
@@ -53,6 +53,61 @@ impl ReadCounts {
         } else if asked > 0 {
             self.stops = one_more(self.stops);
             self.stopped = true;
+        }
+    }
+}
+
+/// What a sink counts of its calls: the writes, the finishes, and those of both that failed; and
+/// what the last call was: whether it failed, and whether it was a finish.
+#[derive(Clone, Copy)]
+pub(crate) struct CallCounts {
+    pub(crate) writes: u64,
+    pub(crate) finishes: u64,
+    pub(crate) faults: u64,
+    pub(crate) failed: bool,
+    pub(crate) finished: bool,
+}
+
+impl CallCounts {
+    /// Before the first call.
+    pub(crate) fn new() -> Self
+        ensures { result ≡ opened }
+    {
+        CallCounts {
+            writes: 0,
+            finishes: 0,
+            faults: 0,
+            failed: false,
+            finished: false,
+        }
+    }
+
+    /// A write failed, or did not.
+    pub(crate) fn count_write(&mut self, failed: bool)
+        ensures { self.new ≡ after_write self.old failed }
+    {
+        self.writes = one_more(self.writes);
+        self.finished = false;
+        self.note(failed);
+    }
+
+    /// A finish failed, or did not.
+    pub(crate) fn count_finish(&mut self, failed: bool)
+        ensures { self.new ≡ after_finish self.old failed }
+    {
+        self.finishes = one_more(self.finishes);
+        self.finished = true;
+        self.note(failed);
+    }
+
+    // The last call failed, or did not.
+    fn note(&mut self, failed: bool)
+        ensures { self.new ≡
+            record self.old { faults = faults_after failed self.old.faults; failed = failed } }
+    {
+        self.failed = failed;
+        if failed {
+            self.faults = one_more(self.faults);
         }
     }
 }

@@ -1,11 +1,12 @@
 //! A sink in memory, which fails at listed calls and where its room ends.
-ghost use Rattle.std.specs.Prelude.{◌≡◌, ◌⊎◌, ◌<◌, ◌≤◌, ◌↔◌, [], length, take, min, map, true, false, IsErr, IsSome, IfOk, IfNone, IfSome, OnOk, OnErr};
+ghost use Rattle.std.specs.Prelude.{◌≡◌, ◌⊎◌, ◌<◌, ◌≤◌, ◌↔◌, [], length, take, min, map, true, false, IsOk, IsErr, IsSome, IfOk, IfNone, IfSome, OnOk, OnErr};
 ghost use Rattle.std.specs.List.{concat};
+ghost use Rattle.hmc_outside.specs.Finish.{Finishes};
 ghost use Rattle.hmc_outside.specs.Pieces.{pieces_of, with_pieces, WritesPrefix};
 ghost use Rattle.hmc_outside.specs.Raised.{raised};
-ghost use Rattle.hmc_outside.specs.SinkState.{view_of, opened, limit_of, next_limit, space_of, after_write, after_failure};
+ghost use Rattle.hmc_outside.specs.SinkState.{view_of, opened, limit_of, next_limit, space_of, after_write, after_failure, after_finish};
 
-use crate::counts::one_more;
+use crate::counts::{CallCounts, one_more};
 use crate::pieces::Pieces;
 use crate::{Failed, Sink};
 use hmc_codes::Memory;
@@ -14,14 +15,13 @@ use std::marker::Model;
 
 /// Room for bytes in memory. Its calls of `write` are numbered from 1. A pair `(call, limit)` says
 /// that this call fails and takes at most `limit` bytes; of two pairs of one call the first counts.
-/// Each other call takes all its bytes, or fails and takes none where they don't fit.
+/// Each other call of `write` takes all its bytes, or fails and takes none where they don't fit.
+/// `finish` never fails, since nothing is gathered, and has no number.
 #[derive(Drop)]
 pub struct MemorySink {
     pieces: Pieces,
     failing: Vec<(u32, usize)>,
-    calls: u64,
-    faults: u64,
-    failed: bool,
+    counts: CallCounts,
 }
 
 impl Model for MemorySink {
@@ -33,9 +33,7 @@ impl Model for MemorySink {
       pieces = s.pieces.pieces;
       room = s.pieces.room;
       failing = s.failing.items;
-      calls = s.calls;
-      faults = s.faults;
-      failed = s.failed;
+      counts = s.counts;
     } };
 }
 
@@ -47,9 +45,7 @@ impl MemorySink {
         Ok(MemorySink {
             pieces: Pieces::new(alloc, room)?,
             failing: Vec::from_slice(alloc, failing)?,
-            calls: 0,
-            faults: 0,
-            failed: false,
+            counts: CallCounts::new(),
         })
     }
 
@@ -68,18 +64,25 @@ impl MemorySink {
         self.pieces.lengths()
     }
 
-    /// How many calls were made.
+    /// How often it was written to.
     pub fn writes(&self) -> u64
-        ensures { result ≡ self.now.calls }
+        ensures { result ≡ self.now.counts.writes }
     {
-        self.calls
+        self.counts.writes
+    }
+
+    /// How often it was finished.
+    pub fn finishes(&self) -> u64
+        ensures { result ≡ self.now.counts.finishes }
+    {
+        self.counts.finishes
     }
 
     /// How many calls have failed.
     pub fn faults(&self) -> u64
-        ensures { result ≡ self.now.faults }
+        ensures { result ≡ self.now.counts.faults }
     {
-        self.faults
+        self.counts.faults
     }
 }
 
@@ -99,6 +102,8 @@ impl Sink for MemorySink {
             ((view_of self.new).faults ≡ raised (view_of self.old).faults) }
         ensures not_failed { OnOk result ((view_of self.new).failed ≡ false) }
         ensures failed { OnErr result ((view_of self.new).failed ≡ true) }
+        ensures finishes { (view_of self.new).finishes ≡ (view_of self.old).finishes }
+        ensures not_finished { (view_of self.new).finished ≡ false }
 
         // Exactly.
         ensures fails { IsErr result ↔
@@ -109,31 +114,47 @@ impl Sink for MemorySink {
         ensures full { IfNone (next_limit self.old)
             (OnErr result (self.new ≡ after_failure self.old [])) }
     {
-        self.calls = one_more(self.calls);
         let space = self.pieces.space();
         let fits = bytes.len() <= space;
-        let limit = limit_at(&self.failing, self.calls);
+        let limit = limit_at(&self.failing, one_more(self.counts.writes));
         let count = match limit {
             Some(limit) => limit.min(space).min(bytes.len()),
             None if fits => bytes.len(),
             None => 0,
         };
         self.pieces.add(&bytes[..count]);
-        self.failed = limit.is_some() || !fits;
-        if !self.failed {
+        let failed = limit.is_some() || !fits;
+        self.counts.count_write(failed);
+        if !failed {
             return Ok(());
         }
-        self.faults = one_more(self.faults);
         Err(Failed)
+    }
+
+    fn finish(&mut self) -> Result<(), Failed>
+        // As at each sink.
+        ensures finished { Finishes (view_of self.old) (view_of self.new) }
+        ensures sound { OnOk result ((view_of self.new).faults ≡ (view_of self.old).faults) }
+        ensures fault { OnErr result
+            ((view_of self.new).faults ≡ raised (view_of self.old).faults) }
+        ensures not_failed { OnOk result ((view_of self.new).failed ≡ false) }
+        ensures failed { OnErr result ((view_of self.new).failed ≡ true) }
+
+        // Exactly.
+        ensures passes { IsOk result }
+        ensures after { self.new ≡ after_finish self.old }
+    {
+        self.counts.count_finish(false);
+        Ok(())
     }
 }
 
-// How much the first pair of this call names.
-fn limit_at(failing: &[(u32, usize)], call: u64) -> Option<usize>
-    ensures { result ≡ limit_of failing.now call }
+// How much the first pair of this write names.
+fn limit_at(failing: &[(u32, usize)], write: u64) -> Option<usize>
+    ensures { result ≡ limit_of failing.now write }
 {
     failing
         .iter()
-        .find(|pair| u64::from(pair.0) == call)
+        .find(|pair| u64::from(pair.0) == write)
         .map(|pair| pair.1)
 }

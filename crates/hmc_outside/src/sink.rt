@@ -1,14 +1,15 @@
 //! Where output bytes go.
 ghost use Rattle.std.specs.Prelude.{◌≡◌, true, false, OnOk, OnErr};
+ghost use Rattle.hmc_outside.specs.Finish.{Finishes};
 ghost use Rattle.hmc_outside.specs.Pieces.{pieces_of, with_pieces, WritesPrefix};
 ghost use Rattle.hmc_outside.specs.Raised.{raised};
 ghost use Rattle.hmc_outside.specs.Views.{SinkView};
 
 use crate::Failed;
 
-/// Takes bytes, a piece at a time.
+/// Takes bytes, a piece at a time. It may gather them, and hand them on later.
 pub trait Sink {
-    /// The pieces written, and the counts of writes.
+    /// The pieces written, and the counts of calls.
     ghost shows: { Self → SinkView };
 
     /// Takes all the bytes, or fails and has taken a prefix of them, which may be none or all.
@@ -18,6 +19,16 @@ pub trait Sink {
             ((shows self.new).pieces ≡ with_pieces (shows self.old).pieces (pieces_of bytes.now)) }
         ensures prefix { OnErr result
             (WritesPrefix (shows self.old).pieces (shows self.new).pieces bytes.now) }
+        ensures sound { OnOk result ((shows self.new).faults ≡ (shows self.old).faults) }
+        ensures fault { OnErr result ((shows self.new).faults ≡ raised (shows self.old).faults) }
+        ensures not_failed { OnOk result ((shows self.new).failed ≡ false) }
+        ensures failed { OnErr result ((shows self.new).failed ≡ true) }
+        ensures finishes { (shows self.new).finishes ≡ (shows self.old).finishes }
+        ensures not_finished { (shows self.new).finished ≡ false };
+
+    /// Hands on what was gathered, or fails and has handed on a prefix of it. What was taken stays.
+    fn finish(&mut self) -> Result<(), Failed>
+        ensures finished { Finishes (shows self.old) (shows self.new) }
         ensures sound { OnOk result ((shows self.new).faults ≡ (shows self.old).faults) }
         ensures fault { OnErr result ((shows self.new).faults ≡ raised (shows self.old).faults) }
         ensures not_failed { OnOk result ((shows self.new).failed ≡ false) }

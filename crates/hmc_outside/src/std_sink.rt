@@ -1,38 +1,45 @@
 //! A writer of std as a sink.
-ghost use Rattle.std.specs.Prelude.{◌≡◌, ◌<◌, ◌≤◌, length, take, true, false, IfOk, OnOk, OnErr};
+ghost use Rattle.std.specs.Prelude.{◌≡◌, ◌<◌, ◌≤◌, [], length, take, true, false, IfOk, OnOk, OnErr};
+ghost use Rattle.std.specs.Io.Buffered.{writer_buffer, writer_contents};
 ghost use Rattle.std.specs.Io.KnownBytes.{Appends, Keeps};
+ghost use Rattle.hmc_outside.specs.Counts.{opened};
+ghost use Rattle.hmc_outside.specs.Finish.{Finishes};
 ghost use Rattle.hmc_outside.specs.Pieces.{pieces_of, with_pieces, WritesPrefix};
 ghost use Rattle.hmc_outside.specs.Prefix.{AppendsPrefix};
 ghost use Rattle.hmc_outside.specs.Raised.{raised};
-ghost use Rattle.hmc_outside.specs.StdSink.{writer_of, view_of};
+ghost use Rattle.hmc_outside.specs.StdSink.{writer_of, gathered_bytes, contents_of, view_of_counts, view_of};
 
-use crate::counts::one_more;
+use crate::counts::CallCounts;
 use crate::{Failed, Sink};
-use std::io::{ErrorKind, Write};
+use hmc_codes::Memory;
+use std::alloc::Global;
+use std::io::{BufWriter, ErrorKind, Write};
 
-/// What goes to a writer. It shows no pieces, but its own clauses say what the writer's bytes are,
-/// where the writer shows them.
-#[derive(Drop)]
-pub struct StdSink<W> {
-    writer: W,
-    writes: u64,
-    faults: u64,
-    failed: bool,
+/// How many bytes are gathered.
+const GATHERED: usize = 65_536;
+
+/// What goes to a writer. The bytes are gathered, and handed on when there are many, or by
+/// `finish`. It shows no pieces, but its own clauses say what the writer's bytes are, where the
+/// writer shows them.
+pub struct StdSink<W: Write + Drop> {
+    writer: BufWriter<W>,
+    counts: CallCounts,
 }
 
-impl<W: Write> StdSink<W> {
-    /// A sink before its first call.
-    pub fn new(writer: W) -> Self
-        ensures writer { writer_of result ≡ writer }
-        ensures writes { (view_of result).writes ≡ 0 }
-        ensures faults { (view_of result).faults ≡ 0 }
-        ensures not_failed { (view_of result).failed ≡ false }
+impl<W: Write + Drop> StdSink<W> {
+    /// A sink before its first call. The memory for what it gathers is reserved here: its calls
+    /// take none.
+    pub fn new(alloc: Global, writer: W) -> Result<Self, Memory>
+        ensures writer { IfOk result (λ sink. writer_of sink ≡ writer) }
+        ensures none_gathered { IfOk result (λ sink. gathered_bytes sink ≡ []) }
+        ensures counts { IfOk result (λ sink. view_of sink ≡ view_of_counts opened) }
     {
-        StdSink {
-            writer,
-            writes: 0,
-            faults: 0,
-            failed: false,
+        match BufWriter::with_capacity(alloc, GATHERED, writer) {
+            Ok(writer) => Ok(StdSink {
+                writer,
+                counts: CallCounts::new(),
+            }),
+            Err(_) => Err(Memory),
         }
     }
 
@@ -40,11 +47,11 @@ impl<W: Write> StdSink<W> {
     pub fn faults(&self) -> u64
         ensures { result ≡ (view_of self.now).faults }
     {
-        self.faults
+        self.counts.faults
     }
 }
 
-impl<W: Write> Sink for StdSink<W> {
+impl<W: Write + Drop> Sink for StdSink<W> {
     ghost shows = { view_of };
 
     fn write(&mut self, bytes: &[u8]) -> Result<(), Failed>
@@ -60,21 +67,63 @@ impl<W: Write> Sink for StdSink<W> {
             ((view_of self.new).faults ≡ raised (view_of self.old).faults) }
         ensures not_failed { OnOk result ((view_of self.new).failed ≡ false) }
         ensures failed { OnErr result ((view_of self.new).failed ≡ true) }
+        ensures finishes { (view_of self.new).finishes ≡ (view_of self.old).finishes }
+        ensures not_finished { (view_of self.new).finished ≡ false }
 
-        // The writer's bytes.
+        // The writer's bytes, and then those gathered.
         ensures appended { OnOk result (Appends
-            (W.contents (writer_of self.old)) (W.contents (writer_of self.new)) bytes.now) }
+            (contents_of W.contents self.old) (contents_of W.contents self.new) bytes.now) }
         ensures appended_prefix { OnErr result (AppendsPrefix
-            (W.contents (writer_of self.old)) (W.contents (writer_of self.new)) bytes.now) }
+            (contents_of W.contents self.old) (contents_of W.contents self.new) bytes.now) }
     {
-        self.writes = one_more(self.writes);
         let written = write_whole(&mut self.writer, bytes);
-        self.failed = written.is_err();
-        if self.failed {
-            self.faults = one_more(self.faults);
-        }
+        self.counts.count_write(written.is_err());
         written
     }
+
+    fn finish(&mut self) -> Result<(), Failed>
+        // As at each sink.
+        ensures finished { Finishes (view_of self.old) (view_of self.new) }
+        ensures sound { OnOk result ((view_of self.new).faults ≡ (view_of self.old).faults) }
+        ensures fault { OnErr result
+            ((view_of self.new).faults ≡ raised (view_of self.old).faults) }
+        ensures not_failed { OnOk result ((view_of self.new).failed ≡ false) }
+        ensures failed { OnErr result ((view_of self.new).failed ≡ true) }
+
+        // The writer's bytes, and then those gathered.
+        ensures kept { Keeps
+            (contents_of W.contents self.old) (contents_of W.contents self.new) }
+        ensures none_gathered { OnOk result (gathered_bytes self.new ≡ []) }
+    {
+        let flushed = flush(&mut self.writer);
+        self.counts.count_finish(flushed.is_err());
+        flushed
+    }
+}
+
+/// What was gathered and not handed on is dropped: a sink that isn't finished, or that failed,
+/// hands on nothing more.
+impl<W: Write + Drop> Drop for StdSink<W> {
+    fn drop(self) {
+        let StdSink { writer, counts: _ } = self;
+        let _ = writer.into_parts();
+    }
+}
+
+// Hands on all that was gathered, and tries again where a signal interrupts.
+fn flush<W: Write + Drop>(writer: &mut BufWriter<W>) -> Result<(), Failed>
+    ensures kept { Keeps
+        (writer_contents W.contents writer.old) (writer_contents W.contents writer.new) }
+    ensures none_gathered { OnOk result (writer_buffer writer.new ≡ []) }
+{
+    'tries: for _ in 0..u64::MAX {
+        match writer.flush() {
+            Ok(()) => return Ok(()),
+            Err(e) if e.kind() == ErrorKind::Interrupted => {}
+            Err(_) => return Err(Failed),
+        }
+    }
+    Err(Failed)
 }
 
 // Writes the pieces that the writer takes, one after the other.

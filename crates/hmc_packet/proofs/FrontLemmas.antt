@@ -13,6 +13,7 @@ use Rattle.hmc_packet.specs.declared.head.Head.{Head}
 use Rattle.hmc_packet.specs.Bits.{bits_from, bit}
 use Rattle.hmc_packet.specs.Header.{header_word, header_of, header_is_clean}
 use Rattle.hmc_packet.specs.Packet.{PacketFields, IsPacket, flits_of, null_packet}
+use Rattle.hmc_packet.specs.Draft.{front_bytes}
 use Rattle.hmc_packet.specs.Spelling.{FitsProfile, header_fields, word_bytes, covered, bytes_of, cut, spelling}
 use Rattle.hmc_packet.specs.Parts.{header_in}
 use Rattle.hmc_packet.specs.Head.{head_with, head_in, head_slid, packet_head, SameHead}
@@ -32,7 +33,7 @@ take-cut zero (suc k) bytes le = absurd (omega arith)
 take-cut (suc n) (suc k) bytes le = ap (λ (l : List (List ℕ)). take 16 bytes ∷ l) (take-cut n k (drop 16 bytes) (omega arith))
 
 -- flits are cut from the front of the bytes
-cut-take : (k m : ℕ) (bytes : List ℕ) → 16 * k ≤ m → cut k (take m bytes) ≡ cut k bytes
+pub cut-take : (k m : ℕ) (bytes : List ℕ) → 16 * k ≤ m → cut k (take m bytes) ≡ cut k bytes
 unfolding cut
 cut-take zero m bytes le = refl
 cut-take (suc k) m bytes le =
@@ -40,18 +41,14 @@ cut-take (suc k) m bytes le =
     let later : drop 16 (take m bytes) ≡ take (m - 16) (drop 16 bytes) = ap (λ (n : ℕ). drop 16 (take n bytes)) (omega arith) ∙ drop-take 16 (m - 16) bytes in
     λ i. first i ∷ (ap (cut k) later ∙ cut-take k (m - 16) (drop 16 bytes) (omega arith)) i
 
-front_bytes : (m : ℕ) (a p b c : List ℕ) → m ≤ length (a ++ p) → take m ((a ++ (p ++ b)) ++ c) ≡ take m (a ++ p)
-front_bytes m a p b c le =
+front_of_joined : (m : ℕ) (a p b c : List ℕ) → m ≤ length (a ++ p) → take m ((a ++ (p ++ b)) ++ c) ≡ take m (a ++ p)
+front_of_joined m a p b c le =
     ap (take m) (append_assoc a (p ++ b) c ∙ ap (λ (l : List ℕ). a ++ l) (append_assoc p b c) ∙ sym (append_assoc a p (b ++ c))) ∙ take-append-le m (a ++ p) (b ++ c) le
 
--- the bytes before the tail
-before : PacketFields → List ℕ
-before p = word_bytes (header_word (layout_of p.command) (header_fields p)) ++ p.payload
-
-bytes_of-before : (profile : Profile) → (p : PacketFields) (rrp m : ℕ) → m ≤ 8 + length p.payload → take m (bytes_of profile p rrp) ≡ take m (before p)
-unfolding bytes_of covered before
+pub bytes_of-before : (profile : Profile) → (p : PacketFields) (rrp m : ℕ) → m ≤ 8 + length p.payload → take m (bytes_of profile p rrp) ≡ take m (front_bytes p)
+unfolding bytes_of covered front_bytes
 bytes_of-before profile p rrp m le =
-    front_bytes m (word_bytes (header_word (layout_of p.command) (header_fields p))) p.payload _ _
+    front_of_joined m (word_bytes (header_word (layout_of p.command) (header_fields p))) p.payload _ _
     (omega (arith, length-append (word_bytes (header_word (layout_of p.command) (header_fields p))) p.payload, length-word_bytes (header_word (layout_of p.command) (header_fields p))))
 
 header_word-same : (layout : Layout) (g h : Header) → g.code ≡ h.code → g.flits ≡ h.flits → g.tag ≡ h.tag → g.address ≡ h.address → g.flag ≡ h.flag → (layout ≡ layouts.Reply → g.slid ≡ h.slid) → g.cube ≡ h.cube → header_word layout g ≡ header_word layout h
@@ -59,21 +56,21 @@ unfolding header_word
 header_word-same layouts.Reply g h code flits tag address flag slid cube = λ i. code i + flits i * 2 ^ 7 + tag i * 2 ^ 12 + bit (flag i) * 2 ^ 33 + slid refl i * 2 ^ 39 + cube i * 2 ^ 61
 header_word-same _ g h code flits tag address flag slid cube = λ i. code i + flits i * 2 ^ 7 + tag i * 2 ^ 12 + address i * 2 ^ 24 + cube i * 2 ^ 61
 
-before-same : (p q : PacketFields) → SameHead p q → before p ≡ before q
-unfolding before
+before-same : (p q : PacketFields) → SameHead p q → front_bytes p ≡ front_bytes q
+unfolding front_bytes
 before-same p q same =
     let words : header_word (layout_of p.command) (header_fields p) ≡ header_word (layout_of p.command) (header_fields q) =
     header_word-same (layout_of p.command) (header_fields p) (header_fields q) (ap code_of same.command) (ap (λ (l : List ℕ). 1 + length l / 16) same.payload) same.tag same.address same.flag same.slid same.cube in
     λ i. word_bytes ((words ∙ ap (λ (c : Command). header_word (layout_of c) (header_fields q)) same.command) i) ++ same.payload i
 
-front-is : (profile : Profile) → (p : PacketFields) (rrp : ℕ) → IsPacket p → layout_of p.command ≢ layouts.Null → take (flits_of p - 1) (spelling profile p rrp) ≡ cut (flits_of p - 1) (before p)
+pub front-is : (profile : Profile) → (p : PacketFields) (rrp : ℕ) → IsPacket p → layout_of p.command ≢ layouts.Null → take (flits_of p - 1) (spelling profile p rrp) ≡ cut (flits_of p - 1) (front_bytes p)
 front-is profile p rrp is other =
     let n = flits_of p in
     let k = n - 1 in
     let few = flits_of-few p is in
     let fits : 16 * k ≤ 8 + length p.payload = omega arith in
     ap (take k) (spelling-other profile p rrp other) ∙ take-cut n k (bytes_of profile p rrp) (omega arith) ∙ sym (cut-take k (16 * k) (bytes_of profile p rrp) (omega arith))
-    ∙ ap (cut k) (bytes_of-before profile p rrp (16 * k) fits) ∙ cut-take k (16 * k) (before p) (omega arith)
+    ∙ ap (cut k) (bytes_of-before profile p rrp (16 * k) fits) ∙ cut-take k (16 * k) (front_bytes p) (omega arith)
 
 none_before : (profile : Profile) → (p : PacketFields) (rrp : ℕ) → p ≡ null_packet → take (flits_of p - 1) (spelling profile p rrp) ≡ []
 none_before profile p rrp is = ap (λ (q : PacketFields). take (flits_of q - 1) (spelling profile q rrp)) is

@@ -12,6 +12,11 @@ pub mod ReadOf
 pub mod TransactionLemmas
 pub mod LinkLemmas
 pub mod FrontLemmas
+pub mod DraftLemmas
 pub mod LawLemmas
+pub mod GrowLemmas
+pub mod AloneLemmas
+pub mod CopyLemmas
 pub mod Worked
 pub mod WorkedTwo
+pub mod WorkedLandings

@@ -167,7 +167,7 @@ long-first profile p rrp first rest is long spelled =
 
 -- ---- flow packets are one flit
 
-single : (flits : List (List ℕ)) → length flits ≡ 1 → (flit : List ℕ) × (flits ≡ flit ∷ [])
+pub single : (flits : List (List ℕ)) → length flits ≡ 1 → (flit : List ℕ) × (flits ≡ flit ∷ [])
 single [] is = absurd (omega arith)
 single (x ∷ []) is = (x, refl)
 single (x ∷ y ∷ zs) is = absurd (omega arith)

@@ -1,5 +1,5 @@
 -- Definitions worked at packets of one or two flits.
-use Rattle.std.proofs.Common.{◌≡◌, ℕ, List, [], ◌∷◌, true, Some, None, Err, refl}
+use Rattle.std.proofs.Common.{◌≡◌, ℕ, List, [], ◌∷◌, true, false, Some, None, Err, refl}
 use mathlib.Core.Bool.{xor}
 use Rattle.hmc_codes.specs.declared.profile.Profile.TheVariants.{One}
 use Rattle.hmc_codes.specs.Table.{table_line}
@@ -15,8 +15,10 @@ use Rattle.hmc_packet.specs.Packet.{null_packet}
 use Rattle.hmc_packet.specs.Spelling.{word_bytes, half_bytes, covered, check_of, bytes_of, cut, flits_with, spelling}
 use Rattle.hmc_codes.specs.Flit.{zero_flit}
 use Rattle.hmc_packet.specs.Parts.{word_of, half_of, lng_of}
-use Rattle.hmc_packet.specs.Reading.{is_null, is_null_alone, has_length, fitting, command_in, is_clean, poison_in, judgement_of, bytes_read, read_of}
+use Rattle.hmc_packet.specs.Reading.{is_null, is_null_alone, has_length, fitting, command_in, is_clean, poison_in, packet_from, judgement_of, bytes_read, read_of}
 use Rattle.hmc_packet.specs.Transactions.{with_zeros, reply_packet, payload_of, request_in, answer_by, answer_in}
+use Rattle.hmc_packet.specs.Draft.{front_bytes, draft_of}
+use Rattle.hmc_packet.specs.Copy.{copied_packet}
 use Rattle.hmc_packet.specs.Head.{named_by, head_with, head_in}
 
 -- an IRTRY that asks the other end to begin again
@@ -93,3 +95,18 @@ head_in-request = refl
 head_in-irtry : head_in (0x83 ∷ 0 ∷ 0 ∷ 0 ∷ 0 ∷ 0 ∷ 0 ∷ 0 ∷ 0 ∷ 2 ∷ 0 ∷ 0 ∷ 0x32 ∷ 0xda ∷ 0x95 ∷ 0xa5 ∷ []) ≡ None
 unfolding head_in named_by head_with header_of header_is_clean word_of half_of command_in fitting all_commands command_of table_line
 head_in-irtry = refl
+
+-- drafts: a request without payload, whose poison counts in the last flit alone, and an answer
+draft_of-request : draft_of (record null_packet { command = Rd16; address = 0x40; seq = 1; frp = 1; poisoned = true }) ≡ record { header = 0x400000b0; check = 0x0862d8a5 }
+unfolding draft_of front_bytes word_bytes header_word table_line crc_of remainder divide plus zeros divisor coefficients bits_below bits_of number_of xor
+draft_of-request = refl
+
+draft_of-register : draft_of (reply_packet (Register 0x12345678) 5 1 2) ≡ record { header = 0x400000800000513a; check = 0x019bc8ce }
+unfolding draft_of front_bytes reply_packet with_zeros half_bytes word_bytes header_word table_line crc_of remainder divide plus zeros divisor coefficients bits_below bits_of number_of xor
+draft_of-register = refl
+
+-- the copy of this answer with other numbers, where it was not accepted; the SLID of a tail is no answer's
+copied-register : copied_packet MdRdRs (0x3a ∷ 0x51 ∷ 0 ∷ 0 ∷ 0x80 ∷ 0 ∷ 0 ∷ 0x40 ∷ 0x78 ∷ 0x56 ∷ 0x34 ∷ 0x12 ∷ 0 ∷ 0 ∷ 0 ∷ 0 ∷ 0 ∷ 0 ∷ 0 ∷ 0 ∷ 0 ∷ 0 ∷ 0 ∷ 0 ∷ []) (record { rrp = 0; frp = 7; seq = 2; slid = 6; errstat = 3; rtc = 1 }) false ≡
+    record null_packet { command = MdRdRs; tag = 5; cube = 2; slid = 1; errstat = 3; rtc = 1; seq = 2; frp = 7; poisoned = true; payload = 0x78 ∷ 0x56 ∷ 0x34 ∷ 0x12 ∷ 0 ∷ 0 ∷ 0 ∷ 0 ∷ 0 ∷ 0 ∷ 0 ∷ 0 ∷ 0 ∷ 0 ∷ 0 ∷ 0 ∷ [] }
+unfolding copied_packet packet_from header_of word_of table_line
+copied-register = refl

@@ -10,3 +10,6 @@ pub mod Head
 pub mod Laws
 pub mod Irtry
 pub mod Copy
+pub mod Draft
+pub mod Landings
+pub mod Receptions

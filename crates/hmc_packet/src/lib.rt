@@ -8,17 +8,20 @@
 //!
 //! - [`spell`] returns `spelling`, and [`read`] returns `read_of`: `read` is `Ok` exactly on the
 //!   spellings of packets, and inverts `spell`. [`lng_of`] and [`is_null`] look at one flit.
+//! - A [`Draft`] is `draft_of` its packet: from both come the flits of the spelling, one by one, so
+//!   that a packet is spelled once though its last flit has the return pointer of its own time.
 //! - [`ask`] and [`reply`] return `request_packet` and `reply_packet`, [`request_of`] and
 //!   [`answer_of`] return `request_in` and `answer_in`.
 //! - [`head_of`] reads a first flit alone: `head_in`.
 //!
-//! A layer above doesn't look into bytes: it cites these words, and the laws in `laws.rt`, each the
-//! contract of a function that does nothing.
+//! A layer above doesn't look into bytes: it cites these words, and the laws in `laws.rt` and
+//! `link_laws.rt`, each the contract of a function that does nothing.
 #![tactic(auto)]
 
 mod answer;
 mod bad;
 mod copy;
+mod draft;
 mod feed;
 mod flits;
 mod head;
@@ -26,8 +29,11 @@ mod header;
 mod kind;
 mod landed;
 mod laws;
+mod link_laws;
+mod outcome;
 mod packet;
 mod reading;
+mod reception;
 mod request;
 mod seen;
 mod spelling;
@@ -38,6 +44,7 @@ mod what;
 pub use answer::{answer_of, reply};
 pub use bad::Bad;
 pub use copy::last_feed_of;
+pub use draft::Draft;
 pub use feed::Feed;
 pub use flits::{TRAINING_FLIT, constant_flits};
 pub use head::{Head, head_of};
@@ -49,8 +56,15 @@ pub use laws::{
     front_flits_do_not_depend_on_the_tail, null_and_training_are_no_first_flits,
     request_comes_back, spelling_is_as_long_as_its_packet, spelling_is_read_back,
 };
+pub use link_laws::{
+    copies_are_packets, copy_of_a_whole_packet_is_the_packet, flits_in_order_are_a_spelling,
+    irtry_is_read_alone, null_is_read_alone, numbers_and_poison_keep_a_packet,
+    packets_of_an_end_are_packets,
+};
+pub use outcome::Outcome;
 pub use packet::Packet;
 pub use reading::{is_null, lng_of, read};
+pub use reception::Reception;
 pub use request::{ask, request_of};
 pub use seen::Seen;
 pub use spelling::spell;

@@ -1,6 +1,6 @@
 //! From flits to a packet.
 
-ghost use Rattle.std.specs.Prelude.{◌≡◌, ◌≤◌, ◌*◌, ◌↔◌, ℕ, not, length, IfOk, IsTrue, Ok};
+ghost use Rattle.std.specs.Prelude.{◌≡◌, ◌≤◌, ◌+◌, ◌*◌, ◌↔◌, ℕ, ◌++◌, not, length, IfOk, IsTrue, Ok};
 ghost use Rattle.std.specs.List.{concat};
 ghost use Rattle.hmc_packet.specs.Bits.{bits_from};
 ghost use Rattle.hmc_codes.specs.Commands.{is_flow};
@@ -11,11 +11,14 @@ ghost use Rattle.hmc_packet.specs.Parts.{word_of, half_of, header_in, payload_in
 ghost use Rattle.hmc_packet.specs.Reading.{is_null, is_null_alone, has_length, fitting, command_in, is_clean, poison_in, packet_from, seen_in, judgement_of, bytes_read, read_of, AreBytesOf, IsSpelled};
 
 use crate::header::Header;
-use crate::spelling::{Bytes, append};
 use crate::tail::Tail;
 use crate::{Bad, Packet, Seen};
+use arrayvec::ArrayVec;
 use hmc_codes::{Command, Flit, Layout, Payload, Profile, ZERO_FLIT};
 use hmc_crc::crc_fast;
+
+// The bytes of at most 17 flits.
+type Bytes = ArrayVec<u8, 272>;
 
 #[tactic(auto, unfolding(crate::specs::Parts::word_of))]
 fn word_of(bytes: &[u8]) -> u64
@@ -95,6 +98,13 @@ fn has_length(flits: &[Flit]) -> bool
             (1 <= lng && lng <= 17) && flits.len() == usize::from(lng)
         }
     }
+}
+
+fn append(bytes: &mut Bytes, more: &[u8])
+    requires { length bytes.old.items + length more.now ≤ 272 }
+    ensures { bytes.new.items ≡ bytes.old.items ++ more.now }
+{
+    let _ = bytes.try_extend_from_slice(more);
 }
 
 fn joined(flits: &[Flit]) -> Bytes

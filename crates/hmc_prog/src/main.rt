@@ -8,6 +8,6 @@ use std::process::ExitCode;
 
 fn main(rt: HostRuntime) -> ExitCode {
     let mut source = StdSource::new(rt.reader());
-    let mut sink = StdSink::new(io::writer(&rt));
-    ExitCode::from(run_program(&rt, &mut source, &mut sink))
+    let sink = StdSink::new(rt.alloc(), io::writer(&rt));
+    ExitCode::from(run_program(&rt, &mut source, sink))
 }

@@ -1,15 +1,18 @@
--- Counting the entries of a journal one after another.
-use Rattle.std.proofs.Common.{◌≡◌, ◌<◌, ◌+◌, ◌∙◌, ℕ, List, [], ◌∷◌, length, get_or, take, refl, sym, ap}
-use Rattle.std.specs.Prelude.{reverse}
-use Rattle.std.proofs.lemmas.List.{take_more, reverse-append}
+-- Counting the steps of a journal one after another.
+use Rattle.std.proofs.Common.{◌≡◌, ◌∙◌, ℕ, List, [], ◌∷◌, refl, sym, ap}
 use Rattle.hmc_journal.specs.declared.entry.Entry.{Entry}
 use Rattle.hmc_journal.specs.declared.entry.Entry.TheVariants.{Gave, Sent, Landed, Shifted, Dropped, Spread, Executed, Lifted, Took, Discarded, Idle}
 use Rattle.hmc_journal.specs.Counts.{taken_count, executed_count, dropped_count, cube_counts}
 use Rattle.hmc_journal.specs.Hosts.{given_count}
-use Rattle.hmc_replay.specs.Counting.{host_counted, host_after, cube_after}
+use Rattle.hmc_codes.specs.declared.counts.HostCounts.{HostCounts}
+use Rattle.hmc_codes.specs.declared.counts.CubeCounts.{CubeCounts}
+use Rattle.hmc_journal.specs.Event.{event_of}
+use Rattle.hmc_journal.specs.declared.event.Event.{Event}
+use Rattle.hmc_replay.specs.Counting.{host_counted, host_after, cube_after, counts_of}
+use Rattle.hmc_replay.specs.declared.counts.StepCounts.{StepCounts}
 
 -- one more entry
-host_next : (host out : ℕ) (entry : Entry) (past : List Entry) → host_counted host out (entry ∷ past) ≡ host_after host entry (host_counted host out past)
+host_next : (host out : ℕ) (entry : Entry) (past : List Entry) → host_counted host out (entry ∷ past) ≡ host_after host (event_of entry) (host_counted host out past)
 unfolding given_count taken_count
 host_next host out (Gave h tag poisoned request) past = refl
 host_next host out (Sent direction what flit) past = refl
@@ -23,7 +26,7 @@ host_next host out (Took h tag answer) past = refl
 host_next host out (Discarded h) past = refl
 host_next host out (Idle step cause) past = refl
 
-cube_next : (cube : ℕ) (entry : Entry) (past : List Entry) → cube_counts (entry ∷ past) cube ≡ cube_after cube entry (cube_counts past cube)
+cube_next : (cube : ℕ) (entry : Entry) (past : List Entry) → cube_counts (entry ∷ past) cube ≡ cube_after cube (event_of entry) (cube_counts past cube)
 unfolding cube_counts executed_count dropped_count
 cube_next cube (Gave h tag poisoned request) past = refl
 cube_next cube (Sent direction what flit) past = refl
@@ -37,28 +40,16 @@ cube_next cube (Took h tag answer) past = refl
 cube_next cube (Discarded h) past = refl
 cube_next cube (Idle step cause) past = refl
 
--- no entry
-pub host_none : (host out shown : ℕ) → shown ≡ out → record { given = 0; taken = 0; out = shown } ≡ host_counted host out []
-unfolding given_count taken_count
-host_none host out shown is = ap (λ n. host_counted host n []) is
+-- no step
+pub counts_none : counts_of [] ≡ record { host = record { given = 0; taken = 0; out = 0 }; cube = record { executed = 0; dropped = 0 } }
+unfolding given_count taken_count cube_counts executed_count dropped_count
+counts_none = refl
 
-pub cube_none : (cube : ℕ) → cube_counts [] cube ≡ record { executed = 0; dropped = 0 }
-unfolding cube_counts executed_count dropped_count
-cube_none cube = refl
-
--- the entries before a place, and the one there, the newest first
-reverse_more : (entries : List Entry) (at : ℕ) (entry : Entry) → at < length entries → reverse (take (at + 1) entries) ≡ get_or entries at entry ∷ reverse (take at entries)
-reverse_more entries at entry h = ap reverse (take_more entries at entry h) ∙ reverse-append (take at entries) (get_or entries at entry ∷ [])
-
--- the entry at a place counts too
-pub host_more : (host out : ℕ) (entries : List Entry) (at : ℕ) (entry : Entry) → at < length entries → entry ≡ get_or entries at entry
-    → host_after host entry (host_counted host out (reverse (take at entries))) ≡ host_counted host out (reverse (take (at + 1) entries))
-host_more host out entries at entry h is =
-    sym (host_next host out entry (reverse (take at entries))) ∙ ap (λ (e : Entry). host_counted host out (e ∷ reverse (take at entries))) is
-    ∙ ap (host_counted host out) (sym (reverse_more entries at entry h))
-
-pub cube_more : (cube : ℕ) (entries : List Entry) (at : ℕ) (entry : Entry) → at < length entries → entry ≡ get_or entries at entry
-    → cube_after cube entry (cube_counts (reverse (take at entries)) cube) ≡ cube_counts (reverse (take (at + 1) entries)) cube
-cube_more cube entries at entry h is =
-    sym (cube_next cube entry (reverse (take at entries))) ∙ ap (λ (e : Entry). cube_counts (e ∷ reverse (take at entries)) cube) is
-    ∙ ap (λ past. cube_counts past cube) (sym (reverse_more entries at entry h))
+-- and one more
+pub counts_next : (entry : Entry) (past : List Entry) (event : Event) (old new : StepCounts) → event ≡ event_of entry → old ≡ counts_of past → new.host ≡ host_after 0 event old.host → new.cube ≡ cube_after 0 event old.cube → new ≡ counts_of (entry ∷ past)
+counts_next entry past event old new event_is old_is host_is cube_is =
+    let host : new.host ≡ host_counted 0 0 (entry ∷ past) =
+    host_is ∙ ap (λ e. host_after 0 e old.host) event_is ∙ ap (λ (o : StepCounts). host_after 0 (event_of entry) o.host) old_is ∙ sym (host_next 0 0 entry past) in
+    let cube : new.cube ≡ cube_counts (entry ∷ past) 0 =
+    cube_is ∙ ap (λ e. cube_after 0 e old.cube) event_is ∙ ap (λ (o : StepCounts). cube_after 0 (event_of entry) o.cube) old_is ∙ sym (cube_next 0 entry past) in
+    ap (λ (h : HostCounts). record { host = h; cube = new.cube }) host ∙ ap (λ (c : CubeCounts). record { host = host_counted 0 0 (entry ∷ past); cube = c }) cube

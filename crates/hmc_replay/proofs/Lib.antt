@@ -7,4 +7,5 @@ pub mod Reading
 pub mod Refusals
 pub mod Replays
 pub mod Reports
+pub mod SoFar
 mod Worked

@@ -1,19 +1,20 @@
 -- What a run does is what the top call promises.
-use Rattle.std.proofs.Common.{inl, inr, ◌≡◌, ◌≤◌, ◌<◌, ◌+◌, ◌∙◌, ◌⊎◌, ℕ, suc, Bool, true, false, List, [], ◌∷◌, length, Option, None, Some, IfSome, Result, Ok, Err, refl, sym, ap, subst, arith, leb-false, length-append, append-nil}
+use Rattle.std.proofs.Common.{inl, inr, ◌≡◌, ◌≤◌, ◌<◌, ◌+◌, ◌∙◌, ◌⊎◌, ℕ, suc, Bool, true, false, List, [], ◌∷◌, length, Option, None, Some, IfSome, Result, Ok, Err, refl, sym, ap, subst, arith, leb-false, length-append}
 use Rattle.std.specs.Prelude.{nat_le, if◌then◌else◌}
 use Rattle.std.specs.Io.KnownBytes.{Consumes}
 use Rattle.std.proofs.KnownBytes.{Consumes-nil, Consumes-whole}
 use Rattle.hmc_codes.specs.Limits.{most_input}
 use Rattle.hmc_case.specs.Case.{CaseFields, case_of}
 use Rattle.hmc_case.specs.Reading.{Fault}
-use Rattle.hmc_outside.specs.Lines.{WritesLines, WritesSome, BreaksOff}
+use Rattle.hmc_outside.specs.Finish.{HandsOn, FailsToHandOn}
+use Rattle.hmc_outside.specs.Lines.{WritesLines}
 use Rattle.hmc_outside.specs.Raised.{raised}
 use Rattle.hmc_outside.specs.Views.{SourceView, SinkView}
-use Rattle.hmc_outside.proofs.LinesLemmas.{WritesLines-none, WritesSome-of_lines}
+use Rattle.hmc_outside.proofs.LinesLemmas.{WritesLines-none}
 use Rattle.hmc_replay.specs.Causes.{cause_of_input, status_of}
 use Rattle.hmc_replay.specs.Input.{BytesRead, IsTooLong, ReadsWhole, ReadsPart, ReadsFault, ReadsTooLong}
 use Rattle.hmc_replay.specs.Runs.{Answers, Runs}
-use Rattle.hmc_replay.specs.Top.{is_run, OneOf, bad_line, report_of, lines_for, lines_to_write, IsCaseText, IsFaulty, IsReportOf, IsRefusalOf, IsAnswered, Replayed}
+use Rattle.hmc_replay.specs.Top.{is_run, OneOf, lines_for, lines_to_write, IsCaseText, IsFaulty, IsReportOf, IsRefusalOf, IsAnswered, Replayed}
 use Rattle.hmc_replay.specs.declared.input.InputError.{InputError}
 use Rattle.hmc_replay.specs.declared.input.InputError.TheVariants as inputs
 use Rattle.hmc_replay.specs.declared.run.RunError.{RunError}
@@ -56,32 +57,45 @@ lines_within input few = by_test (nat_le (length input) most_input) refl
     by_test true is = refl
     by_test false is = let more = leb-false (length input) most_input is in absurd (omega (arith, few))
 
+-- two of three statuses
+zero_or_six : (status : ℕ) → OneOf (0 ∷ 6 ∷ []) status → OneOf (0 ∷ 4 ∷ 6 ∷ []) status
+zero_or_six status (inl is) = inl is
+zero_or_six status (inr (inl is)) = inr (inr (inl is))
+zero_or_six status (inr (inr none)) = absurd none
+
 -- nothing was written
-answered_none : (source source' : SourceView) (sink sink' : SinkView) (status : ℕ) → (status ≡ 4 → ⊥) → sink' ≡ sink → BytesRead (suc most_input) source.left source'.left → IsAnswered source source' sink sink' status
+answered_none : (source source' : SourceView) (sink sink' : SinkView) (status : ℕ) → (OneOf (0 ∷ 4 ∷ 6 ∷ []) status → ⊥) → sink' ≡ sink → BytesRead (suc most_input) source.left source'.left → IsAnswered source source' sink sink' status
 answered_none source source' sink sink' status other same read =
     let none : WritesLines sink sink' [] = subst (λ v. WritesLines sink v []) (sym same) (WritesLines-none sink) in
     record {
       read = read;
-      whole_lines = λ _. WritesSome-of_lines sink sink' [] (lines_to_write read.input) none;
-      written_prefix = λ is. absurd (other is);
+      all_lines = λ is. absurd (other (zero_or_six status is));
+      no_lines = λ _. none;
+      written_prefix = λ is. absurd (other (inr (inl is)));
       not_early = inl none;
     }
 
 -- an input that was read whole was answered
-answered_whole : (source source' : SourceView) (sink sink' : SinkView) (status : ℕ) (input : List ℕ) → ReadsWhole source source' input → ((status ≡ 4 → ⊥) → WritesSome sink sink' (lines_for (case_of input)))
-    → (status ≡ 4 → BreaksOff sink sink' (lines_for (case_of input))) → IsAnswered source source' sink sink' status
-answered_whole source source' sink sink' status input whole some broken =
+answered_whole : (source source' : SourceView) (sink sink' : SinkView) (status : ℕ) (input : List ℕ) → ReadsWhole source source' input → (OneOf (0 ∷ 6 ∷ []) status → HandsOn sink sink' (lines_for (case_of input)))
+    → (OneOf (1 ∷ 2 ∷ 3 ∷ 5 ∷ []) status → ⊥) → (status ≡ 4 → FailsToHandOn sink sink' (lines_for (case_of input))) → IsAnswered source source' sink sink' status
+answered_whole source source' sink sink' status input whole all other failed =
     let lines : lines_for (case_of input) ≡ lines_to_write input = sym (lines_within input whole.few) in
     record {
       read = record { input = input; few = omega (arith, whole.few); consumed = whole.consumed };
-      whole_lines = λ other. subst (WritesSome sink sink') lines (some other);
-      written_prefix = λ is. subst (BreaksOff sink sink') lines (broken is);
+      all_lines = λ is. subst (HandsOn sink sink') lines (all is);
+      no_lines = λ is. absurd (other is);
+      written_prefix = λ is. subst (FailsToHandOn sink sink') lines (failed is);
       not_early = inr whole.ended;
     }
 
--- all lines were written
-all_lines : (sink sink' : SinkView) (lines all : List (List ℕ)) → lines ≡ all → WritesLines sink sink' lines → WritesSome sink sink' all
-all_lines sink sink' lines all is written = record { whole = lines; rest = []; parts = sym is ∙ sym (append-nil lines); written = written }
+-- a call that failed was the last one, and the one fault
+failed_once : (sink sink' : SinkView) (lines : List (List ℕ)) → FailsToHandOn sink sink' lines → sink'.faults ≡ raised sink.faults
+failed_once sink sink' lines (inl broken) = broken.faults
+failed_once sink sink' lines (inr failed) = failed.faults
+
+failed_last : (sink sink' : SinkView) (lines : List (List ℕ)) → FailsToHandOn sink sink' lines → sink'.failed ≡ true
+failed_last sink sink' lines (inl broken) = broken.failed
+failed_last sink sink' lines (inr failed) = failed.failed
 
 module _ {S O : Type 0} (source_view : S → SourceView) (sink_view : O → SinkView) (words : List (List ℕ)) where
   -- ---- the words are no defined form
@@ -97,13 +111,15 @@ module _ {S O : Type 0} (source_view : S → SourceView) (sink_view : O → Sink
     read_fault = λ is. absurd (omega (arith, is));
     no_read_fault = inr refl;
     write_fault = λ is. absurd (omega (arith, is));
+    last_failed = λ is. absurd (omega (arith, is));
     no_write_fault = inr refl;
+    finished = λ is. absurd (grind (arith, is));
     read_whole = λ is. absurd (grind (arith, is));
     stops = λ is. absurd (grind (arith, is));
     no_stop = λ is. refl;
     few_stops = λ is. inl refl;
     unwritten = λ is. refl;
-    answered = answered_none _ _ _ _ 2 (λ is. omega (arith, is)) refl
+    answered = answered_none _ _ _ _ 2 (λ is. grind (arith, is)) refl
         (record { input = []; few = omega arith; consumed = Consumes-nil (source_view source).left });
     case_reports = λ run. absurd (true_false (is_run words) run none);
     fault_refuses = λ run. absurd (true_false (is_run words) run none);
@@ -124,13 +140,15 @@ module _ {S O : Type 0} (source_view : S → SourceView) (sink_view : O → Sink
     read_fault = λ is. absurd (omega (arith, is));
     no_read_fault = inr whole.faults;
     write_fault = λ is. absurd (omega (arith, is));
+    last_failed = λ is. absurd (omega (arith, is));
     no_write_fault = inr report.written.faults;
+    finished = λ is. (report.written.calls.finishes, report.written.calls.last);
     read_whole = λ is. whole.ended;
     stops = λ is. whole.stops;
     no_stop = λ is. absurd (grind (arith, is));
     few_stops = λ is. absurd (omega (arith, is));
     unwritten = λ is. absurd (grind (arith, is));
-    answered = answered_whole _ _ _ _ 0 input whole (λ other. all_lines _ _ (report_of report.case) _ (ap lines_for (sym report.is_case)) report.written) (λ is. absurd (omega (arith, is)));
+    answered = answered_whole _ _ _ _ 0 input whole (λ _. subst (HandsOn _ _) (ap lines_for (sym report.is_case)) report.written) (λ is. grind (arith, is)) (λ is. absurd (omega (arith, is)));
     case_reports = λ _. always _ (λ x. length x ≤ most_input → IsCaseText x → OneOf (0 ∷ 1 ∷ 3 ∷ 4 ∷ []) 0) (λ x few case. inl refl);
     fault_refuses = λ _. whole_some _ _ input (λ x. length x ≤ most_input → IsFaulty x → OneOf (6 ∷ 1 ∷ 3 ∷ 4 ∷ []) 0) whole
         (λ few fault. absurd (case_fault (case_of input) report.case fault.0 report.is_case fault.1));
@@ -149,20 +167,22 @@ module _ {S O : Type 0} (source_view : S → SourceView) (sink_view : O → Sink
     read_fault = λ is. absurd (omega (arith, is));
     no_read_fault = inr whole.faults;
     write_fault = λ is. absurd (omega (arith, is));
+    last_failed = λ is. absurd (omega (arith, is));
     no_write_fault = inr refusal.written.faults;
+    finished = λ is. (refusal.written.calls.finishes, refusal.written.calls.last);
     read_whole = λ is. whole.ended;
     stops = λ is. whole.stops;
     no_stop = λ is. absurd (grind (arith, is));
     few_stops = λ is. absurd (omega (arith, is));
     unwritten = λ is. absurd (grind (arith, is));
-    answered = answered_whole _ _ _ _ 6 input whole (λ other. all_lines _ _ (bad_line refusal.fault ∷ []) _ (ap lines_for (sym refusal.is_fault)) refusal.written) (λ is. absurd (omega (arith, is)));
+    answered = answered_whole _ _ _ _ 6 input whole (λ _. subst (HandsOn _ _) (ap lines_for (sym refusal.is_fault)) refusal.written) (λ is. grind (arith, is)) (λ is. absurd (omega (arith, is)));
     case_reports = λ _. whole_some _ _ input (λ x. length x ≤ most_input → IsCaseText x → OneOf (0 ∷ 1 ∷ 3 ∷ 4 ∷ []) 6) whole
         (λ few case. absurd (case_fault (case_of input) case.0 refusal.fault case.1 refusal.is_fault));
     fault_refuses = λ _. always _ (λ x. length x ≤ most_input → IsFaulty x → OneOf (6 ∷ 1 ∷ 3 ∷ 4 ∷ []) 6) (λ x few fault. inl refl);
     excess_stops = λ _. whole_some _ _ input (λ x. most_input < length x → OneOf (5 ∷ 1 ∷ 3 ∷ []) 6) whole (λ more. absurd (omega (arith, more, whole.few)));
   }
 
-  replayed_broken : (source source' : S) (sink sink' : O) (input : List ℕ) → is_run words ≡ true → ReadsWhole (source_view source) (source_view source') input → BreaksOff (sink_view sink) (sink_view sink') (lines_for (case_of input))
+  replayed_broken : (source source' : S) (sink sink' : O) (input : List ℕ) → is_run words ≡ true → ReadsWhole (source_view source) (source_view source') input → FailsToHandOn (sink_view sink) (sink_view sink') (lines_for (case_of input))
       → Replayed source_view sink_view words source source' sink sink' 4
   replayed_broken source source' sink sink' input run whole broken = record {
     range = omega arith;
@@ -173,14 +193,16 @@ module _ {S O : Type 0} (source_view : S → SourceView) (sink_view : O → Sink
     untouched = λ is. absurd (omega (arith, is));
     read_fault = λ is. absurd (omega (arith, is));
     no_read_fault = inr whole.faults;
-    write_fault = λ is. broken.faults;
+    write_fault = λ is. failed_once _ _ _ broken;
+    last_failed = λ is. failed_last _ _ _ broken;
     no_write_fault = inl refl;
+    finished = λ is. absurd (grind (arith, is));
     read_whole = λ is. whole.ended;
     stops = λ is. whole.stops;
     no_stop = λ is. absurd (grind (arith, is));
     few_stops = λ is. absurd (omega (arith, is));
     unwritten = λ is. absurd (grind (arith, is));
-    answered = answered_whole _ _ _ _ 4 input whole (λ other. absurd (other refl)) (λ is. broken);
+    answered = answered_whole _ _ _ _ 4 input whole (λ is. absurd (grind (arith, is))) (λ is. grind (arith, is)) (λ is. broken);
     case_reports = λ _. always _ (λ x. length x ≤ most_input → IsCaseText x → OneOf (0 ∷ 1 ∷ 3 ∷ 4 ∷ []) 4) (λ x few case. inr (inr (inr (inl refl))));
     fault_refuses = λ _. always _ (λ x. length x ≤ most_input → IsFaulty x → OneOf (6 ∷ 1 ∷ 3 ∷ 4 ∷ []) 4) (λ x few fault. inr (inr (inr (inl refl))));
     excess_stops = λ _. whole_some _ _ input (λ x. most_input < length x → OneOf (5 ∷ 1 ∷ 3 ∷ []) 4) whole (λ more. absurd (omega (arith, more, whole.few)));
@@ -188,10 +210,9 @@ module _ {S O : Type 0} (source_view : S → SourceView) (sink_view : O → Sink
 
   -- ---- out of memory
 
-  replayed_memory : (source source' : S) (sink sink' : O) → is_run words ≡ true → (source_view source').faults ≡ (source_view source).faults → (sink_view sink').faults ≡ (sink_view sink).faults
-      → ((source_view source').stops ≡ (source_view source).stops) ⊎ ((source_view source').stops ≡ raised (source_view source).stops)
-      → IsAnswered (source_view source) (source_view source') (sink_view sink) (sink_view sink') 1 → Replayed source_view sink_view words source source' sink sink' 1
-  replayed_memory source source' sink sink' run reads writes stops answered = record {
+  replayed_memory : (source source' : S) (sink sink' : O) → is_run words ≡ true → BytesRead (suc most_input) (source_view source).left (source_view source').left → (source_view source').faults ≡ (source_view source).faults
+      → ((source_view source').stops ≡ (source_view source).stops) ⊎ ((source_view source').stops ≡ raised (source_view source).stops) → sink' ≡ sink → Replayed source_view sink_view words source source' sink sink' 1
+  replayed_memory source source' sink sink' run read reads stops same = record {
     range = omega arith;
     reported = λ is. absurd (omega (arith, is));
     refused = λ is. absurd (omega (arith, is));
@@ -201,13 +222,15 @@ module _ {S O : Type 0} (source_view : S → SourceView) (sink_view : O → Sink
     read_fault = λ is. absurd (omega (arith, is));
     no_read_fault = inr reads;
     write_fault = λ is. absurd (omega (arith, is));
-    no_write_fault = inr writes;
+    last_failed = λ is. absurd (omega (arith, is));
+    no_write_fault = inr (ap (λ k. (sink_view k).faults) same);
+    finished = λ is. absurd (grind (arith, is));
     read_whole = λ is. absurd (grind (arith, is));
     stops = λ is. absurd (grind (arith, is));
     no_stop = λ is. absurd (grind (arith, is));
     few_stops = λ is. stops;
-    unwritten = λ is. absurd (grind (arith, is));
-    answered = answered;
+    unwritten = λ is. same;
+    answered = answered_none _ _ _ _ 1 (λ is. grind (arith, is)) (ap sink_view same) read;
     case_reports = λ _. always _ (λ x. length x ≤ most_input → IsCaseText x → OneOf (0 ∷ 1 ∷ 3 ∷ 4 ∷ []) 1) (λ x few case. inr (inl refl));
     fault_refuses = λ _. always _ (λ x. length x ≤ most_input → IsFaulty x → OneOf (6 ∷ 1 ∷ 3 ∷ 4 ∷ []) 1) (λ x few fault. inr (inl refl));
     excess_stops = λ _. always _ (λ x. most_input < length x → OneOf (5 ∷ 1 ∷ 3 ∷ []) 1) (λ x more. inr (inl refl));
@@ -226,13 +249,15 @@ module _ {S O : Type 0} (source_view : S → SourceView) (sink_view : O → Sink
     read_fault = λ is. part.faults;
     no_read_fault = inl refl;
     write_fault = λ is. absurd (omega (arith, is));
+    last_failed = λ is. absurd (omega (arith, is));
     no_write_fault = inr (ap (λ k. (sink_view k).faults) same);
+    finished = λ is. absurd (grind (arith, is));
     read_whole = λ is. absurd (grind (arith, is));
     stops = λ is. part.stops;
     no_stop = λ is. absurd (grind (arith, is));
     few_stops = λ is. absurd (omega (arith, is));
     unwritten = λ is. same;
-    answered = answered_none _ _ _ _ 3 (λ is. omega (arith, is)) (ap sink_view same) part.read;
+    answered = answered_none _ _ _ _ 3 (λ is. grind (arith, is)) (ap sink_view same) part.read;
     case_reports = λ _. always _ (λ x. length x ≤ most_input → IsCaseText x → OneOf (0 ∷ 1 ∷ 3 ∷ 4 ∷ []) 3) (λ x few case. inr (inr (inl refl)));
     fault_refuses = λ _. always _ (λ x. length x ≤ most_input → IsFaulty x → OneOf (6 ∷ 1 ∷ 3 ∷ 4 ∷ []) 3) (λ x few fault. inr (inr (inl refl)));
     excess_stops = λ _. always _ (λ x. most_input < length x → OneOf (5 ∷ 1 ∷ 3 ∷ []) 3) (λ x more. inr (inr (inl refl)));
@@ -249,13 +274,15 @@ module _ {S O : Type 0} (source_view : S → SourceView) (sink_view : O → Sink
     read_fault = λ is. absurd (omega (arith, is));
     no_read_fault = inr part.faults;
     write_fault = λ is. absurd (omega (arith, is));
+    last_failed = λ is. absurd (omega (arith, is));
     no_write_fault = inr (ap (λ k. (sink_view k).faults) same);
+    finished = λ is. absurd (grind (arith, is));
     read_whole = λ is. absurd (grind (arith, is));
     stops = λ is. absurd (grind (arith, is));
     no_stop = λ is. part.stops;
     few_stops = λ is. absurd (omega (arith, is));
     unwritten = λ is. same;
-    answered = answered_none _ _ _ _ 5 (λ is. omega (arith, is)) (ap sink_view same) part.too_long.read;
+    answered = answered_none _ _ _ _ 5 (λ is. grind (arith, is)) (ap sink_view same) part.too_long.read;
     case_reports = λ _. too_long_some _ _ (λ x. length x ≤ most_input → IsCaseText x → OneOf (0 ∷ 1 ∷ 3 ∷ 4 ∷ []) 5) part.too_long (λ x more few case. absurd (omega (arith, more, few)));
     fault_refuses = λ _. too_long_some _ _ (λ x. length x ≤ most_input → IsFaulty x → OneOf (6 ∷ 1 ∷ 3 ∷ 4 ∷ []) 5) part.too_long (λ x more few fault. absurd (omega (arith, more, few)));
     excess_stops = λ _. always _ (λ x. most_input < length x → OneOf (5 ∷ 1 ∷ 3 ∷ []) 5) (λ x more. inl refl);
@@ -264,11 +291,10 @@ module _ {S O : Type 0} (source_view : S → SourceView) (sink_view : O → Sink
   -- ---- by the result of the run
 
   replayed_whole : (source source' : S) (sink sink' : O) (input : List ℕ) (result : Result (Unit {0}) RunError) → is_run words ≡ true → ReadsWhole (source_view source) (source_view source') input
-      → Answers input result (sink_view sink) (sink_view sink') → Replayed source_view sink_view words source source' sink sink' (status_of result)
+      → Answers input result sink_view sink sink' → Replayed source_view sink_view words source source' sink sink' (status_of result)
   replayed_whole source source' sink sink' input (Ok done) run whole answer = replayed_report source source' sink sink' input run whole answer
   replayed_whole source source' sink sink' input (Err runs.Memory) run whole answer =
-      replayed_memory source source' sink sink' run whole.faults answer.written.faults (inr whole.stops.counted)
-      (answered_whole _ _ _ _ 1 input whole (λ other. answer) (λ is. absurd (omega (arith, is))))
+      replayed_memory source source' sink sink' run (record { input = input; few = omega (arith, whole.few); consumed = whole.consumed }) whole.faults (inr whole.stops.counted) answer
   replayed_whole source source' sink sink' input (Err runs.ReadFault) run whole answer = absurd answer
   replayed_whole source source' sink sink' input (Err runs.WriteFault) run whole answer = replayed_broken source source' sink sink' input run whole answer
   replayed_whole source source' sink sink' input (Err runs.TooLong) run whole answer = absurd answer
@@ -276,8 +302,7 @@ module _ {S O : Type 0} (source_view : S → SourceView) (sink_view : O → Sink
 
   replayed_part : (source source' : S) (sink sink' : O) (error : InputError) → is_run words ≡ true → ReadsPart error (source_view source) (source_view source') → sink' ≡ sink
       → Replayed source_view sink_view words source source' sink sink' (status_of (Err (cause_of_input error)))
-  replayed_part source source' sink sink' inputs.Memory run part same =
-      replayed_memory source source' sink sink' run part.faults (ap (λ k. (sink_view k).faults) same) part.stops (answered_none _ _ _ _ 1 (λ is. omega (arith, is)) (ap sink_view same) part.read)
+  replayed_part source source' sink sink' inputs.Memory run part same = replayed_memory source source' sink sink' run part.read part.faults part.stops same
   replayed_part source source' sink sink' inputs.Fault run part same = replayed_read_fault source source' sink sink' run part same
   replayed_part source source' sink sink' inputs.TooLong run part same = replayed_too_long source source' sink sink' run part same
 

@@ -1,9 +1,7 @@
--- How the cause of a part that ended early becomes the cause of the run, and this the status.
+-- How the cause of reading that ended early becomes the cause of the run, and this the status.
 use Rattle.std.specs.Prelude.{ℕ, Result, Ok, Err}
 use Rattle.hmc_replay.specs.declared.input.InputError.{InputError}
 use Rattle.hmc_replay.specs.declared.input.InputError.TheVariants as input
-use Rattle.hmc_replay.specs.declared.output.OutputError.{OutputError}
-use Rattle.hmc_replay.specs.declared.output.OutputError.TheVariants as output
 use Rattle.hmc_replay.specs.declared.run.RunError.{RunError}
 use Rattle.hmc_replay.specs.declared.run.RunError.TheVariants.{Memory, ReadFault, WriteFault, TooLong, BadCase}
 
@@ -12,11 +10,6 @@ abbrev pub cause_of_input : InputError → RunError
 cause_of_input input.Memory = Memory
 cause_of_input input.Fault = ReadFault
 cause_of_input input.TooLong = TooLong
-
--- why writing the report ended early
-abbrev pub cause_of_output : OutputError → RunError
-cause_of_output output.Memory = Memory
-cause_of_output output.Fault = WriteFault
 
 -- the status of a run
 abbrev pub status_of : Result (Unit {0}) RunError → ℕ

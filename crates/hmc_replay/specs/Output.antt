@@ -1,12 +1,16 @@
--- Writing lines, each by one write.
+-- Writing lines, each by one write, and handing them on.
 use Rattle.std.specs.Prelude.{ℕ, List, Result, Ok, Err}
-use Rattle.hmc_outside.specs.Lines.{WritesLines, WritesSome, BreaksOff}
+use Rattle.hmc_outside.specs.Finish.{HandsOn, FailsToHandOn}
+use Rattle.hmc_outside.specs.Lines.{WritesLines, BreaksOff}
 use Rattle.hmc_outside.specs.Views.{SinkView}
-use Rattle.hmc_replay.specs.declared.output.OutputError.{OutputError}
-use Rattle.hmc_replay.specs.declared.output.OutputError.TheVariants.{Memory, Fault}
+use Rattle.hmc_outside.specs.declared.counts.Failed.{Failed}
 
--- all lines were written, or some before memory ran out, or some before a write failed
-abbrev pub Writes : Result (Unit {0}) OutputError → (old new : SinkView) → List (List ℕ) → Type 0
+-- all lines were written, or some before a write failed
+abbrev pub Writes : Result (Unit {0}) Failed → (old new : SinkView) → List (List ℕ) → Type 0
 Writes (Ok done) old new lines = WritesLines old new lines
-Writes (Err Memory) old new lines = WritesSome old new lines
-Writes (Err Fault) old new lines = BreaksOff old new lines
+Writes (Err failed) old new lines = BreaksOff old new lines
+
+-- all lines were written and handed on, or a call failed
+abbrev pub Delivers : Result (Unit {0}) Failed → (old new : SinkView) → List (List ℕ) → Type 0
+Delivers (Ok done) old new lines = HandsOn old new lines
+Delivers (Err failed) old new lines = FailsToHandOn old new lines

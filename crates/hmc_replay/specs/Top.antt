@@ -1,10 +1,11 @@
 -- What the top call promises.
-use Rattle.std.specs.Prelude.{◌≡◌, ◌≢◌, ◌≤◌, ◌<◌, ◌⊎◌, ◌↔◌, ℕ, suc, nat_le, if◌then◌else◌, Bool, true, false, List, [], ◌∷◌, ◌++◌, length, codes, bytes_eq, IfSome, Result, Ok, Err}
+use Rattle.std.specs.Prelude.{◌≡◌, ◌≤◌, ◌<◌, ◌⊎◌, ◌↔◌, ℕ, suc, nat_le, if◌then◌else◌, Bool, true, false, List, [], ◌∷◌, ◌++◌, length, codes, bytes_eq, IfSome, Result, Ok, Err}
 use Rattle.std.specs.Fmt.{decimal}
 use Rattle.std.specs.Io.KnownBytes.{IsAtEnd}
 use Rattle.hmc_codes.specs.Limits.{most_input}
 use Rattle.hmc_codes.specs.Text.{line}
-use Rattle.hmc_outside.specs.Lines.{WritesLines, WritesSome, BreaksOff}
+use Rattle.hmc_outside.specs.Finish.{HandsOn, FailsToHandOn}
+use Rattle.hmc_outside.specs.Lines.{WritesLines}
 use Rattle.hmc_outside.specs.Raised.{raised}
 use Rattle.hmc_outside.specs.Reading.{Stops}
 use Rattle.hmc_outside.specs.Views.{SourceView, SinkView}
@@ -56,18 +57,19 @@ IsCaseText input = (case : CaseFields) × (case_of input ≡ Ok case)
 abbrev pub IsFaulty : List ℕ → Type 0
 IsFaulty input = (fault : Fault) × (case_of input ≡ Err fault)
 
--- the input is a case, its report was written, and the report's journal has these guarantees
+-- the input is a case, its report was written and handed on, and the report's journal has these
+-- guarantees
 pub record IsReportOf (input : List ℕ) (sink sink' : SinkView) : Type 0 where
   pub case : CaseFields
   pub is_case : case_of input ≡ Ok case
-  pub written : WritesLines sink sink' (report_of case)
+  pub written : HandsOn sink sink' (report_of case)
   pub guarantees : Guarantees (setup_of case) (journal_of (setup_of case))
 
--- the input isn't a case, and the line with its first fault was written
+-- the input isn't a case, and the line with its first fault was written and handed on
 pub record IsRefusalOf (input : List ℕ) (sink sink' : SinkView) : Type 0 where
   pub fault : Fault
   pub is_fault : case_of input ≡ Err fault
-  pub written : WritesLines sink sink' (bad_line fault ∷ [])
+  pub written : HandsOn sink sink' (bad_line fault ∷ [])
 
 -- what was read is a case, and was reported
 pub record IsReported (source source' : SourceView) (sink sink' : SinkView) : Type 0 where
@@ -83,10 +85,13 @@ pub record IsRefused (source source' : SourceView) (sink sink' : SinkView) : Typ
 pub record IsAnswered (source source' : SourceView) (sink sink' : SinkView)
     (status : ℕ) : Type 0 where
   pub read : BytesRead (suc most_input) source.left source'.left
-  -- with each status except 4 whole lines
-  pub whole_lines : status ≢ 4 → WritesSome sink sink' (lines_to_write read.input)
-  -- with 4 whole lines and a prefix of the next one, whose write was the last
-  pub written_prefix : status ≡ 4 → BreaksOff sink sink' (lines_to_write read.input)
+  -- with 0 and 6 all of them, and then the sink was finished
+  pub all_lines : OneOf (0 ∷ 6 ∷ []) status → HandsOn sink sink' (lines_to_write read.input)
+  -- with 1, 2, 3 and 5 none
+  pub no_lines : OneOf (1 ∷ 2 ∷ 3 ∷ 5 ∷ []) status → WritesLines sink sink' []
+  -- with 4 whole lines and a prefix of the next one, whose write was the last call; or all lines,
+  -- and the finish was the last call
+  pub written_prefix : status ≡ 4 → FailsToHandOn sink sink' (lines_to_write read.input)
   -- and none unless the input was read to its end
   pub not_early : WritesLines sink sink' [] ⊎ IsAtEnd source'.left
 
@@ -113,10 +118,16 @@ pub record Replayed {S O : Type 0} (source_view : S → SourceView) (sink_view :
   -- Each fault of the source ends the call so.
   pub no_read_fault : (status ≡ 3) ⊎
       ((source_view source').faults ≡ (source_view source).faults)
-  -- 4: the sink failed once in this call.
+  -- 4: the sink failed once in this call, at a write or at its finish.
   pub write_fault : status ≡ 4 → (sink_view sink').faults ≡ raised (sink_view sink).faults
+  -- It was not called after that.
+  pub last_failed : status ≡ 4 → (sink_view sink').failed ≡ true
   -- Each fault of the sink ends the call so.
   pub no_write_fault : (status ≡ 4) ⊎ ((sink_view sink').faults ≡ (sink_view sink).faults)
+  -- 0 or 6: the sink was finished once, after all writes.
+  pub finished : OneOf (0 ∷ 6 ∷ []) status →
+      ((sink_view sink').finishes ≡ raised (sink_view sink).finishes)
+      × ((sink_view sink').finished ≡ true)
   -- The input is read to its end before anything is written.
   pub read_whole : OneOf (0 ∷ 4 ∷ 6 ∷ []) status → IsAtEnd (source_view source').left
   -- Nothing is read after the end or a fault: exactly one read found them, the last one.
@@ -129,8 +140,8 @@ pub record Replayed {S O : Type 0} (source_view : S → SourceView) (sink_view :
   pub few_stops : status ≡ 1 →
       ((source_view source').stops ≡ (source_view source).stops) ⊎
       ((source_view source').stops ≡ raised (source_view source).stops)
-  -- Where the source failed or gave too many bytes, nothing is written.
-  pub unwritten : OneOf (3 ∷ 5 ∷ []) status → sink' ≡ sink
+  -- Where memory ran out, or the source failed or gave too many bytes, the sink is not called.
+  pub unwritten : OneOf (1 ∷ 3 ∷ 5 ∷ []) status → sink' ≡ sink
   -- Whatever the status, what is written are lines for what was read.
   pub answered : IsAnswered
       (source_view source) (source_view source') (sink_view sink) (sink_view sink') status

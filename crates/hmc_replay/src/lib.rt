@@ -11,7 +11,7 @@ mod lines;
 mod output;
 mod report;
 mod run;
-mod stepping;
+mod steps;
 mod top;
 
 pub use top::replay;

@@ -1,63 +1,25 @@
-//! Writing lines, each by one write.
+//! Writing lines, each by one write, and handing them on.
 
-ghost use Rattle.std.specs.Prelude.{◌≡◌, ◌<◌, ◌∷◌, [], length, map};
-ghost use Rattle.hmc_journal.specs.Lines.{line_of};
-ghost use Rattle.hmc_replay.specs.Output.{Writes};
-ghost use Rattle.hmc_replay.specs.declared.output.OutputError.TheVariants.{Memory};
+ghost use Rattle.std.specs.Prelude.{◌<◌, ℕ, List, ◌∷◌, [], length};
+ghost use Rattle.hmc_outside.specs.Lines.{WritesLines};
+ghost use Rattle.hmc_outside.specs.Views.{SinkView};
+ghost use Rattle.hmc_replay.specs.Output.{Writes, Delivers};
 
-use hmc_codes::Memory;
-use hmc_journal::Entry;
-use hmc_outside::Sink;
-use std::alloc::Global;
-
-/// Why not all lines were written.
-#[derive(Clone, Copy, Debug, PartialEq, Eq)]
-pub enum OutputError {
-    /// Out of memory.
-    Memory,
-    /// The sink failed.
-    Fault,
-}
-
-impl From<Memory> for OutputError {
-    ghost from_gives = { λ _ e. e ≡ Memory };
-
-    fn from(_: Memory) -> Self {
-        OutputError::Memory
-    }
-}
+use hmc_outside::{Failed, Sink};
 
 /// Writes a line, which has a byte at least.
-pub fn write_line<O: Sink>(sink: &mut O, line: &str) -> Result<(), OutputError>
+pub fn write_line<O: Sink>(sink: &mut O, line: &str) -> Result<(), Failed>
     requires { 0 < length line.now }
     ensures { Writes result (O.shows sink.old) (O.shows sink.new) (line.now ∷ []) }
 {
-    match sink.write(line.as_bytes()) {
-        Ok(()) => Ok(()),
-        Err(_) => Err(OutputError::Fault),
-    }
+    sink.write(line.as_bytes())
 }
 
-fn write_entry<O: Sink>(alloc: Global, sink: &mut O, entry: &Entry) -> Result<(), OutputError>
-    ensures { Writes result (O.shows sink.old) (O.shows sink.new) (line_of entry.now ∷ []) }
+/// Hands on the lines that were written.
+pub fn finish<O: Sink>(sink: &mut O) -> Result<(), Failed>
+    ensures { (before : SinkView) → (lines : List (List ℕ)) →
+        WritesLines before (O.shows sink.old) lines →
+        Delivers result before (O.shows sink.new) lines }
 {
-    let line = entry.line(alloc)?;
-    write_line(sink, line.as_str())
-}
-
-/// Writes the lines of the entries, in order.
-pub fn write_entries<O: Sink>(
-    alloc: Global,
-    sink: &mut O,
-    entries: &[Entry],
-) -> Result<(), OutputError>
-    ensures { Writes result (O.shows sink.old) (O.shows sink.new) (map line_of entries.now) }
-{
-    'entries: for entry in entries {
-        match write_entry(alloc, sink, entry) {
-            Ok(()) => {}
-            Err(error) => return Err(error),
-        }
-    }
-    Ok(())
+    sink.finish()
 }

@@ -1,17 +1,19 @@
 //! From input to output.
 
-ghost use Rattle.std.specs.Prelude.{◌≡◌, ◌∷◌, [], IfOk, string_bytes};
-ghost use Rattle.hmc_replay.specs.Causes.{cause_of_input, cause_of_output};
-ghost use Rattle.hmc_replay.specs.Output.{Writes};
-ghost use Rattle.hmc_replay.specs.Runs.{Answers, Runs};
+ghost use Rattle.std.specs.Prelude.{◌≡◌, ◌<◌, ◌∷◌, [], length, IfOk, string_bytes};
+ghost use Rattle.hmc_replay.specs.Causes.{cause_of_input};
+ghost use Rattle.hmc_replay.specs.Output.{Delivers};
+ghost use Rattle.hmc_replay.specs.Runs.{Refuses, Reports, Answers, Runs};
 ghost use Rattle.hmc_replay.specs.Top.{bad_line};
+ghost use Rattle.hmc_replay.specs.declared.run.RunError.TheVariants.{Memory, WriteFault};
 
 use crate::input::{InputError, read_input};
-use crate::output::{OutputError, write_line};
+use crate::output::{finish, write_line};
 use crate::report::write_report;
 use hmc_case::{Case, CaseFault, CaseKind, Section};
 use hmc_codes::Memory;
-use hmc_outside::{Sink, Source};
+use hmc_net::Network;
+use hmc_outside::{Failed, Sink, Source};
 use std::alloc::Global;
 
 /// Why a run ended early.
@@ -41,14 +43,19 @@ impl From<InputError> for RunError {
     }
 }
 
-impl From<OutputError> for RunError {
-    ghost from_gives = { λ e r. r ≡ cause_of_output e };
+impl From<Memory> for RunError {
+    ghost from_gives = { λ _ r. r ≡ Memory };
 
-    fn from(error: OutputError) -> Self {
-        match error {
-            OutputError::Memory => RunError::Memory,
-            OutputError::Fault => RunError::WriteFault,
-        }
+    fn from(_: Memory) -> Self {
+        RunError::Memory
+    }
+}
+
+impl From<Failed> for RunError {
+    ghost from_gives = { λ _ r. r ≡ WriteFault };
+
+    fn from(_: Failed) -> Self {
+        RunError::WriteFault
     }
 }
 
@@ -61,27 +68,49 @@ fn bad_line(alloc: Global, section: Section, line: u32, kind: CaseKind) -> Resul
     Ok(format!(in alloc; "bad {section} {line} {kind}\n")?)
 }
 
-// Writes the line for what is not a valid case.
+// Writes a line, and hands it on.
+fn write_only<O: Sink>(sink: &mut O, line: &str) -> Result<(), Failed>
+    requires { 0 < length line.now }
+    ensures { Delivers result (O.shows sink.old) (O.shows sink.new) (line.now ∷ []) }
+{
+    write_line(sink, line)?;
+    finish(sink)
+}
+
+// Writes the line for what is not a valid case, and hands it on. Out of memory it writes nothing.
 fn refuse<O: Sink>(
     alloc: Global,
     sink: &mut O,
     section: Section,
     line: u32,
     kind: CaseKind,
-) -> Result<(), OutputError>
-    ensures { Writes result (O.shows sink.old) (O.shows sink.new)
-        (bad_line (record { section = section; line = line; kind = kind }) ∷ []) }
+) -> RunError
+    ensures { Refuses (record { section = section; line = line; kind = kind })
+        result O.shows sink.old sink.new }
 {
-    let text = bad_line(alloc, section, line, kind)?;
-    write_line(sink, text.as_str())
+    let Ok(text) = bad_line(alloc, section, line, kind) else {
+        return RunError::Memory;
+    };
+    match write_only(sink, text.as_str()) {
+        Ok(()) => RunError::BadCase,
+        Err(_) => RunError::WriteFault,
+    }
+}
+
+// Steps the network of a case, and writes the report. Out of memory it writes nothing.
+fn report<O: Sink>(alloc: Global, sink: &mut O, case: &Case) -> Result<(), RunError>
+    ensures { Reports case.now result O.shows sink.old sink.new }
+{
+    let mut network = Network::build(alloc, case)?;
+    Ok(write_report(sink, case, &mut network)?)
 }
 
 // Writes what is to be written for an input.
 fn answer<O: Sink>(alloc: Global, sink: &mut O, input: &[u8]) -> Result<(), RunError>
-    ensures { Answers input.now result (O.shows sink.old) (O.shows sink.new) }
+    ensures { Answers input.now result O.shows sink.old sink.new }
 {
     match Case::read(alloc, input) {
-        Ok(case) => Ok(write_report(alloc, sink, &case)?),
+        Ok(case) => report(alloc, sink, &case),
         Err(CaseFault::Memory) => Err(RunError::Memory),
         Err(
             CaseFault::Bad {
@@ -89,10 +118,7 @@ fn answer<O: Sink>(alloc: Global, sink: &mut O, input: &[u8]) -> Result<(), RunE
                 line,
                 kind,
             },
-        ) => {
-            refuse(alloc, sink, section, line, kind)?;
-            Err(RunError::BadCase)
-        }
+        ) => Err(refuse(alloc, sink, section, line, kind)),
     }
 }
 

@@ -28,7 +28,8 @@ fn status_of(run: Result<(), RunError>) -> u8
 }
 
 /// Replays the input that the source gives, and writes its report to the sink, each line by one
-/// write. `words` are those after the program's name: the one form is `run`.
+/// write. After the last line the sink is finished, once. `words` are those after the program's
+/// name: the one form is `run`.
 ///
 /// A source may show the bytes that are left, and a sink the pieces that were written, as those in
 /// memory do; standard input and output don't. What is said of bytes holds where they are shown.
@@ -38,10 +39,10 @@ fn status_of(run: Result<(), RunError>) -> u8
 /// | Status | Meaning | Written |
 /// |---|---|---|
 /// | 0 | the report is whole | the report |
-/// | 1 | out of memory | a prefix of its lines, or all |
+/// | 1 | out of memory | nothing |
 /// | 2 | the words are no defined form | nothing, and nothing is read |
 /// | 3 | the source failed | nothing |
-/// | 4 | the sink failed | whole lines, and a prefix of the next |
+/// | 4 | the sink failed: a write, or the finish | whole lines, and a prefix of the next; or all |
 /// | 5 | the input is longer than 4,194,304 bytes | nothing |
 /// | 6 | the input is not a valid case | a line with its first fault |
 ///

@@ -1,15 +1,18 @@
 //! The final lines of a report: a line for each block of memory and each register that isn't zero,
 //! the counts of each host and each cube, and whether the network drained.
 //!
-//! Each function gives the text of one line, a line feed at its end. specs/Lines has the lines, and
-//! how those of a memory and of registers are put together.
+//! Each function writes one line into an empty text, with a line feed at its end, and takes no
+//! memory. Every line is shorter than 2,048 bytes. specs/Lines has the lines, and how those of a
+//! memory and of registers are put together.
 #![tactic(auto)]
 
-ghost use Rattle.std.specs.Prelude.{◌≡◌, ◌<◌, ◌*◌, ◌^◌, length, string_bytes, IfOk};
+ghost use Rattle.std.specs.Prelude.{◌≡◌, ◌<◌, ◌*◌, ◌^◌, [], length};
 ghost use Rattle.hmc_report.specs.Lines.{is_zero, memory_line, register_line, host_line, cube_line, state_line};
 
-use hmc_codes::{CubeCounts, HostCounts, Memory};
-use std::alloc::Global;
+use hmc_codes::{
+    CubeCounts, HostCounts, LineText, append_bytes, append_hex_number, append_sixteen,
+    append_spaced,
+};
 
 /// How many bytes a line of memory has.
 pub const BLOCK: u64 = 16;
@@ -29,53 +32,77 @@ pub fn is_zero(block: &[u8]) -> bool
 
 /// The line of a block of 16 bytes, by its number in the memory of its cube.
 #[tactic(auto, unfolding(crate::specs::Lines::memory_line))]
-pub fn memory_line(alloc: Global, cube: u8, block: u64, bytes: &[u8]) -> Result<String, Memory>
-    requires { 16 * block < 2 ^ 64 }
-    ensures text { IfOk result (λ text. string_bytes text ≡ memory_line cube block bytes.now) }
+pub fn memory_line(into: &mut LineText, cube: u8, block: u64, bytes: &[u8; 16])
+    requires empty { into.old.bytes ≡ [] }
+    requires place { 16 * block < 2 ^ 64 }
+    ensures text { into.new.bytes ≡ memory_line cube block bytes.now }
+    ensures short { length into.new.bytes < 2048 }
 {
     let place = BLOCK * block;
-    let bytes = hex::encode(alloc, bytes)?;
-    Ok(format!(in alloc; "memory {cube} 0x{place:x} {bytes}\n")?)
+    into.push_str("memory");
+    append_spaced(into, u64::from(cube));
+    into.push_str(" ");
+    append_hex_number(into, place);
+    into.push_str(" ");
+    append_sixteen(into, bytes);
+    into.push_str("\n");
 }
 
 /// The line of a register.
 #[tactic(auto, unfolding(crate::specs::Lines::register_line))]
-pub fn register_line(alloc: Global, cube: u8, register: u64, value: u32) -> Result<String, Memory>
-    ensures text { IfOk result (λ text. string_bytes text ≡ register_line cube register value) }
+pub fn register_line(into: &mut LineText, cube: u8, register: u64, value: u32)
+    requires empty { into.old.bytes ≡ [] }
+    ensures text { into.new.bytes ≡ register_line cube register value }
+    ensures short { length into.new.bytes < 2048 }
 {
-    let value = hex::encode(alloc, &value.to_be_bytes())?;
-    Ok(format!(in alloc; "register {cube} {register} {value}\n")?)
+    let bytes = value.to_be_bytes();
+    into.push_str("register");
+    append_spaced(into, u64::from(cube));
+    append_spaced(into, register);
+    into.push_str(" ");
+    append_bytes(into, &bytes);
+    into.push_str("\n");
 }
 
 /// The line of a host.
 #[tactic(auto, unfolding(crate::specs::Lines::host_line))]
-pub fn host_line(alloc: Global, host: u8, counts: &HostCounts) -> Result<String, Memory>
-    ensures text { IfOk result (λ text. string_bytes text ≡ host_line host counts.now) }
+pub fn host_line(into: &mut LineText, host: u8, counts: &HostCounts)
+    requires empty { into.old.bytes ≡ [] }
+    ensures text { into.new.bytes ≡ host_line host counts.now }
+    ensures short { length into.new.bytes < 2048 }
 {
-    let given = counts.given;
-    let taken = counts.taken;
-    let out = counts.out;
-    Ok(format!(in alloc; "host {host} {given} {taken} {out}\n")?)
+    into.push_str("host");
+    append_spaced(into, u64::from(host));
+    append_spaced(into, u64::from(counts.given));
+    append_spaced(into, u64::from(counts.taken));
+    append_spaced(into, u64::from(counts.out));
+    into.push_str("\n");
 }
 
 /// The line of a cube.
 #[tactic(auto, unfolding(crate::specs::Lines::cube_line))]
-pub fn cube_line(alloc: Global, cube: u8, counts: &CubeCounts) -> Result<String, Memory>
-    ensures text { IfOk result (λ text. string_bytes text ≡ cube_line cube counts.now) }
+pub fn cube_line(into: &mut LineText, cube: u8, counts: &CubeCounts)
+    requires empty { into.old.bytes ≡ [] }
+    ensures text { into.new.bytes ≡ cube_line cube counts.now }
+    ensures short { length into.new.bytes < 2048 }
 {
-    let executed = counts.executed;
-    let dropped = counts.dropped;
-    Ok(format!(in alloc; "cube {cube} {executed} {dropped}\n")?)
+    into.push_str("cube");
+    append_spaced(into, u64::from(cube));
+    append_spaced(into, u64::from(counts.executed));
+    append_spaced(into, u64::from(counts.dropped));
+    into.push_str("\n");
 }
 
 /// The last line.
 #[tactic(auto, unfolding(crate::specs::Lines::state_line))]
-pub fn state_line(drained: bool) -> &'static str
-    ensures { result.now ≡ state_line drained }
+pub fn state_line(into: &mut LineText, drained: bool)
+    requires empty { into.old.bytes ≡ [] }
+    ensures text { into.new.bytes ≡ state_line drained }
+    ensures short { length into.new.bytes < 2048 }
 {
     if drained {
-        "state drained\n"
+        into.push_str("state drained\n");
     } else {
-        "state busy\n"
+        into.push_str("state busy\n");
     }
 }

@@ -1,10 +1,10 @@
 -- A retry buffer of 17 flits, worked: filled, acknowledged, gone back in, and wrapped.
-use Rattle.std.proofs.Common.{◌≡◌, ℕ, List, [], ◌∷◌, Some, None, Err, map, refl}
+use Rattle.std.proofs.Common.{◌≡◌, ℕ, true, false, List, [], ◌∷◌, Some, None, Err, map, refl}
 use Rattle.std.specs.List.{range_with_len}
 use Rattle.hmc_codes.specs.declared.command.Command.TheVariants.{Rd16}
 use Rattle.hmc_codes.specs.declared.profile.Profile.TheVariants.{One, Two}
 use Rattle.hmc_packet.specs.Packet.{PacketFields, null_packet}
-use Rattle.hmc_retry.specs.RetryBuffer.{RetryFields, room_of, next_pointer, opening_buffer, after_put, acknowledged_by, acknowledgement, after_acknowledge, after_next}
+use Rattle.hmc_retry.specs.RetryBuffer.{RetryFields, room_of, next_pointer, opening_buffer, after_put, acknowledged_by, acknowledgement, after_acknowledge, after_next, are_all_sent}
 
 -- a packet of one flit that ends at a pointer
 abbrev ending_at : ℕ → PacketFields
@@ -70,6 +70,16 @@ next-middle = refl
 
 next-end : after_next (keeping 0 3 three) ≡ keeping 0 3 three
 next-end = refl
+
+-- all were sent past the last packet, and in a buffer that keeps none, but not before
+sent-end : are_all_sent (keeping 0 3 three) ≡ true
+sent-end = refl
+
+sent-new : are_all_sent (opening_buffer 17 One) ≡ true
+sent-new = refl
+
+sent-middle : are_all_sent (keeping 0 2 three) ≡ false
+sent-middle = refl
 
 -- pointers wrap at 512 in profile One and at 2,048 in profile Two
 wrap-one : next_pointer (keeping 510 1 (ending_at 511 ∷ [])) 2 ≡ 1

@@ -1,5 +1,5 @@
 -- A retry buffer, as the contracts see it, and what its calls give and leave.
-use Rattle.std.specs.Prelude.{◌≡◌, ◌≤◌, ◌<◌, ◌+◌, ◌-◌, ◌%◌, ℕ, suc, nat_lt, ◌==◌, if◌then◌else◌, List, [], ◌∷◌, ◌++◌, length, take, drop, slice_index_or, sum_by, position, Option, Some, None, Result, Ok, Err}
+use Rattle.std.specs.Prelude.{◌≡◌, ◌≤◌, ◌<◌, ◌+◌, ◌-◌, ◌%◌, ℕ, suc, nat_lt, Bool, ◌==◌, if◌then◌else◌, List, [], ◌∷◌, ◌++◌, length, take, drop, slice_index_or, sum_by, position, Option, Some, None, Result, Ok, Err}
 use Rattle.hmc_codes.specs.Limits.{least_flits}
 use Rattle.hmc_codes.specs.Profile.{modulus_of, most_retry}
 use Rattle.hmc_codes.specs.declared.profile.Profile.{Profile}
@@ -75,6 +75,10 @@ after_next buffer = record buffer {
   position =
       if nat_lt buffer.position (length buffer.kept) then suc buffer.position else buffer.position;
 }
+
+-- all kept packets were sent: none comes after the position
+abbrev pub are_all_sent : RetryFields → Bool
+are_all_sent buffer = buffer.position == length buffer.kept
 
 -- the packet at a place
 abbrev pub packet_at : List PacketFields → ℕ → PacketFields

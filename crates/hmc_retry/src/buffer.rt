@@ -4,7 +4,7 @@ ghost use Rattle.std.specs.Prelude.{◌≡◌, ◌≤◌, ◌<◌, ◌-◌, ◌^
 ghost use Rattle.hmc_codes.specs.Limits.{least_flits};
 ghost use Rattle.hmc_codes.specs.Profile.{most_retry};
 ghost use Rattle.hmc_packet.specs.Packet.{flits_of};
-ghost use Rattle.hmc_retry.specs.RetryBuffer.{IsRetryBuffer, room_of, next_pointer, opening_buffer, after_put, acknowledged_by, acknowledgement, after_acknowledge, after_next, packet_at};
+ghost use Rattle.hmc_retry.specs.RetryBuffer.{IsRetryBuffer, room_of, next_pointer, opening_buffer, after_put, acknowledged_by, acknowledgement, after_acknowledge, after_next, are_all_sent, packet_at};
 
 use crate::Stray;
 use circular_buffer::HeapCircularBuffer;
@@ -144,6 +144,13 @@ impl RetryBuffer {
         ensures { self.new ≡ record self.old { position = 0 } }
     {
         self.position = 0;
+    }
+
+    /// Whether all kept packets were sent: `next` would give `None`.
+    pub fn is_at_end(&self) -> bool
+        ensures { result ≡ are_all_sent self.now }
+    {
+        usize::from(self.position) == self.kept.len()
     }
 
     /// The kept packet to be sent next, which then counts as sent; `None` exactly where all were

@@ -1,5 +1,5 @@
 pub mod RoundLemmas
-pub mod RoomLemmas
 pub mod WorkLemmas
 pub mod ParseLemmas
+pub mod WrittenLemmas
 mod Worked

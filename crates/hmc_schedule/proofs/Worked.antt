@@ -1,5 +1,5 @@
 -- Definitions computed at a plan of two cubes: the second has one vault, four banks, and a link at port 1 alone.
-use Rattle.std.proofs.Common.{◌≡◌, ◌+◌, List, length, nat_le, [], ◌∷◌, ◌++◌, Ok, Err, true, false, refl, arith}
+use Rattle.std.proofs.Common.{◌≡◌, ◌+◌, ℕ, List, length, nat_le, [], ◌∷◌, ◌++◌, Ok, Err, true, false, refl, arith}
 use Rattle.std.proofs.lemmas.Bool.Decides.{nat_tests}
 use Rattle.std.specs.Prelude.{codes, map}
 use Rattle.hex.specs.Hex.{decode_pairs}
@@ -13,6 +13,8 @@ use Rattle.hmc_schedule.specs.declared.fault.ScheduleKind.TheVariants as kinds
 use Rattle.hmc_schedule.specs.declared.step.Step.{Step}
 use Rattle.hmc_schedule.specs.declared.step.Step.TheVariants as steps
 use Rattle.hmc_schedule.specs.declared.verb.Verb.TheVariants as verbs
+use Rattle.hmc_schedule.specs.declared.written.Segment.{Segment}
+use Rattle.hmc_schedule.specs.declared.written.Stretch.TheVariants as stretches
 use Rattle.hmc_schedule.specs.Meaning.{numbered_step, land_of, port_step, spread_of, bank_of, lift_of, step_of, one_of, statement_of, meaning_of}
 use Rattle.hmc_schedule.specs.Operands.{port_words, vault_words, vault_lift, lift_word, mask_word, mask_words, count_word}
 use Rattle.hmc_schedule.specs.Plan.{PlanFields, IsPlan, IsStepOf}
@@ -20,6 +22,7 @@ use Rattle.hmc_codes.specs.Flit.{zero_flit}
 use Rattle.hmc_schedule.specs.Round.{shifts_of, spreads_of, banks_of, lifts_of, round_of}
 use Rattle.hmc_schedule.specs.Schedule.{add_steps, after_line, schedule_of}
 use Rattle.hmc_schedule.specs.Verb.{verbs as all_verbs, verb_of}
+use Rattle.hmc_schedule.specs.Written.{steps_in, IsWritten}
 
 abbrev two_cubes : PlanFields
 two_cubes = record {
@@ -113,3 +116,23 @@ schedule_of-good = refl
 schedule_of-fault : schedule_of two_cubes (codes "spread 1 0" ++ 10 ∷ codes "lift 1 1" ++ 10 ∷ codes "jump") ≡ Err (2, kinds.Range)
 unfolding schedule_of after_lines after_line add_steps lines_of words_of meaning_of statement_of one_of verb_of all_verbs step_of spread_of lift_of vault_words lift_word vault_lift number_word number_of number_in number_after
 schedule_of-fault = refl
+
+-- two rounds of two steps, and then a step
+abbrev give_take : List Step
+give_take = steps.Give 0 ∷ steps.Take 0 ∷ []
+
+abbrev rounds_and_send : ℕ → List Segment
+rounds_and_send start = record { start = 0; stretch = stretches.Rounds 2 } ∷ record { start = start; stretch = stretches.One (steps.Send 1) } ∷ []
+
+steps_in-rounds_and_send : steps_in give_take (rounds_and_send 4) ≡ steps.Give 0 ∷ steps.Take 0 ∷ steps.Give 0 ∷ steps.Take 0 ∷ steps.Send 1 ∷ []
+unfolding steps_in
+steps_in-rounds_and_send = refl
+
+-- what is never kept: a segment that begins too early, and a wrong number of steps
+IsWritten-early : IsWritten give_take (rounds_and_send 3) 5 → ⊥
+unfolding steps_in
+IsWritten-early is = omega (arith, is.starts 1 (record { start = 0; stretch = stretches.Rounds 2 }) (omega arith))
+
+IsWritten-wrong_total : IsWritten give_take (rounds_and_send 4) 4 → ⊥
+unfolding steps_in
+IsWritten-wrong_total is = omega (arith, is.total)

@@ -4,4 +4,5 @@ pub mod Verb
 pub mod Operands
 pub mod Meaning
 pub mod Round
+pub mod Written
 pub mod Schedule

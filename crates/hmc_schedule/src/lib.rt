@@ -3,8 +3,11 @@
 //! A schedule is a list of steps, each of which names one part of a network by its numbers: a host
 //! gives or takes, a flit is sent or lands, a cube's port, vault or bank takes one step.
 //! [`Schedule::parse`] reads a text for a [`Plan`], which has the parts of the network. It returns
-//! the list of steps with every round written out, or the first fault with its line, by
+//! the list of steps with every round spelled out, or the first fault with its line, by
 //! `specs/Schedule.antt`. Every step names parts of the plan (`IsStepOf`).
+//!
+//! A schedule is kept as it is written (`specs/Written.antt`): the steps of one round once, and a
+//! segment for each line that states steps. A thousand rounds take no more memory than one.
 #![tactic(auto)]
 
 mod fault;
@@ -16,6 +19,7 @@ mod round;
 mod schedule;
 mod step;
 mod verb;
+mod written;
 
 pub use fault::{ScheduleFault, ScheduleKind};
 pub use plan::{CubePlan, Plan};

@@ -1,115 +1,95 @@
 //! Schedules are read.
 
-ghost use Rattle.std.specs.Prelude.{◌≡◌, ◌≤◌, ◌<◌, ◌++◌, [], ◌∷◌, length, replicate, IfOk, OnOk};
-ghost use Rattle.std.specs.List.{All, flat_map};
+ghost use Rattle.std.specs.Prelude.{◌≡◌, ◌≤◌, length, IfOk, OnOk};
+ghost use Rattle.std.specs.List.{All};
 ghost use Rattle.hmc_codes.specs.Limits.{most_steps};
 ghost use Rattle.hmc_text.specs.InTurn.{at_line, Answers};
 ghost use Rattle.hmc_schedule.specs.declared.meaning.Meaning.TheVariants as meanings;
 ghost use Rattle.hmc_schedule.specs.Meaning.{IfOne};
-ghost use Rattle.hmc_schedule.specs.Plan.{IsStepOf, IsBuilt, IsWorking};
-ghost use Rattle.hmc_schedule.specs.Round.{rounds_of};
+ghost use Rattle.hmc_schedule.specs.declared.written.Stretch.TheVariants.{Rounds};
+ghost use Rattle.hmc_schedule.specs.Plan.{PlanFields, IsStepOf, IsBuilt, IsWorking};
+ghost use Rattle.hmc_schedule.specs.Round.{round_of};
 ghost use Rattle.hmc_schedule.specs.Schedule.{steps_of, add_steps, after_line, schedule_of};
+ghost use Rattle.hmc_schedule.specs.Written.{stretch_of};
 
 use crate::meaning::{Meaning, meaning_of};
 use crate::round::round;
-use crate::{Plan, Schedule, ScheduleFault, ScheduleKind, Step};
+use crate::written::{Stretch, Written};
+use crate::{Plan, Schedule, ScheduleFault, ScheduleKind};
 use hmc_codes::MOST_STEPS;
 use hmc_text::lines::Lines;
-use std::alloc::{AllocError, Global};
+use std::alloc::Global;
 
-// Appends a round this many times.
-fn repeat(steps: &mut Vec<Step>, round: &[Step], count: u32) -> Result<(), AllocError>
-    ensures { OnOk result
-        (steps.new.items ≡ steps.old.items
-        ++ flat_map (λ steps. steps) (replicate count round.now)) }
-{
-    for done in 0..count {
-        if let Err(memory) = steps.extend_from_slice(round) {
-            return Err(memory);
-        }
-    }
-    Ok(())
-}
-
-// Appends a step, if there is room for it.
+// Appends so many steps, if there is room for them.
 #[tactic(auto, unfolding(crate::specs::Schedule::add_steps))]
-fn add_one(steps: &mut Vec<Step>, number: u32, step: Step) -> Result<(), ScheduleFault>
-    ensures { Answers (λ _. steps.new.items) result
-        (at_line number (add_steps steps.old.items (step ∷ []))) }
+fn add(
+    written: &mut Written,
+    number: u32,
+    stretch: Stretch,
+    count: u128,
+) -> Result<(), ScheduleFault>
+    requires { count ≡ length (stretch_of written.old.round stretch) }
+    ensures value { Answers (λ _. written.new.steps) result
+        (at_line number
+        (add_steps written.old.steps (stretch_of written.old.round stretch))) }
+    ensures round { written.new.round ≡ written.old.round }
 {
-    if steps.len() >= MOST_STEPS as usize {
+    if count > u128::from(MOST_STEPS - written.len()) {
         return Err(ScheduleFault::Fault {
             line: number,
             kind: ScheduleKind::Steps,
         });
     }
-    steps.extend_from_slice(&[step])?;
+    written.append(stretch, count as u32)?;
     Ok(())
 }
 
 // Appends rounds, if there is room for them.
-#[tactic(auto, unfolding(crate::specs::Schedule::add_steps))]
-fn add_rounds(
-    alloc: Global,
-    plan: &Plan,
-    steps: &mut Vec<Step>,
-    number: u32,
-    count: u32,
-) -> Result<(), ScheduleFault>
-    requires { length steps.old.items ≤ most_steps }
-    ensures { Answers (λ _. steps.new.items) result
-        (at_line number (add_steps steps.old.items (rounds_of plan.now count))) }
+fn add_rounds(written: &mut Written, number: u32, count: u32) -> Result<(), ScheduleFault>
+    ensures value { Answers (λ _. written.new.steps) result
+        (at_line number
+        (add_steps written.old.steps (stretch_of written.old.round (Rounds count)))) }
+    ensures round { written.new.round ≡ written.old.round }
 {
-    let round = round(alloc, plan)?;
-    let more = u128::from(count) * round.len() as u128;
-    if steps.len() as u128 + more > MOST_STEPS as u128 {
-        return Err(ScheduleFault::Fault {
-            line: number,
-            kind: ScheduleKind::Steps,
-        });
-    }
-    repeat(steps, &round, count)?;
-    Ok(())
+    let more = u128::from(count) * written.round_len() as u128;
+    add(written, number, Stretch::Rounds(count), more)
 }
 
 // Applies what a line states.
-#[tactic(auto, unfolding(crate::specs::Schedule::add_steps))]
-fn follow(
-    alloc: Global,
-    plan: &Plan,
-    steps: &mut Vec<Step>,
-    number: u32,
-    meaning: Meaning,
-) -> Result<(), ScheduleFault>
-    requires { length steps.old.items ≤ most_steps }
-    ensures { Answers (λ _. steps.new.items) result
-        (at_line number (add_steps steps.old.items (steps_of plan.now meaning))) }
+#[tactic(auto, unfolding(crate::specs::Schedule::add_steps, crate::specs::Round::rounds_of))]
+fn follow(written: &mut Written, number: u32, meaning: Meaning) -> Result<(), ScheduleFault>
+    ensures value { (plan : PlanFields) → written.old.round ≡ round_of plan
+        → length written.old.steps ≤ most_steps
+        → Answers (λ _. written.new.steps) result
+        (at_line number (add_steps written.old.steps (steps_of plan meaning))) }
+    ensures round { written.new.round ≡ written.old.round }
 {
     match meaning {
         Meaning::Nothing => Ok(()),
-        Meaning::One(step) => add_one(steps, number, step),
-        Meaning::Rounds(count) => add_rounds(alloc, plan, steps, number, count),
+        Meaning::One(step) => add(written, number, Stretch::One(step), 1),
+        Meaning::Rounds(count) => add_rounds(written, number, count),
     }
 }
 
 // Reads the next line.
 #[tactic(auto, unfolding(crate::specs::Schedule::after_line))]
 fn read_line(
-    alloc: Global,
     plan: &Plan,
-    steps: &mut Vec<Step>,
+    written: &mut Written,
     number: u32,
     line: &[u8],
 ) -> Result<(), ScheduleFault>
-    requires { length steps.old.items ≤ most_steps }
-    ensures value { Answers (λ _. steps.new.items) result
-        (at_line number (after_line plan.now steps.old.items line.now)) }
-    ensures few { OnOk result (length steps.new.items ≤ most_steps) }
-    ensures works { All (IsWorking plan.now) steps.old.items
-        → OnOk result (All (IsWorking plan.now) steps.new.items) }
+    requires round { written.old.round ≡ round_of plan.now }
+    requires few { length written.old.steps ≤ most_steps }
+    ensures value { Answers (λ _. written.new.steps) result
+        (at_line number (after_line plan.now written.old.steps line.now)) }
+    ensures round { written.new.round ≡ written.old.round }
+    ensures few { OnOk result (length written.new.steps ≤ most_steps) }
+    ensures works { All (IsWorking plan.now) written.old.steps
+        → OnOk result (All (IsWorking plan.now) written.new.steps) }
 {
     match meaning_of(plan, line) {
-        Ok(meaning) => follow(alloc, plan, steps, number, meaning),
+        Ok(meaning) => follow(written, number, meaning),
         Err(kind) => Err(ScheduleFault::Fault { line: number, kind }),
     }
 }
@@ -129,13 +109,13 @@ impl Schedule {
         // So far no step has a mask, goes through, unlocks or retires.
         ensures built { IfOk result (All IsBuilt) }
     {
-        let mut steps = Vec::new(alloc);
+        let mut written = Written::new(alloc, round(alloc, plan)?);
         let mut left = Lines::of(text);
         'lines: while let Some((number, line)) = left.next_line() {
-            if let Err(fault) = read_line(alloc, plan, &mut steps, number, line) {
+            if let Err(fault) = read_line(plan, &mut written, number, line) {
                 return Err(fault);
             }
         }
-        Ok(Schedule::of(steps))
+        Ok(Schedule::of(written))
     }
 }

@@ -4,12 +4,14 @@ ghost use Rattle.std.specs.Prelude.{◌≡◌, ◌<◌, ◌≤◌, length, slice
 ghost use Rattle.hmc_codes.specs.Limits.{most_steps};
 
 use crate::Step;
+use crate::written::Written;
 use std::marker::Model;
 
-/// At most `MOST_STEPS` steps, in order. Contracts see them as a list.
+/// At most `MOST_STEPS` steps, in order. Contracts see them as a list. It takes memory for each
+/// line that states steps, and for one round.
 #[derive(Drop)]
 pub struct Schedule {
-    steps: Vec<Step>,
+    written: Written,
 }
 
 impl Model for Schedule {
@@ -19,31 +21,33 @@ impl Model for Schedule {
 
     ghost Value = { List Step };
 
-    ghost view = { λ s. s.steps.items };
+    ghost view = { λ s. s.written.steps };
 
-    ghost invariant = { λ s. length s.steps.items ≤ most_steps };
+    ghost invariant = { λ s. length s.written.steps ≤ most_steps };
 }
 
 impl Schedule {
-    pub(crate) fn of(steps: Vec<Step>) -> Schedule
-        requires { length steps.items ≤ most_steps }
-        ensures { result ≡ steps.items }
+    pub(crate) fn of(written: Written) -> Schedule
+        ensures steps { result ≡ written.steps }
+        ensures few { length result ≤ most_steps }
     {
-        Schedule { steps }
+        let _ = written.len();
+        Schedule { written }
     }
 
     /// The number of steps.
     pub fn len(&self) -> u32
         ensures { result ≡ length self.now }
     {
-        self.steps.len() as u32
+        self.written.len()
     }
 
-    /// The step at this place, counted from 0 and below the length.
+    /// The step at this place, counted from 0 and below the length. It is found in as many tests as
+    /// the number of lines with steps has binary digits.
     pub fn step(&self, at: u32) -> Step
         requires { at < length self.now }
         ensures { slice_get self.now at ≡ Some result }
     {
-        self.steps[at as usize]
+        self.written.step(at)
     }
 }

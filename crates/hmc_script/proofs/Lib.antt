@@ -7,4 +7,5 @@ pub mod RequestWords
 pub mod MeaningText
 pub mod LawLemmas
 pub mod PayloadLemmas
+pub mod StoredLemmas
 mod Worked

@@ -15,11 +15,13 @@ use Rattle.hmc_text.specs.Number.{number_after, number_in, number_of}
 use Rattle.hmc_text.specs.Reading.{number_word as number_read}
 use Rattle.hmc_text.specs.Words.{words_of}
 use Rattle.hmc_script.specs.declared.fault.ScriptKind.TheVariants.{Command}
+use Rattle.hmc_script.specs.declared.stored.Short.{Short}
 use Rattle.hmc_script.specs.Commands.{requests, command_of}
 use Rattle.hmc_script.specs.Items.{ItemFields, IsWithin}
 use Rattle.hmc_script.specs.Meaning.{command_word, request_of, ask_of, fence_of, statement_of, meaning_of}
 use Rattle.hmc_script.specs.Payload.{value_bytes, payload_of, no_payload, some_payload, payload_word}
 use Rattle.hmc_script.specs.Script.{after_meaning, after_line, script_of}
+use Rattle.hmc_script.specs.Stored.{items_in, IsStored}
 use Rattle.hmc_script.specs.Text.{item_text, script_text}
 
 requests-count : length requests ≡ 62
@@ -70,3 +72,22 @@ IsWithin-last = record { host = omega arith; cube = omega arith }
 
 IsWithin-host : IsWithin 2 2 (item_of 2 false (read_at 1 0)) → ⊥
 IsWithin-host is = omega (arith, is.host)
+
+-- a write of 16 bytes, a read, and a register's value, whose bytes begin after those of the write
+abbrev three_shorts : List Short
+three_shorts =
+    record { host = 0; fenced = false; poisoned = true; command = commands.Wr16; cube = 1; address = 32; start = 0 } ∷
+    record { host = 1; fenced = true; poisoned = false; command = commands.Rd16; cube = 0; address = 16; start = 16 } ∷
+    record { host = 0; fenced = false; poisoned = false; command = commands.Mdwr; cube = 0; address = 2; start = 16 } ∷ []
+
+items_in-three : items_in (replicate 16 7 ++ 5 ∷ replicate 15 0) three_shorts ≡
+    record { host = 0; fenced = false; poisoned = true; request = record { command = commands.Wr16; cube = 1; address = 32; payload = replicate 16 7 } } ∷
+    record { host = 1; fenced = true; poisoned = false; request = record { command = commands.Rd16; cube = 0; address = 16; payload = [] } } ∷
+    record { host = 0; fenced = false; poisoned = false; request = record { command = commands.Mdwr; cube = 0; address = 2; payload = 5 ∷ replicate 15 0 } } ∷ []
+unfolding table_line
+items_in-three = refl
+
+-- a payload that ends after the last byte is never kept
+IsStored-past : IsStored (replicate 31 7) three_shorts → ⊥
+unfolding table_line
+IsStored-past is = omega (arith, is.inside 2 (record { host = 0; fenced = false; poisoned = false; command = commands.Null; cube = 0; address = 0; start = 0 }) (omega arith))

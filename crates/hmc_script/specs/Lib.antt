@@ -3,6 +3,7 @@ pub mod Commands
 pub mod Payload
 pub mod Meaning
 pub mod Items
+pub mod Stored
 pub mod Script
 pub mod Text
 pub mod Laws

@@ -17,6 +17,7 @@ mod parse;
 mod payload;
 mod print;
 mod script;
+mod stored;
 
 pub use fault::{ScriptFault, ScriptKind};
 pub use item::Item;

@@ -9,7 +9,7 @@ ghost use Rattle.hmc_script.specs.Script.{Progress, after_meaning, after_line, s
 ghost use Rattle.hmc_text.specs.InTurn.{at_line, Answers};
 
 use crate::meaning::{Meaning, meaning_of};
-use crate::{Item, Script, ScriptFault, ScriptKind};
+use crate::{Script, ScriptFault, ScriptKind};
 use hmc_codes::{MOST_HOSTS, MOST_REQUESTS};
 use hmc_text::lines::Lines;
 use std::alloc::Global;
@@ -49,12 +49,7 @@ fn follow(
             }
             let fenced = fences[usize::from(host)];
             fences[usize::from(host)] = false;
-            script.push(Item {
-                host,
-                fenced,
-                poisoned,
-                request,
-            })?;
+            script.append(host, fenced, poisoned, &request)?;
             Ok(())
         }
     }

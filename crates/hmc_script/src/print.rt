@@ -50,12 +50,12 @@ fn print_item(alloc: Global, into: &mut String, item: &Item) -> Result<(), Memor
     print_request(alloc, into, item.host, item.poisoned, &item.request)
 }
 
-fn print_items(alloc: Global, items: &[Item]) -> Result<String, Memory>
-    ensures { IfOk result (λ text. string_bytes text ≡ script_text items.now) }
+fn print_items(alloc: Global, script: &Script) -> Result<String, Memory>
+    ensures { IfOk result (λ text. string_bytes text ≡ script_text script.now) }
 {
     let mut text = String::new(alloc);
-    'items: for item in items {
-        if let Err(memory) = print_item(alloc, &mut text, item) {
+    'items: for at in 0..script.len() {
+        if let Err(memory) = print_item(alloc, &mut text, &script.item(at)) {
             return Err(memory);
         }
     }
@@ -73,6 +73,7 @@ impl Script {
         ensures again { (hosts cubes : ℕ) → All (IsWithin hosts cubes) self.now
             → IfOk result (λ text. script_of hosts cubes (string_bytes text) ≡ Ok self.now) }
     {
-        print_items(alloc, self.items())
+        self.invariant();
+        print_items(alloc, self)
     }
 }

@@ -5,25 +5,29 @@ ghost use Rattle.hmc_codes.specs.Limits.{most_hosts, most_requests};
 ghost use Rattle.hmc_script.specs.Items.{IsScript};
 
 use crate::Item;
+use crate::stored::{Short, item_of};
 use hmc_codes::{Memory, Request};
 use std::alloc::Global;
 use std::marker::Model;
 
-/// At most `MOST_REQUESTS` requests of hosts, in order. Contracts see them as a list.
+/// At most `MOST_REQUESTS` requests of hosts, in order. Contracts see them as a list. The payload
+/// bytes of all requests are in one vector, in order.
 #[derive(Drop)]
 pub struct Script {
-    items: Vec<Item>,
+    shorts: Vec<Short>,
+    bytes: Vec<u8>,
 }
 
 impl Model for Script {
     ghost use Rattle.std.specs.Prelude.{List};
-    ghost use Rattle.hmc_script.specs.Items.{ItemFields, IsScript};
+    ghost use Rattle.hmc_script.specs.Items.{ItemFields};
+    ghost use Rattle.hmc_script.specs.Stored.{items_in, IsStored};
 
     ghost Value = { List ItemFields };
 
-    ghost view = { λ s. s.items.items };
+    ghost view = { λ s. items_in s.bytes.items s.shorts.items };
 
-    ghost invariant = { λ s. IsScript s.items.items };
+    ghost invariant = { λ s. IsStored s.bytes.items s.shorts.items };
 }
 
 impl Script {
@@ -32,7 +36,8 @@ impl Script {
         ensures { result ≡ [] }
     {
         Script {
-            items: Vec::new(alloc),
+            shorts: Vec::new(alloc),
+            bytes: Vec::new(alloc),
         }
     }
 
@@ -40,14 +45,14 @@ impl Script {
     pub fn invariant(&self)
         ensures { IsScript self.now }
     {
-        let _ = &self.items;
+        let _ = &self.shorts;
     }
 
     /// The number of requests.
     pub fn len(&self) -> u32
         ensures { result ≡ length self.now }
     {
-        self.items.len() as u32
+        self.shorts.len() as u32
     }
 
     /// The request at this place, counted from 0 and below the length.
@@ -56,25 +61,39 @@ impl Script {
         ensures item { slice_get self.now at ≡ Some result }
         ensures host { result.host < most_hosts }
     {
-        self.items[at as usize]
-    }
-
-    pub(crate) fn items(&self) -> &[Item]
-        ensures items { result.now ≡ self.now }
-        ensures rule { IsScript self.now }
-    {
-        self.items.as_slice()
+        item_of(&self.shorts[at as usize], &self.bytes)
     }
 
     // Appends a request.
-    pub(crate) fn push(&mut self, item: Item) -> Result<(), Memory>
+    pub(crate) fn append(
+        &mut self,
+        host: u8,
+        fenced: bool,
+        poisoned: bool,
+        request: &Request,
+    ) -> Result<(), Memory>
         requires room { length self.old < most_requests }
-        requires host { item.host < most_hosts }
-        ensures ok { OnOk result (self.new ≡ self.old ++ item ∷ []) }
+        requires host { host < most_hosts }
+        ensures ok { OnOk result (self.new ≡ self.old ++ record {
+          host = host;
+          fenced = fenced;
+          poisoned = poisoned;
+          request = request.now;
+        } ∷ []) }
         ensures err { OnErr result (self.new ≡ self.old) }
     {
-        item.request.invariant();
-        self.items.push(item)?;
+        request.invariant();
+        let start = self.bytes.len();
+        self.bytes.extend_from_slice(request.payload.as_slice())?;
+        self.shorts.push(Short {
+            host,
+            fenced,
+            poisoned,
+            command: request.command,
+            cube: request.cube,
+            address: request.address,
+            start,
+        })?;
         Ok(())
     }
 
@@ -91,11 +110,6 @@ impl Script {
         } ∷ []) }
         ensures err { OnErr result (self.new ≡ self.old) }
     {
-        self.push(Item {
-            host,
-            fenced: false,
-            poisoned,
-            request,
-        })
+        self.append(host, false, poisoned, &request)
     }
 }

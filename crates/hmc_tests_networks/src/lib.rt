@@ -16,11 +16,15 @@ mod link_end;
 #[cfg(test)]
 mod packet;
 #[cfg(test)]
+mod receive;
+#[cfg(test)]
 mod replay;
 #[cfg(test)]
 mod schedule;
 #[cfg(test)]
 mod script;
+#[cfg(test)]
+mod send;
 #[cfg(test)]
 mod text;
 #[cfg(test)]

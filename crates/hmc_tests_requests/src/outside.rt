@@ -2,11 +2,13 @@
 //! do.
 
 use hmc_outside::{Failed, MemorySink, MemorySource, Sink, Source, StdSink, StdSource};
+use std::alloc::Global;
 use std::io::{self, ErrorKind, Read, Write};
 use std::process::Abort;
 use std::test::Fail;
 
-// Gives or takes at most three bytes a call. The calls whose turn is listed meet the error instead.
+// Gives or takes at most three bytes a call. The calls whose turn is listed meet the error instead;
+// a flush is a call too.
 #[derive(Drop)]
 struct Stuttering<'a> {
     input: &'a [u8],
@@ -44,7 +46,7 @@ impl Write for Stuttering<'_> {
     }
 
     fn flush(&mut self) -> io::Result<()> {
-        Ok(())
+        self.next_turn()
     }
 }
 
@@ -122,14 +124,14 @@ fn pieces_go_from_any_source_to_any_sink(rt: HostRuntime) -> Result<(), Fail> {
 }
 
 #[test]
-fn standard_input_and_output_exist(rt: HostRuntime) {
-    let none = copy(
-        &mut StdSource::new(io::empty()),
-        &mut StdSink::new(io::writer(&rt)),
-    );
+fn standard_input_and_output_exist(rt: HostRuntime) -> Result<(), Fail> {
+    let mut sink = StdSink::new(rt.alloc(), io::writer(&rt))?;
+    let none = copy(&mut StdSource::new(io::empty()), &mut sink);
     assert!(rt; none.is_ok(), "nothing is written");
+    assert!(rt; sink.finish().is_ok(), "nothing is handed on");
     let read = StdSource::new(rt.reader()).read(&mut []);
     assert!(rt; read == Ok(0), "nothing is asked for");
+    Ok(())
 }
 
 #[test]
@@ -159,52 +161,122 @@ fn a_reader_is_asked_again_after_two_signals_and_fails_where_it_would_block(rt: 
     assert_reads(&rt, &mut source, &mut piece, &[(Ok(2), "cki.....")]);
 }
 
+// Writes these bytes to a sink on the writer, and finishes it once for each outcome.
+fn assert_hands_on<W: Write + Drop>(
+    rt: &impl Abort,
+    mut sink: StdSink<W>,
+    rows: &[&str],
+    outcomes: &[Result<(), Failed>],
+) {
+    for bytes in rows {
+        assert!(rt;
+            is_written(&mut sink, bytes, Ok(())),
+            "the write of {bytes}"
+        );
+    }
+    let mut failed = 0_u64;
+    for outcome in outcomes {
+        assert!(rt; sink.finish() == *outcome, "the outcome of a finish");
+        failed = failed.saturating_add(u64::from(outcome.is_err()));
+    }
+    assert!(rt; sink.faults() == failed, "faults");
+}
+
 #[test]
-fn a_writer_takes_the_bytes(rt: HostRuntime) {
+fn a_writer_takes_the_bytes_when_the_sink_is_finished(rt: HostRuntime) -> Result<(), Fail> {
     let mut text = Vec::new(rt.alloc());
-    let mut sink = StdSink::new(&mut text);
-    let rows = [("quick ", Ok(())), ("", Ok(())), ("fox", Ok(()))];
-    assert_writes(&rt, &mut sink, &rows);
-    assert!(rt; sink.faults() == 0, "faults");
+    let sink = StdSink::new(rt.alloc(), &mut text)?;
+    assert_hands_on(&rt, sink, &["quick ", "", "fox"], &[Ok(())]);
     assert!(rt;
         text.as_slice() == b"quick fox".as_slice(),
         "what was written"
     );
-}
-
-// Writes five bytes, five that fail after the third, and three.
-fn assert_writes_and_a_fault<O: Write + Drop>(rt: &impl Abort, writer: O) {
-    let mut sink = StdSink::new(writer);
-    assert_writes(rt, &mut sink, &[("quick", Ok(())), ("brown", Err(Failed))]);
-    assert!(rt; sink.faults() == 1, "one fault");
-    assert_writes(rt, &mut sink, &[("fox", Ok(()))]);
-    assert!(rt; sink.faults() == 1, "no other fault");
+    Ok(())
 }
 
 #[test]
-fn a_writer_is_asked_again_after_two_signals_and_fails_where_it_would_block(rt: HostRuntime) {
+fn bytes_that_were_not_handed_on_are_dropped(rt: HostRuntime) -> Result<(), Fail> {
+    let mut text = Vec::new(rt.alloc());
+    let sink = StdSink::new(rt.alloc(), &mut text)?;
+    assert_hands_on(&rt, sink, &["quick ", "fox"], &[]);
+    assert!(rt; text.is_empty(), "nothing was written");
+    Ok(())
+}
+
+// Writes these bytes to a sink on a stuttering writer with these errors, and finishes it once for
+// each outcome. Returns what the writer took, and how often it was called.
+fn stuttered(
+    rt: &impl Abort,
+    alloc: Global,
+    errors: &[(u32, ErrorKind)],
+    rows: &[&str],
+    outcomes: &[Result<(), Failed>],
+) -> Result<(Vec<u8>, u32), Fail> {
     let mut writer = Stuttering {
         input: b"",
-        output: Vec::new(rt.alloc()),
+        output: Vec::new(alloc),
         turn: 0,
-        errors: &[
-            (2, ErrorKind::Interrupted),
-            (3, ErrorKind::Interrupted),
-            (6, ErrorKind::WouldBlock),
-        ],
+        errors,
     };
-    assert_writes_and_a_fault(&rt, &mut writer);
-    let output = writer.output.as_slice();
-    assert!(rt; output == b"quickbrofox".as_slice(), "what was written");
+    let sink = StdSink::new(alloc, &mut writer)?;
+    assert_hands_on(rt, sink, rows, outcomes);
+    Ok((writer.output, writer.turn))
+}
+
+// The first finish is asked again after two signals, and fails in its sixth call. The second one
+// is asked again when a signal interrupts its flush.
+#[test]
+fn a_writer_is_asked_again_after_signals_and_fails_where_it_would_block(
+    rt: HostRuntime,
+) -> Result<(), Fail> {
+    let errors = [
+        (2, ErrorKind::Interrupted),
+        (3, ErrorKind::Interrupted),
+        (6, ErrorKind::WouldBlock),
+        (9, ErrorKind::Interrupted),
+    ];
+    let rows = ["quick", "brown", "fox"];
+    let outcomes = [Err(Failed), Ok(())];
+    let (output, turns) = stuttered(&rt, rt.alloc(), &errors, &rows, &outcomes)?;
+    assert!(rt;
+        output.as_slice() == b"quickbrownfox".as_slice(),
+        "what was written"
+    );
+    assert!(rt; turns == 10, "calls");
+    Ok(())
 }
 
 #[test]
-fn a_writer_that_takes_nothing_fails(rt: HostRuntime) {
+fn a_flush_that_fails_is_a_fault(rt: HostRuntime) -> Result<(), Fail> {
+    let errors = [(2, ErrorKind::WouldBlock)];
+    let (output, turns) = stuttered(&rt, rt.alloc(), &errors, &["fox"], &[Err(Failed)])?;
+    assert!(rt; output.as_slice() == b"fox".as_slice(), "what was written");
+    assert!(rt; turns == 2, "calls");
+    Ok(())
+}
+
+#[test]
+fn a_writer_that_failed_is_not_called_again(rt: HostRuntime) -> Result<(), Fail> {
+    let errors = [(2, ErrorKind::WouldBlock)];
+    let (output, turns) = stuttered(&rt, rt.alloc(), &errors, &["quick"], &[Err(Failed)])?;
+    assert!(rt; output.as_slice() == b"qui".as_slice(), "what was written");
+    assert!(rt; turns == 2, "calls");
+    Ok(())
+}
+
+// Five bytes more than are gathered go past the buffer, and so does what is left of them when the
+// writer has taken four.
+#[test]
+fn a_writer_that_takes_nothing_fails(rt: HostRuntime) -> Result<(), Fail> {
     let mut room = [b'.'; 4];
-    let mut sink = StdSink::new(room.as_mut_slice());
-    assert_writes(&rt, &mut sink, &[("quick", Err(Failed)), ("", Ok(()))]);
+    let mut sink = StdSink::new(rt.alloc(), room.as_mut_slice())?;
+    let mut long = Vec::new(rt.alloc());
+    long.resize(65_541, b'x')?;
+    assert!(rt; sink.write(&long) == Err(Failed), "the write");
     assert!(rt; sink.faults() == 1, "faults");
-    assert!(rt; room == *b"quic", "what was written");
+    drop(sink);
+    assert!(rt; room == *b"xxxx", "what was written");
+    Ok(())
 }
 
 const READS: [(Result<usize, Failed>, &str); 5] = [
@@ -244,6 +316,8 @@ fn a_sink_in_memory_fails_at_listed_calls_and_without_room(rt: HostRuntime) -> R
     for row in &WRITES {
         assert!(rt; is_held(&mut sink, row), "the write of {}", row.0);
     }
+    assert!(rt; sink.finish() == Ok(()), "a finish");
+    assert!(rt; sink.finishes() == 1, "finishes");
     assert!(rt; sink.faults() == 4, "faults");
     assert!(rt; sink.writes() == 6, "writes");
     assert!(rt; sink.lengths() == [3, 2, 1].as_slice(), "pieces");

@@ -55,7 +55,7 @@ impl Intake for FlitBuffer {
 }
 
 impl FlitBuffer {
-    ghost use Rattle.std.specs.Prelude.{◌≡◌, [], IfOk};
+    ghost use Rattle.std.specs.Prelude.{◌≡◌, ◌↔◌, [], IfOk, IsTrue};
     ghost use Rattle.hmc_tokens.specs.FlitBuffer.{packets_of, size_of};
 
     /// A buffer for `tokens` flits. It holds no packet.
@@ -65,5 +65,12 @@ impl FlitBuffer {
     {
         let kept = PacketList::new(alloc, tokens)?;
         Ok(FlitBuffer { kept })
+    }
+
+    /// Whether it holds no packet.
+    pub fn is_empty(&self) -> bool
+        ensures { IsTrue result ↔ (packets_of self.now ≡ []) }
+    {
+        self.kept.is_empty()
     }
 }

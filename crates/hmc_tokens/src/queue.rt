@@ -53,7 +53,7 @@ impl Intake for Queue {
 }
 
 impl Queue {
-    ghost use Rattle.std.specs.Prelude.{◌≡◌, [], IfOk};
+    ghost use Rattle.std.specs.Prelude.{◌≡◌, ◌↔◌, [], IfOk, IsTrue};
     ghost use Rattle.hmc_tokens.specs.Queue.{packets_of, size_of};
 
     /// A queue for `packets` packets. It holds none.
@@ -63,5 +63,12 @@ impl Queue {
     {
         let kept = PacketList::new(alloc, u16::from(packets))?;
         Ok(Queue { kept })
+    }
+
+    /// Whether it holds no packet.
+    pub fn is_empty(&self) -> bool
+        ensures { IsTrue result ↔ (packets_of self.now ≡ []) }
+    {
+        self.kept.is_empty()
     }
 }

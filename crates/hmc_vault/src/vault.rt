@@ -89,6 +89,20 @@ impl Vault {
         ensures banks { length self.new.banks ≡ length self.old.banks }
         ensures size { self.new.size ≡ self.old.size }
     {
+        if self.vault_queue.is_empty() {
+            return Spread::Empty;
+        }
+        self.spread_front(shape)
+    }
+
+    // The same. Where the queue is empty no packet is to be looked at.
+    fn spread_front(&mut self, shape: Shape) -> Spread
+        requires { length self.old.banks ≡ 2 ^ shape.bank_bits }
+        ensures answer { result ≡ spread_says self.old shape }
+        ensures gives { self.new ≡ spread_gives result self.old }
+        ensures banks { length self.new.banks ≡ length self.old.banks }
+        ensures size { self.new.size ≡ self.old.size }
+    {
         let Some(front) = self.vault_queue.front() else {
             return Spread::Empty;
         };
@@ -117,6 +131,21 @@ impl Vault {
     {
         let waiting = &mut self.banks[usize::from(bank)];
         execute_front(waiting, &mut self.answers, banks, registers)
+    }
+
+    /// Whether the queue of a bank is empty, and an execution by it would do nothing.
+    pub fn bank_is_empty(&self, bank: u8) -> bool
+        requires { bank < length self.now.banks }
+        ensures { IsTrue result ↔ (bank_at self.now bank ≡ []) }
+    {
+        self.banks[usize::from(bank)].is_empty()
+    }
+
+    /// Whether the answers queue is empty.
+    pub fn answers_are_empty(&self) -> bool
+        ensures { IsTrue result ↔ (self.now.answers ≡ []) }
+    {
+        self.answers.is_empty()
     }
 
     /// The front of the answers queue.

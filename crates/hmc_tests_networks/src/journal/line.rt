@@ -15,7 +15,7 @@ const FLIT: Flit = [
 fn are_lines(alloc: Global, entries: &[Entry], wanted: &str) -> Result<bool, Memory> {
     let mut lines = String::new(alloc);
     for entry in entries {
-        lines.push_str(entry.line(alloc)?.as_str())?;
+        entry.print(alloc, &mut lines)?;
     }
     Ok(lines.as_str() == wanted)
 }

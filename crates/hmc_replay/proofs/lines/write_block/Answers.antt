@@ -2,7 +2,6 @@ use Rattle.std.proofs.Common.{◌≡◌, true, arith}
 use Rattle.hmc_report.specs.Lines.{is_zero}
 use Rattle.hmc_report.proofs.SomeLemmas.{memory_line-some}
 use Rattle.hmc_replay.proofs.CubeLines.{block_lines-zero}
-use Rattle.hmc_replay.proofs.Writing.{no_memory}
 use Rattle.hmc_replay.proofs.lines.write_block.Goals as goal
 
 pub returns-then-is_zero : goal.returns-then-is_zero
@@ -10,8 +9,5 @@ returns-then-is_zero g c =
     let is : is_zero c.args.bytes.now ≡ true = grind (arith, c.is_zero.ensures, c.if-is_zero.true) in
     block_lines-zero _ c.args.cube c.args.block c.args.bytes.now is
 
-pub returns-in_err-line : goal.returns-in_err-line
-returns-in_err-line g c = no_memory _ _ c.from_residual.result c.from_residual.ensures.1
-
 pub write_line-requires : goal.write_line-requires
-write_line-requires g c = grind (arith, c.as_str.ensures, c.in_ok-line.ensures, memory_line-some c.args.cube c.args.block c.args.bytes.now)
+write_line-requires g c = grind (arith, c.as_str.ensures, c.memory_line.ensures, memory_line-some c.args.cube c.args.block c.args.bytes.now)

@@ -2,7 +2,6 @@ use Rattle.std.proofs.Common.{◌≡◌, true, arith}
 use Rattle.std.specs.Prelude.{◌==◌}
 use Rattle.hmc_report.proofs.SomeLemmas.{register_line-some}
 use Rattle.hmc_replay.proofs.CubeLines.{value_lines-zero}
-use Rattle.hmc_replay.proofs.Writing.{no_memory}
 use Rattle.hmc_replay.proofs.lines.write_register.Goals as goal
 
 pub returns-then-value-eq0 : goal.returns-then-value-eq0
@@ -10,8 +9,5 @@ returns-then-value-eq0 g c =
     let is : c.args.value == 0 ≡ true = grind (arith, c.if-value-eq0.true) in
     value_lines-zero _ c.args.cube c.args.register c.args.value is
 
-pub returns-in_err-line : goal.returns-in_err-line
-returns-in_err-line g c = no_memory _ _ c.from_residual.result c.from_residual.ensures.1
-
 pub write_line-requires : goal.write_line-requires
-write_line-requires g c = grind (arith, c.as_str.ensures, c.in_ok-line.ensures, register_line-some c.args.cube c.args.register c.args.value)
+write_line-requires g c = grind (arith, c.as_str.ensures, c.register_line.ensures, register_line-some c.args.cube c.args.register c.args.value)

@@ -1,6 +1,0 @@
--- No part holds a packet exactly where the test of all rooms says so.
-use Rattle.hmc_net.proofs.Stillness.{drained_test}
-use Rattle.hmc_net.proofs.net.Net.drained.Goals as goal
-
-pub returns : goal.returns
-returns c = λ setup stands. drained_test c.args.self.now setup c.is_quiescent.result stands c.is_quiescent.ensures

@@ -1,0 +1,22 @@
+-- A network and its journal.
+use Rattle.std.specs.Prelude.{◌≡◌, ◌≤◌, length, slice_get, Some}
+use Rattle.hmc_schedule.specs.declared.step.Step.{Step}
+use Rattle.hmc_journal.specs.Journal.{JournalFields}
+use Rattle.hmc_journal.specs.Setup.{Setup}
+use Rattle.hmc_net.specs.NetState.{NetState}
+use Rattle.hmc_net.specs.Stands.{StandsFor}
+
+-- the network, and the entries of all its steps
+pub record JournaledNet : Type 0 where
+  pub network : NetState
+  pub journal : JournalFields
+
+-- the network stands for the case and the journal, which has room for an entry of each step
+pub record NetStandsFor (net : JournaledNet) (setup : Setup) : Type 0 where
+  pub stands : StandsFor net.network setup net.journal.past
+  pub most : length setup.schedule ≤ net.journal.most
+
+-- and this is the next step of the case's schedule
+pub record IsNetNext (net : JournaledNet) (setup : Setup) (step : Step) : Type 0 where
+  pub stands : NetStandsFor net setup
+  pub step_is : slice_get setup.schedule (length net.journal.past) ≡ Some step

@@ -1,0 +1,9 @@
+use Rattle.std.proofs.Common.{[], ◌∷◌, ◌++◌, refl, ◌∙◌}
+use borrow.Rule.Slice.PartMut.{put_mid}
+use Rattle.hmc_packet.proofs.DraftLemmas.{second_half}
+use Rattle.hmc_packet.proofs.draft.bytes_of_halves.Goals as goal
+
+pub returns : goal.returns
+returns c =
+    (λ i. put_mid 4 4 (c.copy_from_slice.ensures.after i ++ (0 ∷ 0 ∷ 0 ∷ 0 ∷ [])) (c.copy_from_slice-2.ensures.after i))
+    ∙ second_half 4 c.args.first.now c.args.second.now (0 ∷ 0 ∷ 0 ∷ 0 ∷ []) c.told-first refl c.told-second

@@ -1,0 +1,4 @@
+pub mod ReceptionLemmas
+pub mod StandingLemmas
+pub mod FollowLemmas
+mod Worked

@@ -1,0 +1,57 @@
+-- One step more, and its line.
+use Rattle.std.proofs.Common.{◌≡◌, ◌∙◌, [], ◌∷◌, List, length, slice_get, sym, ap, arith}
+use Rattle.hmc_schedule.specs.declared.step.Step.{Step}
+use Rattle.hmc_journal.specs.Event.{event_of}
+use Rattle.hmc_journal.specs.Next.{next}
+use Rattle.hmc_journal.specs.Setup.{setup_of}
+use Rattle.hmc_replay.proofs.SoFar.{so_far-none, is_next, so_far-more, broken_at, all_done}
+use Rattle.hmc_replay.proofs.steps.write_steps.Goals as goal
+
+pub steps-init : goal.steps-init
+steps-init g c = ([], so_far-none _ _ _ _ c.requires c.new-counts.ensures.counted c.new-counts.ensures.within)
+
+pub step-requires : goal.step-requires
+step-requires g c =
+    let so_far = c.steps.invariant.1 in
+    (setup_of c.args.case.now, c.steps.invariant.0, is_next _ _ _ _ _ _ _ _ so_far (ap (λ (s : List Step). slice_get s c.steps.at) (sym c.schedule-schedule.ensures) ∙ c.step-due.ensures))
+
+pub add-requires : goal.add-requires
+add-requires g c = (c.steps.at, omega (arith, c.steps-test.true), c.steps.invariant.1.within)
+
+pub steps-preserved : goal.steps-preserved
+steps-preserved g c =
+    let setup = setup_of c.args.case.now in
+    let past = c.steps.invariant.0 in
+    let so_far = c.steps.invariant.1 in
+    let due = is_next _ _ _ _ _ _ _ _ so_far (ap (λ (s : List Step). slice_get s c.steps.at) (sym c.schedule-schedule.ensures) ∙ c.step-due.ensures) in
+    let entry = next setup past c.step-due.result in
+    let shown : c.last-last.result.now ≡ entry = c.last-last.ensures ∙ c.step.ensures.last setup past due in (
+      entry ∷ past,
+      so_far-more setup past _ _ _ _ _ _ _ _ entry c.last-last.result.now so_far (c.step.ensures.stands setup past due) shown (c.add.ensures.counted entry past (c.event.ensures ∙ ap event_of shown) so_far.counted)
+          (c.add.ensures.within _ so_far.within) c.in-Ok.ensures,
+    )
+
+pub returns-in-Err-clause-broken : goal.returns-in-Err-clause-broken
+returns-in-Err-clause-broken g c =
+    let setup = setup_of c.args.case.now in
+    let past = c.steps.invariant.0 in
+    let so_far = c.steps.invariant.1 in
+    let due = is_next _ _ _ _ _ _ _ _ so_far (ap (λ (s : List Step). slice_get s c.steps.at) (sym c.schedule-schedule.ensures) ∙ c.step-due.ensures) in
+    let entry = next setup past c.step-due.result in
+    let shown : c.last-last.result.now ≡ entry = c.last-last.ensures ∙ c.step.ensures.last setup past due in
+    broken_at setup past _ _ _ _ _ _ _ entry c.last-last.result.now so_far (c.step.ensures.stands setup past due) shown c.in-Err.ensures
+
+pub returns-clause-written : goal.returns-clause-written
+returns-clause-written g c =
+    let end : c.steps.at ≡ length c.args.case.now.schedule = omega (arith, c.steps-test.false, c.len-at-end.ensures, ap (λ (s : List Step). length s) c.schedule-schedule.ensures) in
+    (all_done _ _ _ _ _ _ _ c.steps.invariant.1 end).written
+
+pub returns-clause-stands : goal.returns-clause-stands
+returns-clause-stands g c =
+    let end : c.steps.at ≡ length c.args.case.now.schedule = omega (arith, c.steps-test.false, c.len-at-end.ensures, ap (λ (s : List Step). length s) c.schedule-schedule.ensures) in
+    (all_done _ _ _ _ _ _ _ c.steps.invariant.1 end).stands
+
+pub returns-clause-counted : goal.returns-clause-counted
+returns-clause-counted g c =
+    let end : c.steps.at ≡ length c.args.case.now.schedule = omega (arith, c.steps-test.false, c.len-at-end.ensures, ap (λ (s : List Step). length s) c.schedule-schedule.ensures) in
+    (all_done _ _ _ _ _ _ _ c.steps.invariant.1 end).counted

@@ -1,0 +1,27 @@
+pub mod Lists
+pub mod Bursts
+pub mod Views
+pub mod Cases
+pub mod Steps
+pub mod Parts
+pub mod Sends
+pub mod CopyLemmas
+pub mod KeptLemmas
+pub mod SendLemmas
+mod WorkedLife
+mod WorkedThrough
+pub mod KeepLemmas
+pub mod KeepSends
+pub mod CallLemmas
+mod Worked
+pub mod LinkLists
+pub mod LinkLawful
+pub mod LinkProjections
+pub mod LinkTokenSums
+mod WorkedLinkWords
+mod WorkedLink
+mod WorkedLinkRetry
+mod WorkedLinkThrough
+mod WorkedLinkCalls
+mod WorkedLinkUnlock
+mod WorkedLinkTwo

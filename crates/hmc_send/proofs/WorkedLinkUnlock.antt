@@ -1,0 +1,100 @@
+-- A receiver of a link is unlocked in the middle of a packet, worked: it asks for a replay, and the
+-- whole packet is sent again.
+use Rattle.std.proofs.Common.{◌≡◌, ℕ, List, [], ◌∷◌, ◌++◌, map, reverse, refl, subst}
+use mathlib.Core.Bool.{xor}
+use Rattle.hmc_codes.specs.Codes.{all_commands, command_of}
+use Rattle.hmc_codes.specs.Flit.{zero_flit}
+use Rattle.hmc_codes.specs.Table.{table_line}
+use Rattle.hmc_crc.specs.Bits.{bits_below, bits_of, number_of}
+use Rattle.hmc_crc.specs.Remainder.{coefficients, divisor, zeros, plus, divide, remainder, crc_of}
+use Rattle.hmc_codes.specs.declared.command.Command.TheVariants.{Wr32}
+use Rattle.hmc_packet.specs.declared.kind.Kind.TheVariants as kind
+use Rattle.hmc_packet.specs.declared.outcome.Outcome.TheVariants.{Quiet, Gathered, Accepted, Ran}
+use Rattle.hmc_packet.specs.declared.what.What.TheVariants as what
+use Rattle.hmc_packet.specs.Copy.{copied_packet}
+use Rattle.hmc_packet.specs.Head.{named_by, head_with, head_in}
+use Rattle.hmc_packet.specs.Header.{header_word, header_of, header_is_clean}
+use Rattle.hmc_packet.specs.Irtry.{irtry_in, irtry_flit}
+use Rattle.hmc_packet.specs.Landings.{mode, pending, run, is_training, training, accepted}
+use Rattle.hmc_packet.specs.Packet.{PacketFields, null_packet}
+use Rattle.hmc_packet.specs.Parts.{word_of, half_of, lng_of}
+use Rattle.hmc_packet.specs.Reading.{is_null, is_null_alone, has_length, fitting, command_in, is_clean, poison_in, packet_from, seen_in, judgement_of, bytes_read, read_of}
+use Rattle.hmc_packet.specs.Receptions.{landing_view, reception_by, reception_of}
+use Rattle.hmc_packet.specs.Spelling.{word_bytes, half_bytes, covered, check_of, bytes_of, cut, flits_with, spelling, training_flit}
+use Rattle.hmc_packet.specs.Tail.{tail_word, tail_of, tail_is_clean}
+use Rattle.hmc_tokens.specs.Account.{code_for}
+use Rattle.hmc_send.specs.Choice.{view_after, choice}
+use Rattle.hmc_send.specs.Copies.{copy_of}
+use Rattle.hmc_send.specs.Entries.{unfinished, places, taken_fronts, acked, clears, starts, go_back, is_open, others, last_begun, shown_pointer}
+use Rattle.hmc_send.specs.LinkCalls.{next_entry, call_of, IsLawful, entries_after_calls}
+use Rattle.hmc_send.specs.LinkEntries.{LinkEntry, receiver_entries, handed_packets, takes}
+use Rattle.hmc_send.specs.LinkEntries.Toward.{Forth}
+use Rattle.hmc_send.specs.LinkLines.{sent_flits, landings, line, is_pending_changed, passes}
+use Rattle.hmc_send.specs.LinkSenders.{given_after, sender_entries, tokens}
+use Rattle.hmc_send.specs.Places.{flit_of}
+use Rattle.hmc_send.proofs.LinkLists.{calls_are_lawful}
+use Rattle.hmc_send.proofs.WorkedLinkWords.{crossing, rounds, both, link, opened, flit_3, flit_4, flit_10, flit_11, flit_13}
+
+abbrev flit_16 : List ℕ
+flit_16 = (0x89 ∷ 1 ∷ 0 ∷ 0x40 ∷ 0 ∷ 0 ∷ 0 ∷ 0 ∷ 0 ∷ 1 ∷ 2 ∷ 3 ∷ 4 ∷ 5 ∷ 6 ∷ 7 ∷ [])
+
+abbrev flit_17 : List ℕ
+flit_17 = (8 ∷ 9 ∷ 0xa ∷ 0xb ∷ 0xc ∷ 0xd ∷ 0xe ∷ 0xf ∷ 0 ∷ 1 ∷ 2 ∷ 3 ∷ 4 ∷ 5 ∷ 6 ∷ 7 ∷ [])
+
+abbrev flit_18 : List ℕ
+flit_18 = (8 ∷ 9 ∷ 0xa ∷ 0xb ∷ 0xc ∷ 0xd ∷ 0xe ∷ 0xf ∷ 2 ∷ 8 ∷ 8 ∷ 0x40 ∷ 0x25 ∷ 0xda ∷ 0xb8 ∷ 0x15 ∷ [])
+
+abbrev packet : PacketFields
+packet = record null_packet { command = Wr32; address = 64; payload = (0 ∷ 1 ∷ 2 ∷ 3 ∷ 4 ∷ 5 ∷ 6 ∷ 7 ∷ 8 ∷ 9 ∷ 10 ∷ 11 ∷ 12 ∷ 13 ∷ 14 ∷ 15 ∷ 0 ∷ 1 ∷ 2 ∷ 3 ∷ 4 ∷ 5 ∷ 6 ∷ 7 ∷ 8 ∷ 9 ∷ 10 ∷ 11 ∷ 12 ∷ 13 ∷ 14 ∷ 15 ∷ []) }
+
+abbrev unlocked : List LinkEntry
+unlocked =
+    LinkEntry.handed Forth packet ∷ []
+    ++ opened
+    ++ both 1 (crossing what.Tret flit_3 Accepted)
+    ++ rounds 1 (crossing what.New flit_16 Gathered)
+    (crossing what.Tret flit_4 Accepted)
+    ++ rounds 1 (crossing what.New flit_17 Gathered)
+    (crossing what.Null zero_flit Quiet)
+    ++ (LinkEntry.unlocked Forth ∷ [])
+    ++ rounds 1 (crossing what.New flit_18 Quiet)
+    (crossing what.Null zero_flit Quiet)
+    ++ both 28 (crossing what.Null zero_flit Quiet)
+    ++ rounds 23 (crossing what.Null zero_flit Quiet)
+    (crossing what.Start flit_10 Quiet)
+    ++ rounds 1 (crossing what.Null zero_flit Quiet)
+    (crossing what.Start flit_10 (Ran kind.Start))
+    ++ rounds 8 (crossing what.Clear flit_11 Quiet)
+    (crossing what.Start flit_10 Quiet)
+    ++ rounds 15 (crossing what.Clear flit_11 Quiet)
+    (crossing what.Null zero_flit Quiet)
+    ++ rounds 1 (crossing what.Clear flit_11 (Ran kind.Clear))
+    (crossing what.Null zero_flit Quiet)
+    ++ rounds 8 (crossing what.Clear flit_11 Quiet)
+    (crossing what.Null zero_flit Quiet)
+    ++ rounds 1 (crossing what.Again flit_16 Gathered)
+    (crossing what.Null zero_flit Quiet)
+    ++ rounds 1 (crossing what.Again flit_17 Gathered)
+    (crossing what.Null zero_flit Quiet)
+    ++ rounds 1 (crossing what.Again flit_18 Accepted)
+    (crossing what.Null zero_flit Quiet)
+    ++ rounds 1 (crossing what.Null zero_flit Quiet)
+    (crossing what.Pret flit_13 Quiet)
+    ++ both 4 (crossing what.Null zero_flit Quiet)
+
+unlocked-row : entries_after_calls link [] (map call_of unlocked) ≡ reverse unlocked
+unfolding next_entry entries_after_calls tokens sender_entries given_after passes is_pending_changed line landings sent_flits takes handed_packets receiver_entries reception_of reception_by landing_view accepted is_training training run pending mode choice view_after shown_pointer last_begun others is_open go_back starts clears acked taken_fronts places unfinished copy_of copied_packet flit_of code_for irtry_in irtry_flit read_of bytes_read judgement_of seen_in poison_in is_clean has_length is_null_alone is_null packet_from command_in fitting spelling flits_with bytes_of covered cut check_of half_bytes word_bytes header_word header_of header_is_clean tail_word tail_of tail_is_clean head_in head_with named_by command_of all_commands table_line lng_of word_of half_of training_flit zero_flit crc_of remainder divide plus zeros divisor coefficients number_of bits_of bits_below xor
+unlocked-row = refl
+
+unlocked-lawful : IsLawful link (reverse unlocked)
+unfolding IsLawful
+unlocked-lawful = subst (IsLawful link) unlocked-row (calls_are_lawful link [] (map call_of unlocked) tt)
+
+-- a TRET and the packet are acknowledged, and its three flits are in the buffer
+acked-two : acked (sender_entries link Forth (reverse unlocked)) ≡ 2
+unfolding next_entry entries_after_calls tokens sender_entries given_after passes is_pending_changed line landings sent_flits takes handed_packets receiver_entries reception_of reception_by landing_view accepted is_training training run pending mode choice view_after shown_pointer last_begun others is_open go_back starts clears acked taken_fronts places unfinished copy_of copied_packet flit_of code_for irtry_in irtry_flit read_of bytes_read judgement_of seen_in poison_in is_clean has_length is_null_alone is_null packet_from command_in fitting spelling flits_with bytes_of covered cut check_of half_bytes word_bytes header_word header_of header_is_clean tail_word tail_of tail_is_clean head_in head_with named_by command_of all_commands table_line lng_of word_of half_of training_flit zero_flit crc_of remainder divide plus zeros divisor coefficients number_of bits_of bits_below xor
+acked-two = refl
+
+tokens-used : tokens link Forth (reverse unlocked) ≡ record { held = 31; transit = 0; used = 3; due = 0; returning = 0 }
+unfolding next_entry entries_after_calls tokens sender_entries given_after passes is_pending_changed line landings sent_flits takes handed_packets receiver_entries reception_of reception_by landing_view accepted is_training training run pending mode choice view_after shown_pointer last_begun others is_open go_back starts clears acked taken_fronts places unfinished copy_of copied_packet flit_of code_for irtry_in irtry_flit read_of bytes_read judgement_of seen_in poison_in is_clean has_length is_null_alone is_null packet_from command_in fitting spelling flits_with bytes_of covered cut check_of half_bytes word_bytes header_word header_of header_is_clean tail_word tail_of tail_is_clean head_in head_with named_by command_of all_commands table_line lng_of word_of half_of training_flit zero_flit crc_of remainder divide plus zeros divisor coefficients number_of bits_of bits_below xor
+tokens-used = refl

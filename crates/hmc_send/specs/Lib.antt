@@ -1,0 +1,16 @@
+pub mod Places
+pub mod Copies
+pub mod Entries
+pub mod Choice
+pub mod Sender
+pub mod StandsFor
+pub mod Kept
+pub mod Content
+pub mod IsSender
+pub mod Given
+pub mod Acknowledged
+pub mod LinkEntries
+pub mod LinkLines
+pub mod LinkTokens
+pub mod LinkSenders
+pub mod LinkCalls
