@@ -1,6 +1,8 @@
 //! What is wrong with a case.
 
-ghost use Rattle.std.specs.Prelude.{◌≡◌, ◌≢◌, Some, IsTrue, OnOk};
+ghost use Rattle.std.specs.Prelude.{◌≡◌, ◌≢◌, ◌≤◌, Some, IsTrue, OnOk, length};
+ghost use Rattle.hmc_schedule.specs.Kind.{kind_word as schedule_word};
+ghost use Rattle.hmc_case.specs.Kind.{section_word, kind_word};
 ghost use Rattle.hmc_case.specs.Reading.{Answers, in_section, or_refuse};
 ghost use Rattle.hmc_case.specs.declared.fault.CaseFault.TheVariants as faults;
 
@@ -29,13 +31,13 @@ pub enum Section {
     Schedule,
 }
 
-impl fmt::Display for Section {
-    ghost use Rattle.hmc_case.specs.Kind.{section_word};
-
-    ghost output = { λ section. Some (section_word section) };
-
-    fn fmt<W: fmt::Write>(&self, f: &mut fmt::Formatter<W>) -> fmt::Result {
-        f.write_str(match self {
+impl Section {
+    /// The word by which it is reported: at most 8 letters.
+    pub fn word(self) -> &'static str
+        ensures word { result.now ≡ section_word self }
+        ensures few { length result.now ≤ 8 }
+    {
+        match self {
             Section::Toml => "toml",
             Section::Top => "top",
             Section::Cube => "cube",
@@ -43,7 +45,17 @@ impl fmt::Display for Section {
             Section::Link => "link",
             Section::Script => "script",
             Section::Schedule => "schedule",
-        })
+        }
+    }
+}
+
+impl fmt::Display for Section {
+    ghost use Rattle.hmc_case.specs.Kind.{section_word};
+
+    ghost output = { λ section. Some (section_word section) };
+
+    fn fmt<W: fmt::Write>(&self, f: &mut fmt::Formatter<W>) -> fmt::Result {
+        f.write_str(self.word())
     }
 }
 
@@ -80,13 +92,29 @@ pub enum CaseKind {
     Schedule(ScheduleKind),
 }
 
-impl fmt::Display for CaseKind {
-    ghost use Rattle.hmc_case.specs.Kind.{kind_word};
+// The word of a fault of the schedule.
+fn schedule_word(kind: ScheduleKind) -> &'static str
+    ensures word { result.now ≡ schedule_word kind }
+    ensures few { length result.now ≤ 8 }
+{
+    match kind {
+        ScheduleKind::Step => "step",
+        ScheduleKind::Words => "words",
+        ScheduleKind::Number => "number",
+        ScheduleKind::Range => "range",
+        ScheduleKind::Mask => "mask",
+        ScheduleKind::Steps => "steps",
+    }
+}
 
-    ghost output = { λ kind. Some (kind_word kind) };
-
-    fn fmt<W: fmt::Write>(&self, f: &mut fmt::Formatter<W>) -> fmt::Result {
-        f.write_str(match self {
+impl CaseKind {
+    /// The word by which it is reported: at most 8 letters. A fault of the script or of the
+    /// schedule has its own.
+    pub fn word(self) -> &'static str
+        ensures word { result.now ≡ kind_word self }
+        ensures few { length result.now ≤ 8 }
+    {
+        match self {
             CaseKind::Syntax => "syntax",
             CaseKind::Unknown => "unknown",
             CaseKind::Missing => "missing",
@@ -99,9 +127,19 @@ impl fmt::Display for CaseKind {
             CaseKind::SelfJoined => "self",
             CaseKind::Taken => "taken",
             CaseKind::Parted => "parted",
-            CaseKind::Script(kind) => return kind.fmt(f),
-            CaseKind::Schedule(kind) => return kind.fmt(f),
-        })
+            CaseKind::Script(kind) => kind.word(),
+            CaseKind::Schedule(kind) => schedule_word(kind),
+        }
+    }
+}
+
+impl fmt::Display for CaseKind {
+    ghost use Rattle.hmc_case.specs.Kind.{kind_word};
+
+    ghost output = { λ kind. Some (kind_word kind) };
+
+    fn fmt<W: fmt::Write>(&self, f: &mut fmt::Formatter<W>) -> fmt::Result {
+        f.write_str(self.word())
     }
 }
 

@@ -1,18 +1,19 @@
 -- What a host gives next, in the field's terms.
 use Rattle.std.proofs.Common.{◌≡◌, ◌≢◌, ◌≤◌, ◌<◌, ◌∙◌, ◌↔◌, ℕ, Bool, true, false, not, cond, if◌then◌else◌, List, [], ◌∷◌, length, get_or, set, length-set, get_or-set_same, subst, ap, sym, arith, inl, inr, refl, suc, zero}
 use Rattle.std.specs.Prelude.{slice_get, Option, Some, None, is_none, nat_lt}
-use Rattle.std.specs.Option.{ForSome}
+use Rattle.std.specs.Option.{ForSome, option_map}
 use Rattle.std.specs.List.{position_or_len}
 use Rattle.std.proofs.lemmas.Bool.{and_parts, cases_lt, ltb-false}
 use Rattle.std.proofs.lemmas.List.Sums.{fails_before_first}
 use Rattle.std.proofs.lemmas.List.Quantifiers.{position-Some}
 use Rattle.std.proofs.lemmas.Option.{slice_get_past, slice_get-get_or, slice_get_within}
-use Rattle.hmc_script.specs.Items.{ItemFields}
+use Rattle.hmc_script.specs.Items.{ItemFields, outline_of}
 use Rattle.hmc_host.specs.declared.given.Given.{Given}
 use Rattle.hmc_host.specs.declared.given.Given.TheVariants.{Ended, Fence, Tags, Full, Gave}
+use Rattle.hmc_host.specs.declared.given.Hindrance.TheVariants as hindrances
 use Rattle.hmc_host.specs.Tags.{lowest_free, IsFree, IsOut, IsLowestFree, with_out}
 use Rattle.hmc_host.specs.Host.{HostFields, IsHost}
-use Rattle.hmc_host.specs.Give.{wants_tag, tag_for, gave_request, next_item, next_says, give_says, after_give, taken_tag}
+use Rattle.hmc_host.specs.Give.{wants_tag, tag_for, gave_request, next_item, next_says, give_says, after_give, taken_tag, hindrance_of, hindrance_by}
 
 -- ---- tags
 
@@ -72,6 +73,12 @@ held_tag false true full number item tag taken is = absurd cc
 held_tag false false true number item tag taken is = absurd cc
 held_tag false false false number item tag taken is = is
 
+held_hindrance : (fence lacks full : Bool) (number : ℕ) (item : ItemFields) (tag : Option ℕ) → hindrance_of (held fence lacks full number item tag) ≡ (if fence then Some hindrances.Fence else if lacks then Some hindrances.Tags else if full then Some hindrances.Full else None)
+held_hindrance true lacks full number item tag = refl
+held_hindrance false true full number item tag = refl
+held_hindrance false false true number item tag = refl
+held_hindrance false false false number item tag = refl
+
 -- the tag that a request takes is the lowest that isn't out
 tag_is_lowest : (awaited : Bool) (tags : List Bool) (tag : ℕ) → (if awaited then lowest_free tags else None) ≡ Some tag → lowest_free tags ≡ Some tag
 tag_is_lowest true tags tag is = is
@@ -90,6 +97,15 @@ next_lacks host (Some item) room is = (and_parts (wants_tag item) _ (held_lacks 
 next_tag : (host : HostFields) (next : Option ItemFields) (room : Bool) (tag : ℕ) → taken_tag (next_says host next room) ≡ Some tag → lowest_free host.tags ≡ Some tag
 next_tag host None room tag is = absurd cc
 next_tag host (Some item) room tag is = tag_is_lowest (wants_tag item) host.tags tag (held_tag _ _ _ host.number item (tag_for item host.tags) tag is)
+
+next_hindrance : (host : HostFields) (next : Option ItemFields) (room : Bool) → hindrance_of (next_says host next room) ≡ hindrance_by (option_map outline_of next) host.tags room
+next_hindrance host None room = refl
+next_hindrance host (Some item) room = held_hindrance _ _ _ host.number item (tag_for item host.tags)
+
+-- why nothing is given, by the outline of the next request
+pub says_hindrance : (host : HostFields) (room : Bool) → hindrance_of (give_says host room) ≡ hindrance_by (option_map outline_of (next_item host)) host.tags room
+unfolding give_says
+says_hindrance host room = next_hindrance host (next_item host) room
 
 -- ---- the clauses of a give
 

@@ -1,4 +1,3 @@
 pub mod TagLemmas
-pub mod HostLemmas
 pub mod GiveLemmas
 mod Worked

@@ -3,6 +3,7 @@ use Rattle.std.specs.Prelude.{ℕ, ◌+◌, Bool, not, ◌&&◌, if◌then◌els
 use Rattle.std.specs.Option.{unwrap_or}
 use Rattle.hmc_codes.specs.Commands.{is_posted}
 use Rattle.hmc_script.specs.Items.{ItemFields}
+use Rattle.hmc_script.specs.declared.item.Outline.{Outline}
 use Rattle.hmc_packet.specs.Transactions.{request_packet}
 use Rattle.hmc_host.specs.declared.given.Given.{Given}
 use Rattle.hmc_host.specs.declared.given.Given.TheVariants.{Ended, Fence, Tags, Full, Gave}
@@ -57,6 +58,22 @@ hindrance_of Fence = Some hindrances.Fence
 hindrance_of Tags = Some hindrances.Tags
 hindrance_of Full = Some hindrances.Full
 hindrance_of (Gave packet request tag poisoned) = None
+
+-- a request of this outline is to be answered
+abbrev pub outline_wants_tag : Outline → Bool
+outline_wants_tag outline = not outline.poisoned && not (is_posted outline.command)
+
+-- why a request of this outline isn't given, if it isn't
+abbrev pub outline_hindrance : Outline → (tags : List Bool) → (room : Bool) → Option Hindrance
+outline_hindrance outline tags room =
+    (if outline.fenced && is_some_out tags then Some hindrances.Fence else
+    if outline_wants_tag outline && is_none (lowest_free tags) then Some hindrances.Tags else
+    if not room then Some hindrances.Full else None)
+
+-- the same of the request that is next, if one is left
+abbrev pub hindrance_by : Option Outline → (tags : List Bool) → (room : Bool) → Option Hindrance
+hindrance_by None tags room = Some hindrances.Ended
+hindrance_by (Some outline) tags room = outline_hindrance outline tags room
 
 -- nothing is given, for this reason
 abbrev pub nothing_given : Hindrance → Given

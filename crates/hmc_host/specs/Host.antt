@@ -1,8 +1,7 @@
 -- A host, as the contracts see it.
-use Rattle.std.specs.Prelude.{◌≡◌, ◌≤◌, ◌<◌, ℕ, ◌==◌, Bool, List, length}
-use Rattle.std.specs.List.{filter}
+use Rattle.std.specs.Prelude.{◌≡◌, ◌≤◌, ◌<◌, ℕ, Bool, List, length}
 use Rattle.hmc_codes.specs.Limits.{most_hosts, most_requests, tags as all_tags}
-use Rattle.hmc_script.specs.Items.{ItemFields}
+use Rattle.hmc_script.specs.Items.{ItemFields, of_host}
 use Rattle.hmc_host.specs.Tags.{none_out}
 
 -- its number, its own requests of the script, the number of those given, and its tags
@@ -14,7 +13,7 @@ pub record HostFields : Type 0 where
 
 -- the requests of a script that are this host's
 abbrev pub items_of : (number : ℕ) → List ItemFields → List ItemFields
-items_of number script = filter (λ item. item.host == number) script
+items_of number script = of_host number script
 
 -- at first no request was given and no tag is out
 abbrev pub opening_host : (number : ℕ) → (script : List ItemFields) → HostFields

@@ -2,17 +2,17 @@
 
 ghost use Rattle.std.specs.Prelude.{◌≡◌, ◌≢◌, ◌<◌, ◌≤◌, ◌↔◌, ℕ, IfOk, OnOk, OnErr, true, false, length, ◌++◌, ◌∷◌, []};
 ghost use Rattle.std.specs.Option.{ForSome};
-ghost use Rattle.hmc_codes.specs.Limits.{most_hosts, most_requests, tags as all_tags};
+ghost use Rattle.hmc_codes.specs.Limits.{most_hosts, tags as all_tags};
 ghost use Rattle.hmc_host.specs.Tags.{number_out, IsFree, IsOut, IsLowestFree};
-ghost use Rattle.hmc_host.specs.Host.{opening_host, items_of, IsHost};
-ghost use Rattle.hmc_host.specs.Give.{wants_tag, tag_for, gave_request, give_says, after_give, taken_tag, hindrance_of, nothing_given};
+ghost use Rattle.hmc_host.specs.Host.{opening_host, IsHost};
+ghost use Rattle.hmc_host.specs.Give.{wants_tag, outline_wants_tag, tag_for, gave_request, give_says, after_give, taken_tag, hindrance_of, hindrance_by, nothing_given};
 ghost use Rattle.hmc_host.specs.Settle.{IsAwaited, settle_says, after_settle};
 
 use crate::tags::Tags;
 use crate::{Given, Hindrance, Settled};
 use hmc_codes::Memory;
 use hmc_packet::{Packet, answer_of, ask};
-use hmc_script::{Item, Script};
+use hmc_script::{Item, Outline, Script};
 use std::alloc::Global;
 use std::marker::Model;
 
@@ -20,7 +20,8 @@ use std::marker::Model;
 #[derive(Drop)]
 pub struct Host {
     number: u8,
-    items: Vec<Item>,
+    // Its own requests.
+    items: Script,
     given: u32,
     tags: Tags,
 }
@@ -32,14 +33,14 @@ impl Model for Host {
 
     ghost view = { λ h. record {
       number = h.number;
-      items = h.items.items;
+      items = h.items;
       given = h.given;
       tags = h.tags;
     } };
 
     ghost invariant = { λ h. IsHost (record {
       number = h.number;
-      items = h.items.items;
+      items = h.items;
       given = h.given;
       tags = h.tags;
     }) };
@@ -51,8 +52,9 @@ impl Host {
         requires { number < most_hosts }
         ensures { IfOk result (λ host. host ≡ opening_host number script.now) }
     {
-        let items = items_of(alloc, number, script)?;
+        let items = script.of_host(alloc, number)?;
         let tags = Tags::new(alloc)?;
+        items.invariant();
         tags.invariant();
         Ok(Host {
             number,
@@ -78,23 +80,10 @@ impl Host {
     }
 
     /// Why `give` would give nothing now, if it would give nothing. The link has room or not.
-    #[tactic(auto, unfolding(crate::specs::Give::give_says))]
     pub fn hindrance(&self, room: bool) -> Option<Hindrance>
         ensures { result ≡ hindrance_of (give_says self.now room) }
     {
-        let Some(item) = self.items.get(self.given as usize) else {
-            return Some(Hindrance::Ended);
-        };
-        if item.fenced && self.tags.is_some_out() {
-            return Some(Hindrance::Fence);
-        }
-        if wants_tag(item) && self.tags.lowest_free().is_none() {
-            return Some(Hindrance::Tags);
-        }
-        if !room {
-            return Some(Hindrance::Full);
-        }
-        None
+        hindrance_by(self.items.outline(self.given), &self.tags, room)
     }
 
     /// Gives the next request to the link, which has room or not.
@@ -140,10 +129,11 @@ impl Host {
         if let Some(hindrance) = self.hindrance(room) {
             return nothing_given(hindrance);
         }
-        let Some(item) = self.items.get(self.given as usize) else {
+        if self.given >= self.items.len() {
             return Given::Ended;
-        };
-        gave_request(self.number, item, tag_for(item, &self.tags))
+        }
+        let item = self.items.item(self.given);
+        gave_request(self.number, &item, tag_for(&item, &self.tags))
     }
 
     // A request was given, or nothing.
@@ -164,6 +154,32 @@ fn wants_tag(item: &Item) -> bool
     ensures { result ≡ wants_tag item.now }
 {
     !item.poisoned && !item.request.command.posted()
+}
+
+// Whether a request of this outline is to be answered.
+fn outline_wants_tag(outline: &Outline) -> bool
+    ensures { result ≡ outline_wants_tag outline.now }
+{
+    !outline.poisoned && !outline.command.posted()
+}
+
+// Why the next request isn't given, if it isn't. This is its outline, if there is one.
+fn hindrance_by(outline: Option<Outline>, tags: &Tags, room: bool) -> Option<Hindrance>
+    ensures { result ≡ hindrance_by outline tags.now room }
+{
+    let Some(outline) = outline else {
+        return Some(Hindrance::Ended);
+    };
+    if outline.fenced && tags.is_some_out() {
+        return Some(Hindrance::Fence);
+    }
+    if outline_wants_tag(&outline) && tags.lowest_free().is_none() {
+        return Some(Hindrance::Tags);
+    }
+    if !room {
+        return Some(Hindrance::Full);
+    }
+    None
 }
 
 // The tag that a request goes out under, if it is to have one and there is one.
@@ -201,29 +217,4 @@ fn gave_request(number: u8, item: &Item, tag: Option<u16>) -> Given
         tag,
         poisoned: item.poisoned,
     }
-}
-
-// The requests of a host.
-fn items_of(alloc: Global, number: u8, script: &Script) -> Result<Vec<Item>, Memory>
-    ensures items { IfOk result (λ items. items.items ≡ items_of number script.now) }
-    ensures few { IfOk result (λ items. length items.items ≤ most_requests) }
-{
-    script.invariant();
-    let mut items = Vec::new(alloc);
-    for at in 0..script.len() {
-        let item = script.item(at);
-        if item.host == number {
-            append(&mut items, item)?;
-        }
-    }
-    Ok(items)
-}
-
-// Generic, since the checker stops at a push whose refusal holds an item.
-fn append<T: Copy>(items: &mut Vec<T>, item: T) -> Result<(), Memory>
-    ensures ok { OnOk result (items.new.items ≡ items.old.items ++ item ∷ []) }
-    ensures err { OnErr result (items.new.items ≡ items.old.items) }
-{
-    items.push(item)?;
-    Ok(())
 }

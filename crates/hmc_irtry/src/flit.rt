@@ -4,7 +4,7 @@ ghost use Rattle.std.specs.Prelude.{◌≡◌, ◌<◌, ◌≤◌, Ok};
 ghost use Rattle.hmc_codes.specs.declared.command.Command.TheVariants.{Irtry};
 ghost use Rattle.hmc_packet.specs.Packet.{null_packet};
 ghost use Rattle.hmc_codes.specs.Profile.{modulus_of};
-ghost use Rattle.hmc_packet.specs.Irtry.{kind_pointer, irtry_packet, irtry_flit, kind_of, irtry_by, irtry_in};
+ghost use Rattle.hmc_packet.specs.Irtry.{kind_pointer, irtry_packet, irtry_flit, irtry_by, irtry_in};
 
 use hmc_codes::{Command, Flit, Payload, Profile};
 use hmc_packet::{Kind, Packet, read, spell, spelling_is_as_long_as_its_packet};
@@ -56,14 +56,7 @@ fn irtry_by(packet: &Packet, rrp: u16) -> Option<(Kind, u16)>
     ensures { result ≡ irtry_by packet.now.command packet.now.frp rrp }
 {
     match packet.command {
-        Command::Irtry => {
-            let kind = if packet.frp == 1 {
-                Kind::Start
-            } else {
-                Kind::Clear
-            };
-            Some((kind, rrp))
-        }
+        Command::Irtry => Some((Kind::of_pointer(packet.frp), rrp)),
         _ => None,
     }
 }

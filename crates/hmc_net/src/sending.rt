@@ -1,12 +1,12 @@
 //! A packet that is being sent.
 
-ghost use Rattle.std.specs.Prelude.{◌≡◌, ◌<◌, ◌-◌};
+ghost use Rattle.std.specs.Prelude.{◌≡◌, ◌<◌, ◌-◌, Some};
 ghost use Rattle.hmc_packet.specs.Draft.{draft_of};
 ghost use Rattle.hmc_packet.specs.Packet.{flits_of};
 ghost use Rattle.hmc_packet.specs.Parts.{lng_of};
 ghost use Rattle.hmc_journal.specs.Wires.{pointers};
 ghost use Rattle.hmc_journal.specs.Next.{flit_of};
-ghost use Rattle.hmc_journal.specs.StepView.{numbered, sending_with};
+ghost use Rattle.hmc_journal.specs.StepView.{numbered, sending_with, Sending as Sent};
 ghost use Rattle.hmc_net.specs.Wire.{IsTransaction};
 
 use hmc_codes::{Flit, Profile};
@@ -53,19 +53,35 @@ impl Sending {
             .flit(&self.packet, at, return_pointer, Profile::One)
     }
 
-    /// What is left when one more flit was sent.
-    pub fn rest(self) -> Option<Sending>
-        ensures { result ≡ sending_with (self.left - 1) self.packet }
+    // One flit was sent, and it wasn't the last.
+    fn go_on(&mut self)
+        requires { 1 < self.old.left }
+        ensures { self.new ≡ record self.old { left = self.old.left - 1 } }
     {
-        if self.left == 1 {
-            return None;
-        }
-        Some(Sending {
-            packet: self.packet,
-            left: self.left - 1,
-            draft: self.draft,
-        })
+        self.left -= 1;
     }
+}
+
+/// Sends the next flit of a packet, with this return pointer if it is the last. What is left of the
+/// packet, if anything is, stays where it is.
+pub fn next_flit(sending: &mut Option<Sending>, return_pointer: u16) -> Flit
+    requires return_pointer { return_pointer < pointers }
+    requires some { (sent : Sent) × (sending.old ≡ Some sent) }
+    ensures flit { (sent : Sent) → sending.old ≡ Some sent → result
+        ≡ flit_of sent.packet return_pointer (flits_of sent.packet - sent.left) }
+    ensures rest { (sent : Sent) → sending.old ≡ Some sent →
+        sending.new ≡ sending_with (sent.left - 1) sent.packet }
+{
+    let Some(current) = sending else {
+        unreachable!()
+    };
+    let flit = current.flit(return_pointer);
+    if current.left == 1 {
+        *sending = None;
+    } else {
+        current.go_on();
+    }
+    flit
 }
 
 /// Begins a packet after so many flits and packets.

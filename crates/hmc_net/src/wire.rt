@@ -14,7 +14,7 @@ ghost use Rattle.hmc_net.specs.Quiescent.{IsIdle};
 ghost use Rattle.hmc_net.specs.Ready.{IsFitting};
 ghost use Rattle.hmc_net.specs.Wire.{opening_wire, wire_view, IsTransaction, has_output_room, with_handed, without_flits, first_by, advanced_by, after_send, read_with, after_gathering, after_land, landed_packets};
 
-use crate::sending::{Sending, begin};
+use crate::sending::{Sending, begin, next_flit};
 use arrayvec::ArrayVec;
 use circular_buffer::HeapCircularBuffer;
 use hmc_codes::{Flit, LinkSetup, Memory, Profile, ZERO_FLIT};
@@ -202,11 +202,7 @@ impl Wire {
             (wire_view self.old return_pointer) self.old.output self.old.sending }
         ensures state { self.new ≡ advanced_by result.what result.flit self.old }
     {
-        let Some(sending) = self.sending.take() else {
-            unreachable!()
-        };
-        let flit = sending.flit(return_pointer);
-        self.sending = sending.rest();
+        let flit = next_flit(&mut self.sending, return_pointer);
         Next {
             what: What::New,
             flit,

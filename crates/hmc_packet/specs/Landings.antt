@@ -12,6 +12,7 @@ use Rattle.hmc_packet.specs.declared.outcome.Outcome.TheVariants.{Quiet, Trained
 use Rattle.hmc_packet.specs.declared.seen.Seen.{Seen}
 use Rattle.hmc_packet.specs.declared.view.Mode.{Mode}
 use Rattle.hmc_packet.specs.declared.view.Mode.TheVariants.{Train, Abort, Good}
+use Rattle.hmc_packet.specs.declared.view.View.{View}
 use Rattle.hmc_packet.specs.Irtry.{irtry_in}
 use Rattle.hmc_packet.specs.Packet.{PacketFields, flits_of}
 use Rattle.hmc_packet.specs.Reading.{read_of}
@@ -120,3 +121,7 @@ flits_in packets = sum_by flits_of packets
 -- the forward pointer of the last one, which the other direction returns: 0 where there is none
 abbrev pub pointer_of : Profile → List ReceiverEntry → ℕ
 pointer_of profile past = flits_in (accepted profile past) % modulus_of profile
+
+-- what the sender at the same end sees of the receiver
+abbrev pub receiver_view : Profile → List ReceiverEntry → View
+receiver_view profile past = record { mode = mode past; rrp = pointer_of profile past }

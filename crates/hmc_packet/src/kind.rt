@@ -1,5 +1,7 @@
 //! The two kinds of IRTRY.
 
+ghost use Rattle.std.specs.Prelude.{◌≡◌};
+
 /// What an IRTRY asks of the end that it comes to.
 #[derive(Clone, Copy, Debug, PartialEq, Eq)]
 pub enum Kind {
@@ -7,4 +9,15 @@ pub enum Kind {
     Start,
     /// Begin anew: packets follow.
     Clear,
+}
+
+impl Kind {
+    ghost use Rattle.hmc_packet.specs.Irtry.{kind_of};
+
+    /// The kind of an IRTRY with this forward pointer: 1 says a Start, 2 a Clear.
+    pub fn of_pointer(frp: u16) -> Self
+        ensures { result ≡ kind_of frp }
+    {
+        if frp == 1 { Kind::Start } else { Kind::Clear }
+    }
 }

@@ -12,7 +12,8 @@
 //!   that a packet is spelled once though its last flit has the return pointer of its own time.
 //! - [`ask`] and [`reply`] return `request_packet` and `reply_packet`, [`request_of`] and
 //!   [`answer_of`] return `request_in` and `answer_in`.
-//! - [`head_of`] reads a first flit alone: `head_in`.
+//! - [`head_of`] reads a first flit alone: `head_in`. [`header_in`] reads the word of its header,
+//!   and [`Header::unpack`] the fields of that word: `header_of`.
 //!
 //! A layer above doesn't look into bytes: it cites these words, and the laws in `laws.rt` and
 //! `link_laws.rt`, each the contract of a function that does nothing.
@@ -48,6 +49,7 @@ pub use draft::Draft;
 pub use feed::Feed;
 pub use flits::{TRAINING_FLIT, constant_flits};
 pub use head::{Head, head_of};
+pub use header::Header;
 pub use kind::Kind;
 pub use landed::Landed;
 pub use laws::{
@@ -63,7 +65,7 @@ pub use link_laws::{
 };
 pub use outcome::Outcome;
 pub use packet::Packet;
-pub use reading::{is_null, lng_of, read};
+pub use reading::{header_in, is_null, lng_of, read};
 pub use reception::Reception;
 pub use request::{ask, request_of};
 pub use seen::Seen;

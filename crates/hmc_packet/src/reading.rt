@@ -38,6 +38,7 @@ pub fn half_of(bytes: &[u8]) -> u32
     u32::from_le_bytes([bytes[0], bytes[1], bytes[2], bytes[3]])
 }
 
+/// The word of a header: the first eight of at least 16 bytes, such as those of a first flit.
 pub fn header_in(bytes: &[u8]) -> u64
     requires { 16 ≤ length bytes.now }
     ensures { result ≡ header_in bytes.now }

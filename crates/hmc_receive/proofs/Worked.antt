@@ -14,7 +14,7 @@ use Rattle.hmc_packet.specs.declared.outcome.Outcome.TheVariants.{Quiet, Trained
 use Rattle.hmc_packet.specs.declared.view.Mode.TheVariants.{Train, Abort, Good}
 use Rattle.hmc_packet.specs.Header.{header_of, header_is_clean}
 use Rattle.hmc_packet.specs.Irtry.{irtry_in}
-use Rattle.hmc_packet.specs.Landings.{ReceiverEntry, mode, pending, run, is_training, training, accepted}
+use Rattle.hmc_packet.specs.Landings.{ReceiverEntry, mode, pending, run, is_training, training, accepted, receiver_view}
 use Rattle.hmc_packet.specs.Landings.ReceiverEntry.{Land, Unlock}
 use Rattle.hmc_packet.specs.Packet.{PacketFields, null_packet}
 use Rattle.hmc_packet.specs.Parts.{word_of, half_of, lng_of}
@@ -22,7 +22,7 @@ use Rattle.hmc_packet.specs.Reading.{is_null, is_null_alone, has_length, fitting
 use Rattle.hmc_packet.specs.Receptions.{landing_view, reception_by, reception_of}
 use Rattle.hmc_packet.specs.Spelling.{training_flit}
 use Rattle.hmc_packet.specs.Tail.{tail_word, tail_is_clean, tail_of}
-use Rattle.hmc_receive.specs.StandsFor.{latest, view_after, landing_of}
+use Rattle.hmc_receive.specs.StandsFor.{latest, landing_of}
 
 -- an rd16, and it poisoned
 abbrev read_1 : List ℕ
@@ -63,15 +63,15 @@ unfolding latest training_flit is_training mode pending run training accepted re
 latest-repeat = refl
 
 -- what a sender at the same end sees
-view-new : view_after One [] ≡ record { mode = Train; rrp = 0 }
+view-new : receiver_view One [] ≡ record { mode = Train; rrp = 0 }
 unfolding training_flit is_training mode pending run training accepted read_of is_null_alone is_null zero_flit has_length lng_of word_of half_of bytes_read judgement_of command_in fitting all_commands command_of table_line is_clean header_is_clean tail_is_clean tail_word tail_of header_of seen_in poison_in packet_from crc_of remainder divide plus zeros divisor coefficients bits_below bits_of number_of xor irtry_in
 view-new = refl
 
-view-accepted : view_after One (Land read_1 Accepted ∷ good) ≡ record { mode = Good; rrp = 1 }
+view-accepted : receiver_view One (Land read_1 Accepted ∷ good) ≡ record { mode = Good; rrp = 1 }
 unfolding training_flit is_training mode pending run training accepted read_of is_null_alone is_null zero_flit has_length lng_of word_of half_of bytes_read judgement_of command_in fitting all_commands command_of table_line is_clean header_is_clean tail_is_clean tail_word tail_of header_of seen_in poison_in packet_from crc_of remainder divide plus zeros divisor coefficients bits_below bits_of number_of xor irtry_in
 view-accepted = refl
 
-view-unlocked : view_after One (Unlock ∷ Land read_1 Accepted ∷ good) ≡ record { mode = Abort; rrp = 1 }
+view-unlocked : receiver_view One (Unlock ∷ Land read_1 Accepted ∷ good) ≡ record { mode = Abort; rrp = 1 }
 unfolding training_flit is_training mode pending run training accepted read_of is_null_alone is_null zero_flit has_length lng_of word_of half_of bytes_read judgement_of command_in fitting all_commands command_of table_line is_clean header_is_clean tail_is_clean tail_word tail_of header_of seen_in poison_in packet_from crc_of remainder divide plus zeros divisor coefficients bits_below bits_of number_of xor irtry_in
 view-unlocked = refl
 

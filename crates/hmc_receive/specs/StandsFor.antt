@@ -5,7 +5,6 @@ use Rattle.hmc_irtry.specs.Runs.{run_of}
 use Rattle.hmc_packet.specs.declared.kind.Kind.{Kind}
 use Rattle.hmc_packet.specs.declared.reception.Reception.{Reception}
 use Rattle.hmc_packet.specs.declared.view.Mode.TheVariants.{Train}
-use Rattle.hmc_packet.specs.declared.view.View.{View}
 use Rattle.hmc_packet.specs.Landings.{ReceiverEntry, mode, pending, whole_run, run, whole_training, training, accepted_by, accepted, pointer_of}
 use Rattle.hmc_packet.specs.Packet.{PacketFields, null_packet}
 use Rattle.hmc_packet.specs.Receptions.{reception_of, landing_entry, landed_with}
@@ -38,10 +37,6 @@ pub record ReceiverStandsFor (q : Profile) (r : ReceiverFields) (past : List Rec
   pub seq : r.seq ≡ length (accepted q past) % 8
   pub packet : r.packet ≡ latest q past
   pub gathered : r.gathered ≡ pending past
-
--- what a sender at the same end sees after these entries
-abbrev pub view_after : Profile → List ReceiverEntry → View
-view_after profile past = record { mode = mode past; rrp = pointer_of profile past }
 
 -- a reception with the packet that it accepted
 abbrev pub landing_with : Reception → PacketFields → Landing

@@ -16,7 +16,7 @@ pub struct Landing {
     pub checked: bool,
 }
 
-// An outcome with the packet that was accepted.
+/// An outcome with the packet that was accepted.
 pub fn landed_with(outcome: Outcome, packet: &Packet) -> Landed
     ensures { result ≡ landed_with outcome packet.now }
 {

@@ -10,5 +10,5 @@ mod landing;
 mod receiver;
 
 pub use hmc_packet::{Kind, Landed, Mode, Outcome, Reception, View};
-pub use landing::Landing;
+pub use landing::{Landing, landed_with};
 pub use receiver::Receiver;

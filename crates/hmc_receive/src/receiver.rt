@@ -5,13 +5,13 @@ ghost use Rattle.hmc_codes.specs.Profile.{modulus_of};
 ghost use Rattle.hmc_codes.specs.declared.profile.Profile.{Profile};
 ghost use Rattle.hmc_irtry.specs.Runs.{run_of, after_seen};
 ghost use Rattle.hmc_packet.specs.declared.view.Mode.TheVariants.{Train, Abort, Good};
-ghost use Rattle.hmc_packet.specs.Irtry.{kind_of, irtry_in};
-ghost use Rattle.hmc_packet.specs.Landings.{ReceiverEntry, is_training, pending};
+ghost use Rattle.hmc_packet.specs.Irtry.{irtry_in};
+ghost use Rattle.hmc_packet.specs.Landings.{ReceiverEntry, is_training, pending, receiver_view};
 ghost use Rattle.hmc_packet.specs.Landings.ReceiverEntry.{Land, Unlock};
 ghost use Rattle.hmc_packet.specs.Reading.{IsSpelled, read_of};
 ghost use Rattle.hmc_packet.specs.Receptions.{unchecked, checked, train_reception, irtry_reception, abort_reception, is_next, is_repeat, sequenced_outcome, is_no_length, lng_with, packet_reception, read_reception, good_reception, reception_by, reception_of, landing_entry};
 ghost use Rattle.hmc_receive.specs.Receiver.{IsReceiver, is_partial, view_of, mode_ran, after_other, after_abort, after_gathered, after_irtry, after_accepted, after_sequenced, after_packet, after_training, after_alone, after_unlock, Follows};
-ghost use Rattle.hmc_receive.specs.StandsFor.{latest, ReceiverStandsFor, view_after, landing_of};
+ghost use Rattle.hmc_receive.specs.StandsFor.{latest, ReceiverStandsFor, landing_of};
 
 use crate::Landing;
 use crate::landing::landed_with;
@@ -94,13 +94,6 @@ fn is_no_length(lng: u8) -> bool
     ensures { result ≡ is_no_length lng }
 {
     lng == 0 || 17 < lng
-}
-
-// Which of the two a forward pointer says.
-fn kind_of(frp: u16) -> Kind
-    ensures { result ≡ kind_of frp }
-{
-    if frp == 1 { Kind::Start } else { Kind::Clear }
 }
 
 // The mode after a run: one of Clears opens the receiver.
@@ -245,7 +238,7 @@ impl Receiver {
                 self.see_other();
                 checked(Outcome::Quiet, None)
             }
-            Layout::Irtry => self.see_irtry(kind_of(seen.packet.frp), seen.rrp),
+            Layout::Irtry => self.see_irtry(Kind::of_pointer(seen.packet.frp), seen.rrp),
             Layout::Pret => {
                 self.see_other();
                 checked(Outcome::Quiet, Some(seen.rrp))
@@ -432,7 +425,7 @@ impl Receiver {
     pub fn view(&self) -> View
         ensures { (profile : Profile) (past : List ReceiverEntry) →
             ReceiverStandsFor profile self.now past →
-            result ≡ view_after profile past }
+            result ≡ receiver_view profile past }
     {
         View {
             mode: self.mode,

@@ -1,9 +1,10 @@
 -- A retry buffer, as the contracts see it, and what its calls give and leave.
-use Rattle.std.specs.Prelude.{◌≡◌, ◌≤◌, ◌<◌, ◌+◌, ◌-◌, ◌%◌, ℕ, suc, nat_lt, Bool, ◌==◌, if◌then◌else◌, List, [], ◌∷◌, ◌++◌, length, take, drop, slice_index_or, sum_by, position, Option, Some, None, Result, Ok, Err}
+use Rattle.std.specs.Prelude.{◌≡◌, ◌≤◌, ◌<◌, ◌+◌, ◌-◌, ◌%◌, ℕ, suc, nat_lt, Bool, ◌==◌, if◌then◌else◌, List, [], ◌∷◌, ◌++◌, length, take, drop, slice_index_or, position, Option, Some, None, Result, Ok, Err}
 use Rattle.hmc_codes.specs.Limits.{least_flits}
 use Rattle.hmc_codes.specs.Profile.{modulus_of, most_retry}
 use Rattle.hmc_codes.specs.declared.profile.Profile.{Profile}
-use Rattle.hmc_packet.specs.Packet.{PacketFields, flits_of, null_packet}
+pub use Rattle.hmc_packet.specs.Landings.{flits_in}
+use Rattle.hmc_packet.specs.Packet.{PacketFields, null_packet}
 use Rattle.hmc_retry.specs.declared.stray.Stray.{Stray}
 
 -- the flits that it may hold, and the profile of its pointers; the kept packets, the oldest first;
@@ -14,10 +15,6 @@ pub record RetryFields : Type 0 where
   pub kept : List PacketFields
   pub base : ℕ
   pub position : ℕ
-
--- the flits of packets
-abbrev pub flits_in : List PacketFields → ℕ
-flits_in packets = sum_by flits_of packets
 
 -- the pointer of what ends so many flits after the base
 abbrev pub pointer_after : RetryFields → ℕ → ℕ

@@ -8,4 +8,5 @@ pub mod MeaningText
 pub mod LawLemmas
 pub mod PayloadLemmas
 pub mod StoredLemmas
+pub mod OwnLemmas
 mod Worked

@@ -1,13 +1,26 @@
 -- What a script is: a list of requests.
 use Rattle.hmc_codes.specs.Limits.{most_hosts, most_requests}
-use Rattle.std.specs.Prelude.{ℕ, ◌<◌, ◌≤◌, List, length}
-use Rattle.std.specs.List.{All}
+use Rattle.std.specs.Prelude.{ℕ, ◌<◌, ◌≤◌, ◌==◌, List, length}
+use Rattle.std.specs.List.{All, filter}
 use Rattle.hmc_codes.specs.Request.{IsRequest}
 use Rattle.hmc_script.specs.declared.item.Item.{Item}
+use Rattle.hmc_script.specs.declared.item.Outline.{Outline}
 
 -- a request of a script, as contracts see it
 abbrev pub ItemFields : Type 0
 ItemFields = Item
+
+-- what of it decides when it may be given
+abbrev pub outline_of : ItemFields → Outline
+outline_of item = record {
+  fenced = item.fenced;
+  poisoned = item.poisoned;
+  command = item.request.command;
+}
+
+-- the requests that are this host's
+abbrev pub of_host : (host : ℕ) → List ItemFields → List ItemFields
+of_host host items = filter (λ item. item.host == host) items
 
 -- the host and the cube are among so many
 pub record IsWithin (hosts cubes : ℕ) (item : ItemFields) : Type 0 where

@@ -1,6 +1,7 @@
 //! What is wrong with a script.
 
-ghost use Rattle.std.specs.Prelude.{Some};
+ghost use Rattle.std.specs.Prelude.{◌≡◌, ◌≤◌, Some, length};
+ghost use Rattle.hmc_script.specs.Kind.{kind_word};
 
 use hmc_text::fault::TextFault;
 use std::fmt;
@@ -24,13 +25,13 @@ pub enum ScriptKind {
     TooMany,
 }
 
-impl fmt::Display for ScriptKind {
-    ghost use Rattle.hmc_script.specs.Kind.{kind_word};
-
-    ghost output = { λ kind. Some (kind_word kind) };
-
-    fn fmt<W: fmt::Write>(&self, f: &mut fmt::Formatter<W>) -> fmt::Result {
-        f.write_str(match self {
+impl ScriptKind {
+    /// The word by which it is reported: at most 8 letters.
+    pub fn word(self) -> &'static str
+        ensures word { result.now ≡ kind_word self }
+        ensures few { length result.now ≤ 8 }
+    {
+        match self {
             ScriptKind::Host => "host",
             ScriptKind::Words => "words",
             ScriptKind::Command => "command",
@@ -38,7 +39,17 @@ impl fmt::Display for ScriptKind {
             ScriptKind::Address => "address",
             ScriptKind::Payload => "payload",
             ScriptKind::TooMany => "toomany",
-        })
+        }
+    }
+}
+
+impl fmt::Display for ScriptKind {
+    ghost use Rattle.hmc_script.specs.Kind.{kind_word};
+
+    ghost output = { λ kind. Some (kind_word kind) };
+
+    fn fmt<W: fmt::Write>(&self, f: &mut fmt::Formatter<W>) -> fmt::Result {
+        f.write_str(self.word())
     }
 }
 

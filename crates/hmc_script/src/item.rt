@@ -1,6 +1,6 @@
 //! The requests of a script.
 
-use hmc_codes::Request;
+use hmc_codes::{Command, Request};
 
 /// A request of a script.
 #[derive(Clone, Copy)]
@@ -14,4 +14,16 @@ pub struct Item {
     pub poisoned: bool,
     /// The request.
     pub request: Request,
+}
+
+/// What of an item decides when it may be given: all but the host, the cube, the address and the
+/// payload.
+#[derive(Clone, Copy, Debug, PartialEq, Eq)]
+pub struct Outline {
+    /// Whether a fence is before the request.
+    pub fenced: bool,
+    /// Whether the request is sent poisoned.
+    pub poisoned: bool,
+    /// The request's command.
+    pub command: Command,
 }

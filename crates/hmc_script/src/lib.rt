@@ -3,7 +3,8 @@
 //! A script is a list of items: a host, its request, whether the request is poisoned, and whether a
 //! fence is before it. [`Script::parse`] reads a text and returns the script, or the first fault
 //! with its line, by `specs/Script.antt`. [`Script::print`] writes a script as a text that is read
-//! again as the same script. [`Script::new`] and [`Script::add`] make a script item by item.
+//! again as the same script. [`Script::new`] and [`Script::add`] make a script item by item, and
+//! [`Script::of_host`] takes out the items of one host.
 //!
 //! Lines, words and numbers are those of `hmc_text`.
 #![tactic(auto)]
@@ -20,6 +21,6 @@ mod script;
 mod stored;
 
 pub use fault::{ScriptFault, ScriptKind};
-pub use item::Item;
+pub use item::{Item, Outline};
 pub use laws::printed_is_read;
 pub use script::Script;

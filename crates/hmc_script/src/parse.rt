@@ -24,20 +24,20 @@ fn follow(
     script: &mut Script,
     fences: &mut [bool; HOSTS],
     number: u32,
-    meaning: Meaning,
+    meaning: &Meaning,
 ) -> Result<(), ScriptFault>
-    requires { NamesWithin most_hosts most_cubes meaning }
+    requires { NamesWithin most_hosts most_cubes meaning.now }
     ensures value { Answers (λ _. record { items = script.new; fences = fences.new }) result
         (at_line number
-        (after_meaning (record { items = script.old; fences = fences.old }) meaning)) }
-    ensures within { (hosts cubes : ℕ) → NamesWithin hosts cubes meaning
+        (after_meaning (record { items = script.old; fences = fences.old }) meaning.now)) }
+    ensures within { (hosts cubes : ℕ) → NamesWithin hosts cubes meaning.now
         → All (IsWithin hosts cubes) script.old
         → OnOk result (All (IsWithin hosts cubes) script.new) }
 {
     match meaning {
         Meaning::Nothing => Ok(()),
         Meaning::Fence(host) => {
-            fences[usize::from(host)] = true;
+            fences[usize::from(*host)] = true;
             Ok(())
         }
         Meaning::Ask(host, poisoned, request) => {
@@ -47,9 +47,10 @@ fn follow(
                     kind: ScriptKind::TooMany,
                 });
             }
+            let host = *host;
             let fenced = fences[usize::from(host)];
             fences[usize::from(host)] = false;
-            script.append(host, fenced, poisoned, &request)?;
+            script.append(host, fenced, *poisoned, request)?;
             Ok(())
         }
     }
@@ -75,7 +76,7 @@ fn read_line(
         → OnOk result (All (IsWithin hosts cubes) script.new) }
 {
     match meaning_of(hosts, cubes, line) {
-        Ok(meaning) => follow(script, fences, number, meaning),
+        Ok(meaning) => follow(script, fences, number, &meaning),
         Err(kind) => Err(ScriptFault::Fault { line: number, kind }),
     }
 }

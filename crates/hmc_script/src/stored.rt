@@ -27,13 +27,21 @@ pub struct Short {
     pub start: usize,
 }
 
+/// The payload bytes of a short item.
+pub fn payload_bytes<'a>(short: &Short, bytes: &'a [u8]) -> &'a [u8]
+    requires { IsInside bytes.now short.now }
+    ensures { result.now ≡ (item_of bytes.now short.now).request.payload }
+{
+    let len = short.command.payload_len();
+    &bytes[short.start..short.start + len]
+}
+
 // The payload of a short item.
 fn payload_of(short: &Short, bytes: &[u8]) -> Payload
     requires { IsInside bytes.now short.now }
     ensures { result ≡ (item_of bytes.now short.now).request.payload }
 {
-    let len = short.command.payload_len();
-    Payload::from_slice(&bytes[short.start..short.start + len]).unwrap()
+    Payload::from_slice(payload_bytes(short, bytes)).unwrap()
 }
 
 /// The item of a short item, whose payload is among these bytes.

@@ -15,6 +15,7 @@ use Rattle.hmc_codes.specs.declared.layout.Layout.TheVariants as layouts
 use Rattle.hmc_codes.specs.declared.profile.Profile.{Profile}
 use Rattle.hmc_codes.specs.declared.profile.Profile.TheVariants.{One, Two}
 use Rattle.hmc_packet.specs.declared.head.Head.{Head}
+use Rattle.hmc_packet.specs.declared.header.Header.{Header}
 use Rattle.hmc_packet.specs.Copy.{copied_packet}
 use Rattle.hmc_packet.specs.Bits.{bits_from}
 use Rattle.hmc_packet.specs.Head.{named_by, head_in, head_with}
@@ -24,7 +25,7 @@ use Rattle.hmc_packet.specs.Parts.{word_of, header_in}
 use Rattle.hmc_packet.specs.Reading.{command_in, fitting, packet_from}
 use Rattle.hmc_packet.specs.Tail.{FitsField, tail_layout}
 use Rattle.hmc_send.specs.declared.numbers.Numbers.{Numbers}
-use Rattle.hmc_send.specs.Copies.{copy_of, command_or_null, errstat_for, tail_with}
+use Rattle.hmc_send.specs.Copies.{copy_of, command_or_null, is_reply, errstat_for, tail_with}
 use Rattle.hmc_send.specs.Kept.{AreNumbers, IsPayloadOf, CanBeSent, IsHead}
 
 -- what a head says of its flit
@@ -109,6 +110,11 @@ made command tag address cube slid flag errstat n poisoned payload = record {
 
 flow-clash : (layout : Layout) (command : Command) → layout ≡ layout_of command → is_flow (layout_of command) ≡ false → is_flow layout ≡ true → ⊥
 flow-clash layout command same no_flow flow = let clash : true ≡ false = sym flow ∙ ap is_flow same ∙ no_flow in absurd cc
+
+-- the SLID of header or tail has three bits
+pub slid-few : (layout : Layout) (h : Header) (slid of : ℕ) → of ≡ (if is_reply layout then h.slid else slid) → h.slid < 8 → slid < 8 → of < 8
+slid-few layouts.Reply h slid of is few small = omega arith
+slid-few _ h slid of is few small = omega arith
 
 pub IsPacket-made : (layout : Layout) (command : Command) (word tag address cube slid errstat : ℕ) (flag poisoned : Bool) (n : Numbers) (payload : List ℕ) → layout ≡ layout_of command → is_flow (layout_of command) ≡ false →
     tag ≡ (header_of layout word).tag → address ≡ (header_of layout word).address → flag ≡ (header_of layout word).flag → cube ≡ (header_of layout word).cube →

@@ -1,5 +1,5 @@
 -- A send leaves what each sender keeps.
-use Rattle.std.proofs.Common.{◌≡◌, ◌∙◌, inl, inr, ◌<◌, ◌≤◌, ◌+◌, ◌%◌, ℕ, suc, min, Bool, true, false, List, [], ◌∷◌, ◌++◌, length, map, Option, Some, None, refl, sym, ap, subst, arith, length-append}
+use Rattle.std.proofs.Common.{◌≡◌, ◌∙◌, inl, inr, ◌<◌, ◌≤◌, ◌+◌, ◌%◌, ◌^◌, ℕ, suc, min, Bool, true, false, List, [], ◌∷◌, ◌++◌, length, map, Option, Some, None, refl, sym, ap, subst, arith, length-append}
 use Rattle.std.specs.Prelude.{nat_le, nat_lt, if◌then◌else◌}
 use Rattle.std.proofs.lemmas.Bool.{and_parts}
 use Rattle.std.proofs.lemmas.Grind.{common_steps}
@@ -26,7 +26,7 @@ use Rattle.hmc_send.specs.declared.state.State.{State}
 use Rattle.hmc_send.specs.Choice.{next_of_view, choice, irtry_sent, next_flit, part_what, may_return}
 use Rattle.hmc_send.specs.Copies.{copy_of, place_fed}
 use Rattle.hmc_send.specs.Entries.{Given, Part, UnderWay, with_place, part_after, part_with, or_null, shows_pointer}
-use Rattle.hmc_send.specs.Given.{IsTaken, IsFrontFit}
+use Rattle.hmc_send.specs.Given.{IsTaken, IsFrontFit, IsBegunFit, IsTakenFit}
 use Rattle.hmc_send.specs.IsSender.{IsSender, IsBegunKept, IsNextKept}
 use Rattle.hmc_send.specs.Kept.{CanBeSent}
 use Rattle.hmc_send.specs.Places.{Place, tret_packet, flit_of}
@@ -34,7 +34,7 @@ use Rattle.hmc_send.specs.Sender.{view_held, open_places, places_held, position_
 use Rattle.hmc_send.proofs.Cases.{Case, CanBegin, case_of}
 use Rattle.hmc_send.proofs.Cases.Case.{trains, goes_on, starves, steers, repeats, begins, returns, points, idles}
 use Rattle.hmc_send.proofs.KeepLemmas.{keep-quiet, keep-irtry, keep-kept, keep-closed, keep-open, keep-filled, begun-known, buffer-next, few-others}
-use Rattle.hmc_send.proofs.KeptLemmas.{room-bare, next-bare, CanBeSent-next}
+use Rattle.hmc_send.proofs.KeptLemmas.{room-bare, next-bare, CanBeSent-next, errstat-taken}
 use Rattle.hmc_send.proofs.Lists.{length-known}
 use Rattle.hmc_send.proofs.Parts.{again-none, again-some, new-some}
 use Rattle.hmc_send.proofs.Steps.{new-none}
@@ -46,16 +46,20 @@ le-of a b is = grind (arith, common_steps)
 next-pointer : (held : State) (flits : ℕ) → IsSender held → held.under_way ≡ None → (held.pointer + flits) % modulus_of held.retry.profile ≡ next_pointer held.retry flits
 next-pointer held flits is nothing = (λ i. (held.pointer + flits) % modulus_of (sym is.profile i)) ∙ next-bare held flits is nothing
 
-by_new : (held : State) (given : Given) (flit : List ℕ) → IsSender held → IsFrontFit held.retry.profile given.front → held.under_way ≡ None → CanBegin (view_held held given) → IsSender (after_sent given what.New flit held)
-by_new held given flit is fit nothing can =
+by_new : (held : State) (given : Given) (flit : List ℕ) → IsSender held → IsFrontFit held.retry.profile given.front → IsTakenFit held.under_way (Out flit what.New) given.front → held.under_way ≡ None → CanBegin (view_held held given) →
+    IsSender (after_sent given what.New flit held)
+by_new held given flit is fit begun nothing can =
     let q = held.retry.profile in
     let p = or_null given.front in
     let same : can.packet ≡ p = ap or_null (sym can.front) in
     let taken : IsTaken q can.packet = subst (IsFrontFit q) can.front fit in
     let mine : IsTaken q p = subst (IsTaken q) same taken in
+    let bare : IsBegunFit (Out flit what.New) given.front = subst (λ (u : Option UnderWay). IsTakenFit u (Out flit what.New) given.front) nothing begun in
+    let few : can.packet.errstat < 2 ^ 7 = subst (IsBegunFit (Out flit what.New)) can.front bare in
+    let errstat : FitsField (tail_layout q).errstat p.errstat = subst (λ (t : PacketFields). FitsField (tail_layout q).errstat t.errstat) same (errstat-taken q can.packet taken few) in
     let room : flits_of can.packet ≤ room_of held.retry = subst (λ (n : ℕ). flits_of can.packet ≤ n) (room-bare held nothing) (le-of (flits_of can.packet) (view_held held given).room can.room) in
     let fits : flits_of p ≤ room_of held.retry = subst (λ (t : PacketFields). flits_of t ≤ room_of held.retry) same room in
-    let sendable : CanBeSent q (next_held held given.due p) = CanBeSent-next q held.pointer held.number (code_for given.due) p (inl mine.token) mine.errstat in
+    let sendable : CanBeSent q (next_held held given.due p) = CanBeSent-next q held.pointer held.number (code_for given.due) p (inl mine.token) errstat in
     subst IsSender (sym (new-none held given flit nothing))
     (keep-kept held (next_held held given.due p) (part_after false flit None) _ is nothing fits (next-pointer held (flits_of p) is nothing) (omega arith) sendable
     (begun-known (after_put (next_held held given.due p) held.retry) (next_held held given.due p) (part_after false flit None) sendable))
@@ -149,19 +153,19 @@ by_kind : (held : State) (given : Given) (of : Kind) → IsSender held → held.
 by_kind held given kind.Clear is nothing = keep-irtry held kind.Clear (min (suc held.others) 64) given.own.rrp is nothing (few-others held.others)
 by_kind held given kind.Start is nothing = keep-irtry held kind.Start 0 given.own.rrp is nothing (omega arith)
 
-by_case : (held : State) (given : Given) (x : Sent) → IsSender held → MaySend held given → IsFrontFit held.retry.profile given.front → Case held.retry.profile (view_held held given) x → IsSender (after_send given x held)
-by_case held given x is may fit (trains t) = keep-quiet held _ is
-by_case held given x is may fit (goes_on t begun some flit next) = by_place held given flit begun.part begun.place is some (may.fed begun some) next
-by_case held given x is may fit (starves t begun some next) = is
-by_case held given x is may fit (steers t nothing of due) = by_kind held given of is nothing
-by_case held given x is may fit (repeats b place some) = by_again held given _ place is b.nothing some
-by_case held given x is may fit (begins free can) = by_new held given _ is fit free.between.nothing can
-by_case held given x is may fit (returns free opened can) = by_tret held given (flit_of held.retry.profile (next_of_view held.retry.profile (view_held held given) tret_packet) given.own.rrp 0) is free.between.nothing can
-by_case held given x is may fit (points free other) = keep-quiet held _ is
-by_case held given x is may fit (idles free same) = keep-quiet held _ is
+by_case : (held : State) (given : Given) (x : Sent) → IsSender held → MaySend held given → IsFrontFit held.retry.profile given.front → IsTakenFit held.under_way x given.front → Case held.retry.profile (view_held held given) x → IsSender (after_send given x held)
+by_case held given x is may fit begun (trains t) = keep-quiet held _ is
+by_case held given x is may fit begun (goes_on t u some flit next) = by_place held given flit u.part u.place is some (may.fed u some) next
+by_case held given x is may fit begun (starves t u some next) = is
+by_case held given x is may fit begun (steers t nothing of due) = by_kind held given of is nothing
+by_case held given x is may fit begun (repeats b place some) = by_again held given _ place is b.nothing some
+by_case held given x is may fit begun (begins free can) = by_new held given _ is fit begun free.between.nothing can
+by_case held given x is may fit begun (returns free opened can) = by_tret held given (flit_of held.retry.profile (next_of_view held.retry.profile (view_held held given) tret_packet) given.own.rrp 0) is free.between.nothing can
+by_case held given x is may fit begun (points free other) = keep-quiet held _ is
+by_case held given x is may fit begun (idles free same) = keep-quiet held _ is
 
-pub keep-send : (held : State) (given : Given) (x : Sent) → IsSender held → MaySend held given → IsFrontFit held.profile given.front → x ≡ choice held.profile (view_held held given) → IsSender (after_send given x held)
-keep-send held given x is may fit same =
+pub keep-send : (held : State) (given : Given) (x : Sent) → IsSender held → MaySend held given → IsFrontFit held.profile given.front → IsTakenFit held.under_way x given.front → x ≡ choice held.profile (view_held held given) → IsSender (after_send given x held)
+keep-send held given x is may fit begun same =
     let e : x ≡ choice held.retry.profile (view_held held given) = same ∙ ap (λ (q : Profile). choice q (view_held held given)) is.profile in
     subst (λ (y : Sent). IsSender (after_send given y held)) (sym e)
-    (by_case held given (choice held.retry.profile (view_held held given)) is may (subst (λ (q : Profile). IsFrontFit q given.front) is.profile fit) (case_of held.retry.profile (view_held held given)))
+    (by_case held given (choice held.retry.profile (view_held held given)) is may (subst (λ (q : Profile). IsFrontFit q given.front) is.profile fit) (subst (λ (y : Sent). IsTakenFit held.under_way y given.front) e begun) (case_of held.retry.profile (view_held held given)))

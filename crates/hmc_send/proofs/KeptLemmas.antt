@@ -20,7 +20,7 @@ use Rattle.hmc_retry.specs.RetryBuffer.{RetryFields, IsRetryBuffer, room_of, nex
 use Rattle.hmc_retry.specs.RetryBuffer as retry
 use Rattle.hmc_tokens.specs.Account.{greatest_code, code_for, tokens_of_code}
 use Rattle.hmc_send.specs.declared.state.State.{State}
-use Rattle.hmc_send.specs.Given.{is_returning}
+use Rattle.hmc_send.specs.Given.{is_returning, IsTaken}
 use Rattle.hmc_send.specs.Entries.{Part, UnderWay}
 use Rattle.hmc_send.specs.IsSender.{IsSender, IsSequenced, IsPlaceKept, IsBegunKept}
 use Rattle.hmc_send.specs.Kept.{CanBeSent, IsPartFit, copy_fed}
@@ -72,6 +72,11 @@ sequenced-other p (inr same) = λ is. let clash : Tret ≡ Null = ap (λ (t : Pa
 pub CanBeSent-next : (profile : Profile) (pointer number rtc : ℕ) (p : PacketFields) → IsSequenced p → FitsField (tail_layout profile).errstat p.errstat →
     CanBeSent profile (with_numbers (numbers_after profile pointer number (flits_of p) rtc) p)
 CanBeSent-next profile pointer number rtc p is fits = record { forward = mod_small profile (pointer + flits_of p); errstat = fits; other = sequenced-other p is }
+
+-- a front's error number fits the tail of its profile: in One that of each packet does
+pub errstat-taken : (profile : Profile) (p : PacketFields) → IsTaken profile p → p.errstat < 2 ^ 7 → FitsField (tail_layout profile).errstat p.errstat
+errstat-taken One p taken few = few
+errstat-taken Two p taken few = taken.errstat refl
 
 -- where nothing is under way, the places are the kept packets
 pub flits-bare : (held : State) → held.under_way ≡ None → flits_in (places_held held) ≡ retry.flits_in held.retry.kept

@@ -18,7 +18,7 @@ pub mod LinkLists
 pub mod LinkLawful
 pub mod LinkProjections
 pub mod LinkTokenSums
-mod WorkedLinkWords
+pub mod WorkedLinkWords
 mod WorkedLink
 mod WorkedLinkRetry
 mod WorkedLinkThrough

@@ -13,7 +13,8 @@ use Rattle.hmc_send.specs.declared.sent.Sent.{Sent}
 use Rattle.hmc_send.specs.declared.sent.Sent.TheVariants.{Out, Starved}
 use Rattle.hmc_send.specs.Choice.{choice}
 use Rattle.hmc_send.specs.LinkCalls.{entry_if, has_room, holds_packet, is_full, view_in, sent_entry, landed_front, may_pass_on, names_flits, next_entry, IsLawful}
-use Rattle.hmc_send.specs.LinkEntries.{Toward, LinkEntry, receiver_entries}
+use Rattle.hmc_send.specs.declared.toward.Toward.{Toward}
+use Rattle.hmc_send.specs.LinkEntries.{LinkEntry, receiver_entries}
 use Rattle.hmc_send.specs.LinkLines.{StampedFlit, line, under_mask, passes}
 use Rattle.hmc_send.specs.Places.{is_token}
 

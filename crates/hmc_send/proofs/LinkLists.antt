@@ -5,7 +5,8 @@ use Rattle.hmc_packet.specs.declared.feed.Feed.{Feed}
 use Rattle.hmc_send.specs.declared.sent.Sent.{Sent}
 use Rattle.hmc_send.specs.declared.sent.Sent.TheVariants.{Out, Starved}
 use Rattle.hmc_send.specs.LinkCalls.{LinkCall, entry_if, sent_entry, landed_front, next_entry, call_of, IsLawful, with_entry, entries_after_calls}
-use Rattle.hmc_send.specs.LinkEntries.{Toward, LinkEntry}
+use Rattle.hmc_send.specs.declared.toward.Toward.{Toward}
+use Rattle.hmc_send.specs.LinkEntries.{LinkEntry}
 use Rattle.hmc_send.specs.LinkLines.{StampedFlit}
 
 some_is : (a b : LinkEntry) → Some a ≡ Some b → a ≡ b

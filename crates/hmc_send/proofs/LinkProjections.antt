@@ -6,8 +6,9 @@ use Rattle.hmc_packet.specs.declared.outcome.Outcome.{Outcome}
 use Rattle.hmc_packet.specs.declared.what.What.{What}
 use Rattle.hmc_packet.specs.Landings.{ReceiverEntry}
 use Rattle.hmc_send.specs.Entries.{SenderEntry}
-use Rattle.hmc_send.specs.LinkEntries.{Toward, LinkEntry, other, receiver_entries}
-use Rattle.hmc_send.specs.LinkEntries.Toward.{Forth, Back}
+use Rattle.hmc_send.specs.declared.toward.Toward.{Toward}
+use Rattle.hmc_send.specs.LinkEntries.{LinkEntry, other, receiver_entries}
+use Rattle.hmc_send.specs.declared.toward.Toward.TheVariants.{Forth, Back}
 use Rattle.hmc_send.specs.LinkSenders.{due_after, landing_entries, sender_entries, given_in}
 
 -- ---- to a sender

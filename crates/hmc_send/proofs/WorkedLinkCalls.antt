@@ -31,7 +31,7 @@ use Rattle.hmc_send.specs.Copies.{copy_of}
 use Rattle.hmc_send.specs.Entries.{unfinished, places, taken_fronts, acked, clears, starts, go_back, is_open, others, last_begun, shown_pointer}
 use Rattle.hmc_send.specs.LinkCalls.{LinkCall, next_entry, IsLawful, entries_after_calls}
 use Rattle.hmc_send.specs.LinkEntries.{LinkEntry, receiver_entries, handed_packets, takes}
-use Rattle.hmc_send.specs.LinkEntries.Toward.{Forth, Back}
+use Rattle.hmc_send.specs.declared.toward.Toward.TheVariants.{Forth, Back}
 use Rattle.hmc_send.specs.LinkLines.{under_mask, sent_flits, landings, line, is_pending_changed, passes}
 use Rattle.hmc_send.specs.LinkSenders.{given_after, sender_entries, tokens}
 use Rattle.hmc_send.specs.Places.{flit_of, tret_packet}

@@ -28,7 +28,7 @@ use Rattle.hmc_send.specs.Copies.{copy_of}
 use Rattle.hmc_send.specs.Entries.{unfinished, places, taken_fronts, acked, clears, starts, go_back, is_open, others, last_begun, shown_pointer}
 use Rattle.hmc_send.specs.LinkCalls.{next_entry, call_of, IsLawful, entries_after_calls}
 use Rattle.hmc_send.specs.LinkEntries.{LinkEntry, receiver_entries, handed_packets, takes}
-use Rattle.hmc_send.specs.LinkEntries.Toward.{Forth}
+use Rattle.hmc_send.specs.declared.toward.Toward.TheVariants.{Forth}
 use Rattle.hmc_send.specs.LinkLines.{sent_flits, landings, line, is_pending_changed, passes}
 use Rattle.hmc_send.specs.LinkSenders.{given_after, sender_entries, tokens}
 use Rattle.hmc_send.specs.Places.{flit_of}

@@ -12,7 +12,7 @@ use Rattle.hmc_packet.specs.declared.what.What.{What}
 use Rattle.hmc_packet.specs.declared.what.What.TheVariants as what
 use Rattle.hmc_packet.specs.Spelling.{training_flit}
 use Rattle.hmc_send.specs.LinkEntries.{LinkEntry}
-use Rattle.hmc_send.specs.LinkEntries.Toward.{Forth, Back}
+use Rattle.hmc_send.specs.declared.toward.Toward.TheVariants.{Forth, Back}
 
 -- a flit that is sent as this, and lands unchanged with this outcome
 pub record Crossing : Type 0 where

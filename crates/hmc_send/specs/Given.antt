@@ -1,9 +1,10 @@
 -- What a send is given, and what it leaves of it.
-use Rattle.std.specs.Prelude.{◌≡◌, ℕ, ◌-◌, Bool, true, false, List, slice_get, Option, Some, None}
+use Rattle.std.specs.Prelude.{◌≡◌, ◌<◌, ◌^◌, ℕ, ◌-◌, Bool, true, false, List, slice_get, Option, Some, None, IfSome}
 use Rattle.hmc_codes.specs.Commands.{is_flow, layout_of}
 use Rattle.hmc_codes.specs.declared.command.Command.{Command}
 use Rattle.hmc_codes.specs.declared.command.Command.TheVariants.{Tret, Pret}
 use Rattle.hmc_codes.specs.declared.profile.Profile.{Profile}
+use Rattle.hmc_codes.specs.declared.profile.Profile.TheVariants.{Two}
 use Rattle.hmc_packet.specs.declared.feed.Feed.{Feed}
 use Rattle.hmc_packet.specs.declared.feed.Feed.TheVariants.{Waiting}
 use Rattle.hmc_packet.specs.declared.view.Mode.TheVariants as mode
@@ -11,7 +12,6 @@ use Rattle.hmc_packet.specs.declared.view.View.{View}
 use Rattle.hmc_packet.specs.declared.what.What.TheVariants as what
 use Rattle.hmc_packet.specs.Packet.{PacketFields, flits_of}
 use Rattle.hmc_packet.specs.Parts.{lng_of}
-use Rattle.hmc_packet.specs.Tail.{FitsField, tail_layout}
 use Rattle.hmc_tokens.specs.Account.{tokens_of_code, code_for}
 use Rattle.hmc_tokens.specs.declared.account.Account.{Account}
 use Rattle.hmc_send.specs.declared.sent.Sent.{Sent}
@@ -36,10 +36,10 @@ given_only own = record { own = own; front = None; held = 0; due = 0; feed = Wai
 abbrev pub good_view : View
 good_view = record { mode = mode.Good; rrp = 0 }
 
--- a front is a request or a response whose error number fits the profile
+-- a front is a request or a response; in profile Two its error number has three bits
 pub record IsTaken (profile : Profile) (packet : PacketFields) : Type 0 where
   pub token : is_flow (layout_of packet.command) ≡ false
-  pub errstat : FitsField (tail_layout profile).errstat packet.errstat
+  pub errstat : profile ≡ Two → packet.errstat < 8
 
 abbrev pub IsFrontFit : Profile → Option PacketFields → Type 0
 IsFrontFit profile None = Unit {0}
@@ -75,6 +75,16 @@ account_through flits account = record (paid account) { held = account.held - fl
 abbrev pub fronts_taken : Option UnderWay → Sent → ℕ
 fronts_taken None sent = begun_fronts sent
 fronts_taken (Some begun) sent = 0
+
+-- a front that is begun has the error number of a packet, which is below 128
+abbrev pub IsBegunFit : Sent → Option PacketFields → Type 0
+IsBegunFit (Out flit what.New) front = IfSome front (λ packet. packet.errstat < 2 ^ 7)
+IsBegunFit _ front = Unit {0}
+
+-- the same of a send: it begins a front only where nothing is under way
+abbrev pub IsTakenFit : Option UnderWay → Sent → Option PacketFields → Type 0
+IsTakenFit None sent front = IsBegunFit sent front
+IsTakenFit (Some begun) sent front = Unit {0}
 
 -- what a send leaves of the account
 abbrev pub account_after : Option UnderWay → Option PacketFields → Sent → Account → Account

@@ -8,21 +8,18 @@ use Rattle.hmc_packet.specs.declared.outcome.Outcome.{Outcome}
 use Rattle.hmc_packet.specs.declared.what.What.{What}
 use Rattle.hmc_packet.specs.Landings.{ReceiverEntry, accepted}
 use Rattle.hmc_packet.specs.Packet.{PacketFields}
-
--- the two directions of a link
-pub data Toward : Type 0 where
-  Forth : Toward
-  Back : Toward
+use Rattle.hmc_send.specs.declared.toward.Toward.{Toward}
+use Rattle.hmc_send.specs.declared.toward.Toward.TheVariants.{Forth, Back}
 
 -- the other one
 abbrev pub other : Toward → Toward
-other Toward.Forth = Toward.Back
-other Toward.Back = Toward.Forth
+other Forth = Back
+other Back = Forth
 
 -- the two are one direction
 abbrev pub same_way : Toward → Toward → Bool
-same_way Toward.Forth Toward.Forth = true
-same_way Toward.Back Toward.Back = true
+same_way Forth Forth = true
+same_way Back Back = true
 same_way _ _ = false
 
 -- An entry of a link, in one of its directions. A packet was handed to the output queue; one was

@@ -6,7 +6,8 @@ use Rattle.hmc_codes.specs.declared.profile.Profile.{Profile}
 use Rattle.hmc_packet.specs.declared.outcome.Outcome.{Outcome}
 use Rattle.hmc_packet.specs.declared.outcome.Outcome.TheVariants.{Gathered}
 use Rattle.hmc_packet.specs.Receptions.{reception_of}
-use Rattle.hmc_send.specs.LinkEntries.{Toward, LinkEntry, other, same_way, push_if, count_if, receiver_entries, accepted_packets}
+use Rattle.hmc_send.specs.declared.toward.Toward.{Toward}
+use Rattle.hmc_send.specs.LinkEntries.{LinkEntry, other, same_way, push_if, count_if, receiver_entries, accepted_packets}
 
 -- a flit that was sent, with its stamp: how many packets its own end had accepted then
 pub record StampedFlit : Type 0 where

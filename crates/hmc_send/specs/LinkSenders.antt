@@ -6,22 +6,15 @@ use Rattle.hmc_packet.specs.declared.feed.Feed.{Feed}
 use Rattle.hmc_packet.specs.declared.kind.Kind.TheVariants.{Start}
 use Rattle.hmc_packet.specs.declared.outcome.Outcome.{Outcome}
 use Rattle.hmc_packet.specs.declared.outcome.Outcome.TheVariants.{Ran}
-use Rattle.hmc_packet.specs.declared.view.View.{View}
-use Rattle.hmc_packet.specs.Landings.{mode, pointer_of}
+use Rattle.hmc_packet.specs.Landings.{receiver_view}
 use Rattle.hmc_packet.specs.Packet.{PacketFields}
 use Rattle.hmc_packet.specs.Receptions.{reception_of}
 use Rattle.hmc_send.specs.Entries.{SenderEntry, Given, places, taken_fronts}
-use Rattle.hmc_send.specs.LinkEntries.{Toward, LinkEntry, other, same_way, put_if, receiver_entries, accepted_packets, handed_packets, takes}
+use Rattle.hmc_send.specs.declared.toward.Toward.{Toward}
+use Rattle.hmc_send.specs.LinkEntries.{LinkEntry, other, same_way, put_if, receiver_entries, accepted_packets, handed_packets, takes}
 use Rattle.hmc_send.specs.LinkLines.{StampedFlit, line}
 use Rattle.hmc_send.specs.LinkTokens.{flits_taken, tokens_held, tokens_due, token_row}
 use Rattle.hmc_send.specs.Places.{Place}
-
--- the receiver at the end of a direction, as the sender at the same end sees it
-abbrev pub receiver_view : LinkFields → Toward → List LinkEntry → View
-receiver_view link d past = record {
-  mode = mode (receiver_entries d past);
-  rrp = pointer_of link.profile (receiver_entries d past);
-}
 
 -- the packets that wait in the output queue of a direction, after these entries of its sender
 abbrev pub queue_after : Toward → List LinkEntry → List SenderEntry → List PacketFields
@@ -37,7 +30,7 @@ due_after link d past before =
 unfoldable pub given_after :
     LinkFields → Toward → List LinkEntry → List SenderEntry → Feed → Given
 given_after link d past before feed = record {
-  own = receiver_view link (other d) past;
+  own = receiver_view link.profile (receiver_entries (other d) past);
   front = slice_get (queue_after d past before) 0;
   held = tokens_held (places link.profile before)
       (accepted_packets link.profile (other d) past);

@@ -10,7 +10,6 @@ ghost use Rattle.hmc_codes.specs.Commands.{allows_of, is_flow, layout_of};
 ghost use Rattle.hmc_codes.specs.declared.layout.Layout.TheVariants.{Ask};
 ghost use Rattle.hmc_packet.specs.Header.{header_of};
 ghost use Rattle.hmc_packet.specs.Packet.{flits_of};
-ghost use Rattle.hmc_packet.specs.Parts.{header_in, word_of};
 ghost use Rattle.hmc_packet.specs.Reading.{packet_from};
 ghost use Rattle.hmc_packet.specs.Tail.{FitsField, tail_layout};
 ghost use Rattle.hmc_codes.specs.Profile.{modulus_of};
@@ -20,7 +19,7 @@ ghost use Rattle.hmc_send.specs.Kept.{IsHead, AreNumbers, IsPayloadOf, CanBeSent
 use crate::Numbers;
 use arrayvec::ArrayVec;
 use hmc_codes::{Command, Flit, Layout, Payload, Profile};
-use hmc_packet::{Packet, head_of};
+use hmc_packet::{Header, Packet, head_of, header_in};
 
 /// The bytes of at most 16 flits and half a flit.
 type Bytes = ArrayVec<u8, 272>;
@@ -47,16 +46,6 @@ fn joined(front: &[Flit], half: &[u8; 8]) -> Bytes
     bytes
 }
 
-// The first eight bytes of a packet.
-#[tactic(auto, unfolding(hmc_packet::specs::Parts::word_of))]
-fn header_in(flit: &Flit) -> u64
-    ensures { result ≡ header_in flit.now }
-{
-    u64::from_le_bytes([
-        flit[0], flit[1], flit[2], flit[3], flit[4], flit[5], flit[6], flit[7],
-    ])
-}
-
 // The error number that goes into the tail of the copy.
 fn errstat_for(profile: Profile, layout: Layout, errstat: u8) -> u8
     ensures value { result ≡ errstat_for profile layout errstat }
@@ -71,34 +60,13 @@ fn errstat_for(profile: Profile, layout: Layout, errstat: u8) -> u8
     }
 }
 
-/// The fields of a header that a copy has too.
-#[derive(Clone, Copy)]
-struct Fields {
-    tag: u16,
-    address: u64,
-    flag: bool,
-    slid: u8,
-    cube: u8,
-}
-
-// The fields of a header, with the SLID that the tail of a request has.
-#[tactic(auto, unfolding(hmc_packet::specs::Header::header_of))]
-fn fields_of(layout: Layout, word: u64, slid: u8) -> Fields
-    requires slid { slid < 8 }
-    ensures tag { result.tag ≡ (header_of layout word).tag }
-    ensures address { result.address ≡ (header_of layout word).address }
-    ensures flag { result.flag ≡ (header_of layout word).flag }
-    ensures cube { result.cube ≡ (header_of layout word).cube }
-    ensures slid { result.slid ≡ (if is_reply layout then (header_of layout word).slid else slid) }
-    ensures few { result.slid < 8 }
+// The SLID of a packet: of a response it is in the header, of a request in the tail.
+fn slid_of(layout: Layout, header: &Header, slid: u8) -> u8
+    ensures { result ≡ (if is_reply layout then header.now.slid else slid) }
 {
-    let reply = layout == Layout::Reply;
-    Fields {
-        tag: (word >> 12 & 0x7ff) as u16,
-        address: if reply { 0 } else { word >> 24 & 0x3_ffff_ffff },
-        flag: reply && word >> 33 & 1 == 1,
-        slid: if reply { (word >> 39 & 7) as u8 } else { slid },
-        cube: (word >> 61 & 7) as u8,
+    match layout {
+        Layout::Reply => header.slid,
+        _ => slid,
     }
 }
 
@@ -123,14 +91,15 @@ fn packet_from(
         (header_of (layout_of command) word)
         (tail_with numbers slid errstat) poisoned payload }
 {
-    let fields = fields_of(command.layout(), word, slid);
+    let layout = command.layout();
+    let header = Header::unpack(layout, word);
     Packet {
         command,
-        tag: fields.tag,
-        address: fields.address,
-        cube: fields.cube,
-        slid: fields.slid,
-        flag: fields.flag,
+        tag: header.tag,
+        address: header.address,
+        cube: header.cube,
+        slid: slid_of(layout, &header, slid),
+        flag: header.flag,
         errstat,
         rtc: numbers.rtc,
         seq: numbers.seq,

@@ -19,8 +19,10 @@ mod numbers;
 mod sender;
 mod sent;
 mod state;
+mod toward;
 mod under_way;
 
 pub use numbers::Numbers;
 pub use sender::Sender;
 pub use sent::Sent;
+pub use toward::Toward;

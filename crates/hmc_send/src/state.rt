@@ -61,7 +61,7 @@ impl State {
     ghost use Rattle.hmc_send.specs.Entries.{SenderEntry, through_place, through_at};
     ghost use Rattle.hmc_send.specs.Sender.{after_ran};
     ghost use Rattle.hmc_send.specs.StandsFor.{StandsFor, entries_after};
-    ghost use Rattle.hmc_send.specs.Given.{given_of, begun_fronts, account_first, IsFrontFit, fronts_taken, account_after, IsOneFlit};
+    ghost use Rattle.hmc_send.specs.Given.{given_of, begun_fronts, account_first, IsFrontFit, IsBegunFit, IsTakenFit, fronts_taken, account_after, IsOneFlit};
     ghost use Rattle.hmc_send.specs.Sender.{view_held, after_first, after_send, MaySend, FitsPlace};
     ghost use Rattle.hmc_retry.specs.RetryBuffer.{room_of};
     ghost use Rattle.hmc_send.specs.Choice.{next_flit, part_what, unless_starved};
@@ -370,6 +370,7 @@ impl State {
         ensures left { self.new ≡ after_first
             (given_of own (Q.packets queue.old) account.old Waiting) result self.old }
         ensures lng { IsOneFlit result }
+        ensures begun { IsBegunFit result (slice_get (Q.packets queue.old) 0) }
         ensures queue { Q.packets queue.new ≡ drop (begun_fronts result) (Q.packets queue.old) }
         ensures size { Q.size queue.new ≡ Q.size queue.old }
         ensures cost { Q.cost queue.new ≡ Q.cost queue.old }
@@ -379,6 +380,7 @@ impl State {
         if self.is_open {
             if let Some(front) = queue.front() {
                 if self.may_begin(front.flits(), account) {
+                    front.invariant();
                     let _ = queue.take_out();
                     account.spend(front.flits());
                     let rtc = account.pay();
@@ -442,6 +444,8 @@ impl State {
             (given_of own (Q.packets queue.old) account.old feed.now) result self.old }
         ensures may { MaySend self.old
             (given_of own (Q.packets queue.old) account.old feed.now) }
+        ensures begun { IsTakenFit self.old.under_way result
+            (slice_get (Q.packets queue.old) 0) }
         ensures queue { Q.packets queue.new
             ≡ drop (fronts_taken self.old.under_way result) (Q.packets queue.old) }
         ensures size { Q.size queue.new ≡ Q.size queue.old }

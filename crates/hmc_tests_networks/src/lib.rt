@@ -26,6 +26,10 @@ mod script;
 #[cfg(test)]
 mod send;
 #[cfg(test)]
+mod sender_life;
+#[cfg(test)]
+mod sender_through;
+#[cfg(test)]
 mod text;
 #[cfg(test)]
 mod tokens;

@@ -1,21 +1,7 @@
-use Rattle.std.proofs.Common.{◌∙◌, rules}
-use Rattle.hmc_script.proofs.StoredLemmas.{without_item, with_item}
 use Rattle.hmc_script.proofs.script.Script.append.Goals as goal
 
-pub invariant_of-self-in_err-push : goal.invariant_of-self-in_err-push
-invariant_of-self-in_err-push c =
-    (without_item c.self.inside.bytes.items c.extend_from_slice.new.self.items c.as_slice.result.now c.self.inside.shorts.items c.push.new.self.items c.self.invariant c.in_ok-extend_from_slice.ensures.items c.in_err-push.ensures.items).0
-
-pub returns-in_err-push-clause-err : goal.returns-in_err-push-clause-err
-returns-in_err-push-clause-err c =
-    let same = (without_item c.self.inside.bytes.items c.extend_from_slice.new.self.items c.as_slice.result.now c.self.inside.shorts.items c.push.new.self.items c.self.invariant c.in_ok-extend_from_slice.ensures.items c.in_err-push.ensures.items).1 ∙ c.self.view_is in
-    search (rules, same)
-
-pub invariant_of-self-2 : goal.invariant_of-self-2
-invariant_of-self-2 c =
-    (with_item c.self.inside.bytes.items c.extend_from_slice.new.self.items c.as_slice.result.now c.self.inside.shorts.items c.push.new.self.items _ c.args.request.now c.self.invariant c.in_ok-extend_from_slice.ensures.items c.in_ok-push.ensures.items (c.len-start.ensures ∙ c.self.inside.bytes.ok.0) c.invariant.ensures (rw c.as_slice.ensures.bytes c.request.view_is) c.requires.host (rw c.self.view_is c.requires.room)).0
+pub push-requires-clause-request : goal.push-requires-clause-request
+push-requires-clause-request c = rw (c.as_slice.ensures.bytes, c.request.view_is) c.invariant.ensures
 
 pub returns-clause-ok : goal.returns-clause-ok
-returns-clause-ok c =
-    let items = (with_item c.self.inside.bytes.items c.extend_from_slice.new.self.items c.as_slice.result.now c.self.inside.shorts.items c.push.new.self.items _ c.args.request.now c.self.invariant c.in_ok-extend_from_slice.ensures.items c.in_ok-push.ensures.items (c.len-start.ensures ∙ c.self.inside.bytes.ok.0) c.invariant.ensures (rw c.as_slice.ensures.bytes c.request.view_is) c.requires.host (rw c.self.view_is c.requires.room)).1 in
-    rw (← c.self.view_is) items
+returns-clause-ok c = rw (← c.request.view_is, ← c.as_slice.ensures.bytes) c.push.ensures.ok

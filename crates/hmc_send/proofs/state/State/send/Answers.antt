@@ -19,4 +19,4 @@ returns-clause-stands g c = λ past stands.
 pub returns-clause-keeps : goal.returns-clause-keeps
 returns-clause-keeps g c =
     let given = given_of c.args.own (g.Q.Intake.packets c.args.queue.now) c.args.account.now c.args.feed.now in
-    subst IsSender (sym c.choose.ensures.left) (keep-send c.args.self.now given c.choose.result c.requires.sender c.choose.ensures.may c.requires.front c.choose.ensures.answer)
+    subst IsSender (sym c.choose.ensures.left) (keep-send c.args.self.now given c.choose.result c.requires.sender c.choose.ensures.may c.requires.front c.choose.ensures.begun c.choose.ensures.answer)

@@ -1,0 +1,12 @@
+pub mod Weights
+pub mod Pointers
+pub mod Direction
+pub mod Events
+pub mod May
+pub mod Places
+pub mod DirectionLaws
+pub mod Pair
+pub mod Tokens
+pub mod Turns
+pub mod PairLaws
+pub mod Always

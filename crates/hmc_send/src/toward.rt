@@ -1,0 +1,10 @@
+//! The two directions of a link.
+
+/// A direction of a link.
+#[derive(Clone, Copy, Debug, PartialEq, Eq)]
+pub enum Toward {
+    /// Away from the host.
+    Forth,
+    /// Towards the host.
+    Back,
+}

@@ -1,0 +1,4 @@
+pub mod Conditions
+pub mod EntryTurns
+pub mod FieldsAre
+pub mod LinkLaws

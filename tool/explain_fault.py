@@ -1,0 +1,212 @@
+"""Explains a line `bad SECTION LINE KIND`, and shows where the fault is in a case."""
+
+from __future__ import annotations
+
+import re
+
+from tool import case, schedule, texts
+from tool.case import Fault
+from tool.commands import BY_WORD
+from tool.places import Places, Span
+
+LINE = re.compile(r"bad (toml|top|cube|net|link|script|schedule) ([0-9]+) ([a-z]+)")
+CASE_PAGE = "docs/case.md#faults"
+TEXT_PAGE = {"script": "docs/script.md#faults", "schedule": "docs/schedule.md#faults"}
+
+# What each kind says, by its section.
+MEANINGS = {
+    "toml": {"syntax": "the bytes are not UTF-8, or not a TOML document"},
+    "top": {
+        "unknown": "a key is not one of profile, cubes, links, script and schedule",
+        "missing": "one of the keys profile, cubes, links, script and schedule is missing",
+        "kind": "a key's value has another type: profile is an integer, cubes and links are "
+        "arrays of tables, script and schedule are strings",
+        "range": "the profile is not 1, or there are too few or too many cubes or links",
+    },
+    "cube": {
+        "kind": "the cube is not a table, or a key's value is not an integer",
+        "unknown": "a key is not one of vault_bits, bank_bits, rows and queue",
+        "missing": "one of the keys vault_bits, bank_bits, rows and queue is missing",
+        "range": "a number is not within its limits",
+    },
+    "net": {
+        "capacity": f"all cubes together have more than {texts.MOST_BYTES:,} bytes",
+        "hosts": "there is no host, or hosts are not numbered from 0 without a gap",
+        "parted": "from some cube no path over links leads to some other cube",
+    },
+    "link": {
+        "kind": "the link is not a table, or a key's value has another type",
+        "unknown": "a key is not one of a, b, line, tokens, retry and output",
+        "missing": "one of the keys a, b, line, tokens, retry and output is missing",
+        "range": "a number is not within its limits",
+        "endpoint": "an end is neither a host, h0 to h7, nor a port, c0.0 to c7.3; "
+        "today end a is a host",
+        "nocube": "an end is at a cube that the case does not have",
+        "hosts": "both ends are hosts",
+        "self": "both ends are ports of one cube",
+        "taken": "an earlier link ends at the same host or port",
+    },
+    "script": {
+        "host": "the first word is not the number of a host of the case",
+        "words": "a word is missing, or words are left over",
+        "command": "the word is not the word of a request, or it is fence after poison",
+        "cube": "the word is not the number of a cube of the case",
+        "address": "the word is not a number less than 2^34",
+        "payload": "the bytes are not as many as the command carries, or the value of mdwr is "
+        "not a number less than 2^32",
+        "toomany": f"there are more than {texts.MOST_REQUESTS:,} requests",
+    },
+    "schedule": {
+        "step": "the first word is not a step; " + ", ".join(schedule.STEPS) + " are",
+        "words": "a word is missing, or words are left over",
+        "number": "a word is not a number where one is required",
+        "range": "the network of the case has no such host, direction, cube, joined port, vault "
+        "or bank, or the number of rounds is out of range",
+        "mask": "the word is not 32 hexadecimal digits, or its mask is not zero",
+        "steps": f"with this line there are more than {texts.MOST_STEPS:,} steps",
+    },
+}
+# What the number of the line counts, by the section.
+COUNTED = {
+    "cube": "cube {}",
+    "link": "link {}",
+    "script": "line {} of the script",
+    "schedule": "line {} of the schedule",
+}
+
+
+def meaning_of(line: str) -> list[str] | None:
+    """What the line says, or None where it is no line that the program writes."""
+    found = LINE.fullmatch(line)
+    if not found:
+        return None
+    section, number, kind = found.groups()
+    meaning = MEANINGS[section].get(kind)
+    if meaning is None:
+        return None
+    where = COUNTED.get(section, "").format(number)
+    page = TEXT_PAGE.get(section, CASE_PAGE)
+    return [f"{line}: {where + ': ' if where else ''}{meaning}", f"see {page}"]
+
+
+def explain_in_case(line: str, data: bytes, name: str) -> list[str]:
+    """Where the fault of the line is in the case that these bytes were to be."""
+    document, fault = case.read(data)
+    if fault is None:
+        return [f"{name}: no such fault was found here"]
+    lines = []
+    if str(fault) != line:
+        lines.append(f"{name}: the first fault here is another one: {fault}")
+    return lines + shown(fault, document, data, name)
+
+
+def shown(fault: Fault, document: dict, data: bytes, name: str) -> list[str]:
+    """The line of the file with a caret under the fault, and what it is."""
+    text = data.decode("utf-8", errors="replace")
+    if fault.section == "toml":
+        return syntax_lines(fault, text, name)
+    places = Places(text)
+    if fault.section in TEXT_PAGE:
+        return text_lines(fault, document[fault.section], places, name)
+    of_key = fault.section == "net" or fault.kind in ("unknown", "missing")
+    span = places.key(fault.path) if of_key else places.value(fault.path)
+    return [*caret_lines(places, span, name), advice(fault, document)]
+
+
+def caret_lines(places: Places, span: Span | None, name: str) -> list[str]:
+    """A line of the document with carets under the span; the name alone where there is none."""
+    if span is None:
+        return [f"{name}: the document as a whole"]
+    return caret_at(places.lines()[span.line], span, f"{name}:{span.line + 1}:{span.column + 1}")
+
+
+def caret_at(line: str, span: Span, title: str) -> list[str]:
+    """The title, the line, and carets under the span. Tabs are kept, so that the carets fit."""
+    front = re.sub(r"[^\t]", " ", line[: span.column].ljust(span.column))
+    return [title, f"    {line}", f"    {front}{'^' * max(span.width, 1)}"]
+
+
+def syntax_lines(fault: Fault, text: str, name: str) -> list[str]:
+    """Where the reader of TOML stopped, and what it said."""
+    places, said = text.replace("\r\n", "\n").split("\n"), fault.said
+    found = re.search(r" \(at (?:line (\d+), column (\d+)|end of document)\)", said)
+    lines = [f"{name}"]
+    if found:
+        line = int(found.group(1) or len(places)) - 1
+        column = int(found.group(2) or len(places[-1]) + 1) - 1
+        lines = caret_at(places[line], Span(line, column, 1), f"{name}:{line + 1}:{column + 1}")
+        said = said.replace(found.group(), "")
+    return [*lines, f"Python's reader of TOML states: {said}"]
+
+
+def text_lines(fault: Fault, text: str, places: Places, name: str) -> list[str]:
+    """The word at fault in a line of a script or schedule."""
+    line = texts.lines_of(text)[fault.line - 1]
+    words = texts.words_of(line)
+    if fault.word < len(words):
+        word = words[fault.word]
+        column, width = word.start, len(word.text)
+    else:
+        column, width = len(line.rstrip(" \t\r")) + 1, 1
+    span = places.in_string(fault.path, fault.line, column, width)
+    said = text_advice(fault, words)
+    if span:
+        return [*caret_lines(places, span, name), said]
+    key = places.key(fault.path)
+    title = f"{name}:{key.line + 1}: line {fault.line} of the {fault.section}"
+    return [*caret_at(line, Span(0, column, width), title), said]
+
+
+def text_advice(fault: Fault, words: list[texts.Word]) -> str:
+    """What is wrong with the word, as far as its line shows it."""
+    if fault.word >= len(words):
+        return "a word is missing here"
+    word = words[fault.word].text
+    if fault.kind == "words":
+        return f"`{word}` is left over"
+    if fault.section == "schedule" and fault.kind == "range":
+        return range_advice(words[0].text, word, fault.word)
+    if fault.kind == "payload" and words[fault.word - 3].text != "mdwr":
+        command = BY_WORD[words[fault.word - 3].text]
+        digits = 2 * command.payload_bytes
+        return f"{command.word} carries {digits} hexadecimal digits; here are {len(word)} signs"
+    return f"`{word}`: {MEANINGS[fault.section][fault.kind]}"
+
+
+def range_advice(step: str, word: str, place: int) -> str:
+    """Which part of the network the word of a schedule does not name."""
+    operand = schedule.STEPS[step][place - 1]
+    if operand == "rounds":
+        return f"`{word}`: the number of rounds is 1 to {texts.MOST_ROUNDS:,}"
+    if operand == "port":
+        return f"`{word}`: no link ends at such a port of this cube"
+    part = "vault" if operand == "place" else operand
+    return f"`{word}`: the network of the case has no such {part}"
+
+
+def advice(fault: Fault, document: dict) -> str:
+    """What is wrong with the key, and what is allowed."""
+    key = fault.path[-1] if fault.path else ""
+    if fault.kind == "missing":
+        return f"`{key}` is missing"
+    if fault.kind == "unknown":
+        return f"`{key}` is not a key of a case here"
+    ranges = {**case.CUBE_RANGES, **case.LINK_RANGES, "profile": case.PROFILES}
+    if fault.kind == "range" and key in ranges:
+        least, most = ranges[key]
+        return f"`{key}` is {least:,} to {most:,}" if least < most else f"`{key}` is {least}"
+    if fault.kind == "range":
+        return f"there are {len(document[key])} {key}, and today there has to be one"
+    if fault.kind == "kind":
+        return kind_advice(fault)
+    return MEANINGS[fault.section][fault.kind]
+
+
+def kind_advice(fault: Fault) -> str:
+    """Which type the value should have."""
+    key = fault.path[-1]
+    if isinstance(key, int):
+        return f"{fault.path[0].removesuffix('s')} {key} is not a table"
+    kinds = {**dict.fromkeys(case.CUBE_RANGES, int), **case.LINK_KEYS, **case.TOP_KEYS}
+    names = {int: "an integer", str: "a string", list: "an array of tables"}
+    return f"`{key}` is {names[kinds[key]]}"

@@ -1,0 +1,72 @@
+"""The first fault of a script, by the rules of docs/script.md."""
+
+from __future__ import annotations
+
+import re
+
+from tool import texts
+from tool.commands import BY_WORD, REQUEST, Command
+from tool.texts import Plan, TextFault
+
+# What is wrong with a line: the kind, and the number of the word.
+LineFault = tuple[str, int]
+
+
+def first_fault(text: str, plan: Plan) -> TextFault | None:
+    """The first fault of the script, read for the hosts and cubes of the plan."""
+    requests = 0
+    for number, line in enumerate(texts.lines_of(text), start=1):
+        words = [word.text for word in texts.words_of(line)]
+        fault = line_fault(words, plan) if words else None
+        if fault:
+            return TextFault(number, *fault)
+        requests += bool(words) and words[1] != "fence"
+        if requests > texts.MOST_REQUESTS:
+            return TextFault(number, "toomany", 0)
+    return None
+
+
+def line_fault(words: list[str], plan: Plan) -> LineFault | None:
+    """The first fault of a line that has words, from left to right."""
+    if not texts.is_below(words[0], plan.hosts):
+        return "host", 0
+    if len(words) == 1:
+        return "words", 1
+    if words[1] == "fence":
+        return left_over(words, 2)
+    at = 2 if words[1] == "poison" else 1
+    if len(words) == at:
+        return "words", at
+    command = BY_WORD.get(words[at])
+    if command is None or command.family != REQUEST:
+        return "command", at
+    return operand_fault(words, at + 1, command, plan)
+
+
+def operand_fault(words: list[str], at: int, command: Command, plan: Plan) -> LineFault | None:
+    """The first fault in the words after the command, which begin at this number."""
+    tests = [
+        ("cube", lambda word: texts.is_below(word, len(plan.cubes))),
+        ("address", lambda word: texts.is_below(word, texts.ADDRESSES)),
+    ]
+    if command.payload_bytes:
+        tests.append(("payload", lambda word: is_payload(word, command)))
+    for kind, is_right in tests:
+        if at == len(words):
+            return "words", at
+        if not is_right(words[at]):
+            return kind, at
+        at += 1
+    return left_over(words, at)
+
+
+def is_payload(word: str, command: Command) -> bool:
+    """Whether the word is what the command carries: bytes, or for mdwr a value."""
+    if command.word == "mdwr":
+        return texts.is_below(word, texts.REGISTER_VALUES)
+    return re.fullmatch(f"[0-9a-fA-F]{{{2 * command.payload_bytes}}}", word) is not None
+
+
+def left_over(words: list[str], at: int) -> LineFault | None:
+    """The fault of words from this number on, which the line should not have."""
+    return ("words", at) if at < len(words) else None

@@ -1,0 +1,185 @@
+"""Tests of what reads reports: `json`, `diff` and `wave`, on the stored reports of examples/."""
+
+import json
+import re
+import tempfile
+import unittest
+from pathlib import Path
+
+from tool import case, diff, report, wave
+from tool.tests.shared import CASES, EXAMPLES, output_of, tool
+
+
+def lines_of(name: str) -> list[str]:
+    """The lines of a stored report."""
+    return (EXAMPLES / f"{name}.report").read_text(encoding="utf-8").splitlines()
+
+
+class Json(unittest.TestCase):
+    def test_every_line_of_every_report(self):
+        """What is read of a line spells the line again."""
+        for path in CASES:
+            lines = path.with_suffix(".report").read_text(encoding="utf-8").splitlines()
+            for line, fields in zip(lines, report.read_report(lines), strict=True):
+                self.assertEqual(spelled(fields), line)
+
+    def test_an_object_a_line(self):
+        text = output_of("json", str(EXAMPLES / "each-kind-of-step.report"))
+        objects = [json.loads(line) for line in text.splitlines()]
+        first = {
+            "entry": 1,
+            "line": "gave",
+            "host": 0,
+            "tag": 0,
+            "request": {
+                "poisoned": False,
+                "command": "wr16",
+                "cube": 0,
+                "address": 0x140,
+                "bytes": "000102030405060708090a0b0c0d0e0f",
+            },
+        }
+        self.assertEqual(objects[0], first)
+        self.assertEqual(objects[-1], {"line": "state", "state": "drained"})
+        self.assertEqual(len(objects), len(lines_of("each-kind-of-step")))
+
+    def test_a_report_of_a_fault(self):
+        read = tool("json", given=b"bad link 0 range\n").stdout
+        wanted = {"line": "bad", "section": "link", "number": 0, "kind": "range"}
+        self.assertEqual(json.loads(read), wanted)
+
+    def test_lines_that_no_report_has(self):
+        rows = ("", "jumped 0", "took 0 0", "took 0 0 done 2", "sent 0 new 00", "state idle")
+        for line in rows:
+            with self.assertRaises(report.NotALine, msg=line):
+                report.read_line(line)
+        self.assertEqual(tool("json", given=b"state idle\n").returncode, 65)
+
+
+def spelled(fields: dict) -> str:
+    """A line from its fields, by the tables of docs/report.md."""
+    words = []
+    for name, value in fields.items():
+        if name != "entry":
+            words.append(spelled_value(fields["line"], name, value))
+    return " ".join(words)
+
+
+def spelled_value(line: str, name: str, value) -> str:
+    """The words of one field."""
+    if name == "request":
+        return spelled_request(value)
+    if name == "answer":
+        return " ".join(spelled_value("answer", key, part) for key, part in value.items())
+    if isinstance(value, bool):
+        return str(int(value))
+    if name == "address":
+        return f"0x{value:x}"
+    if name == "value":
+        return f"{value:08x}"
+    if name == "port" and line == "lifted":
+        return f"p{value}"
+    return "-" if value is None else str(value)
+
+
+def spelled_request(fields: dict) -> str:
+    """The words of a request."""
+    words = ["poison"] if fields["poisoned"] else []
+    words += [fields["command"], str(fields["cube"]), f"0x{fields['address']:x}"]
+    return " ".join(words + [str(fields[key]) for key in ("bytes", "value") if key in fields])
+
+
+class Diff(unittest.TestCase):
+    def test_equal_reports(self):
+        path = str(EXAMPLES / "fence.report")
+        self.assertEqual(tool("diff", path, path).returncode, 0)
+        self.assertEqual(output_of("diff", path, path), "")
+
+    def test_a_flit_that_differs(self):
+        """FRP 2 in place of 3: the field and the check are named, and what the direction did."""
+        mine = lines_of("write-then-read")
+        number = mine.index("sent 0 new 08090a0b0c0d0e0f000404000158a362")
+        theirs = list(mine)
+        theirs[number] = "sent 0 new 08090a0b0c0d0e0f000604000158a362"
+        said = diff.compare(mine, theirs, ("A", "B"))
+        self.assertEqual(said[0], f"the reports part at line {number + 1}")
+        self.assertEqual(said[1:3], [f"A: {mine[number]}", f"B: {theirs[number]}"])
+        fields = [line.split() for line in said]
+        self.assertIn(["FRP", "17..9", "2"], fields)
+        self.assertIn(["FRP", "17..9", "3"], fields)
+        self.assertNotIn(["SEQ", "20..18", "1"], fields)
+        start = said.index("before, in both reports, direction 0:")
+        earlier = [line.split(": ")[1] for line in said[start + 1 :]]
+        self.assertEqual(earlier, [it for it in mine[:number] if re.match("(sent|landed) 0", it)])
+
+    def test_an_answer_that_differs(self):
+        mine = lines_of("write-then-read")
+        theirs = [line.replace("took 0 1 read 0 00", "took 0 1 read 0 ff") for line in mine]
+        said = diff.compare(mine, theirs, ("A", "B"))
+        start = said.index("before, in both reports, requests of host 0 with tag 1:")
+        first_words = [line.split()[1] for line in said[start + 1 :]]
+        self.assertEqual(first_words, ["gave", "executed"])
+
+    def test_a_report_that_ends(self):
+        mine = lines_of("fence")
+        said = diff.compare(mine, mine[:5], ("A", "B"))
+        self.assertEqual(said[0], "the reports part at line 6")
+        self.assertEqual(said[2], "B: (the report ends here)")
+
+
+class Wave(unittest.TestCase):
+    def dump_of(self, path: Path) -> tuple[wave.Wave, list[str]]:
+        waves = wave.Wave(case.read(path.read_bytes())[0])
+        with path.with_suffix(".report").open(encoding="utf-8") as lines:
+            return waves, list(waves.lines(lines))
+
+    def test_drained_queues_are_empty(self):
+        """Where a report ends with `state drained`, no queue but a line holds anything."""
+        for path in CASES:
+            waves, _ = self.dump_of(path)
+            held = {queue for queue, number in waves.held().items() if number}
+            is_drained = lines_of(path.stem)[-1] == "state drained"
+            packets = {queue for queue in held if queue[0] != "line"}
+            self.assertEqual(packets == set(), is_drained, path.name)
+
+    def test_queues_hold_no_more_than_the_case_allows(self):
+        for path in CASES:
+            document, _ = case.read(path.read_bytes())
+            queues = wave.Queues(document)
+            link, cube = document["links"][0], document["cubes"][0]
+            most = dict.fromkeys(("vault", "bank", "registers", "answers"), cube["queue"])
+            most |= {"line": link["line"], "output": link["output"], "buffer": link["tokens"]}
+            for entry in report.read_report(lines_of(path.stem)):
+                for queue in queues.apply(entry) if "entry" in entry else []:
+                    self.assertLessEqual(queues.held[queue], most[queue[0]])
+
+    def test_the_form_of_a_dump(self):
+        """Each change is of a signal that is declared, and time goes up to the last step."""
+        _, lines = self.dump_of(EXAMPLES / "each-kind-of-step.toml")
+        declared = {line.split()[3] for line in lines if line.startswith("$var ")}
+        names = [line.split()[4] for line in lines if line.startswith("$var ")]
+        changes = lines[lines.index("$enddefinitions $end") + 1 :]
+        times = [int(line[1:]) for line in changes if line.startswith("#")]
+        steps = [it for it in lines_of("each-kind-of-step") if not report.is_final(it)]
+        self.assertEqual(times, list(range(len(steps) + 2)))
+        used = {line.split()[1] for line in changes if not line.startswith("#")}
+        self.assertLessEqual(used, declared)
+        self.assertEqual(names.count("line_flits"), 2)
+        self.assertEqual(lines.count("$upscope $end"), sum("$scope" in it for it in lines))
+
+    def test_the_command(self):
+        case_path = str(EXAMPLES / "full-queue.toml")
+        report_path = str(EXAMPLES / "full-queue.report")
+        with tempfile.TemporaryDirectory() as folder:
+            path = Path(folder) / "out.vcd"
+            self.assertEqual(tool("wave", report_path, case_path, "-o", str(path)).returncode, 0)
+            self.assertEqual(path.read_text("utf-8"), output_of("wave", report_path, case_path))
+
+    def test_a_report_of_another_case(self):
+        case_path = str(EXAMPLES / "full-queue.toml")
+        report_path = str(EXAMPLES / "each-kind-of-step.report")
+        self.assertEqual(tool("wave", report_path, case_path).returncode, 65)
+
+
+if __name__ == "__main__":
+    unittest.main()

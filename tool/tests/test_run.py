@@ -1,0 +1,149 @@
+"""Tests of `run` with the program that the gate has left, which must be that of these sources."""
+
+import os
+import pty
+import subprocess
+import sys
+import tempfile
+import unittest
+from pathlib import Path
+
+from tool import build, case
+from tool.tests.shared import CASES, EXAMPLES, TOP, bad_cases, require_program, tool
+
+WRITE_THEN_READ = EXAMPLES / "write-then-read.toml"
+
+
+def kept(name: str, test) -> bytes:
+    """The lines of a stored report that a test keeps."""
+    lines = (EXAMPLES / f"{name}.report").read_bytes().splitlines(keepends=True)
+    return b"".join(line for line in lines if test(line))
+
+
+def changed_lines(text: str):
+    """Yields the text without each of its lines, and without the last word of each."""
+    lines = text.split("\n")
+    for number, line in enumerate(lines):
+        for instead in ([], [line.rpartition(" ")[0]]):
+            yield "\n".join([*lines[:number], *instead, *lines[number + 1 :]]).encode()
+
+
+class Run(unittest.TestCase):
+    @classmethod
+    def setUpClass(cls):
+        require_program()
+
+    def test_each_example(self):
+        for path in CASES:
+            with self.subTest(path.name):
+                ran = tool("run", str(path))
+                self.assertEqual(ran.returncode, 0)
+                self.assertEqual(ran.stdout, path.with_suffix(".report").read_bytes())
+
+    def test_standard_input(self):
+        given = WRITE_THEN_READ.read_bytes()
+        for words in (("run",), ("run", "-")):
+            wanted = WRITE_THEN_READ.with_suffix(".report").read_bytes()
+            self.assertEqual(tool(*words, given=given).stdout, wanted)
+
+    def test_a_file_for_the_report(self):
+        with tempfile.TemporaryDirectory() as folder:
+            path = Path(folder) / "out.report"
+            ran = tool("run", str(WRITE_THEN_READ), "-o", str(path))
+            self.assertEqual((ran.returncode, ran.stdout), (0, b""))
+            wanted = WRITE_THEN_READ.with_suffix(".report").read_bytes()
+            self.assertEqual(path.read_bytes(), wanted)
+
+    def test_the_case_is_not_overwritten(self):
+        with tempfile.TemporaryDirectory() as folder:
+            path = Path(folder) / "case.toml"
+            path.write_bytes(WRITE_THEN_READ.read_bytes())
+            self.assertEqual(tool("run", str(path), "-o", str(path)).returncode, 64)
+            self.assertEqual(path.read_bytes(), WRITE_THEN_READ.read_bytes())
+
+    def test_lines_that_are_asked_for(self):
+        first_words = (b"memory", b"register", b"host", b"cube", b"state")
+        rows = (
+            (["--no-idle"], lambda line: not line.startswith(b"idle")),
+            (["--quiet"], lambda line: line.split()[0] in first_words),
+            (["--only", "^(gave|took) "], lambda line: line[:5] in (b"gave ", b"took ")),
+            (["--only", "0", "--quiet"], lambda line: line.split()[0] in first_words[:4]),
+        )
+        for words, test in rows:
+            with self.subTest(words):
+                ran = tool("run", *words, str(WRITE_THEN_READ))
+                self.assertEqual(ran.stdout, kept("write-then-read", test))
+                self.assertEqual(ran.returncode, 0)
+
+    def test_faults(self):
+        for _, text, wanted in bad_cases()[::12]:
+            ran = tool("run", "--quiet", given=text.encode())
+            self.assertEqual((ran.returncode, ran.stdout.decode()), (6, f"{wanted}\n"))
+            self.assertIn(b"status 6: ", ran.stderr)
+
+    def test_the_place_of_a_fault_is_shown(self):
+        text = WRITE_THEN_READ.read_text(encoding="utf-8").replace("tokens = 34", "tokens = 16")
+        with tempfile.TemporaryDirectory() as folder:
+            path = Path(folder) / "case.toml"
+            path.write_text(text, encoding="utf-8")
+            ran = tool("run", str(path))
+        self.assertEqual((ran.returncode, ran.stdout), (6, b"bad link 0 range\n"))
+        self.assertIn(b"    tokens = 16\n             ^^\n", ran.stderr)
+
+    def test_a_second_reader_agrees(self):
+        """The program and the reader of tool/case.py find the same first fault in changed cases."""
+        for name in ("write-then-read", "each-kind-of-step"):
+            text = (EXAMPLES / f"{name}.toml").read_text(encoding="utf-8")
+            for changed in changed_lines(text):
+                ran = subprocess.run([build.PROGRAM, "run"], input=changed, capture_output=True)
+                fault = case.read(changed)[1]
+                said = ran.stdout if ran.returncode == 6 else b""
+                self.assertEqual(said.decode(), f"{fault}\n" if fault else "", changed)
+
+    def test_an_input_that_is_too_long(self):
+        ran = tool("run", given=b"#" * 4_194_305)
+        self.assertEqual((ran.returncode, ran.stdout), (5, b""))
+        self.assertIn(b"status 5: ", ran.stderr)
+
+
+class WrongWords(unittest.TestCase):
+    def test_statuses(self):
+        rows = (
+            ((), 64),
+            (("jump",), 64),
+            (("run", "--colour"), 64),
+            (("run", "no-such-file.toml"), 66),
+            (("run", str(WRITE_THEN_READ), "-o", "/no/such/folder/report"), 73),
+            (("run", str(WRITE_THEN_READ), "--only", "("), 64),
+            (("json", "no-such-file.report"), 66),
+        )
+        for words, status in rows:
+            with self.subTest(words):
+                ran = tool(*words)
+                self.assertEqual(ran.returncode, status)
+                self.assertEqual(ran.stdout, b"")
+
+    def test_a_terminal_without_a_file(self):
+        """At a terminal the script does not wait for a case."""
+        ours, terminal = pty.openpty()
+        self.addCleanup(os.close, ours)
+        self.addCleanup(os.close, terminal)
+        command = [sys.executable, str(TOP / "zehimbado"), "run"]
+        ran = subprocess.run(command, stdin=terminal, capture_output=True, timeout=60)
+        self.assertEqual((ran.returncode, ran.stdout), (64, b""))
+        self.assertIn(b"a terminal", ran.stderr)
+
+    def test_help(self):
+        for words in (("help",), ("--help",), ("-h",), ("help", "run"), ("run", "--help")):
+            ran = tool(*words)
+            self.assertEqual((ran.returncode, ran.stderr), (0, b""))
+            self.assertIn(b"usage: ./zehimbado", ran.stdout)
+
+    def test_version(self):
+        ran = tool("--version")
+        self.assertEqual((ran.returncode, ran.stderr), (0, b""))
+        self.assertIn(b"sources ", ran.stdout)
+
+
+if __name__ == "__main__":
+    unittest.main()
