@@ -20,8 +20,8 @@ pub mod LinkProjections
 pub mod LinkTokenSums
 pub mod WorkedLinkWords
 mod WorkedLink
-mod WorkedLinkRetry
-mod WorkedLinkThrough
+pub mod WorkedLinkRetry
+pub mod WorkedLinkThrough
 mod WorkedLinkCalls
 mod WorkedLinkUnlock
-mod WorkedLinkTwo
+pub mod WorkedLinkTwo

@@ -37,10 +37,10 @@ use Rattle.hmc_send.specs.Places.{flit_of}
 use Rattle.hmc_send.proofs.LinkLists.{calls_are_lawful}
 use Rattle.hmc_send.proofs.WorkedLinkWords.{crossing, rounds, both, link, opened, flit_3, flit_4, flit_6, flit_7, flit_8, flit_9, flit_10, flit_11, flit_12, flit_13}
 
-abbrev packet_1 : PacketFields
+abbrev pub packet_1 : PacketFields
 packet_1 = record null_packet { command = Wr16; address = 64; payload = (0 ∷ 1 ∷ 2 ∷ 3 ∷ 4 ∷ 5 ∷ 6 ∷ 7 ∷ 8 ∷ 9 ∷ 10 ∷ 11 ∷ 12 ∷ 13 ∷ 14 ∷ 15 ∷ []) }
 
-abbrev packet_2 : PacketFields
+abbrev pub packet_2 : PacketFields
 packet_2 = record null_packet { command = Rd16; tag = 1; address = 64 }
 
 -- the last bit of a flit
@@ -61,7 +61,7 @@ masked =
     LinkEntry.landed Back zero_flit zero_flit Quiet ∷ [])
 
 -- and on, until both packets are accepted and acknowledged
-abbrev repeated : List LinkEntry
+abbrev pub repeated : List LinkEntry
 repeated =
     masked
     ++ rounds 1 (crossing what.New flit_9 Quiet)
@@ -93,7 +93,7 @@ repeated-row : entries_after_calls link [] (map call_of repeated) ≡ reverse re
 unfolding next_entry entries_after_calls tokens sender_entries given_after passes is_pending_changed line landings sent_flits takes handed_packets receiver_entries reception_of reception_by landing_view accepted is_training training run pending mode choice view_after shown_pointer last_begun others is_open go_back starts clears acked taken_fronts places unfinished copy_of copied_packet flit_of code_for irtry_in irtry_flit read_of bytes_read judgement_of seen_in poison_in is_clean has_length is_null_alone is_null packet_from command_in fitting spelling flits_with bytes_of covered cut check_of half_bytes word_bytes header_word header_of header_is_clean tail_word tail_of tail_is_clean head_in head_with named_by command_of all_commands table_line lng_of word_of half_of training_flit zero_flit crc_of remainder divide plus zeros divisor coefficients number_of bits_of bits_below xor
 repeated-row = refl
 
-repeated-lawful : IsLawful link (reverse repeated)
+pub repeated-lawful : IsLawful link (reverse repeated)
 unfolding IsLawful
 repeated-lawful = subst (IsLawful link) repeated-row (calls_are_lawful link [] (map call_of repeated) tt)
 

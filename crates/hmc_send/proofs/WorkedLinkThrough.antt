@@ -42,7 +42,7 @@ started =
     LinkEntry.landed Forth zero_flit flit_14 Gathered ∷ []
 
 -- its last flit has crossed, and it is acknowledged
-abbrev passed_on : List LinkEntry
+abbrev pub passed_on : List LinkEntry
 passed_on =
     started
     ++ LinkEntry.sent Forth (Last (8 ∷ 9 ∷ 10 ∷ 11 ∷ 12 ∷ 13 ∷ 14 ∷ 15 ∷ []) 0 0 true) what.New flit_15 ∷
@@ -55,7 +55,7 @@ passed_on-row : entries_after_calls link [] (map call_of passed_on) ≡ reverse 
 unfolding next_entry entries_after_calls tokens sender_entries given_after passes is_pending_changed line landings sent_flits takes handed_packets receiver_entries reception_of reception_by landing_view accepted is_training training run pending mode choice view_after shown_pointer last_begun others is_open go_back starts clears acked taken_fronts places unfinished copy_of copied_packet flit_of code_for irtry_in irtry_flit read_of bytes_read judgement_of seen_in poison_in is_clean has_length is_null_alone is_null packet_from command_in fitting spelling flits_with bytes_of covered cut check_of half_bytes word_bytes header_word header_of header_is_clean tail_word tail_of tail_is_clean head_in head_with named_by command_of all_commands table_line lng_of word_of half_of training_flit zero_flit crc_of remainder divide plus zeros divisor coefficients number_of bits_of bits_below xor
 passed_on-row = refl
 
-passed_on-lawful : IsLawful link (reverse passed_on)
+pub passed_on-lawful : IsLawful link (reverse passed_on)
 unfolding IsLawful
 passed_on-lawful = subst (IsLawful link) passed_on-row (calls_are_lawful link [] (map call_of passed_on) tt)
 

@@ -81,10 +81,10 @@ flit_14 = (0x82 ∷ 0 ∷ 0 ∷ 0 ∷ 0 ∷ 0 ∷ 0 ∷ 0 ∷ 9 ∷ 0x30 ∷ 0x8
 abbrev flit_15 : List ℕ
 flit_15 = (0x81 ∷ 0 ∷ 0 ∷ 0 ∷ 0 ∷ 0 ∷ 0 ∷ 0 ∷ 6 ∷ 0 ∷ 0 ∷ 0 ∷ 0x67 ∷ 0xb0 ∷ 0x56 ∷ 0x69 ∷ [])
 
-abbrev link : LinkFields
+abbrev pub link : LinkFields
 link = record { line = 8; tokens = 60; retry = 64; output = 4; profile = Two }
 
-abbrev poisoned : List LinkEntry
+abbrev pub poisoned : List LinkEntry
 poisoned =
     both 7 (crossing what.Train training_flit Quiet)
     ++ both 1 (crossing what.Train training_flit Trained)
@@ -147,7 +147,7 @@ poisoned-row : entries_after_calls link [] (map call_of poisoned) ≡ reverse po
 unfolding next_entry entries_after_calls tokens sender_entries given_after passes is_pending_changed line landings sent_flits takes handed_packets receiver_entries reception_of reception_by landing_view accepted is_training training run pending mode choice view_after shown_pointer last_begun others is_open go_back starts clears acked taken_fronts places unfinished copy_of copied_packet flit_of code_for irtry_in irtry_flit read_of bytes_read judgement_of seen_in poison_in is_clean has_length is_null_alone is_null packet_from command_in fitting spelling flits_with bytes_of covered cut check_of half_bytes word_bytes header_word header_of header_is_clean tail_word tail_of tail_is_clean head_in head_with named_by command_of all_commands table_line lng_of word_of half_of training_flit zero_flit crc_of remainder divide plus zeros divisor coefficients number_of bits_of bits_below xor
 poisoned-row = refl
 
-poisoned-lawful : IsLawful link (reverse poisoned)
+pub poisoned-lawful : IsLawful link (reverse poisoned)
 unfolding IsLawful
 poisoned-lawful = subst (IsLawful link) poisoned-row (calls_are_lawful link [] (map call_of poisoned) tt)
 

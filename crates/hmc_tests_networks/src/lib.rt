@@ -12,7 +12,11 @@ mod host;
 #[cfg(test)]
 mod journal;
 #[cfg(test)]
+mod link;
+#[cfg(test)]
 mod link_end;
+#[cfg(test)]
+mod link_through;
 #[cfg(test)]
 mod packet;
 #[cfg(test)]

@@ -53,3 +53,4 @@ pub mod Fields
 pub mod TokenFacts
 pub mod EntryTurns
 mod Needed
+mod Worked

@@ -1,0 +1,103 @@
+-- A link that begins a cut-through.
+use Rattle.std.proofs.Common.{◌≡◌, ◌∙◌, ℕ, Bool, true, ◌&&◌, List, ◌∷◌, Some, refl, sym, ap, subst}
+use Rattle.hmc_codes.specs.Link.{LinkFields}
+use Rattle.hmc_packet.specs.declared.feed.Feed.TheVariants.{Waiting}
+use Rattle.hmc_packet.specs.Head.{head_in}
+use Rattle.hmc_send.specs.LinkCalls.{LinkCall, next_entry, may_pass_on, names_flits, view_in}
+use Rattle.hmc_send.specs.LinkEntries.{LinkEntry}
+use Rattle.hmc_send.specs.LinkSenders.{sender_entries, given_after}
+use Rattle.hmc_send.specs.declared.toward.Toward.{Toward}
+use Rattle.hmc_send.specs.declared.toward.Toward.TheVariants.{Forth, Back}
+use Rattle.hmc_wire.specs.Conditions.{IsFlit, AreMet, AreHanded, AreFed}
+use Rattle.hmc_wire.specs.LinkLaws.{IsKept}
+use Rattle.hmc_link.specs.Answers.{after_call}
+use Rattle.hmc_link.specs.Held.{EndFields, LinkHeld, sending_end, is_ready}
+use Rattle.hmc_link.specs.Parts.{EndParts, parts_of, parts_through, view_by}
+use Rattle.hmc_link.specs.StandsFor.{EndStandsFor, EndsStandFor, CanPassOn, IsLink}
+use Rattle.hmc_link.proofs.Calls.{entry-if, both-true}
+use Rattle.hmc_link.proofs.Joins.{Steps, kept-more, both-more}
+use Rattle.hmc_link.proofs.Projections.{through-here, through-there}
+use Rattle.hmc_link.proofs.Throughs.{ready-held}
+
+pub may-in : (link : LinkFields) (d : Toward) (past : List LinkEntry) (flits : ℕ) → may_pass_on (view_by link (parts_of link d past) Waiting) flits ≡ may_pass_on (view_in link d past Waiting) flits
+unfolding given_after
+may-in link d past flits = refl
+
+met-through : (link : LinkFields) (d : Toward) (head : List ℕ) (flits : ℕ) (past : List LinkEntry) → IsFlit head → AreMet link past → AreMet link (LinkEntry.through d head flits ∷ past)
+unfolding AreHanded AreFed sender_entries
+met-through link Forth head flits past is met = record { handed = met.handed; forth = (is, met.forth); back = met.back }
+met-through link Back head flits past is met = record { handed = met.handed; forth = met.forth; back = (is, met.back) }
+
+pub next-begun : (link : LinkFields) (d : Toward) (past : List LinkEntry) (s : EndFields) (head : List ℕ) (flits : ℕ) → EndStandsFor link s (parts_of link d past) → is_ready s flits ≡ true → names_flits flits (head_in head) ≡ true → next_entry link past (LinkCall.begin d head flits) ≡ Some (LinkEntry.through d head flits)
+unfolding next_entry
+next-begun link d past s head flits is ready named =
+    let may = sym (may-in link d past flits) ∙ sym (ready-held link s (parts_of link d past) flits is) ∙ ready in
+    entry-if (may_pass_on (view_in link d past Waiting) flits && names_flits flits (head_in head)) (LinkEntry.through d head flits) (both-true _ _ may named)
+
+pub begin-both : (link : LinkFields) (d : Toward) (past : List LinkEntry) (s l s' : EndFields) (head : List ℕ) (flits : ℕ) → IsFlit head → names_flits flits (head_in head) ≡ true →
+    ((link : LinkFields) (d : Toward) (past : List LinkEntry) → IsKept link past → EndStandsFor link s (parts_of link d past) → EndStandsFor link s' (parts_through link head flits (parts_of link d past))) →
+    EndsStandFor link d s l past → may_pass_on (view_in link d past Waiting) flits ≡ true → EndsStandFor link d s' l (after_call link past (LinkCall.begin d head flits))
+unfolding next_entry
+begin-both link d past s l s' head flits is named leaves both ready =
+    let entry = LinkEntry.through d head flits in
+    let next = entry-if (may_pass_on (view_in link d past Waiting) flits && names_flits flits (head_in head)) entry (both-true _ _ ready named) in
+    both-more link d past (LinkCall.begin d head flits) entry s' l next (record {
+      sizes = both.sizes;
+      kept = kept-more link past (LinkCall.begin d head flits) entry next both.kept (met-through link d head flits past is both.kept.met);
+      sending = subst (EndStandsFor link s') (sym (through-here link d head flits past)) (leaves link d past both.kept both.sending);
+      landing = subst (EndStandsFor link l) (sym (through-there link d head flits past)) both.landing;
+    })
+
+-- ---- the same by what a link does
+
+pub begin-from : (d toward : Toward) (now : LinkHeld) (s l s' : EndFields) (head : List ℕ) (flits : ℕ) → sending_end toward now ≡ s → IsFlit head → is_ready (sending_end toward now) flits ≡ true → names_flits flits (head_in head) ≡ true →
+    ((link : LinkFields) (d : Toward) (past : List LinkEntry) → IsKept link past → EndStandsFor link s (parts_of link d past) → EndStandsFor link s' (parts_through link head flits (parts_of link d past))) →
+    Steps d (LinkCall.begin d head flits) s l s' l
+begin-from d toward now s l s' head flits sends is ready named leaves =
+    let here : is_ready s flits ≡ true = subst (λ (e : EndFields). is_ready e flits ≡ true) sends ready in
+    record {
+      after = λ link past both.
+          begin-both link d past s l s' head flits is named leaves both (sym (may-in link d past flits) ∙ sym (ready-held link s (parts_of link d past) flits both.sending) ∙ here);
+    }
+
+pub can-forth : (toward : Toward) (now h : LinkHeld) (head : List ℕ) (flits : ℕ) → sending_end toward now ≡ h.a → h ≡ now → IsLink h → now.going ≡ true → is_ready (sending_end toward now) flits ≡ true → names_flits flits (head_in head) ≡ true → CanPassOn h.a head flits
+can-forth toward now h head flits sends same is going ready named =
+    let some = is (ap (λ (x : LinkHeld). x.going) same ∙ going) in
+    record {
+      link = some.link;
+      d = Forth;
+      past = some.past;
+      sizes = some.stands.sizes;
+      kept = some.stands.kept;
+      stands = some.stands.a;
+      ready = subst (λ (e : EndFields). is_ready e flits ≡ true) sends ready;
+      named = named;
+    }
+
+pub can-back : (toward : Toward) (now h : LinkHeld) (head : List ℕ) (flits : ℕ) → sending_end toward now ≡ h.b → h ≡ now → IsLink h → now.going ≡ true → is_ready (sending_end toward now) flits ≡ true → names_flits flits (head_in head) ≡ true → CanPassOn h.b head flits
+can-back toward now h head flits sends same is going ready named =
+    let some = is (ap (λ (x : LinkHeld). x.going) same ∙ going) in
+    record {
+      link = some.link;
+      d = Back;
+      past = some.past;
+      sizes = some.stands.sizes;
+      kept = some.stands.kept;
+      stands = some.stands.b;
+      ready = subst (λ (e : EndFields). is_ready e flits ≡ true) sends ready;
+      named = named;
+    }
+
+-- what a link answers is what its end holds
+
+pub ready-forth : (toward : Toward) (now h : LinkHeld) (flits : ℕ) (r : Bool) → sending_end toward now ≡ h.a → h ≡ now → IsLink h → ((link : LinkFields) (p : EndParts) → EndStandsFor link h.a p → r ≡ may_pass_on (view_by link p Waiting) flits) → now.going ≡ true → r ≡ is_ready (sending_end toward now) flits
+ready-forth toward now h flits r sends same is answers going =
+    let some = is (ap (λ (x : LinkHeld). x.going) same ∙ going) in
+    let p = parts_of some.link Forth some.past in
+    answers some.link p some.stands.a ∙ sym (ready-held some.link h.a p flits some.stands.a) ∙ ap (λ (e : EndFields). is_ready e flits) (sym sends)
+
+pub ready-back : (toward : Toward) (now h : LinkHeld) (flits : ℕ) (r : Bool) → sending_end toward now ≡ h.b → h ≡ now → IsLink h → ((link : LinkFields) (p : EndParts) → EndStandsFor link h.b p → r ≡ may_pass_on (view_by link p Waiting) flits) → now.going ≡ true → r ≡ is_ready (sending_end toward now) flits
+ready-back toward now h flits r sends same is answers going =
+    let some = is (ap (λ (x : LinkHeld). x.going) same ∙ going) in
+    let p = parts_of some.link Back some.past in
+    answers some.link p some.stands.b ∙ sym (ready-held some.link h.b p flits some.stands.b) ∙ ap (λ (e : EndFields). is_ready e flits) (sym sends)

@@ -1,0 +1,51 @@
+use Rattle.std.proofs.Common.{refl}
+use Rattle.hmc_link.proofs.Numbers.{numbers-kept}
+use Rattle.std.proofs.Common.{◌≡◌, ◌∙◌, sym, subst}
+use Rattle.hmc_send.specs.IsSender.{IsFed}
+use Rattle.hmc_send.specs.Choice.{choice}
+use Rattle.hmc_send.specs.LinkCalls.{LinkCall, is_full, view_in}
+use Rattle.hmc_send.specs.declared.toward.Toward.{Toward}
+use Rattle.hmc_send.specs.declared.toward.Toward.TheVariants.{Forth, Back}
+use Rattle.hmc_link.specs.Held.{EndFields, LinkHeld}
+use Rattle.hmc_link.proofs.Joins.{step-forth, step-back, keep-forth, keep-back, sends-forth, sends-back}
+use Rattle.hmc_link.specs.Answers.{link_sent}
+use Rattle.hmc_link.specs.Parts.{parts_of}
+use Rattle.hmc_link.specs.StandsFor.{LinkStandsFor}
+use Rattle.hmc_link.proofs.SendNext.{send-steps, answer-is}
+use Rattle.hmc_link.proofs.link.Link.send.Goals as goal
+
+pub invariant_of-self : goal.invariant_of-self
+invariant_of-self g c = keep-forth (LinkCall.send Forth c.args.feed) _ _
+    (send-steps Forth c.self.inside.a c.self.inside.b c.send.new.self c.args.feed c.send.result
+    (subst (λ (e : EndFields). IsFed e.sender.under_way c.args.feed) (sends-forth c.args.toward _ c.args.self.now c.in-Forth.is c.self.view_is) c.requires.feed) c.feed_is_bytes.ensures c.send.ensures.answer c.send.ensures.stands)
+    (numbers-kept (LinkCall.send Forth c.args.feed) _ _ refl refl refl) c.self.invariant
+
+pub invariant_of-self-in-Back : goal.invariant_of-self-in-Back
+invariant_of-self-in-Back g c = keep-back (LinkCall.send Back c.args.feed) _ _
+    (send-steps Back c.self.inside.b c.self.inside.a c.send-in-Back.new.self c.args.feed c.send-in-Back.result
+    (subst (λ (e : EndFields). IsFed e.sender.under_way c.args.feed) (sends-back c.args.toward _ c.args.self.now c.in-Back.is c.self.view_is) c.requires.feed) c.feed_is_bytes.ensures c.send-in-Back.ensures.answer c.send-in-Back.ensures.stands)
+    (numbers-kept (LinkCall.send Back c.args.feed) _ _ refl refl refl) c.self.invariant
+
+pub returns-in-Forth-clause-answer : goal.returns-in-Forth-clause-answer
+returns-in-Forth-clause-answer g c link past s =
+    let old = subst (λ (h : LinkHeld). LinkStandsFor link h past) (sym c.self.view_is) s in
+    subst (λ (d : Toward). c.send.result ≡ link_sent (is_full link d past) (choice link.profile (view_in link d past c.args.feed))) (sym c.in-Forth.is)
+    (c.send.ensures.answer link (parts_of link Forth past) old.a ∙ answer-is link Forth past c.args.feed)
+
+pub returns-in-Back-clause-answer : goal.returns-in-Back-clause-answer
+returns-in-Back-clause-answer g c link past s =
+    let old = subst (λ (h : LinkHeld). LinkStandsFor link h past) (sym c.self.view_is) s in
+    subst (λ (d : Toward). c.send-in-Back.result ≡ link_sent (is_full link d past) (choice link.profile (view_in link d past c.args.feed))) (sym c.in-Back.is)
+    (c.send-in-Back.ensures.answer link (parts_of link Back past) old.b ∙ answer-is link Back past c.args.feed)
+
+pub returns-in-Forth-clause-stands : goal.returns-in-Forth-clause-stands
+returns-in-Forth-clause-stands g c = step-forth (λ (d : Toward). LinkCall.send d c.args.feed) c.args.toward c.args.self.now _ _ c.in-Forth.is c.self.view_is
+    (send-steps Forth c.self.inside.a c.self.inside.b c.send.new.self c.args.feed c.send.result
+    (subst (λ (e : EndFields). IsFed e.sender.under_way c.args.feed) (sends-forth c.args.toward _ c.args.self.now c.in-Forth.is c.self.view_is) c.requires.feed) c.feed_is_bytes.ensures c.send.ensures.answer c.send.ensures.stands)
+    (numbers-kept (LinkCall.send Forth c.args.feed) _ _ refl refl refl)
+
+pub returns-in-Back-clause-stands : goal.returns-in-Back-clause-stands
+returns-in-Back-clause-stands g c = step-back (λ (d : Toward). LinkCall.send d c.args.feed) c.args.toward c.args.self.now _ _ c.in-Back.is c.self.view_is
+    (send-steps Back c.self.inside.b c.self.inside.a c.send-in-Back.new.self c.args.feed c.send-in-Back.result
+    (subst (λ (e : EndFields). IsFed e.sender.under_way c.args.feed) (sends-back c.args.toward _ c.args.self.now c.in-Back.is c.self.view_is) c.requires.feed) c.feed_is_bytes.ensures c.send-in-Back.ensures.answer c.send-in-Back.ensures.stands)
+    (numbers-kept (LinkCall.send Back c.args.feed) _ _ refl refl refl)

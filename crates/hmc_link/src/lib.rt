@@ -1,0 +1,40 @@
+//! A link: two ends, and a line each way.
+//!
+//! A [`Link`] carries packets between two ends, in both directions. In a direction a packet is
+//! handed to the output queue of one end (`hand`), sent flit by flit (`send`) onto a line, lands
+//! flit by flit at the other end (`land`), and is taken from the buffer there (`take`). A landing
+//! is under a mask, whose bits are inverted in the flit: a check finds that, the packets from the
+//! changed one on are sent again, and the receiver passes over those that it had before. A packet
+//! may leave while it is still coming in (`begin_through`, `send` with a feed): a cut-through.
+//!
+//! A link stands for lists of its entries, the newest first (`LinkStandsFor`): hands, takes,
+//! sends, landings, unlocks and begun cut-throughs. Each call answers what the definitions of
+//! hmc_send say of each list for which the link stands, and the link then stands for the list with
+//! the entry of the call (`after_call`). So the laws of hmc_wire hold of it. A link keeps that it
+//! stands for some list, unless a landing passed: a check succeeded over a changed flit. After that
+//! no call that changes it may be made, and nothing is claimed of what the others answer.
+//!
+//! An end sends in one direction, and the other lands at it. What the entries of a link are to an
+//! end is in `specs/Parts.antt`, what an end holds in `specs/Held.antt`, and when the one is the
+//! other in `specs/StandsFor.antt`.
+//!
+//! Each direction is a list (`specs/List.antt`): what was handed and is not accepted.
+//! [`directions_are_lists`] says what each entry does to it, and `handed` is its length.
+#![tactic(auto)]
+
+mod arrival;
+mod crossing;
+mod end;
+mod feed;
+mod laws;
+mod link;
+mod link_landed;
+mod link_sent;
+mod masks;
+mod row;
+
+pub use hmc_send::Toward;
+pub use laws::directions_are_lists;
+pub use link::Link;
+pub use link_landed::LinkLanded;
+pub use link_sent::LinkSent;

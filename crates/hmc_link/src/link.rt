@@ -1,0 +1,351 @@
+//! A link.
+
+ghost use Rattle.std.specs.Prelude.{◌≡◌, ◌<◌, ◌+◌, ◌++◌, ◌∷◌, ℕ, map, true, false, not, [], List, IfOk, length, nat_lt, slice_get, option_map};
+ghost use Rattle.hmc_codes.specs.Link.{LinkFields};
+ghost use Rattle.hmc_packet.specs.declared.feed.Feed.TheVariants.{Waiting};
+ghost use Rattle.hmc_packet.specs.Head.{head_in};
+ghost use Rattle.hmc_packet.specs.Landings.{mode, pending};
+ghost use Rattle.hmc_packet.specs.Packet.{flits_of};
+ghost use Rattle.hmc_send.specs.Choice.{choice};
+ghost use Rattle.hmc_send.specs.Entries.{through_place, through_at};
+ghost use Rattle.hmc_send.specs.Given.{IsTaken};
+ghost use Rattle.hmc_send.specs.IsSender.{IsFed};
+ghost use Rattle.hmc_send.specs.LinkCalls.{LinkCall, has_room, is_full, may_pass_on, names_flits, view_in};
+ghost use Rattle.hmc_send.specs.LinkEntries.{LinkEntry, receiver_entries};
+ghost use Rattle.hmc_send.specs.LinkLines.{line};
+ghost use Rattle.hmc_send.specs.LinkSenders.{sender_entries, tokens};
+ghost use Rattle.hmc_link.specs.Held.{sending_end, landing_end, is_ready, flits_seen};
+ghost use Rattle.hmc_link.specs.Answers.{after_call, front_in, link_sent};
+ghost use Rattle.hmc_link.specs.Landings.{link_landed, has_passed, is_out_of_order, removed, IsUntouched};
+ghost use Rattle.hmc_link.specs.List.{handed_list, listed_packet, listed_open};
+ghost use Rattle.hmc_link.specs.StandsFor.{LinkStandsFor};
+
+use crate::crossing::{cross, has_passed, without_landed};
+use crate::end::End;
+use crate::feed::{feed_is_bytes, flit_is_bytes};
+use crate::row::token_row;
+use crate::{LinkLanded, LinkSent, Toward};
+use hmc_codes::{Flit, LinkSetup, Memory, TokenRow};
+use hmc_packet::{Feed, Mode, Packet};
+use hmc_tokens::Intake;
+use std::alloc::Global;
+use std::marker::Model;
+
+/// A link between two ends, each with a buffer for the packets that come to it. Direction Forth
+/// goes from the first end to the second, Back from the second to the first.
+///
+/// Contracts see which lists of entries it stands for, and whether it is going: no landing has
+/// passed.
+#[derive(Drop)]
+pub struct Link<A: Intake, B: Intake> {
+    a: End<A>,
+    b: End<B>,
+    going: bool,
+    // The lengths of the lists of the two directions.
+    forth: u32,
+    back: u32,
+}
+
+impl<A: Intake, B: Intake> Model for Link<A, B> {
+    ghost use Rattle.hmc_send.specs.LinkLines.{line};
+    ghost use Rattle.hmc_send.specs.LinkSenders.{sender_entries, tokens};
+    ghost use Rattle.hmc_link.specs.Held.{LinkHeld};
+    ghost use Rattle.hmc_link.specs.StandsFor.{IsLink};
+
+    ghost Value = { LinkHeld };
+
+    ghost view = { λ l. record {
+      a = l.a;
+      b = l.b;
+      going = l.going;
+      forth = l.forth;
+      back = l.back;
+    } };
+
+    ghost invariant = { λ l. IsLink (record {
+      a = l.a;
+      b = l.b;
+      going = l.going;
+      forth = l.forth;
+      back = l.back;
+    }) };
+}
+
+impl<A: Intake, B: Intake> Link<A, B> {
+    /// A link that did nothing. The buffers are empty, as large as the tokens that an end
+    /// advertises, and in each a packet costs its flits. No other call takes memory.
+    pub fn new(alloc: Global, setup: LinkSetup, a: A, b: B) -> Result<Self, Memory>
+        requires a_empty { A.packets a ≡ [] }
+        requires a_size { A.size a ≡ setup.tokens }
+        requires a_cost { A.cost a ≡ flits_of }
+        requires b_empty { B.packets b ≡ [] }
+        requires b_size { B.size b ≡ setup.tokens }
+        requires b_cost { B.cost b ≡ flits_of }
+        ensures stands { IfOk result (λ link. LinkStandsFor setup link []) }
+        ensures going { IfOk result (λ link. link.going ≡ true) }
+    {
+        setup.invariant();
+        let a = End::new(alloc, setup, a)?;
+        let b = End::new(alloc, setup, b)?;
+        Ok(Link {
+            a,
+            b,
+            going: true,
+            forth: 0,
+            back: 0,
+        })
+    }
+
+    /// Whether the output queue of a direction has room for a packet.
+    pub fn room(&self, toward: Toward) -> bool
+        ensures value { result ≡ nat_lt (length (sending_end toward self.now).queue)
+            (sending_end toward self.now).setup.output }
+        ensures by_list { (link : LinkFields) (past : List LinkEntry) →
+            LinkStandsFor link self.now past → result ≡ has_room link toward past }
+    {
+        match toward {
+            Toward::Forth => self.a.has_room(),
+            Toward::Back => self.b.has_room(),
+        }
+    }
+
+    /// Hands a packet to the output queue of a direction.
+    pub fn hand(&mut self, toward: Toward, packet: Packet)
+        requires going { self.old.going ≡ true }
+        requires room { length (sending_end toward self.old).queue
+            < (sending_end toward self.old).setup.output }
+        requires fit { IsTaken (sending_end toward self.old).setup.profile packet }
+        ensures stands { (link : LinkFields) (past : List LinkEntry) →
+            LinkStandsFor link self.old past →
+            LinkStandsFor link self.new (after_call link past (LinkCall.hand toward packet)) }
+        ensures list { (link : LinkFields) (past : List LinkEntry) →
+            LinkStandsFor link self.old past →
+            handed_list link toward (after_call link past (LinkCall.hand toward packet))
+            ≡ handed_list link toward past ++ listed_packet packet ∷ [] }
+        ensures going { self.new.going ≡ true }
+    {
+        packet.invariant();
+        match toward {
+            Toward::Forth => {
+                self.a.hand(packet);
+                self.forth += 1;
+            }
+            Toward::Back => {
+                self.b.hand(packet);
+                self.back += 1;
+            }
+        }
+    }
+
+    /// The packet that has been longest in the buffer at the end of a direction.
+    pub fn front(&self, toward: Toward) -> Option<Packet>
+        ensures value { result ≡ slice_get (landing_end toward self.now).buffer 0 }
+        ensures by_list { (link : LinkFields) (past : List LinkEntry) →
+            LinkStandsFor link self.now past → result ≡ front_in link toward past }
+    {
+        match toward {
+            Toward::Forth => self.b.front(),
+            Toward::Back => self.a.front(),
+        }
+    }
+
+    /// Takes the front of the buffer at the end of a direction; its tokens are then due there.
+    pub fn take(&mut self, toward: Toward) -> Option<Packet>
+        requires { self.old.going ≡ true }
+        ensures value { result ≡ slice_get (landing_end toward self.old).buffer 0 }
+        ensures by_list { (link : LinkFields) (past : List LinkEntry) →
+            LinkStandsFor link self.old past → result ≡ front_in link toward past }
+        ensures stands { (link : LinkFields) (past : List LinkEntry) →
+            LinkStandsFor link self.old past →
+            LinkStandsFor link self.new (after_call link past (LinkCall.take toward)) }
+        ensures going { self.new.going ≡ true }
+    {
+        match toward {
+            Toward::Forth => self.b.take(),
+            Toward::Back => self.a.take(),
+        }
+    }
+
+    /// What the receiver of a direction waits for.
+    pub fn mode(&self, toward: Toward) -> Mode
+        ensures { (link : LinkFields) (past : List LinkEntry) →
+            LinkStandsFor link self.now past → result ≡ mode (receiver_entries toward past) }
+    {
+        match toward {
+            Toward::Forth => self.b.mode(),
+            Toward::Back => self.a.mode(),
+        }
+    }
+
+    /// The framing of a direction was lost: the flits of a packet that isn't whole are dropped.
+    pub fn unlock(&mut self, toward: Toward)
+        requires { self.old.going ≡ true }
+        ensures stands { (link : LinkFields) (past : List LinkEntry) →
+            LinkStandsFor link self.old past →
+            LinkStandsFor link self.new (after_call link past (LinkCall.unlock toward)) }
+        ensures going { self.new.going ≡ true }
+    {
+        match toward {
+            Toward::Forth => self.b.unlock(),
+            Toward::Back => self.a.unlock(),
+        }
+    }
+
+    /// Sends the next flit of a direction. `Full` exactly where its line holds as many flits as it
+    /// can; else `Starved` exactly where the receiver at the same end is trained, a packet that is
+    /// passed on is under way, and its next flit isn't there.
+    pub fn send(&mut self, toward: Toward, feed: Feed) -> LinkSent
+        requires going { self.old.going ≡ true }
+        requires feed { IsFed (sending_end toward self.old).sender.under_way feed }
+        ensures answer { (link : LinkFields) (past : List LinkEntry) →
+            LinkStandsFor link self.old past → result
+            ≡ link_sent (is_full link toward past)
+            (choice link.profile (view_in link toward past feed)) }
+        ensures stands { (link : LinkFields) (past : List LinkEntry) →
+            LinkStandsFor link self.old past →
+            LinkStandsFor link self.new (after_call link past (LinkCall.send toward feed)) }
+        ensures going { self.new.going ≡ true }
+    {
+        feed_is_bytes(&feed);
+        match toward {
+            Toward::Forth => self.a.send(feed),
+            Toward::Back => self.b.send(feed),
+        }
+    }
+
+    /// Lands the front of the line of a direction, with the bits of the mask inverted. `Passed`
+    /// exactly where a check succeeds over flits one of which was changed: nothing was accepted,
+    /// credited or acknowledged then, and the link is of no more use. No packet lands out of order.
+    pub fn land(&mut self, toward: Toward, mask: Flit) -> LinkLanded
+        requires { self.old.going ≡ true }
+        ensures answer { (link : LinkFields) (past : List LinkEntry) →
+            LinkStandsFor link self.old past → result
+            ≡ link_landed link toward past mask
+            (slice_get (line link.profile toward past) 0) }
+        ensures stands { (link : LinkFields) (past : List LinkEntry) →
+            LinkStandsFor link self.old past → has_passed result ≡ false →
+            LinkStandsFor link self.new (after_call link past (LinkCall.land toward mask)) }
+        ensures list { (link : LinkFields) (past : List LinkEntry) →
+            LinkStandsFor link self.old past → has_passed result ≡ false →
+            handed_list link toward past ≡ map listed_packet (removed result)
+            ++ handed_list link toward (after_call link past (LinkCall.land toward mask)) }
+        ensures going { self.new.going ≡ not (has_passed result) }
+        ensures ordered { is_out_of_order result ≡ false }
+        ensures a_untouched { has_passed result ≡ true → IsUntouched self.old.a self.new.a }
+        ensures b_untouched { has_passed result ≡ true → IsUntouched self.old.b self.new.b }
+    {
+        match toward {
+            Toward::Forth => {
+                let landed = cross(&mut self.a, &mut self.b, &mask);
+                self.going = !has_passed(&landed);
+                self.forth = without_landed(self.forth, &landed);
+                landed
+            }
+            Toward::Back => {
+                let landed = cross(&mut self.b, &mut self.a, &mask);
+                self.going = !has_passed(&landed);
+                self.back = without_landed(self.back, &landed);
+                landed
+            }
+        }
+    }
+
+    /// The flits that the receiver of a direction has gathered of a packet that isn't whole, the
+    /// first one first; `None` exactly where it isn't Good or has gathered none.
+    pub fn through_view(&self, toward: Toward) -> Option<&[Flit]>
+        ensures { (link : LinkFields) (past : List LinkEntry) →
+            LinkStandsFor link self.now past → option_map (λ flits. flits.now) result
+            ≡ flits_seen (mode (receiver_entries toward past))
+            (pending (receiver_entries toward past)) }
+    {
+        match toward {
+            Toward::Forth => self.b.through_view(),
+            Toward::Back => self.a.through_view(),
+        }
+    }
+
+    /// The length of the list of a direction: the packets that were handed to it, and the
+    /// cut-throughs that were begun, that are not accepted.
+    pub fn handed(&self, toward: Toward) -> u32
+        ensures { (link : LinkFields) (past : List LinkEntry) →
+            LinkStandsFor link self.now past → result ≡ length (handed_list link toward past) }
+    {
+        match toward {
+            Toward::Forth => self.forth,
+            Toward::Back => self.back,
+        }
+    }
+
+    /// The place, from 0, of the next flit of a packet that is passed on and unfinished in a
+    /// direction; `None` exactly where there is none.
+    pub fn through_at(&self, toward: Toward) -> Option<u8>
+        ensures value { result
+            ≡ through_place (sending_end toward self.now).sender.under_way }
+        ensures by_list { (link : LinkFields) (past : List LinkEntry) →
+            LinkStandsFor link self.now past → result
+            ≡ through_at link.profile (sender_entries link toward past) }
+    {
+        match toward {
+            Toward::Forth => self.a.through_at(),
+            Toward::Back => self.b.through_at(),
+        }
+    }
+
+    /// The tokens of a direction. Their sum is the number that an end advertises.
+    pub fn tokens(&self, toward: Toward) -> TokenRow
+        ensures by_list { (link : LinkFields) (past : List LinkEntry) →
+            LinkStandsFor link self.now past → result ≡ tokens link toward past }
+        ensures sum { (link : LinkFields) (past : List LinkEntry) →
+            LinkStandsFor link self.now past →
+            result.held + result.transit + result.used + result.due + result.returning
+            ≡ link.tokens }
+    {
+        match toward {
+            Toward::Forth => token_row(&self.a, &self.b),
+            Toward::Back => token_row(&self.b, &self.a),
+        }
+    }
+
+    /// Whether a cut-through of so many flits may be begun in a direction: its output queue is
+    /// empty, its sender is free, and held tokens and retry room are at least that many.
+    pub fn through_ready(&self, toward: Toward, flits: u8) -> bool
+        ensures value { self.now.going ≡ true →
+            result ≡ is_ready (sending_end toward self.now) flits }
+        ensures by_list { (link : LinkFields) (past : List LinkEntry) →
+            LinkStandsFor link self.now past →
+            result ≡ may_pass_on (view_in link toward past Waiting) flits }
+    {
+        match toward {
+            Toward::Forth => self.a.through_ready(flits),
+            Toward::Back => self.b.through_ready(flits),
+        }
+    }
+
+    /// Begins a packet of so many flits, at least 2, that is passed on before it has come whole.
+    /// The direction is ready for it (`through_ready`), and its head names that length.
+    pub fn begin_through(&mut self, toward: Toward, head: Flit, flits: u8)
+        requires going { self.old.going ≡ true }
+        requires ready { is_ready (sending_end toward self.old) flits ≡ true }
+        requires named { names_flits flits (head_in head) ≡ true }
+        ensures stands { (link : LinkFields) (past : List LinkEntry) →
+            LinkStandsFor link self.old past → LinkStandsFor link self.new
+            (after_call link past (LinkCall.begin toward head flits)) }
+        ensures list { (link : LinkFields) (past : List LinkEntry) →
+            LinkStandsFor link self.old past →
+            handed_list link toward (after_call link past (LinkCall.begin toward head flits))
+            ≡ handed_list link toward past ++ listed_open head flits ∷ [] }
+        ensures going { self.new.going ≡ true }
+    {
+        flit_is_bytes(&head);
+        match toward {
+            Toward::Forth => {
+                self.a.begin_through(head, flits);
+                self.forth += 1;
+            }
+            Toward::Back => {
+                self.b.begin_through(head, flits);
+                self.back += 1;
+            }
+        }
+    }
+}
