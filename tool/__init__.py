@@ -8,9 +8,10 @@ cli has the words of the command line. Below it are
 - places, explain_fault: where that fault is in the file, and what it means
 - report, jsonl, diff: the lines of reports
 - wave, vcd, show: waves and pictures
-- gate: what .ci/run needs; sample_cases: cases for docs/many-cases.md
+- gate: what .ci/run needs; sample_cases: cases for docs/many-cases.md; counts: those of
+  docs/PROOFS.md
 
 What cases may have today is in few places: CUBES, LINKS, A_IS_A_HOST and PROFILES of case, STEPS
-and the mask in rest_fault of schedule, and LINES of report. The gate compares this reader with the
-program and with the tables of examples/, so a limit that moves in one of them shows there.
+of schedule, and LINES of report. The gate compares this reader with the program and with the tables
+of hmc_faults, so a limit that moves in one of them shows there.
 """

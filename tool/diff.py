@@ -38,7 +38,7 @@ def name_of(subject: Subject) -> str:
 
 
 class Before:
-    """The last lines of each subject, and the flits of the packet that each direction sends."""
+    """The last lines of each subject, and the flits of the packet that each direction is at."""
 
     def __init__(self, profile: int):
         self._profile = profile
@@ -52,10 +52,11 @@ class Before:
             kept.append(f"  {number}: {line}")
         key, flit = flit_of(line)
         if key:
-            flits = self._flits.setdefault(key, [])
-            if is_whole(flits):
-                flits.clear()
-            flits.append(flit)
+            flits = [*self._flits.get(key, []), flit]
+            self._flits[key] = flits if goes_on(line, flits) else []
+        elif line.startswith("unlocked "):
+            # The receiver has dropped what it had gathered.
+            self._flits["landed", line.split(" ")[1]] = []
 
     def lines(self, subject: Subject) -> list[str]:
         """The last lines of the subject."""
@@ -64,9 +65,7 @@ class Before:
     def explained(self, line: str) -> list[str]:
         """The lines that explain the packet of the line's flit, up to that flit."""
         key, flit = flit_of(line)
-        flits = list(self._flits.get(key, []))
-        front = [] if is_whole(flits) else flits
-        flits = [bytes.fromhex(it) for it in (*front, flit)]
+        flits = [bytes.fromhex(it) for it in (*self._flits.get(key, []), flit)]
         return explain.explain_flits(flits, self._profile)
 
 
@@ -75,17 +74,18 @@ def flit_of(line: str) -> tuple[tuple, str]:
     words = line.split(" ")
     if words[0] == "sent" and len(words) == 4 and explain.flit_of(words[3]):
         return ("sent", words[1]), words[3]
-    if words[0] == "landed" and len(words) > 3 and explain.flit_of(words[2]):
+    if words[0] in ("landed", "passed") and len(words) > 2 and explain.flit_of(words[2]):
         return ("landed", words[1]), words[2]
     return (), ""
 
 
-def is_whole(flits: list[str]) -> bool:
-    """Whether these flits are a whole packet, or cannot begin one."""
-    if not flits:
-        return True
+def goes_on(line: str, flits: list[str]) -> bool:
+    """Whether the packet of the line's flit goes on. A receiver says so itself: masks may have
+    changed the length that its first flit names."""
+    if line.startswith("landed "):
+        return line.endswith(" gathered")
     length = packets.length_of(bytes.fromhex(flits[0]))
-    return len(flits) >= length or length > packets.MOST_FLITS
+    return len(flits) < length <= packets.MOST_FLITS
 
 
 def compare(

@@ -62,7 +62,7 @@ MEANINGS = {
         "number": "a word is not a number where one is required",
         "range": "the network of the case has no such host, direction, cube, joined port, vault "
         "or bank, or the number of rounds is out of range",
-        "mask": "the word is not 32 hexadecimal digits, or its mask is not zero",
+        "mask": "the word is not 32 hexadecimal digits",
         "steps": f"with this line there are more than {texts.MOST_STEPS:,} steps",
     },
 }

@@ -21,7 +21,10 @@ MEANINGS = {
     4: "writing the report failed",
     5: "the input is longer than 4,194,304 bytes",
     6: "the input is not a valid case; the line on standard output gives its first fault",
+    7: "a check succeeded over flits that masks changed; the report ends with that landing",
 }
+# The first words of the lines that end a report in place of the final lines.
+ENDS = (b"bad ", b"passed ")
 # How the kit says that a program that it tried has ended.
 ENDED = re.compile(rb"^run=ended status=([0-9]+)", re.MULTILINE)
 TRY_SECONDS = "600"
@@ -116,7 +119,7 @@ def keep_of(options: Options) -> Keep | None:
     """The test that a line must meet to be shown, or None where all lines are shown."""
     tests: list[Keep] = []
     if options.quiet:
-        tests.append(lambda line: report.is_final(line.decode()) or line.startswith(b"bad "))
+        tests.append(lambda line: report.is_final(line.decode()) or line.startswith(ENDS))
     if options.no_idle:
         tests.append(lambda line: not line.startswith(b"idle "))
     if options.only is not None:

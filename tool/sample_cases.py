@@ -1,4 +1,4 @@
-"""Writes cases with random requests, to try many runs: python3 -m tool.sample_cases FOLDER COUNT.
+"""Writes random cases, to try many runs: python3 -m tool.sample_cases FOLDER COUNT.
 
 The same number gives the same case. docs/many-cases.md uses it; a campaign of your own has a
 generator of its own.
@@ -15,6 +15,9 @@ profile = 1
 script = '''
 {script}'''
 schedule = '''
+noise {every} {mask}
+round {rounds}
+noise off
 round {rounds}
 '''
 
@@ -35,7 +38,10 @@ output = {output}
 # Requests, and the bytes that each carries.
 COMMANDS = {"wr16": 16, "wr64": 64, "rd16": 0, "rd64": 0, "add16": 16, "inc8": 0, "pinc8": 0}
 MOST_REQUESTS = 40
-ROUNDS_FOR_EACH = 12
+# A round has two landings. Training takes 73 rounds, and the way back after an error about as many.
+ROUNDS_FOR_EACH = 8
+OTHER_ROUNDS = 180
+LANDINGS = (200, 600)
 
 
 def request(chance: random.Random, blocks: int) -> str:
@@ -54,7 +60,9 @@ def sample(number: int) -> str:
     lines = [request(chance, 4 << (vault_bits + bank_bits)) for _ in range(requests)]
     return CASE.format(
         script="".join(f"{line}\n" for line in lines),
-        rounds=ROUNDS_FOR_EACH * requests + 20,
+        every=chance.randrange(*LANDINGS),
+        mask=(1 << chance.randrange(128)).to_bytes(16, "big").hex(),
+        rounds=ROUNDS_FOR_EACH * requests + OTHER_ROUNDS,
         vault_bits=vault_bits,
         bank_bits=bank_bits,
         queue=1 + chance.randrange(4),

@@ -21,7 +21,9 @@ STEPS = {
     "registers": ("cube",),
     "lift": ("cube", "place"),
     "take": ("host",),
+    "unlock": ("direction",),
     "round": ("rounds",),
+    "noise": ("landings",),
 }
 
 
@@ -41,6 +43,8 @@ def first_fault(text: str, plan: Plan) -> TextFault | None:
 
 def steps_of(words: list[str], plan: Plan) -> int:
     """The steps of a line without faults."""
+    if words[0] == "noise":
+        return 0
     return texts.number_of(words[1]) * plan.round_steps if words[0] == "round" else 1
 
 
@@ -49,6 +53,8 @@ def line_fault(words: list[str], plan: Plan) -> LineFault | None:
     operands = STEPS.get(words[0])
     if operands is None:
         return "step", 0
+    if words[0] == "noise" and words[1:2] == ["off"]:
+        return rest_fault(words, 2)
     numbers: list[int] = []
     for at, operand in enumerate(operands, start=1):
         kind = operand_fault(words, at, operand, numbers, plan)
@@ -74,7 +80,7 @@ def operand_fault(words, at: int, operand: str, numbers: list[int], plan: Plan) 
 
 def is_in_range(operand: str, number: int, before: list[int], plan: Plan) -> bool:
     """Whether the plan has such a part; `before` has the numbers of the line before this one."""
-    if operand == "rounds":
+    if operand in ("rounds", "landings"):
         return 1 <= number <= texts.MOST_ROUNDS
     counts = {"host": plan.hosts, "direction": plan.directions, "cube": len(plan.cubes)}
     if operand in counts:
@@ -86,9 +92,11 @@ def is_in_range(operand: str, number: int, before: list[int], plan: Plan) -> boo
 
 
 def rest_fault(words: list[str], at: int) -> LineFault | None:
-    """The fault of the words after the operands: the mask of a landing, and left-over words."""
-    if words[0] == "land" and at < len(words):
-        if not MASK.fullmatch(words[at]) or int(words[at], 16):
+    """The fault of the words after the operands: the mask, and left-over words."""
+    if words[0] == "noise" and words[1] != "off" and at == len(words):
+        return "words", at
+    if words[0] in ("land", "noise") and words[1] != "off" and at < len(words):
+        if not MASK.fullmatch(words[at]):
             return "mask", at
         at += 1
     return ("words", at) if at < len(words) else None

@@ -1,7 +1,8 @@
 """The waves of a report: what crosses each direction, and how much each queue holds.
 
 The report alone is counted; the case gives the names and the number of directions and queues. An
-entry changes at most two queues: a packet leaves one and enters another.
+entry changes at most two queues: a packet leaves one and enters another. What a receiver waits for
+follows from its outcomes.
 """
 
 from __future__ import annotations
@@ -16,6 +17,9 @@ TOP = "network"
 # A queue, by a word and numbers, as ("bank", 0, 1, 0).
 Queue = tuple
 NOTHING = "-"
+# What a receiver waits for at first, and after these outcomes; after others it stays.
+FIRST_MODE = "train"
+MODES = {"trained": "abort", "aborted": "abort", "ran clear": "good"}
 
 
 def ends_by_direction(document: dict) -> list[tuple[Endpoint, Endpoint]]:
@@ -43,6 +47,14 @@ def queues_of(document: dict) -> Iterator[tuple[Queue, tuple[str, ...], str]]:
             yield ("answers", number, vault), inner, "answers"
             for bank in range(1 << cube["bank_bits"]):
                 yield ("bank", number, vault, bank), inner, f"bank{bank}"
+
+
+def mode_after(mode: str, entry: dict) -> str:
+    """What the receiver of an entry's direction waits for after it: train, abort or good."""
+    if entry["line"] == "unlocked":
+        return mode if mode == "train" else "abort"
+    outcome = entry.get("outcome", "")
+    return MODES.get("aborted" if outcome.startswith("aborted") else outcome, mode)
 
 
 class Queues:
@@ -136,7 +148,12 @@ class Wave:
             queue: self._dump.add((TOP, *scopes), name)
             for queue, scopes, name in queues_of(document)
         }
-        self._flits = [self._flit_signals(n) for n in range(len(self._queues.ends))]
+        directions = range(len(self._queues.ends))
+        self._flits = [self._flit_signals(n) for n in directions]
+        self._modes = [FIRST_MODE for _ in directions]
+        self._mode_places = [
+            self._dump.add((TOP, f"direction{n}"), "receiver", TEXT) for n in directions
+        ]
         # The signals of flits that the last entry has set.
         self._set: list[int] = []
 
@@ -156,6 +173,7 @@ class Wave:
         yield "#0"
         yield from self._changes([(place, 0) for place in self._places.values()])
         yield from self._changes(self._quiet())
+        yield from self._changes([(place, FIRST_MODE) for place in self._mode_places])
         last = 0
         for entry in report.read_report(lines):
             if "entry" not in entry:
@@ -178,18 +196,33 @@ class Wave:
         """The changes of one entry: a signal of a flit has its value for this step alone."""
         values: dict[int, int | str] = dict.fromkeys(self._set, NOTHING)
         values[self._entry] = entry["line"]
-        flit = self._of_flit(entry) if entry["line"] in ("sent", "landed") else {}
+        flit = self._of_flit(entry)
+        values |= self._of_mode(entry)
         self._set = list(flit)
         for queue in self._queues.apply(entry):
             values[self._places[queue]] = self._queues.held[queue]
         return list({**values, **flit}.items())
 
     def _of_flit(self, entry: dict) -> dict[int, int | str]:
-        """The signals of a flit that is sent or that lands."""
+        """The signals of a flit that is sent or that lands, and of a receiver that is unlocked."""
         line = entry["line"]
+        if line == "sent":
+            signals = self._flits_of(entry["direction"])
+            return {signals["sent"]: entry["what"], signals["sent_flit"]: entry["flit"]}
+        if line not in ("landed", "passed", "unlocked"):
+            return {}
         signals = self._flits_of(entry["direction"])
-        word = entry["what"] if line == "sent" else entry["outcome"].replace(" ", "_")
-        return {signals[line]: word, signals[f"{line}_flit"]: entry["flit"]}
+        word = entry["outcome"].replace(" ", "_") if line == "landed" else line
+        flit = {signals["landed_flit"]: entry["flit"]} if "flit" in entry else {}
+        return {signals["landed"]: word, **flit}
+
+    def _of_mode(self, entry: dict) -> dict[int, int | str]:
+        """The signal of what a receiver waits for, where the entry is one of a receiver."""
+        if entry["line"] not in ("landed", "unlocked"):
+            return {}
+        direction = entry["direction"]
+        self._modes[direction] = mode_after(self._modes[direction], entry)
+        return {self._mode_places[direction]: self._modes[direction]}
 
     def _flits_of(self, direction: int) -> dict[str, int]:
         if direction >= len(self._flits):

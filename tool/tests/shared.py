@@ -12,6 +12,8 @@ from tool import build, cli
 
 TOP = Path(__file__).resolve().parent.parent.parent
 EXAMPLES = TOP / "examples"
+# Tables of faulty inputs, beside the program that reads them.
+FAULTS = TOP / "crates" / "hmc_faults" / "data"
 DATA = Path(__file__).resolve().parent / "data"
 # The cases of examples/ that have a report.
 CASES = sorted(path for path in EXAMPLES.glob("*.toml") if path.with_suffix(".report").exists())
@@ -38,9 +40,9 @@ def output_of(*words: str) -> str:
 
 
 def bad_cases() -> list[tuple[list[str], str, str]]:
-    """The rows of examples/bad-cases.txt: the lines that replace others, the case, its fault."""
+    """The rows of bad-cases.txt: the lines that replace others, the case, its fault."""
     rows, changes = [], []
-    for line in (EXAMPLES / "bad-cases.txt").read_text(encoding="utf-8").split("\n"):
+    for line in (FAULTS / "bad-cases.txt").read_text(encoding="utf-8").split("\n"):
         if line.startswith(("- ", "+ ")):
             changes.append(line)
         elif line.startswith("= "):
@@ -51,8 +53,8 @@ def bad_cases() -> list[tuple[list[str], str, str]]:
 
 
 def changed_case(changes: list[str]) -> str:
-    """The case of examples/bad-cases-base.toml with these changes."""
-    base = (EXAMPLES / "bad-cases-base.toml").read_text(encoding="utf-8").removesuffix("\n")
+    """The case of bad-cases-base.toml with these changes."""
+    base = (FAULTS / "bad-cases-base.toml").read_text(encoding="utf-8").removesuffix("\n")
     instead: dict[str, list[str]] = {}
     for change in changes:
         if change.startswith("- "):
@@ -67,7 +69,7 @@ def changed_case(changes: list[str]) -> str:
 def text_rows(name: str) -> list[tuple[str, str]]:
     """The rows of a table of faulty texts: the text, and the line and kind of its fault."""
     rows = []
-    for line in (EXAMPLES / name).read_text(encoding="utf-8").split("\n"):
+    for line in (FAULTS / name).read_text(encoding="utf-8").split("\n"):
         text, found, fault = line.rpartition(" = ")
         if found:
             for written, meant in ESCAPES.items():

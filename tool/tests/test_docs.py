@@ -3,11 +3,16 @@ somewhere, and the README stays short."""
 
 import re
 import shlex
+import subprocess
+import tempfile
 import unittest
+from pathlib import Path
 
-from tool.tests.shared import TOP, require_program, tool
+from tool.tests.shared import CASES, EXAMPLES, TOP, require_program, tool
 
-DOCS = sorted((TOP / "docs").glob("*.md"))
+DOCS = sorted([*(TOP / "docs").glob("*.md"), *TOP.glob("crates/*/CALLING.md")])
+# The line of a report that another report has otherwise.
+SENT = "sent 0 new 08090a0b0c0d0e0f02060840ce08fdd5"
 LINK = re.compile(r"\]\(([^)#]*)(?:#([^)]+))?\)")
 EXAMPLE = re.compile(r"^    \$ \./zehimbado (.*)\n((?:    .*\n)*)", re.MULTILINE)
 MOST_WORDS = 700
@@ -41,22 +46,63 @@ class Docs(unittest.TestCase):
 
     def test_each_page_is_in_the_index(self):
         index = (TOP / "docs" / "README.md").read_text(encoding="utf-8")
-        named = {target for target, _ in LINK.findall(index)}
-        self.assertEqual({page.name for page in DOCS} - named, {"README.md"})
+        named = {(TOP / "docs" / target).resolve() for target, _ in LINK.findall(index)}
+        self.assertEqual(set(DOCS) - named, {TOP / "docs" / "README.md"})
 
     def test_the_readme_is_short(self):
         words = (TOP / "README.md").read_text(encoding="utf-8").split()
         self.assertLessEqual(len(words), MOST_WORDS)
 
-    def test_examples_without_files_of_their_own(self):
-        """The commands that read only examples/ and need no program write what the page has."""
-        tried = 0
+    def test_the_example_of_the_readme(self):
+        """Its lines are those of a case and a report of examples/, in their order."""
+        text = (TOP / "README.md").read_text(encoding="utf-8")
+        text = text[text.index("## An example") : text.index("## Documents")]
+        shown = [line[4:] for line in text.splitlines() if line.startswith("    ")]
+        path = EXAMPLES / "write-then-read.toml"
+        stored = path.read_text(encoding="utf-8").splitlines()
+        stored += path.with_suffix(".report").read_text(encoding="utf-8").splitlines()
+        at = 0
+        for line in shown:
+            if line and line != "..":
+                self.assertIn(line, stored[at:])
+                at = stored.index(line, at) + 1
+        self.assertGreater(len(shown), 20)
+
+    def test_each_case_is_in_the_index(self):
+        """Each case of examples/ is in docs/examples.md, and a comment says what it shows."""
+        index = (TOP / "docs" / "examples.md").read_text(encoding="utf-8")
+        named = set(re.findall(r"[a-z-]+\.toml", index)) - {"bad-cases-base.toml"}
+        self.assertEqual(named, {path.name for path in EXAMPLES.glob("*.toml")})
+        for path in EXAMPLES.glob("*.toml"):
+            self.assertRegex(path.read_text(encoding="utf-8"), r"(?m)^# [A-Z]", path.name)
+
+    def test_only_cases_and_reports_are_examples(self):
+        names = {path.with_suffix(".toml").name for path in EXAMPLES.iterdir()}
+        self.assertEqual(names, {path.name for path in CASES})
+
+    def test_examples(self):
+        """The commands that need no program write what the page has."""
+        tried = []
         for words, text in examples():
-            if words.startswith(("explain 0", "show ")):
-                ran = tool(*shlex.split(words))
-                self.assertEqual(ran.stdout.decode(), text, words)
-                tried += 1
-        self.assertEqual(tried, 2)
+            if not words.startswith("run "):
+                self.assertEqual(self.written(words), text, words)
+                tried.append(words.split(" ")[0])
+        self.assertEqual(tried, ["explain", "explain", "json", "diff", "show"])
+
+    def written(self, words: str) -> str:
+        """What a command writes where the files that the page names are."""
+        with tempfile.TemporaryDirectory() as name:
+            folder = Path(name)
+            (folder / "examples").symlink_to(EXAMPLES)
+            case = (EXAMPLES / "write-then-read.toml").read_text(encoding="utf-8")
+            case = case.replace("tokens = 34", "tokens = 16")
+            (folder / "case.toml").write_text(case, encoding="utf-8")
+            report = (EXAMPLES / "write-then-read.report").read_text(encoding="utf-8")
+            report = report.replace(SENT, SENT.replace("0206", "0204"))
+            (folder / "other.report").write_text(report, encoding="utf-8")
+            command = f"{shlex.quote(str(TOP / 'zehimbado'))} {words}"
+            ran = subprocess.run(command, shell=True, cwd=folder, capture_output=True, text=True)
+        return ran.stdout
 
     def test_the_example_of_run(self):
         require_program()

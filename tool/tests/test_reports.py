@@ -98,9 +98,9 @@ class Diff(unittest.TestCase):
     def test_a_flit_that_differs(self):
         """FRP 2 in place of 3: the field and the check are named, and what the direction did."""
         mine = lines_of("write-then-read")
-        number = mine.index("sent 0 new 08090a0b0c0d0e0f000404000158a362")
+        number = mine.index("sent 0 new 08090a0b0c0d0e0f02060840ce08fdd5")
         theirs = list(mine)
-        theirs[number] = "sent 0 new 08090a0b0c0d0e0f000604000158a362"
+        theirs[number] = "sent 0 new 08090a0b0c0d0e0f02040840ce08fdd5"
         said = diff.compare(mine, theirs, ("A", "B"))
         self.assertEqual(said[0], f"the reports part at line {number + 1}")
         self.assertEqual(said[1:3], [f"A: {mine[number]}", f"B: {theirs[number]}"])
@@ -110,7 +110,9 @@ class Diff(unittest.TestCase):
         self.assertNotIn(["SEQ", "20..18", "1"], fields)
         start = said.index("before, in both reports, direction 0:")
         earlier = [line.split(": ")[1] for line in said[start + 1 :]]
-        self.assertEqual(earlier, [it for it in mine[:number] if re.match("(sent|landed) 0", it)])
+        of_direction = [it for it in mine[:number] if re.match("(sent|landed) 0", it)]
+        self.assertEqual(earlier, of_direction[-len(earlier) :])
+        self.assertTrue(earlier)
 
     def test_an_answer_that_differs(self):
         mine = lines_of("write-then-read")
@@ -119,6 +121,51 @@ class Diff(unittest.TestCase):
         start = said.index("before, in both reports, requests of host 0 with tag 1:")
         first_words = [line.split()[1] for line in said[start + 1 :]]
         self.assertEqual(first_words, ["gave", "executed"])
+
+    def explained(self, name: str, number: int, line: str) -> list[str]:
+        """What is said of a flit where this line stands in place of the report's line."""
+        mine = lines_of(name)
+        theirs = [*mine[: number - 1], line, *mine[number:]]
+        said = diff.compare(mine, theirs, ("A", "B"))
+        self.assertEqual(said[0], f"the reports part at line {number}")
+        return [it.strip() for it in said[said.index("in the flit of B:") + 1 :]]
+
+    def test_a_flit_that_lands_in_abort(self):
+        """A receiver that gathers nothing begins a packet with each flit."""
+        before = diff.Before(1)
+        first = "08010040000000000001020304050607"
+        for outcome, wanted in (("quiet", "flit 1 of 2"), ("gathered", "flit 2 of 2")):
+            said = before.explained(f"landed 0 {first} quiet")
+            self.assertEqual(said[0], f"flit 1 of 2  {first}")
+            before.add(1, f"landed 0 {first} {outcome}")
+            said = before.explained(f"landed 0 {first} accepted")
+            self.assertIn(f"{wanted}  {first}", said)
+
+    def test_a_flit_after_an_unlock(self):
+        """A receiver that is unlocked drops what it gathered."""
+        lines = lines_of("unlock-within-packet")
+        unlock = next(n for n, line in enumerate(lines) if line.startswith("unlocked "))
+        direction = lines[unlock].split(" ")[1]
+        front = [it for it in lines[:unlock] if it.startswith(f"landed {direction} ")][-1]
+        self.assertTrue(front.endswith(" gathered"))
+        landed = f"landed {direction} "
+        number = next(n for n in range(unlock, len(lines)) if lines[n].startswith(landed))
+        said = self.explained("unlock-within-packet", number + 1, f"{landed}{'5a' * 16} quiet")
+        self.assertEqual(said[0], f"flit 1  {'5a' * 16}")
+
+    def test_a_landing_that_passed(self):
+        lines = lines_of("passed-null")
+        self.assertEqual(lines[-1], f"passed 0 {'00' * 16}")
+        said = self.explained("passed-null", len(lines), f"landed 0 {'00' * 15}01 aborted length")
+        self.assertEqual(said[0], f"flit 1  {'00' * 15}01")
+        self.assertIn("before, in both reports, direction 0:", said)
+
+    def test_a_flit_that_is_sent_again(self):
+        lines = lines_of("changed-flit")
+        again = [n for n, line in enumerate(lines) if line.startswith("sent 0 again ")]
+        flit = f"ff{lines[again[1]].split(' ')[3][2:]}"
+        said = self.explained("changed-flit", again[1] + 1, f"sent 0 again {flit}")
+        self.assertEqual(said[0], f"flit 2 of 2  {flit}")
 
     def test_a_report_that_ends(self):
         mine = lines_of("fence")
@@ -134,8 +181,10 @@ class Wave(unittest.TestCase):
             return waves, list(waves.lines(lines))
 
     def test_drained_queues_are_empty(self):
-        """Where a report ends with `state drained`, no queue but a line holds anything."""
+        """Where a report says `state drained`, and nowhere else, no queue but a line is filled."""
         for path in CASES:
+            if lines_of(path.stem)[-1].startswith("passed "):
+                continue
             waves, _ = self.dump_of(path)
             held = {queue for queue, number in waves.held().items() if number}
             is_drained = lines_of(path.stem)[-1] == "state drained"
@@ -166,6 +215,43 @@ class Wave(unittest.TestCase):
         self.assertLessEqual(used, declared)
         self.assertEqual(names.count("line_flits"), 2)
         self.assertEqual(lines.count("$upscope $end"), sum("$scope" in it for it in lines))
+
+    def test_receivers_do_what_their_mode_allows(self):
+        """By docs/report.md: a packet or an error in Good alone, the end of training in Train, and
+        a training flit is sent exactly where the receiver at that end is in Train."""
+        for path in CASES:
+            modes = [wave.FIRST_MODE, wave.FIRST_MODE]
+            for entry in report.read_report(lines_of(path.stem)):
+                if entry["line"] == "sent":
+                    trains = modes[entry["direction"] ^ 1] == "train"
+                    self.assertEqual(entry["what"] == "train", trains, path.name)
+                if entry["line"] not in ("landed", "unlocked"):
+                    continue
+                direction, outcome = entry["direction"], entry.get("outcome", "quiet")
+                allowed = {"trained": ["train"], "quiet": [modes[direction]]}
+                allowed |= dict.fromkeys(("ran start", "ran clear"), ["abort", "good"])
+                self.assertIn(modes[direction], allowed.get(outcome, ["good"]), path.name)
+                modes[direction] = wave.mode_after(modes[direction], entry)
+
+    def changes_of(self, name: str, signal: str) -> list[str]:
+        """The values in turn of a signal of direction 0."""
+        _, lines = self.dump_of(EXAMPLES / f"{name}.toml")
+        start = lines.index("$scope module direction0 $end")
+        marks = [it.split()[3] for it in lines[start:] if it.split()[4:5] == [signal]]
+        changes = [it for it in lines if it[0] == "s" and it.split()[1] == marks[0]]
+        return [it.split()[0][1:] for it in changes]
+
+    def test_what_a_receiver_waits_for(self):
+        modes = ["train", "abort", "good"]
+        self.assertEqual(self.changes_of("write-then-read", "receiver"), modes)
+        again = [*modes, "abort", "good"]
+        self.assertEqual(self.changes_of("changed-flit", "receiver"), again)
+        self.assertEqual(self.changes_of("unlock-within-packet", "receiver"), again)
+
+    def test_landings_that_passed_and_unlocks(self):
+        self.assertEqual(self.changes_of("passed-null", "landed")[-1], "passed")
+        self.assertEqual(self.changes_of("passed-null", "landed_flit")[-1], "00" * 16)
+        self.assertEqual(self.changes_of("unlock-when-quiet", "landed").count("unlocked"), 1)
 
     def test_the_command(self):
         case_path = str(EXAMPLES / "full-queue.toml")

@@ -20,6 +20,11 @@ def kept(name: str, test) -> bytes:
     return b"".join(line for line in lines if test(line))
 
 
+def is_passed(report: bytes) -> bool:
+    """Whether the last line of a report is that of a landing that passed."""
+    return report.splitlines()[-1].startswith(b"passed ")
+
+
 def changed_lines(text: str):
     """Yields the text without each of its lines, and without the last word of each."""
     lines = text.split("\n")
@@ -37,8 +42,18 @@ class Run(unittest.TestCase):
         for path in CASES:
             with self.subTest(path.name):
                 ran = tool("run", str(path))
-                self.assertEqual(ran.returncode, 0)
-                self.assertEqual(ran.stdout, path.with_suffix(".report").read_bytes())
+                report = path.with_suffix(".report").read_bytes()
+                self.assertEqual(ran.stdout, report)
+                status = 7 if is_passed(report) else 0
+                self.assertEqual(ran.returncode, status)
+                self.assertEqual(b"status 7: " in ran.stderr, status == 7)
+
+    def test_the_end_of_a_report_that_passed(self):
+        """It has no final lines: `--quiet` shows the landing."""
+        ran = tool("run", "--quiet", str(EXAMPLES / "passed-null.toml"))
+        wanted = kept("passed-null", lambda line: line.startswith(b"passed "))
+        self.assertEqual((ran.returncode, ran.stdout), (7, wanted))
+        self.assertTrue(wanted)
 
     def test_standard_input(self):
         given = WRITE_THEN_READ.read_bytes()

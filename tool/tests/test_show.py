@@ -3,7 +3,7 @@
 import unittest
 
 from tool import case, show
-from tool.tests.shared import EXAMPLES, output_of, tool
+from tool.tests.shared import EXAMPLES, FAULTS, output_of, tool
 
 CUBE = {"vault_bits": 1, "bank_bits": 2, "rows": 16, "queue": 4}
 LINK = {"line": 8, "tokens": 34, "retry": 64, "output": 4}
@@ -46,9 +46,9 @@ class Show(unittest.TestCase):
         self.assertIn("h0 -- c0", text)
 
     def test_a_case_with_a_fault(self):
-        document, fault = case.read((EXAMPLES / "bad-cases.txt").read_bytes())
+        document, fault = case.read((FAULTS / "bad-cases.txt").read_bytes())
         self.assertEqual((document, str(fault)), ({}, "bad toml 0 syntax"))
-        self.assertEqual(tool("show", str(EXAMPLES / "bad-cases.txt")).returncode, 65)
+        self.assertEqual(tool("show", str(FAULTS / "bad-cases.txt")).returncode, 65)
 
 
 if __name__ == "__main__":

@@ -1,7 +1,7 @@
 -- Nothing is on its way where the test of all queues that there are says so: in the others there is
 -- nothing.
-use Rattle.std.proofs.Common.{◌≡◌, ◌<◌, ◌+◌, ◌*◌, ◌/◌, ◌%◌, ◌^◌, ◌∙◌, ◌==◌, ◌&&◌, ℕ, zero, suc, Bool, true, false, if◌then◌else◌, Option, Some, None, List, [], ◌∷◌, ◌++◌, All, length, map, refl, sym, ap, subst, arith, eqb-true}
-use Rattle.std.specs.Prelude.{option_map}
+use Rattle.std.proofs.Common.{◌≡◌, ◌≤◌, ◌<◌, ◌+◌, ◌*◌, ◌/◌, ◌%◌, ◌^◌, ◌∙◌, ◌==◌, ◌&&◌, ℕ, zero, suc, Bool, true, false, if◌then◌else◌, Option, Some, None, List, [], ◌∷◌, ◌++◌, All, length, map, refl, sym, ap, subst, arith, eqb-true}
+use Rattle.std.specs.Prelude.{option_map, slice_index_or}
 use Rattle.std.specs.List.{list_all, flat_map}
 use Rattle.std.proofs.lemmas.List.Elements.{All-head, All-nil, All-cons, All-append, All-drop, All-get_or}
 use Rattle.std.proofs.lemmas.List.Sums.{AllPass-from_list_all}
@@ -21,12 +21,12 @@ use Rattle.hmc_journal.specs.declared.entry.Entry.{Entry}
 use Rattle.hmc_journal.specs.declared.entry.Entry.TheVariants.{Gave, Landed, Shifted, Spread, Executed, Lifted}
 use Rattle.hmc_journal.specs.declared.outcome.Goal.{Goal}
 use Rattle.hmc_journal.specs.declared.outcome.Goal.TheVariants as goals
-use Rattle.hmc_journal.specs.declared.outcome.Outcome.{Outcome}
-use Rattle.hmc_journal.specs.declared.outcome.Outcome.TheVariants as outcomes
 use Rattle.hmc_serial.specs.Unit.{is_for_registers}
-use Rattle.hmc_journal.specs.Setup.{Topology, Setup, shape_of, end_of, direction_from}
-use Rattle.hmc_journal.specs.Wires.{accepted}
-use Rattle.hmc_journal.specs.Queues.{QueueId, landing_buffer, buffer_at, begun, contents, entered, left, enters, goal_queue, queue_of, answers_of, unless_posted, taken_in, packet_if, Arrival, arrival_in, arrived, same_queue}
+use Rattle.hmc_journal.specs.Setup.{Topology, Setup, no_link, shape_of, end_of, direction_from}
+use Rattle.hmc_case.specs.declared.setup.LinkRow.{LinkRow}
+use Rattle.hmc_journal.specs.Counts.{token_counts}
+use Rattle.hmc_journal.specs.Links.{sizes_on}
+use Rattle.hmc_journal.specs.Queues.{QueueId, landing_buffer, buffer_at, contents, entered, left, enters, goal_queue, queue_of, answers_of, unless_posted, packet_if, Arrival, arrival_in, arrival_of, arrived, same_queue}
 use Rattle.hmc_journal.specs.Queues.QueueId.{Output, Port, Host, Vault, Bank, Registers, Answers}
 use Rattle.hmc_codes.specs.Numbers.{upto}
 use Rattle.hmc_journal.specs.Drained.{IsDrained, is_drained, direction_queues, cube_queues, vault_queues}
@@ -35,10 +35,11 @@ use Rattle.hmc_journal.specs.Lawful.{Lawful}
 use Rattle.hmc_journal.proofs.EntryRule.{EntryRule, entry_rule, lawful_past}
 use Rattle.hmc_journal.proofs.Moves.{same_queue_is, arrives}
 use Rattle.hmc_journal.proofs.Standing.{Stands, IsBound}
-use Rattle.hmc_journal.proofs.Entering.{Kept, contents_stand, front_stands, begun_stand}
+use Rattle.hmc_journal.proofs.Entering.{Kept, contents_stand, front_stands}
 use Rattle.hmc_journal.proofs.OneLink.{one_link}
+use Rattle.hmc_journal.proofs.Stretches.{tokens_landed}
 use Rattle.hmc_journal.proofs.Sound.{kept}
-use Rattle.hmc_journal.proofs.Tokens.{accepted_few}
+use Rattle.hmc_journal.proofs.LinkLaws.{tokens_hold}
 
 -- tests of lists
 both_hold : (a b : Bool) → (a && b) ≡ true → (a ≡ true) × (b ≡ true)
@@ -93,13 +94,20 @@ from_bank true unit vault is = cc
 from_bank false (units.Bank cube v bank) vault is = (bank, cc)
 from_bank false (units.Registers cube) vault is = cc
 
-not_buffer : (outcome : Outcome) (place : Place) (vault : ℕ) → taken_in outcome (buffer_at place) ≡ Some (Answers 0 (lifts.Vault vault)) → ⊥
-not_buffer outcomes.Accepted (places.Host host) vault is = cc
-not_buffer outcomes.Accepted (places.Port cube port) vault is = cc
-not_buffer outcomes.Poisoned (places.Host host) vault is = cc
-not_buffer outcomes.Poisoned (places.Port cube port) vault is = cc
-not_buffer outcomes.Quiet place vault is = cc
-not_buffer outcomes.Gathered place vault is = cc
+abbrev entering_queue : Option Arrival → Option QueueId
+entering_queue None = None
+entering_queue (Some arrival) = Some arrival.queue
+
+not_buffer : (place : Place) (vault : ℕ) → buffer_at place ≡ Answers 0 (lifts.Vault vault) → ⊥
+not_buffer (places.Host host) vault is = cc
+not_buffer (places.Port cube port) vault is = cc
+
+not_landed : (place : Place) (packets : List PacketFields) (vault : ℕ) → entering_queue (arrival_of (buffer_at place) packets) ≡ Some (Answers 0 (lifts.Vault vault)) → ⊥
+not_landed place [] vault is = cc
+not_landed place (packet ∷ rest) vault is = not_buffer place vault (queue_of_some is)
+  where
+    queue_of_some : Some (buffer_at place) ≡ Some (Answers 0 (lifts.Vault vault)) → buffer_at place ≡ Answers 0 (lifts.Vault vault)
+    queue_of_some same = cc
 
 not_output : (direction : Option ℕ) (vault : ℕ) → option_map Output direction ≡ Some (Answers 0 (lifts.Vault vault)) → ⊥
 not_output None vault is = cc
@@ -110,10 +118,6 @@ not_goal topology cube (goals.Vault v) vault is = cc
 not_goal topology cube goals.Registers vault is = cc
 not_goal topology cube (goals.Port port) vault is = not_output (direction_from topology (places.Port cube port)) vault is
 
-abbrev entering_queue : Option Arrival → Option QueueId
-entering_queue None = None
-entering_queue (Some arrival) = Some arrival.queue
-
 queue_is : (there : Option QueueId) (packet : Unit {0} → PacketFields) → entering_queue (arrival_in there packet) ≡ there
 queue_is None packet = refl
 queue_is (Some queue) packet = refl
@@ -122,7 +126,7 @@ entering_there : (setup : Setup) (one : OneCube setup) (entry : Entry) (past : L
     → vault < 2 ^ (shape_of setup.topology 0).vault_bits
 unfolding enters
 entering_there setup one (Gave host tag poisoned request) past vault right kept is = absurd (not_output (direction_from setup.topology (places.Host host)) vault (sym (queue_is _ _) ∙ is))
-entering_there setup one (Landed direction flit outcome) past vault right kept is = absurd (not_buffer outcome (end_of setup.topology direction) vault (sym (queue_is _ _) ∙ is))
+entering_there setup one (Landed direction flit outcome) past vault right kept is = absurd (not_landed (end_of setup.topology direction) (tokens_landed setup.topology direction flit outcome past) vault is)
 entering_there setup one (Shifted cube port goal) past vault right kept is = absurd (not_goal setup.topology cube goal vault (sym (queue_is _ _) ∙ is))
 entering_there setup one (Spread cube v bank) past vault right kept is = cc
 entering_there setup one (Executed unit host tag request answer) past vault right kept is =
@@ -160,7 +164,7 @@ record IsEmptied (topology : Topology) (past : List Entry) : Type 0 where
   vaults : (vault : ℕ) → vault < 2 ^ (shape_of topology 0).vault_bits → contents topology past (Vault 0 vault) ≡ []
   banks : (vault bank : ℕ) → vault < 2 ^ (shape_of topology 0).vault_bits → bank < 2 ^ (shape_of topology 0).bank_bits → contents topology past (Bank 0 vault bank) ≡ []
   answers : (vault : ℕ) → vault < 2 ^ (shape_of topology 0).vault_bits → contents topology past (Answers 0 (lifts.Vault vault)) ≡ []
-  wires : (direction : ℕ) → direction < 2 → length (begun topology past direction) ≡ length (accepted direction past)
+  transit : (direction : ℕ) → direction < 2 → (token_counts topology past direction).transit ≡ 0
 
 -- whether a room is empty
 abbrev empties : Topology → List Entry → QueueId → Bool
@@ -197,7 +201,7 @@ emptied topology past one_cube one_link all =
       vaults = λ v h. none_by _ (vault v h).0;
       banks = λ v b h k. none_by _ (bank_part p v (2 ^ (shape_of topology 0).bank_bits) b (vault v h).1 k);
       answers = λ v h. none_by _ (vault v h).2;
-      wires = λ d h. eqb-true _ _ (upto_at (λ direction. length (begun topology past direction) == length (accepted direction past)) (2 * length topology.links) d two.1 (omega arith));
+      transit = λ d h. eqb-true _ 0 (upto_at (λ direction. (token_counts topology past direction).transit == 0) (2 * length topology.links) d two.1 (omega arith));
     }
 
 contents_there : (setup : Setup) (past : List Entry) (vault : ℕ) → OneCube setup → Lawful setup past → All (λ (packet : PacketFields). vault < 2 ^ (shape_of setup.topology 0).vault_bits) (contents setup.topology past (Answers 0 (lifts.Vault vault)))
@@ -230,27 +234,31 @@ room_empty setup past one lawful is room =
         by_front (λ (p : PacketFields). vault < 2 ^ (shape_of setup.topology 0).vault_bits) _ (contents_there setup past vault one lawful) (λ p there. is.answers vault there)
     by_room (Answers (suc cube) from) packet stands = absurd stands
 
--- on a direction that isn't there nothing was begun, and so nothing was accepted
-far_wire : (setup : Setup) (past : List Entry) (one : OneCube setup) (direction : ℕ) → Lawful setup past → length (begun setup.topology past (suc (suc direction))) ≡ length (accepted (suc (suc direction)) past)
-far_wire setup past one direction lawful =
-    let is_kept = kept setup past one lawful in
-    let none : begun setup.topology past (suc (suc direction)) ≡ [] =
-    by_front (Stands setup.topology one.port (Output (suc (suc direction)))) (begun setup.topology past (suc (suc direction))) (begun_stand setup one.port past (suc (suc direction)) is_kept) (λ packet stands. absurd stands)
-    in
-    let few = accepted_few setup one.port past (suc (suc direction)) is_kept in
-    let zeroth : length (begun setup.topology past (suc (suc direction))) ≡ 0 = ap length none in
-    omega arith
+-- a link that isn't there has no tokens
+past_link : (link : LinkRow) (place : ℕ) → 1 ≤ place → slice_index_or (link ∷ []) place no_link ≡ no_link
+past_link link zero far = absurd (omega arith)
+past_link link (suc place) far = refl
+
+no_tokens : (setup : Setup) (one : OneCube setup) (direction : ℕ) → 2 ≤ direction → (sizes_on setup.topology direction).tokens ≡ 0
+no_tokens setup one direction far =
+    ap (λ (l : List LinkRow). (slice_index_or l (direction / 2) no_link).setup.tokens) one.links ∙ ap (λ (l : LinkRow). l.setup.tokens) (past_link one.link (direction / 2) (omega arith))
+
+far_direction : (setup : Setup) (past : List Entry) (one : OneCube setup) (direction : ℕ) → Lawful setup past → 2 ≤ direction → (token_counts setup.topology past direction).transit ≡ 0
+unfolding token_counts
+far_direction setup past one direction lawful far =
+    let laws = tokens_hold setup one direction past lawful in
+    omega (arith, laws.sum, no_tokens setup one direction far)
 
 pub drained_by_test : (setup : Setup) (past : List Entry) → OneCube setup → Lawful setup past → is_drained setup.topology past ≡ true → IsDrained setup.topology past
-drained_by_test setup past one lawful all = record { queues = room_empty setup past one lawful is; wires = by_direction }
+drained_by_test setup past one lawful all = record { queues = room_empty setup past one lawful is; transit = by_direction }
   where
     is : IsEmptied setup.topology past
     is = emptied setup.topology past (ap length one.cubes) (ap length one.links) all
 
-    by_direction : (direction : ℕ) → length (begun setup.topology past direction) ≡ length (accepted direction past)
-    by_direction zero = is.wires 0 (omega arith)
-    by_direction (suc zero) = is.wires 1 (omega arith)
-    by_direction (suc (suc direction)) = far_wire setup past one direction lawful
+    by_direction : (direction : ℕ) → (token_counts setup.topology past direction).transit ≡ 0
+    by_direction zero = is.transit 0 (omega arith)
+    by_direction (suc zero) = is.transit 1 (omega arith)
+    by_direction (suc (suc direction)) = far_direction setup past one (suc (suc direction)) lawful (omega arith)
 
 -- each of them says so where nothing is on its way
 all_pass : {X : Type 0} (p : X → Bool) (xs : List X) → ((x : X) → p x ≡ true) → list_all p xs ≡ true
@@ -264,4 +272,4 @@ pub test_by_drained : (topology : Topology) (past : List Entry) → IsDrained to
 unfolding is_drained
 test_by_drained topology past drained =
     rw (all_pass (λ room. length (contents topology past room) == 0) _ (λ room. same_count (length (contents topology past room)) 0 (ap length (drained.queues room))))
-    (all_pass (λ direction. length (begun topology past direction) == length (accepted direction past)) _ (λ direction. same_count _ _ (drained.wires direction)))
+    (all_pass (λ direction. (token_counts topology past direction).transit == 0) _ (λ direction. same_count _ 0 (drained.transit direction)))

@@ -1,4 +1,4 @@
--- Definitions computed at their edges: pointers at their modulus, queues at their sizes, and journals that break a promise.
+-- Definitions computed at their edges: queues at their sizes, and journals that break a promise.
 use Rattle.std.proofs.Common.{◌≡◌, ◌≤◌, ℕ, true, false, Some, None, [], ◌∷◌, arith, refl}
 use Rattle.std.specs.Prelude.{map}
 use Rattle.hmc_codes.specs.Request.{RequestFields}
@@ -10,7 +10,6 @@ use Rattle.hmc_codes.specs.declared.unit.Unit.TheVariants as units
 use Rattle.hmc_serial.specs.Unit.{unit_of}
 use Rattle.hmc_journal.specs.declared.entry.Entry.TheVariants.{Gave}
 use Rattle.hmc_journal.specs.Setup.{Topology}
-use Rattle.hmc_journal.specs.Wires.{pointer_after}
 use Rattle.hmc_journal.specs.Queues.QueueId.{Output, Port, Host, Vault, Bank, Registers, Answers}
 use Rattle.hmc_journal.specs.Waiting.{size_of, is_filled}
 use Rattle.hmc_journal.specs.Filters.{given_to, executed_by, asked_under, answers_under}
@@ -25,10 +24,6 @@ sizes = record {
     setup = record { line = 5; tokens = 17; retry = 18; output = 2; profile = One };
   } ∷ [];
 }
-
--- a return pointer goes from 511 to 0
-pointer_after-modulus : map pointer_after (510 ∷ 511 ∷ 512 ∷ 513 ∷ []) ≡ 510 ∷ 511 ∷ 0 ∷ 1 ∷ []
-pointer_after-modulus = refl
 
 -- the sizes of queues; buffers of flits have none
 size_of-outputs : map (size_of sizes) (Output 0 ∷ Output 1 ∷ Port 0 0 ∷ Host 0 ∷ []) ≡ Some 2 ∷ Some 2 ∷ None ∷ None ∷ []
@@ -51,7 +46,7 @@ abbrev posted : RequestFields
 posted = record { command = Pinc8; cube = 0; address = 0x40; payload = [] }
 
 -- two requests out under one tag are not in order
-twice_out : DeliveredInOrder sizes (Gave 0 (Some 0) false read ∷ Gave 0 (Some 0) false read ∷ []) → ⊥
+twice_out : DeliveredInOrder (record { topology = sizes; script = []; schedule = [] }) (Gave 0 (Some 0) false read ∷ Gave 0 (Some 0) false read ∷ []) → ⊥
 unfolding asked_under answers_under
 twice_out is = let most : 2 ≤ 1 = is.out 0 0 in absurd (omega arith)
 

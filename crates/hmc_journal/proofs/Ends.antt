@@ -22,7 +22,7 @@ use Rattle.hmc_journal.specs.declared.entry.Entry.TheVariants.{Gave, Sent, Lande
 use Rattle.hmc_serial.specs.Unit.{is_for_registers}
 use Rattle.hmc_journal.specs.Setup.{Setup, Topology, unit_in, end_of, direction_from}
 use Rattle.std.specs.Prelude.{option_map}
-use Rattle.hmc_journal.specs.Queues.{unless_posted, QueueId, same_queue, is_at, buffer_at, leaves, enters, answers_of, packet_if, entered, queue_of, goal_queue, output_from, tag_number, arrived, arrival_in, taken_in, landing_buffer}
+use Rattle.hmc_journal.specs.Queues.{unless_posted, QueueId, same_queue, is_at, buffer_at, leaves, enters, answers_of, packet_if, entered, queue_of, goal_queue, output_from, tag_number, arrived, arrival_in, landing_buffer}
 use Rattle.hmc_journal.specs.Queues.QueueId.{Output, Host, Answers}
 use Rattle.hmc_journal.specs.Hosts.{host_of, tags_out}
 use Rattle.hmc_journal.specs.Filters.{answered_into, TaggedRequest, TaggedAnswer, same_unit, given_to, taken_by}
@@ -31,13 +31,15 @@ use Rattle.hmc_journal.proofs.OneCube.{OneCube}
 use Rattle.hmc_journal.specs.Next.{tag_of}
 use Rattle.hmc_journal.specs.Delivered.{tagged_requests, tagged_answer, tagged_answers}
 use Rattle.hmc_journal.proofs.EntryRule.{HasExecuted, EntryRule, IsTagged, HasTaken, HasLifted, entry_rule, lawful_past}
-use Rattle.hmc_journal.proofs.Moves.{append_if-append, taken_off, gone, leaving, entering, entered-more, output_off, arrives, arrived_off}
+use Rattle.hmc_journal.proofs.Moves.{append_if-append, arrived_first, gone, leaving, entering, entered-more, output_off, arrives, arrived_off}
 use Rattle.hmc_journal.proofs.OneLink.{one_link}
 use Rattle.hmc_journal.proofs.Standing.{replied_tag, IsAsking, Stands, IsAsking-request_packet}
 use Rattle.hmc_journal.proofs.Entering.{sends, replying, Kept, front_stands, own_item, tag_small, same_request, no_port, lifted_into}
 use Rattle.hmc_journal.proofs.Sound.{kept}
 use Rattle.hmc_journal.proofs.TagStep.{discarded_step}
-use Rattle.hmc_journal.proofs.QueueToQueue.{asks_gathered, takings_gathered, gathered_of_gone, none_leaves, none_enters, leaving_front, entering_at, sent_leaves, unless_enters, asks_of}
+use Rattle.hmc_journal.proofs.Stretches.{tokens_landed}
+use Rattle.hmc_journal.proofs.Views.{asks_gathered, takings_gathered}
+use Rattle.hmc_journal.proofs.QueueToQueue.{gathered_of_gone, none_leaves, none_enters, leaving_front, entering_at, sent_leaves, unless_enters, asks_of}
 
 -- the tag of a request that isn't poisoned is told by its packet
 tag_told : (poisoned posted : Bool) (free tag : Option ℕ) → poisoned ≡ false → IsTagged (not poisoned && not posted) free tag → tag ≡ tag_of posted (tag_number tag)
@@ -126,7 +128,7 @@ unfolding given_to enters
 given-more setup one unit (Gave host tag poisoned request) past right keeps =
     gave_more setup unit past host tag poisoned request (is_giving setup one past host tag poisoned request right keeps)
 given-more setup one unit (Landed d flit outcome) past right keeps =
-    others_enter setup.topology unit past (Landed d flit outcome) (arrived_off (taken_in outcome (landing_buffer setup.topology d)) _ (Output 0) (taken_off outcome (buffer_at (end_of setup.topology d)) (Output 0) (buffer_not_output (end_of setup.topology d) 0)))
+    others_enter setup.topology unit past (Landed d flit outcome) (arrived_first (landing_buffer setup.topology d) (Output 0) (tokens_landed setup.topology d flit outcome past) (buffer_not_output (end_of setup.topology d) 0))
 given-more setup one unit (Shifted cube here goal) past right keeps =
     others_enter setup.topology unit past (Shifted cube here goal) (arrived_off (goal_queue setup.topology cube goal) _ (Output 0) (goal_not_output setup.topology cube goal 0 (is_for_registers right.at.front.command) _ right.is_goal))
 given-more setup one unit (Executed other host tag request answer) past right keeps =
@@ -226,7 +228,7 @@ answers-more : (setup : Setup) (port : ℕ) (cube : ℕ) (from : Lift) (entry : 
 unfolding answered_into enters
 answers-more setup port cube from (Executed unit host tag request answer) past right keeps = executed_answers setup port past unit host tag request answer (Answers cube from) right keeps
 answers-more setup port cube from (Landed d flit outcome) past right keeps =
-    none_answers setup.topology past (Landed d flit outcome) (Answers cube from) (arrived_off (taken_in outcome (landing_buffer setup.topology d)) _ (Answers cube from) (taken_off outcome (buffer_at (end_of setup.topology d)) (Answers cube from) (buffer_not_answers (end_of setup.topology d) cube from)))
+    none_answers setup.topology past (Landed d flit outcome) (Answers cube from) (arrived_first (landing_buffer setup.topology d) (Answers cube from) (tokens_landed setup.topology d flit outcome past) (buffer_not_answers (end_of setup.topology d) cube from))
 answers-more setup port cube from (Shifted c here goal) past right keeps = none_answers setup.topology past (Shifted c here goal) (Answers cube from) (arrived_off (goal_queue setup.topology c goal) _ (Answers cube from) (goal_not_answers setup.topology c goal cube from))
 answers-more setup port cube from (Gave host tag poisoned request) past right keeps = none_answers setup.topology past (Gave host tag poisoned request) (Answers cube from) (arrived_off (output_from setup.topology (places.Host host)) _ (Answers cube from) (output_off _ (Answers cube from) (λ d. refl)))
 answers-more setup port cube from (Lifted c other out) past right keeps = none_answers setup.topology past (Lifted c other out) (Answers cube from) (arrived_off (output_from setup.topology (places.Port c out)) _ (Answers cube from) (output_off _ (Answers cube from) (λ d. refl)))

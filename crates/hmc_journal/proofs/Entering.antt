@@ -1,7 +1,7 @@
 -- What enters a room stands there.
-use Rattle.std.proofs.Common.{◌≡◌, ◌≤◌, ◌<◌, ◌^◌, ◌∙◌, ◌==◌, ℕ, zero, suc, Bool, true, false, not, if◌then◌else◌, Option, Some, None, List, [], ◌++◌, All, length, refl, sym, ap, subst, arith, eqb-true}
-use Rattle.std.specs.Prelude.{option_map}
-use Rattle.std.proofs.lemmas.List.Elements.{All-take, All-drop, All-head, All-filter, filter_passes, All-same}
+use Rattle.std.proofs.Common.{◌≡◌, ◌≤◌, ◌<◌, ◌^◌, ◌∙◌, ◌==◌, ◌⊎◌, inl, inr, ℕ, zero, suc, Bool, true, false, not, nat_le, if◌then◌else◌, Option, Some, None, List, [], ◌∷◌, ◌++◌, All, drop, length, refl, sym, ap, subst, arith, eqb-true, leb-true, leb-false}
+use Rattle.std.specs.Prelude.{option_map, filter, slice_get}
+use Rattle.std.proofs.lemmas.List.Elements.{All-drop, All-head, All-filter, filter_passes, filter-append, All-same}
 use Rattle.std.proofs.lemmas.List.Quantifiers.{position-Some}
 use Rattle.hmc_codes.specs.Commands.{is_posted}
 use Rattle.hmc_codes.specs.Request.{RequestFields, IsRequest}
@@ -22,36 +22,63 @@ use Rattle.hmc_serial.specs.Machine.{State, cube_state_at, answer_to}
 use Rattle.hmc_serial.proofs.AnswerLemmas.{performed_is_carried}
 use Rattle.hmc_journal.specs.declared.outcome.Goal.{Goal}
 use Rattle.hmc_journal.specs.declared.outcome.Goal.TheVariants as goals
-use Rattle.hmc_journal.specs.declared.outcome.Outcome.{Outcome}
-use Rattle.hmc_journal.specs.declared.outcome.Outcome.TheVariants as outcomes
+use Rattle.hmc_packet.specs.declared.outcome.Outcome.{Outcome}
+use Rattle.hmc_packet.specs.Landings.{ReceiverEntry, pending, accepted_by}
+use Rattle.hmc_send.specs.declared.toward.Toward.{Toward}
+use Rattle.hmc_send.specs.declared.toward.Toward.TheVariants.{Forth, Back}
+use Rattle.hmc_send.specs.LinkEntries.{LinkEntry, receiver_entries, accepted_packets, handed_packets, takes}
+use Rattle.hmc_send.specs.LinkLines.{StampedFlit, line}
+use Rattle.hmc_send.specs.LinkLines as links
+use Rattle.hmc_send.specs.Places.{is_token}
+use Rattle.hmc_send.proofs.LinkLawful.{IsLanding}
+use Rattle.hmc_send.proofs.LinkProjections.{receiver-landed}
+use Rattle.hmc_codes.specs.declared.profile.Profile.{Profile}
+use Rattle.hmc_packet.specs.Landings as landings
+use Rattle.hmc_wire.specs.LinkLaws.{IsKept}
 use Rattle.hmc_journal.specs.declared.entry.Entry.{Entry}
 use Rattle.hmc_journal.specs.declared.entry.Entry.TheVariants.{Gave, Landed, Shifted, Spread, Executed, Lifted}
 use Rattle.hmc_serial.specs.Unit.{is_for_registers}
 use Rattle.hmc_journal.specs.Setup.{Setup, Topology, shape_of, port_towards}
-use Rattle.hmc_journal.specs.Wires.{line_flits, landed_packet, packets_by}
-use Rattle.hmc_journal.specs.Queues.{QueueId, landing_buffer, enters, left, entered, contents, begun, goal_queue, output_from, queue_of, answers_of, unless_posted, taken_in, tag_number, Arrival, arrival_in, front_of}
+use Rattle.hmc_journal.specs.Directions.{sent_flits, receiver_of, landed_packets, accepted}
+use Rattle.hmc_journal.specs.Links.{toward, landing_mask, link_sizes, sizes_on, entries_on}
+use Rattle.hmc_journal.specs.Queues.{QueueId, landing_buffer, enters, left, entered, contents, goal_queue, output_from, queue_of, answers_of, unless_posted, tag_number, Arrival, arrival_in, arrival_of, front_of}
 use Rattle.hmc_journal.specs.Queues.QueueId.{Output, Port, Vault, Bank, Answers, Registers}
 use Rattle.hmc_journal.specs.Hosts.{host_of, tags_out}
 use Rattle.hmc_journal.proofs.OneCube.{OneCube, IsOwnItem}
 use Rattle.hmc_journal.specs.Next.{tag_of}
 use Rattle.hmc_journal.specs.StepView.{state_of}
 use Rattle.hmc_journal.proofs.EntryRule.{EntryRule, HasFront, IsTagged, HasGiven, HasLanded, HasShifted, HasSpread, HasExecuted, HasLifted, goal_of}
-use Rattle.hmc_journal.proofs.Wire.{arriving, gathering, taken_from, gathered_from, done_front}
 use Rattle.hmc_journal.proofs.Moves.{front_is, arrives}
-use Rattle.hmc_journal.proofs.Standing.{IsAsking, IsReplying, Stands, request_of_packet, IsAsking-request_packet, IsReplying-reply_packet, All-front, All-back, All-numbering, all_get}
+use Rattle.hmc_journal.proofs.Standing.{IsAsking, IsReplying, IsSmallError, Stands, Stands-alike, request_of_packet, IsAsking-request_packet, IsReplying-reply_packet, All-back, all_get}
+use Rattle.hmc_journal.proofs.SmallErrors.{performed_small}
 use Rattle.hmc_journal.proofs.OneLink.{one_link}
-use Rattle.hmc_journal.proofs.WireStep.{AreWithin, IsSound, values_of, line_of, done_of}
+use Rattle.hmc_journal.proofs.LinkKept.{AreDirect, kept-landed}
+use Rattle.hmc_journal.proofs.AcceptedTokens.{tokens_alike}
+use Rattle.hmc_journal.proofs.Projections.{flits_of_line, received, handed_are, are_direct, sent_are}
+use Rattle.hmc_journal.proofs.OneEntry.{number, of_number, entries, entries-landed}
 
 -- the cube of a machine
 pub record HasCube (state : State) : Type 0 where
   pub some : 1 ≤ length state.cubes
   pub cube : IsCube (cube_state_at state 0)
 
+-- of each direction of the link: what left the buffer at its end was taken, and what entered it was
+-- accepted
+pub record EndKept (topology : Topology) (past : List Entry) (d : Toward) : Type 0 where
+  pub taken : left past (landing_buffer topology (number d)) ≡ takes d (entries topology past)
+  pub buffered : entered topology past (landing_buffer topology (number d)) ≡ filter is_token (accepted topology (number d) past)
+
+abbrev pub AreWithin : Setup → List Entry → Type 0
+AreWithin setup past = (room : QueueId) → left past room ≤ length (entered setup.topology past room)
+
 -- what each entry keeps
 pub record Kept (setup : Setup) (port : ℕ) (past : List Entry) : Type 0 where
   pub within : AreWithin setup past
   pub stands : (room : QueueId) → All (Stands setup.topology port room) (entered setup.topology past room)
-  pub wires : (d : ℕ) → IsSound (values_of setup.topology past d)
+  pub link : IsKept (link_sizes setup.topology 0) (entries setup.topology past)
+  pub ends : (d : Toward) → EndKept setup.topology past d
+  -- nothing was sent on a direction that isn't there
+  pub none : (d : ℕ) → 2 ≤ d → sent_flits d past ≡ []
   pub state : HasCube (state_of setup.topology past)
   pub tags : (host : ℕ) → length (tags_out host past) ≡ 2048
 
@@ -102,39 +129,110 @@ given_enters setup one past host tag poisoned request has kept =
     subst (λ (r : Option QueueId). EntersRight setup.topology one.port r (request_packet request (tag_number tag) host poisoned)) (sym room) asking
 
 -- land
-pub begun_stand : (setup : Setup) (port : ℕ) (past : List Entry) (d : ℕ) → Kept setup port past → All (Stands setup.topology port (Output d)) (begun setup.topology past d)
-unfolding begun
-begun_stand setup port past d kept = All-take (Stands setup.topology port (Output d)) (left past (Output d)) (entered setup.topology past (Output d)) (kept.stands (Output d))
+no_flits : (sent : List StampedFlit) → flits_of_line sent ≡ [] → sent ≡ []
+no_flits [] is = refl
+no_flits (x ∷ sent) is = absurd cc
 
-pub done_stand : (setup : Setup) (port : ℕ) (past : List Entry) (d : ℕ) → Kept setup port past → All (Stands setup.topology port (Output d)) (done_of (values_of setup.topology past d))
-unfolding values_of
-done_stand setup port past d kept =
-    let v = values_of setup.topology past d in
-    let P = Stands setup.topology port (Output d) in
-    let front = done_front v.unsent v.begun (done_of v) (gathered_from v.pending (line_of v)) ((kept.wires d).sends) in
-    All-front P (done_of v) front.0 (All-same P _ _ (sym front.1) (All-numbering setup.topology port d [] v.begun (begun_stand setup port past d kept)))
+nothing_lands : (n : ℕ) (sent : List StampedFlit) (front : StampedFlit) → sent ≡ [] → slice_get (drop n sent) 0 ≡ Some front → ⊥
+nothing_lands zero [] front empty is = cc
+nothing_lands (suc n) [] front empty is = cc
+nothing_lands n (x ∷ sent) front empty is = cc
 
-pub landed_stands : (setup : Setup) (port : ℕ) (past : List Entry) (d : ℕ) (flit : List ℕ) (outcome : Outcome) → HasLanded past d flit outcome → Kept setup port past
-    → All (Stands setup.topology port (Output d)) (packets_by outcome (landed_packet d flit past))
-unfolding values_of landed_packet line_flits taken_from
-landed_stands setup port past d flit outcome has kept =
-    let v = values_of setup.topology past d in
-    let P = Stands setup.topology port (Output d) in
-    let taken : All P (taken_from v.pending (line_of v)) = All-back P v.accepted (taken_from v.pending (line_of v)) (done_stand setup port past d kept) in
-    let first : All P (arriving v.pending flit ++ taken_from (gathering v.pending flit) has.rest) = subst (λ (l : List (List ℕ)). All P (taken_from v.pending l)) has.line taken in
-    subst (λ (o : Outcome). All P (packets_by o (landed_packet d flit past))) (sym has.is_outcome) (All-front P (arriving v.pending flit) (taken_from (gathering v.pending flit) has.rest) first)
+real-by : (setup : Setup) (port : ℕ) (past : List Entry) (direction : ℕ) (flit : List ℕ) (outcome : Outcome) (two : Bool) → nat_le 2 direction ≡ two → HasLanded setup past direction flit outcome → Kept setup port past
+    → (direction ≡ 0) ⊎ (direction ≡ 1)
+unfolding line
+real-by setup port past direction flit outcome true big has kept =
+    let none : sent_flits direction past ≡ [] = kept.none direction (leb-true 2 direction big) in
+    let empty : links.sent_flits (sizes_on setup.topology direction).profile (toward direction) (entries_on setup.topology direction past) ≡ [] = no_flits _ (sym (sent_are setup.topology direction past) ∙ none) in
+    absurd (nothing_lands (links.landings (toward direction) (entries_on setup.topology direction past)) _ has.landing.front empty has.landing.is_front)
+real-by setup port past direction flit outcome false small has kept = low direction (leb-false 2 direction small)
+  where
+    low : (n : ℕ) → n < 2 → (n ≡ 0) ⊎ (n ≡ 1)
+    low zero less = inl refl
+    low (suc zero) less = inr refl
+    low (suc (suc n)) less = absurd (omega arith)
 
-lands_at : (setup : Setup) (one : OneCube setup) (d : ℕ) (packet : PacketFields) → Stands setup.topology one.port (Output d) packet → Stands setup.topology one.port (landing_buffer setup.topology d) packet
-lands_at setup one zero packet is =
+-- a flit lands on a direction that is there
+pub landed-real : (setup : Setup) (port : ℕ) (past : List Entry) (direction : ℕ) (flit : List ℕ) (outcome : Outcome) → HasLanded setup past direction flit outcome → Kept setup port past → (direction ≡ 0) ⊎ (direction ≡ 1)
+landed-real setup port past direction flit outcome has kept = real-by setup port past direction flit outcome (nat_le 2 direction) refl has kept
+
+-- the packets handed to the link in a direction
+pub handed_on_link : (topology : Topology) (d : Toward) (past : List Entry) → entered topology past (Output (number d)) ≡ handed_packets d (entries topology past)
+handed_on_link topology Forth past = handed_are topology 0 past
+handed_on_link topology Back past = handed_are topology 1 past
+
+pub received_on_link : (topology : Topology) (d : Toward) (past : List Entry) → receiver_of (number d) past ≡ receiver_entries d (entries topology past)
+received_on_link topology Forth past = received topology 0 past
+received_on_link topology Back past = received topology 1 past
+
+pub handed_stand : (setup : Setup) (port : ℕ) (past : List Entry) (d : Toward) → Kept setup port past → All (Stands setup.topology port (Output (number d))) (handed_packets d (entries setup.topology past))
+handed_stand setup port past d kept = All-same (Stands setup.topology port (Output (number d))) _ _ (sym (handed_on_link setup.topology d past)) (kept.stands (Output (number d)))
+
+-- the requests and answers that were accepted stand
+pub accepted_stand : (setup : Setup) (port : ℕ) (d : Toward) (past : List LinkEntry) → IsKept (link_sizes setup.topology 0) past → AreDirect past → All (Stands setup.topology port (Output (number d))) (handed_packets d past)
+    → All (Stands setup.topology port (Output (number d))) (filter is_token (accepted_packets (link_sizes setup.topology 0).profile d past))
+accepted_stand setup port d past kept direct all = tokens_alike (Stands setup.topology port (Output (number d))) (Stands-alike setup.topology port (number d)) (link_sizes setup.topology 0) d past kept direct all
+
+-- the landing in a direction of the link
+pub landing_on_link : (setup : Setup) (d : Toward) (past : List Entry) (flit : List ℕ) (outcome : Outcome) → (has : HasLanded setup past (number d) flit outcome) → IsLanding (link_sizes setup.topology 0) (entries setup.topology past) d has.mask flit outcome
+landing_on_link setup Forth past flit outcome has = has.landing
+landing_on_link setup Back past flit outcome has = has.landing
+
+pub kept_landing : (setup : Setup) (port : ℕ) (d : Toward) (past : List Entry) (flit : List ℕ) (outcome : Outcome) → HasLanded setup past (number d) flit outcome → Kept setup port past
+    → IsKept (link_sizes setup.topology 0) (entries setup.topology (Landed (number d) flit outcome ∷ past))
+kept_landing setup port d past flit outcome has kept =
+    subst (IsKept (link_sizes setup.topology 0)) (sym (entries-landed setup.topology d flit outcome past))
+    (kept-landed (link_sizes setup.topology 0) (entries setup.topology past) d has.mask flit outcome kept.link (landing_on_link setup d past flit outcome has))
+
+-- what a landing accepts, by the link's entries
+pub landed_on_link : (topology : Topology) (d : Toward) (past : List Entry) (flit : List ℕ) (outcome : Outcome)
+    → landed_packets topology (number d) flit outcome past ≡ accepted_by (link_sizes topology 0).profile (pending (receiver_entries d (entries topology past))) (ReceiverEntry.Land flit outcome)
+unfolding landed_packets
+landed_on_link topology Forth past flit outcome = ap (λ r. accepted_by (link_sizes topology 0).profile (pending r) (ReceiverEntry.Land flit outcome)) (received_on_link topology Forth past)
+landed_on_link topology Back past flit outcome = ap (λ r. accepted_by (link_sizes topology 0).profile (pending r) (ReceiverEntry.Land flit outcome)) (received_on_link topology Back past)
+
+accepted-landed : (q : Profile) (d : Toward) (mask flit : List ℕ) (outcome : Outcome) (past : List LinkEntry)
+    → accepted_packets q d (LinkEntry.landed d mask flit outcome ∷ past) ≡ accepted_packets q d past ++ accepted_by q (pending (receiver_entries d past)) (ReceiverEntry.Land flit outcome)
+unfolding landings.accepted
+accepted-landed q d mask flit outcome past = ap (landings.accepted q) (receiver-landed d mask flit outcome past)
+
+handed-landed : (d way : Toward) (mask flit : List ℕ) (outcome : Outcome) (past : List LinkEntry) → handed_packets d (LinkEntry.landed way mask flit outcome ∷ past) ≡ handed_packets d past
+unfolding handed_packets
+handed-landed d way mask flit outcome past = refl
+
+pub landed_stands : (setup : Setup) (port : ℕ) (d : Toward) (past : List Entry) (flit : List ℕ) (outcome : Outcome) → HasLanded setup past (number d) flit outcome → Kept setup port past
+    → All (Stands setup.topology port (Output (number d))) (filter is_token (landed_packets setup.topology (number d) flit outcome past))
+landed_stands setup port d past flit outcome has kept =
+    let P = Stands setup.topology port (Output (number d)) in
+    let sizes = link_sizes setup.topology 0 in
+    let before = entries setup.topology past in
+    let mask = landing_mask sizes d before flit in
+    let now : List LinkEntry = LinkEntry.landed d mask flit outcome ∷ before in
+    let is : IsKept sizes now = subst (IsKept sizes) (entries-landed setup.topology d flit outcome past) (kept_landing setup port d past flit outcome has kept) in
+    let handed : All P (handed_packets d now) = All-same P _ _ (handed-landed d d mask flit outcome before) (handed_stand setup port past d kept) in
+    let all : All P (filter is_token (accepted_packets sizes.profile d now)) = accepted_stand setup port d now is (are_direct setup.topology 0 past) handed in
+    let parts : filter is_token (accepted_packets sizes.profile d now) ≡ filter is_token (accepted_packets sizes.profile d before) ++ filter is_token (landed_packets setup.topology (number d) flit outcome past) =
+    ap (filter is_token) (accepted-landed sizes.profile d mask flit outcome before) ∙ filter-append is_token (accepted_packets sizes.profile d before) _
+    ∙ ap (λ l. filter is_token (accepted_packets sizes.profile d before) ++ filter is_token l) (sym (landed_on_link setup.topology d past flit outcome)) in
+    All-back P (filter is_token (accepted_packets sizes.profile d before)) (filter is_token (landed_packets setup.topology (number d) flit outcome past)) (All-same P _ _ (sym parts) all)
+
+lands_at : (setup : Setup) (one : OneCube setup) (d : Toward) (packet : PacketFields) → Stands setup.topology one.port (Output (number d)) packet → Stands setup.topology one.port (landing_buffer setup.topology (number d)) packet
+lands_at setup one Forth packet is =
     subst (λ (r : QueueId). Stands setup.topology one.port r packet) (sym (one_link setup one).arrival_there) (record { asking = is; is_port = refl })
-lands_at setup one (suc zero) packet is = subst (λ (r : QueueId). Stands setup.topology one.port r packet) (sym (one_link setup one).arrival_back) is
-lands_at setup one (suc (suc d)) packet is = absurd is
+lands_at setup one Back packet is = subst (λ (r : QueueId). Stands setup.topology one.port r packet) (sym (one_link setup one).arrival_back) is
 
-landed_enters : (setup : Setup) (one : OneCube setup) (d : ℕ) (outcome : Outcome) (packet : PacketFields) → All (Stands setup.topology one.port (Output d)) (packets_by outcome packet)
-    → EntersRight setup.topology one.port (taken_in outcome (landing_buffer setup.topology d)) packet
-landed_enters setup one d outcomes.Accepted packet all = lands_at setup one d packet (All-head (Stands setup.topology one.port (Output d)) packet [] all)
-landed_enters setup one d outcomes.Poisoned packet all = lands_at setup one d packet (All-head (Stands setup.topology one.port (Output d)) packet [] all)
-landed_enters setup one d _ packet all = tt
+landed_first : (setup : Setup) (one : OneCube setup) (d : Toward) (packets : List PacketFields) → All (Stands setup.topology one.port (Output (number d))) packets
+    → ArrivesRight setup.topology one.port (arrival_of (landing_buffer setup.topology (number d)) packets)
+landed_first setup one d [] all = tt
+landed_first setup one d (packet ∷ packets) all = lands_at setup one d packet (All-head (Stands setup.topology one.port (Output (number d))) packet packets all)
+
+landed_enters : (setup : Setup) (one : OneCube setup) (past : List Entry) (direction : ℕ) (flit : List ℕ) (outcome : Outcome) → HasLanded setup past direction flit outcome → Kept setup one.port past
+    → ArrivesRight setup.topology one.port (arrival_of (landing_buffer setup.topology direction) (filter is_token (landed_packets setup.topology direction flit outcome past)))
+landed_enters setup one past direction flit outcome has kept =
+    let at = of_number direction (landed-real setup one.port past direction flit outcome has kept) in
+    let here : HasLanded setup past (number at.0) flit outcome = subst (λ (e : ℕ). HasLanded setup past e flit outcome) at.1 has in
+    subst (λ (e : ℕ). ArrivesRight setup.topology one.port (arrival_of (landing_buffer setup.topology e) (filter is_token (landed_packets setup.topology e flit outcome past)))) (sym at.1)
+    (landed_first setup one at.0 (filter is_token (landed_packets setup.topology (number at.0) flit outcome past)) (landed_stands setup one.port at.0 past flit outcome here kept))
 
 -- shift
 pub no_port : (registers : Bool) (vault port : ℕ) → (if registers then goals.Registers else goals.Vault vault) ≡ goals.Port port → ⊥
@@ -180,6 +278,7 @@ reply_tag false tag number is tagged = ap tag_number tagged
 pub record IsSent (answer : Answer) : Type 0 where
   pub carried : CanReply answer
   pub fits : IsAnswer answer
+  pub small : IsSmallError answer
 
 pub sends : (setup : Setup) (port : ℕ) (past : List Entry) (unit : RequestUnit) (host : ℕ) (tag : Option ℕ) (request : RequestFields) (answer : Answer) → HasExecuted setup past unit host tag request answer → Kept setup port past
     → is_posted request.command ≡ false → IsSent answer
@@ -190,7 +289,7 @@ sends setup port past unit host tag request answer has kept answered =
     let own : request.cube ≡ 0 = (request_of_packet has.at.front request has.is_request).cube ∙ asking.cube in
     let cube : IsCube (cube_state_at (state_of setup.topology past) request.cube) = subst (λ (n : ℕ). IsCube (cube_state_at (state_of setup.topology past) n)) (sym own) kept.state.cube in
     let carried = performed_is_carried (cube_state_at (state_of setup.topology past) request.cube) request cube request_is in
-    record { carried = subst CanReply (sym has.is_answer) (carried.carried answered); fits = subst IsAnswer (sym has.is_answer) carried.fits }
+    record { carried = subst CanReply (sym has.is_answer) (carried.carried answered); fits = subst IsAnswer (sym has.is_answer) carried.fits; small = subst IsSmallError (sym has.is_answer) (performed_small (cube_state_at (state_of setup.topology past) request.cube) request) }
 
 pub replying : (setup : Setup) (port : ℕ) (past : List Entry) (unit : RequestUnit) (host : ℕ) (tag : Option ℕ) (request : RequestFields) (answer : Answer) → HasExecuted setup past unit host tag request answer → Kept setup port past
     → is_posted request.command ≡ false → IsReplying (reply_packet answer (tag_number tag) host request.cube)
@@ -199,7 +298,7 @@ replying setup port past unit host tag request answer has kept answered =
     let own : request.cube ≡ 0 = (request_of_packet has.at.front request has.is_request).cube ∙ asking.cube in
     let sent = sends setup port past unit host tag request answer has kept answered in
     let tag_is : tag_number tag ≡ has.at.front.tag = reply_tag (is_posted request.command) tag has.at.front.tag answered has.is_tag in
-    IsReplying-reply_packet answer (tag_number tag) host request.cube sent.carried sent.fits
+    IsReplying-reply_packet answer (tag_number tag) host request.cube sent.carried sent.fits sent.small
     (subst (λ (n : ℕ). n < 2 ^ 11) (sym tag_is) asking.counted.is_packet.ranges.tag) (has.is_host ∙ asking.slid) own
 
 answers_at : (setup : Setup) (port : ℕ) (unit : RequestUnit) (front packet : PacketFields) → Stands setup.topology port (queue_of unit) front → IsReplying packet → Stands setup.topology port (answers_of unit) packet
@@ -238,8 +337,7 @@ pub enters_right : (setup : Setup) (one : OneCube setup) (past : List Entry) (en
 unfolding enters
 enters_right setup one past (Gave host tag poisoned request) right kept =
     arrives_right setup.topology one.port (output_from setup.topology (places.Host host)) _ _ refl (given_enters setup one past host tag poisoned request right kept)
-enters_right setup one past (Landed d flit outcome) right kept =
-    arrives_right setup.topology one.port (taken_in outcome (landing_buffer setup.topology d)) _ _ refl (landed_enters setup one d outcome (landed_packet d flit past) (landed_stands setup one.port past d flit outcome right kept))
+enters_right setup one past (Landed d flit outcome) right kept = landed_enters setup one past d flit outcome right kept
 enters_right setup one past (Shifted cube port goal) right kept =
     arrives_right setup.topology one.port (goal_queue setup.topology cube goal) _ _ (front_is setup past (Port cube port) right.at)
     (shifted_enters setup one.port port past cube goal right (front_stands setup one.port past (Port cube port) kept right.at))

@@ -1,5 +1,5 @@
 -- What an entry is that follows: by its variant, what its step saw.
-use Rattle.std.proofs.Common.{◌≡◌, ◌≤◌, ◌<◌, ◌+◌, ◌-◌, ◌&&◌, ◌⊎◌, inl, inr, ℕ, zero, suc, Bool, true, false, not, nat_le, if◌then◌else◌, Option, Some, None, is_none, List, [], ◌∷◌, length, refl, sym, subst, leb-true, leb-false, arith, ap, ◌∙◌}
+use Rattle.std.proofs.Common.{◌≡◌, ◌&&◌, ◌⊎◌, inl, inr, ℕ, Bool, true, false, not, if◌then◌else◌, Option, Some, None, is_none, List, [], ◌∷◌, length, slice_get, refl, sym, subst, ap, ◌∙◌}
 use Rattle.hmc_codes.specs.Commands.{is_posted}
 use Rattle.hmc_codes.specs.Request.{RequestFields}
 use Rattle.hmc_codes.specs.Shape.{ShapeFields, vault_of, bank_of}
@@ -8,9 +8,10 @@ use Rattle.hmc_codes.specs.declared.lift.Lift.{Lift}
 use Rattle.hmc_codes.specs.declared.unit.Unit.{Unit as RequestUnit}
 use Rattle.hmc_codes.specs.declared.unit.Unit.TheVariants as units
 use Rattle.hmc_packet.specs.declared.what.What.{What}
-use Rattle.hmc_packet.specs.declared.what.What.TheVariants.{New, Null}
-use Rattle.hmc_packet.specs.Packet.{PacketFields, flits_of}
-use Rattle.hmc_codes.specs.Flit.{zero_flit}
+use Rattle.hmc_packet.specs.declared.feed.Feed.TheVariants.{Waiting}
+use Rattle.hmc_packet.specs.declared.outcome.Outcome.{Outcome}
+use Rattle.hmc_packet.specs.Packet.{PacketFields}
+use Rattle.hmc_packet.specs.Receptions.{reception_of}
 use Rattle.hmc_packet.specs.Transactions.{request_in, answer_in}
 use Rattle.hmc_schedule.specs.declared.step.Step.{Step}
 use Rattle.hmc_schedule.specs.declared.step.Step.TheVariants as steps
@@ -29,17 +30,25 @@ use Rattle.hmc_host.specs.Give.{wants_tag, tag_for, lacks_tag, next_item, next_s
 use Rattle.hmc_host.specs.Settle.{took_answer}
 use Rattle.hmc_journal.specs.declared.outcome.Goal.{Goal}
 use Rattle.hmc_journal.specs.declared.outcome.Goal.TheVariants as goals
-use Rattle.hmc_journal.specs.declared.outcome.Outcome.{Outcome}
 use Rattle.hmc_journal.specs.declared.entry.Entry.{Entry}
-use Rattle.hmc_journal.specs.declared.entry.Entry.TheVariants.{Gave, Sent, Landed, Shifted, Dropped, Spread, Executed, Lifted, Took, Discarded, Idle}
-use Rattle.hmc_journal.specs.Setup.{Setup, Topology, shape_of, link_of, port_towards}
-use Rattle.hmc_journal.specs.Wires.{line_flits, unsent, pending, return_pointer}
-use Rattle.hmc_journal.specs.Queues.{QueueId, contents, queue_of, begun}
-use Rattle.hmc_journal.specs.Queues.QueueId.{Output, Port, Host, Vault, Answers}
+use Rattle.hmc_journal.specs.declared.entry.Entry.TheVariants.{Gave, Sent, Landed, Shifted, Dropped, Spread, Executed, Lifted, Took, Discarded, Unlocked, Passed, Idle}
+use Rattle.hmc_codes.specs.declared.place.Place.TheVariants as places
+use Rattle.hmc_send.specs.declared.sent.Sent.{Sent as Sending}
+use Rattle.hmc_send.specs.declared.sent.Sent.TheVariants.{Out, Starved}
+use Rattle.hmc_send.specs.Choice as cases
+use Rattle.hmc_send.specs.LinkCalls.{is_full, view_in}
+use Rattle.hmc_send.specs.LinkEntries.{receiver_entries}
+use Rattle.hmc_send.specs.LinkLines.{StampedFlit, line, under_mask, passes}
+use Rattle.hmc_send.proofs.LinkLawful.{IsSend, IsLanding}
+use Rattle.hmc_journal.specs.Setup.{Setup, Topology, shape_of, port_towards}
+use Rattle.hmc_journal.specs.Queues.{QueueId, contents, queue_of, output_from}
+use Rattle.hmc_journal.specs.Queues.QueueId.{Port, Host, Vault, Answers}
 use Rattle.hmc_journal.specs.Hosts.{host_of}
-use Rattle.hmc_journal.specs.StepView.{direction_view, numbered, state_of, view_of, last_numbered, sending_with}
-use Rattle.hmc_journal.specs.Next.{next, choice, lifted_entry, with_front, unless_full, gave_entry, sent_flit, begun_with, flit_of, landed_entry, outcome_of, goal_at, shifted_entry, tag_of, execution_entry, ran_entry, took_entry}
-use Rattle.hmc_journal.specs.Lawful.{Follows, Lawful}
+use Rattle.hmc_journal.specs.StepView.{state_of, view_of}
+use Rattle.hmc_journal.specs.Links.{toward, sizes_on, entries_on}
+use Rattle.hmc_journal.specs.Waiting.{lacks_room}
+use Rattle.hmc_journal.specs.Next.{next, choice, lifted_entry, with_front, unless_full, gave_entry, sent_entry, landed_entry, landed_front, goal_at, shifted_entry, tag_of, execution_entry, ran_entry, took_entry}
+use Rattle.hmc_journal.specs.Lawful.{Follows, has_passed, Lawful}
 
 -- the room has this front
 pub record HasFront (setup : Setup) (past : List Entry) (room : QueueId) : Type 0 where
@@ -58,31 +67,26 @@ pub record HasGiven (setup : Setup) (past : List Entry) (host : ℕ) (tag : Opti
   pub is_poisoned : poisoned ≡ item.poisoned
   pub is_request : request ≡ item.request
   pub is_tagged : IsTagged (wants_tag item) (lowest_free (host_of setup past host).tags) tag
+  pub room : lacks_room setup.topology (view_of setup past) (output_from setup.topology (places.Host host)) ≡ false
 
--- a first flit, for which there are tokens, or a further one
-pub record Begins (setup : Setup) (past : List Entry) (direction : ℕ) (flit : List ℕ) : Type 0 where
-  pub at : HasFront setup past (Output direction)
-  pub tokens : (direction_view setup.topology past direction).in_flight_flits + flits_of at.front ≤ (link_of setup.topology direction).setup.tokens
-  pub is_flit : flit ≡ flit_of (numbered (direction_view setup.topology past direction).frp (direction_view setup.topology past direction).seq at.front) (return_pointer direction past) 0
+-- the line had room, and the flit is the sender's choice
+abbrev pub HasSent : Setup → List Entry → (direction : ℕ) → What → List ℕ → Type 0
+HasSent setup past direction what flit =
+    IsSend (sizes_on setup.topology direction) (entries_on setup.topology direction past) (toward direction) Waiting what flit
 
-abbrev pub IsNext : Setup → List Entry → (direction unsent : ℕ) → List ℕ → Type 0
-IsNext setup past direction zero flit = Begins setup past direction flit
-IsNext setup past direction (suc left) flit =
-    flit ≡ flit_of (last_numbered (begun setup.topology past direction)) (return_pointer direction past) (flits_of (last_numbered (begun setup.topology past direction)) - suc left)
+-- the front of the line landed under the mask of the step
+pub record HasLanded (setup : Setup) (past : List Entry) (direction : ℕ) (flit : List ℕ) (outcome : Outcome) : Type 0 where
+  pub mask : List ℕ
+  pub step : slice_get setup.schedule (length past) ≡ Some (steps.Land direction mask)
+  pub landing : IsLanding (sizes_on setup.topology direction) (entries_on setup.topology direction past) (toward direction) mask flit outcome
 
-abbrev pub IsSent : Setup → List Entry → (direction : ℕ) → What → List ℕ → Type 0
-IsSent setup past direction New flit = IsNext setup past direction (unsent direction past) flit
-IsSent setup past direction Null flit = (unsent direction past ≡ 0) × (flit ≡ zero_flit)
-IsSent setup past direction _ flit = ⊥
-
-pub record HasSent (setup : Setup) (past : List Entry) (direction : ℕ) (what : What) (flit : List ℕ) : Type 0 where
-  pub line : 1 ≤ (link_of setup.topology direction).setup.line
-  pub sent : IsSent setup past direction what flit
-
-pub record HasLanded (past : List Entry) (direction : ℕ) (flit : List ℕ) (outcome : Outcome) : Type 0 where
-  pub rest : List (List ℕ)
-  pub line : line_flits direction past ≡ flit ∷ rest
-  pub is_outcome : outcome ≡ outcome_of (pending direction past) flit
+-- the front of the line passed under the mask of the step
+pub record HasPassed (setup : Setup) (past : List Entry) (direction : ℕ) (flit : List ℕ) : Type 0 where
+  pub mask : List ℕ
+  pub step : slice_get setup.schedule (length past) ≡ Some (steps.Land direction mask)
+  pub front : StampedFlit
+  pub is_front : slice_get (line (sizes_on setup.topology direction).profile (toward direction) (entries_on setup.topology direction past)) 0 ≡ Some front
+  pub flit_is : flit ≡ under_mask mask front.flit
 
 -- where an unpoisoned packet goes in a cube of this shape
 abbrev pub goal_by : ShapeFields → PacketFields → Goal
@@ -114,6 +118,7 @@ pub record HasExecuted (setup : Setup) (past : List Entry) (unit : RequestUnit) 
 pub record HasLifted (setup : Setup) (past : List Entry) (cube : ℕ) (from : Lift) (port : ℕ) : Type 0 where
   pub at : HasFront setup past (Answers cube from)
   pub is_port : port_towards setup.topology cube at.front.slid ≡ Some port
+  pub room : lacks_room setup.topology (view_of setup past) (output_from setup.topology (places.Port cube port)) ≡ false
 
 pub record HasTaken (setup : Setup) (past : List Entry) (host tag : ℕ) (answer : Answer) : Type 0 where
   pub at : HasFront setup past (Host host)
@@ -128,7 +133,7 @@ pub record HasDiscarded (setup : Setup) (past : List Entry) (host : ℕ) : Type 
 abbrev pub EntryRule : Setup → List Entry → Entry → Type 0
 EntryRule setup past (Gave host tag poisoned request) = HasGiven setup past host tag poisoned request
 EntryRule setup past (Sent direction what flit) = HasSent setup past direction what flit
-EntryRule setup past (Landed direction flit outcome) = HasLanded past direction flit outcome
+EntryRule setup past (Landed direction flit outcome) = HasLanded setup past direction flit outcome
 EntryRule setup past (Shifted cube port goal) = HasShifted setup past cube port goal
 EntryRule setup past (Dropped cube port) = HasDropped setup past cube port
 EntryRule setup past (Spread cube vault bank) = HasSpread setup past cube vault bank
@@ -136,6 +141,8 @@ EntryRule setup past (Executed unit host tag request answer) = HasExecuted setup
 EntryRule setup past (Lifted cube from port) = HasLifted setup past cube from port
 EntryRule setup past (Took host tag answer) = HasTaken setup past host tag answer
 EntryRule setup past (Discarded host) = HasDiscarded setup past host
+EntryRule setup past (Unlocked direction) = Unit {0}
+EntryRule setup past (Passed direction flit) = HasPassed setup past direction flit
 EntryRule setup past (Idle step cause) = Unit {0}
 
 unless : (setup : Setup) (past : List Entry) (step : Step) (full : Bool) (entry : Entry) → EntryRule setup past entry → EntryRule setup past (unless_full step full entry)
@@ -154,62 +161,49 @@ tagged item tags true (Some tag) needs found lacks = (tag, refl, refl)
 tagged item tags true None needs found lacks = cc
 tagged item tags false free needs found lacks = refl
 
-give_item : (setup : Setup) (past : List Entry) (host : ℕ) (item : ItemFields) (fence lacks room : Bool) → next_item (host_of setup past host) ≡ Some item → lacks_tag item (host_of setup past host).tags ≡ lacks
-    → EntryRule setup past (gave_entry host (if fence then givens.Fence else if lacks then givens.Tags else if not room then givens.Full else gave_request (host_of setup past host).number item (tag_for item (host_of setup past host).tags)))
-give_item setup past host item true lacks room is lack = tt
-give_item setup past host item false true room is lack = tt
-give_item setup past host item false false false is lack = tt
-give_item setup past host item false false true is lack = record {
+give_item : (setup : Setup) (past : List Entry) (host : ℕ) (item : ItemFields) (fence lacks lacks_place : Bool) → next_item (host_of setup past host) ≡ Some item → lacks_tag item (host_of setup past host).tags ≡ lacks
+    → lacks_room setup.topology (view_of setup past) (output_from setup.topology (places.Host host)) ≡ lacks_place
+    → EntryRule setup past (gave_entry host (if fence then givens.Fence else if lacks then givens.Tags else if not (not lacks_place) then givens.Full else gave_request (host_of setup past host).number item (tag_for item (host_of setup past host).tags)))
+give_item setup past host item true lacks lacks_place is lack none = tt
+give_item setup past host item false true lacks_place is lack none = tt
+give_item setup past host item false false true is lack none = tt
+give_item setup past host item false false false is lack none = record {
   item = item;
   is_next = is;
   is_poisoned = refl;
   is_request = refl;
   is_tagged = tagged item (host_of setup past host).tags (wants_tag item) (lowest_free (host_of setup past host).tags) refl refl lack;
+  room = none;
 }
 
-give : (setup : Setup) (past : List Entry) (host : ℕ) (room : Bool) (item : Option ItemFields) → next_item (host_of setup past host) ≡ item → EntryRule setup past (gave_entry host (next_says (host_of setup past host) item room))
-give setup past host room None is = tt
-give setup past host room (Some item) is =
-    give_item setup past host item (item.fenced && is_some_out (host_of setup past host).tags) (lacks_tag item (host_of setup past host).tags) room is refl
+give : (setup : Setup) (past : List Entry) (host : ℕ) (item : Option ItemFields) → next_item (host_of setup past host) ≡ item
+    → EntryRule setup past (gave_entry host (next_says (host_of setup past host) item (not (lacks_room setup.topology (view_of setup past) (output_from setup.topology (places.Host host))))))
+give setup past host None is = tt
+give setup past host (Some item) is =
+    give_item setup past host item (item.fenced && is_some_out (host_of setup past host).tags) (lacks_tag item (host_of setup past host).tags) _ is refl refl
 
 -- send
-begin_front : (setup : Setup) (past : List Entry) (direction : ℕ) (at : HasFront setup past (Output direction)) (fits : Bool) → 1 ≤ (link_of setup.topology direction).setup.line → unsent direction past ≡ 0
-    → nat_le ((direction_view setup.topology past direction).in_flight_flits + flits_of at.front) (link_of setup.topology direction).setup.tokens ≡ fits
-    → EntryRule setup past (if fits
-    then Sent direction New (flit_of (numbered (direction_view setup.topology past direction).frp (direction_view setup.topology past direction).seq at.front) (return_pointer direction past) 0)
-    else Sent direction Null zero_flit)
-begin_front setup past direction at false line idle fits = record { line = line; sent = (idle, refl) }
-begin_front setup past direction at true line idle fits = record {
-  line = line;
-  sent = subst (λ (n : ℕ). IsNext setup past direction n (flit_of (numbered (direction_view setup.topology past direction).frp (direction_view setup.topology past direction).seq at.front) (return_pointer direction past) 0))
-      (sym idle) (record { at = at; tokens = leb-true _ _ fits; is_flit = refl });
-}
+send : (setup : Setup) (past : List Entry) (direction : ℕ) (full : Bool) (sending : Sending) → is_full (sizes_on setup.topology direction) (toward direction) (entries_on setup.topology direction past) ≡ full
+    → cases.choice (sizes_on setup.topology direction).profile (view_in (sizes_on setup.topology direction) (toward direction) (entries_on setup.topology direction past) Waiting) ≡ sending
+    → EntryRule setup past (sent_entry direction full sending)
+send setup past direction true sending full is = tt
+send setup past direction false Starved full is = tt
+send setup past direction false (Out flit what) full is = record { has_room = full; chosen = is }
 
-begin : (setup : Setup) (past : List Entry) (direction : ℕ) (queue : List PacketFields) → 1 ≤ (link_of setup.topology direction).setup.line → unsent direction past ≡ 0 → contents setup.topology past (Output direction) ≡ queue
-    → EntryRule setup past (begun_with direction (link_of setup.topology direction).setup.tokens (direction_view setup.topology past direction) queue)
-unfolding direction_view
-begin setup past direction [] line idle is = record { line = line; sent = (idle, refl) }
-begin setup past direction (front ∷ rest) line idle is = begin_front setup past direction (record { front = front; rest = rest; is = is }) _ line idle refl
+-- land
+land_flit : (setup : Setup) (past : List Entry) (direction : ℕ) (mask : List ℕ) (front : StampedFlit) (passed : Bool) → slice_get setup.schedule (length past) ≡ Some (steps.Land direction mask)
+    → slice_get (line (sizes_on setup.topology direction).profile (toward direction) (entries_on setup.topology direction past)) 0 ≡ Some front
+    → passes (sizes_on setup.topology direction).profile (toward direction) (entries_on setup.topology direction past) mask (under_mask mask front.flit) ≡ passed
+    → EntryRule setup past (landed_entry direction passed (under_mask mask front.flit) (reception_of (sizes_on setup.topology direction).profile (receiver_entries (toward direction) (entries_on setup.topology direction past)) (under_mask mask front.flit)).outcome)
+land_flit setup past direction mask front true step is passed = record { mask = mask; step = step; front = front; is_front = is; flit_is = refl }
+land_flit setup past direction mask front false step is passed =
+    record { mask = mask; step = step; landing = record { front = front; is_front = is; flit_is = refl; outcome_is = refl; caught = passed } }
 
-send_flit : (setup : Setup) (past : List Entry) (direction left : ℕ) → 1 ≤ (link_of setup.topology direction).setup.line → unsent direction past ≡ left
-    → EntryRule setup past (sent_flit direction (link_of setup.topology direction).setup.tokens (direction_view setup.topology past direction) (contents setup.topology past (Output direction)) (sending_with left (last_numbered (begun setup.topology past direction))))
-unfolding direction_view
-send_flit setup past direction zero line is = begin setup past direction (contents setup.topology past (Output direction)) line is refl
-send_flit setup past direction (suc left) line is = record {
-  line = line;
-  sent = subst (λ (n : ℕ). IsNext setup past direction n (flit_of (last_numbered (begun setup.topology past direction)) (return_pointer direction past) (flits_of (last_numbered (begun setup.topology past direction)) - suc left))) (sym is) refl;
-}
-
-send : (setup : Setup) (past : List Entry) (direction : ℕ) (full : Bool) → nat_le (link_of setup.topology direction).setup.line (length (line_flits direction past)) ≡ full
-    → EntryRule setup past (unless_full (steps.Send direction) full (sent_flit direction (link_of setup.topology direction).setup.tokens (direction_view setup.topology past direction) (contents setup.topology past (Output direction)) (sending_with (unsent direction past) (last_numbered (begun setup.topology past direction)))))
-send setup past direction true full = tt
-send setup past direction false full =
-    let some : length (line_flits direction past) < (link_of setup.topology direction).setup.line = leb-false _ _ full in
-    send_flit setup past direction (unsent direction past) (omega arith) refl
-
-land : (setup : Setup) (past : List Entry) (direction : ℕ) (mask : List ℕ) (line : List (List ℕ)) → line_flits direction past ≡ line → EntryRule setup past (landed_entry direction mask line (pending direction past))
-land setup past direction mask [] is = tt
-land setup past direction mask (flit ∷ rest) is = record { rest = rest; line = is; is_outcome = refl }
+land : (setup : Setup) (past : List Entry) (direction : ℕ) (mask : List ℕ) (front : Option StampedFlit) → slice_get setup.schedule (length past) ≡ Some (steps.Land direction mask)
+    → slice_get (line (sizes_on setup.topology direction).profile (toward direction) (entries_on setup.topology direction past)) 0 ≡ front
+    → EntryRule setup past (landed_front (sizes_on setup.topology direction) direction (entries_on setup.topology direction past) mask front)
+land setup past direction mask None step is = tt
+land setup past direction mask (Some front) step is = land_flit setup past direction mask front _ step is refl
 
 -- in a cube
 unpoisoned_goal : (registers : Bool) (vault : ℕ) → goal_at (unpoisoned_to registers vault) ≡ Some (if registers then goals.Registers else goals.Vault vault)
@@ -252,10 +246,16 @@ execute_front setup past unit step answers size =
     (λ at. execute setup past unit step answers size at (request_in at.front) refl)
 
 -- lift
+lift_by : (setup : Setup) (past : List Entry) (cube : ℕ) (from : Lift) (at : HasFront setup past (Answers cube from)) (port : ℕ) (lacks : Bool) → port_towards setup.topology cube at.front.slid ≡ Some port
+    → lacks_room setup.topology (view_of setup past) (output_from setup.topology (places.Port cube port)) ≡ lacks
+    → EntryRule setup past (unless_full (steps.Lift cube from) lacks (Lifted cube from port))
+lift_by setup past cube from at port true is none = tt
+lift_by setup past cube from at port false is none = record { at = at; is_port = is; room = none }
+
 lift : (setup : Setup) (past : List Entry) (cube : ℕ) (from : Lift) (at : HasFront setup past (Answers cube from)) (port : Option ℕ) → port_towards setup.topology cube at.front.slid ≡ port
     → EntryRule setup past (lifted_entry setup.topology (view_of setup past) cube from port)
 lift setup past cube from at None is = tt
-lift setup past cube from at (Some port) is = unless setup past (steps.Lift cube from) _ (Lifted cube from port) (record { at = at; is_port = is })
+lift setup past cube from at (Some port) is = lift_by setup past cube from at port _ is refl
 
 -- take
 take_answer : (setup : Setup) (past : List Entry) (host : ℕ) (at : HasFront setup past (Host host)) (found : Option Answer) → at.front.poisoned ≡ false → answer_in at.front ≡ found
@@ -268,34 +268,39 @@ take_front : (setup : Setup) (past : List Entry) (host : ℕ) (at : HasFront set
 take_front setup past host at true is = record { at = at; is_none = inl is }
 take_front setup past host at false is = take_answer setup past host at (answer_in at.front) is refl
 
-pub next_rule : (setup : Setup) (past : List Entry) (step : Step) → EntryRule setup past (next setup past step)
-unfolding next choice view_of give_says direction_view
-next_rule setup past (steps.Give host) = give setup past host _ (next_item (host_of setup past host)) refl
-next_rule setup past (steps.Send direction) = send setup past direction _ refl
-next_rule setup past (steps.Land direction mask) = land setup past direction mask (line_flits direction past) refl
-next_rule setup past (steps.Shift cube port) =
+pub next_rule : (setup : Setup) (past : List Entry) (step : Step) → slice_get setup.schedule (length past) ≡ Some step → EntryRule setup past (next setup past step)
+unfolding next choice view_of give_says
+next_rule setup past (steps.Give host) there = give setup past host (next_item (host_of setup past host)) refl
+next_rule setup past (steps.Send direction) there = send setup past direction _ _ refl refl
+next_rule setup past (steps.Land direction mask) there = land setup past direction mask _ there refl
+next_rule setup past (steps.Shift cube port) there =
     fronted setup past (steps.Shift cube port) (Port cube port) _ _ refl
     (λ at. shift setup past cube port at)
-next_rule setup past (steps.Spread cube vault) =
+next_rule setup past (steps.Spread cube vault) there =
     fronted setup past (steps.Spread cube vault) (Vault cube vault) _ _ refl
     (λ at. unless setup past (steps.Spread cube vault) _ (Spread cube vault (bank_of (shape_of setup.topology cube) at.front.address)) (record { at = at; is_bank = refl }))
-next_rule setup past (steps.Bank cube vault bank) = execute_front setup past (units.Bank cube vault bank) (steps.Bank cube vault bank) _ _
-next_rule setup past (steps.Registers cube) = execute_front setup past (units.Registers cube) (steps.Registers cube) _ _
-next_rule setup past (steps.Lift cube from) =
+next_rule setup past (steps.Bank cube vault bank) there = execute_front setup past (units.Bank cube vault bank) (steps.Bank cube vault bank) _ _
+next_rule setup past (steps.Registers cube) there = execute_front setup past (units.Registers cube) (steps.Registers cube) _ _
+next_rule setup past (steps.Lift cube from) there =
     fronted setup past (steps.Lift cube from) (Answers cube from) _ _ refl
     (λ at. lift setup past cube from at (port_towards setup.topology cube at.front.slid) refl)
-next_rule setup past (steps.Take host) = fronted setup past (steps.Take host) (Host host) _ _ refl (λ at. take_front setup past host at at.front.poisoned refl)
-next_rule setup past _ = tt
+next_rule setup past (steps.Take host) there = fronted setup past (steps.Take host) (Host host) _ _ refl (λ at. take_front setup past host at at.front.poisoned refl)
+next_rule setup past _ there = tt
 
-follows_rule : (setup : Setup) (past : List Entry) (step : Option Step) (entry : Entry) → Follows setup past step entry → EntryRule setup past entry
-follows_rule setup past (Some step) entry follows = subst (EntryRule setup past) (sym follows) (next_rule setup past step)
-follows_rule setup past None entry follows = absurd follows
+follows_rule : (setup : Setup) (past : List Entry) (step : Option Step) (entry : Entry) → slice_get setup.schedule (length past) ≡ step → Follows setup past step entry → EntryRule setup past entry
+follows_rule setup past (Some step) entry there follows = subst (EntryRule setup past) (sym follows) (next_rule setup past step there)
+follows_rule setup past None entry there follows = absurd follows
 
 -- a lawful journal's newest entry is right after the others, which are lawful
 pub entry_rule : (setup : Setup) (entry : Entry) (past : List Entry) → Lawful setup (entry ∷ past) → EntryRule setup past entry
 unfolding Lawful
-entry_rule setup entry past lawful = follows_rule setup past _ entry lawful.0
+entry_rule setup entry past lawful = follows_rule setup past _ entry refl lawful.1
 
 pub lawful_past : (setup : Setup) (entry : Entry) (past : List Entry) → Lawful setup (entry ∷ past) → Lawful setup past
 unfolding Lawful
-lawful_past setup entry past lawful = lawful.1
+lawful_past setup entry past lawful = lawful.2
+
+-- nothing follows a landing that passed
+pub not_passed : (setup : Setup) (entry : Entry) (past : List Entry) → Lawful setup (entry ∷ past) → has_passed past ≡ false
+unfolding Lawful
+not_passed setup entry past lawful = lawful.0

@@ -1,25 +1,39 @@
 pub mod InOrder
-pub mod OneJournal
 pub mod EntryRule
-pub mod Order
+pub mod OneJournal
+pub mod Whole
 pub mod Serial
-pub mod Wire
+pub mod LinkKept
+pub mod LinkHanded
+pub mod Projections
+pub mod KeptPast
+pub mod NoSends
+pub mod UnsentFlits
+pub mod QueueFronts
+pub mod AcceptedTokens
+pub mod Order
 pub mod Moves
+pub mod Standing
 pub mod OneCube
 pub mod OneLink
-pub mod Standing
-pub mod WireStep
+pub mod OneEntry
+pub mod SmallErrors
+pub mod Buffers
 pub mod Entering
 pub mod Machine
 pub mod Sound
-pub mod Arrived
-pub mod Tokens
+pub mod FarLinks
+pub mod LinkLaws
+pub mod LinkInvariant
 pub mod Phases
-pub mod QueuesAndWires
+pub mod Arrived
+pub mod Transit
+pub mod Stretches
 pub mod TagWork
 pub mod TagStep
 pub mod Tags
 pub mod QueueInvariant
+pub mod Views
 pub mod QueueToQueue
 pub mod Units
 pub mod Ends
@@ -28,7 +42,8 @@ pub mod Returning
 pub mod Delivering
 pub mod DrainedTest
 pub mod Guaranteeing
-pub mod ZeroDigits
+mod ZeroDigits
+mod WorkedLines
+mod WorkedRow
 mod Worked
 mod Edges
-mod WorkedLines

@@ -7,15 +7,13 @@ use Rattle.hmc_codes.specs.declared.lift.Lift.{Lift}
 use Rattle.hmc_codes.specs.declared.lift.Lift.TheVariants as lifts
 use Rattle.hmc_packet.specs.declared.what.What.TheVariants.{New}
 use Rattle.hmc_packet.specs.Packet.{PacketFields, null_packet}
-use Rattle.hmc_journal.specs.declared.outcome.Outcome.{Outcome}
-use Rattle.hmc_journal.specs.declared.outcome.Outcome.TheVariants as outcomes
 use Rattle.hmc_journal.specs.declared.entry.Entry.{Entry}
 use Rattle.hmc_journal.specs.declared.entry.Entry.TheVariants.{Sent, Shifted, Dropped, Spread, Executed, Lifted, Took, Discarded}
 use Rattle.hmc_journal.specs.Setup.{Setup, Topology}
-use Rattle.hmc_journal.specs.Wires.{unsent}
-use Rattle.hmc_journal.specs.Queues.{taken_in, QueueId, same_lift, same_queue, is_at, leaves, enters, begins, Arrival, arrival_in, arrived, front_of, one_if, packet_if, left, entered, contents}
+use Rattle.hmc_journal.specs.Directions.{unsent}
+use Rattle.hmc_journal.specs.Queues.{QueueId, same_lift, same_queue, is_at, leaves, enters, begins, Arrival, arrival_in, arrival_of, arrived, front_of, one_if, packet_if, left, entered, contents}
 use Rattle.hmc_journal.specs.Queues.QueueId.{Output, Port, Host, Vault, Bank, Registers, Answers}
-use Rattle.hmc_journal.proofs.EntryRule.{EntryRule, HasFront, IsNext}
+use Rattle.hmc_journal.proofs.EntryRule.{EntryRule, HasFront}
 
 -- two rooms with one name are one
 both_true : (a b : Bool) → (a && b) ≡ true → (a ≡ true) × (b ≡ true)
@@ -69,11 +67,6 @@ pub output_off : (direction : Option ℕ) (room : QueueId) → ((d : ℕ) → sa
 output_off None room off = refl
 output_off (Some d) room off = off d
 
-pub taken_off : (outcome : Outcome) (there room : QueueId) → same_queue there room ≡ false → is_at (taken_in outcome there) room ≡ false
-taken_off outcomes.Accepted there room off = off
-taken_off outcomes.Poisoned there room off = off
-taken_off _ there room off = refl
-
 pub append_if-append : {X : Type 0} (here : Bool) (more list : List X) → append_if here more list ≡ list ++ append_if here more []
 append_if-append true more list = refl
 append_if-append false more list = sym (append-nil list)
@@ -120,30 +113,36 @@ arrived_is (Some queue) packet room = refl
 pub arrived_off : (there : Option QueueId) (packet : Unit {0} → PacketFields) (room : QueueId) → is_at there room ≡ false → arrived room (arrival_in there packet) ≡ []
 arrived_off there packet room off = arrived_is there packet room ∙ ap (λ (b : Bool). packet_if b packet) off
 
+-- the first of some packets
+pub arrived_first : (queue room : QueueId) (packets : List PacketFields) → same_queue queue room ≡ false → arrived room (arrival_of queue packets) ≡ []
+arrived_first queue room [] off = refl
+arrived_first queue room (packet ∷ packets) off = ap (λ (b : Bool). packet_if b (λ _. packet)) off
+
 pub entered-more : (topology : Topology) (entry : Entry) (past : List Entry) (room : QueueId) → entered topology (entry ∷ past) room ≡ entered topology past room ++ entering topology past entry room
 unfolding entered entering contents
 entered-more topology entry past room = refl
 
 -- a room from which something leaves has a front
-abbrev HasLeaving : Setup → List Entry → Option QueueId → Type 0
+abbrev pub HasLeaving : Setup → List Entry → Option QueueId → Type 0
 HasLeaving setup past None = Unit {0}
 HasLeaving setup past (Some room) = HasFront setup past room
 
-has_begun : (setup : Setup) (past : List Entry) (direction count : ℕ) (flit : List ℕ) → IsNext setup past direction count flit → HasLeaving setup past (begins count direction)
-has_begun setup past direction zero flit is = is.at
-has_begun setup past direction (suc count) flit is = tt
+-- of a flit that begins a packet
+abbrev pub HasBegun : Setup → List Entry → Entry → Type 0
+HasBegun setup past (Sent direction New flit) = HasLeaving setup past (begins (unsent direction past) direction)
+HasBegun setup past _ = Unit {0}
 
-has_leaving : (setup : Setup) (past : List Entry) (entry : Entry) → EntryRule setup past entry → HasLeaving setup past (leaves past entry)
+has_leaving : (setup : Setup) (past : List Entry) (entry : Entry) → EntryRule setup past entry → HasBegun setup past entry → HasLeaving setup past (leaves past entry)
 unfolding leaves
-has_leaving setup past (Sent direction New flit) right = has_begun setup past direction (unsent direction past) flit right.sent
-has_leaving setup past (Shifted cube port goal) right = right.at
-has_leaving setup past (Dropped cube port) right = right.at
-has_leaving setup past (Spread cube vault bank) right = right.at
-has_leaving setup past (Executed unit host tag request answer) right = right.at
-has_leaving setup past (Lifted cube from port) right = right.at
-has_leaving setup past (Took host tag answer) right = right.at
-has_leaving setup past (Discarded host) right = right.at
-has_leaving setup past _ right = tt
+has_leaving setup past (Sent direction New flit) right begun = begun
+has_leaving setup past (Shifted cube port goal) right begun = right.at
+has_leaving setup past (Dropped cube port) right begun = right.at
+has_leaving setup past (Spread cube vault bank) right begun = right.at
+has_leaving setup past (Executed unit host tag request answer) right begun = right.at
+has_leaving setup past (Lifted cube from port) right begun = right.at
+has_leaving setup past (Took host tag answer) right begun = right.at
+has_leaving setup past (Discarded host) right begun = right.at
+has_leaving setup past _ right begun = tt
 
 pub front_inside : (setup : Setup) (past : List Entry) (room : QueueId) → HasFront setup past room → left past room < length (entered setup.topology past room)
 unfolding contents
@@ -159,16 +158,16 @@ pub front_is : (setup : Setup) (past : List Entry) (room : QueueId) (at : HasFro
 front_is setup past room at = ap front_of at.is
 
 -- no more left a room than entered it
-pub within-more : (setup : Setup) (entry : Entry) (past : List Entry) → EntryRule setup past entry → ((room : QueueId) → left past room ≤ length (entered setup.topology past room))
+pub within-more : (setup : Setup) (entry : Entry) (past : List Entry) → EntryRule setup past entry → HasBegun setup past entry → ((room : QueueId) → left past room ≤ length (entered setup.topology past room))
     → (room : QueueId) → left (entry ∷ past) room ≤ length (entered setup.topology (entry ∷ past) room)
 unfolding left entered
-within-more setup entry past right within room =
+within-more setup entry past right begun within room =
     within_plain (is_at (leaves past entry) room) (left past room) (entered setup.topology past room) _ (within room)
-    (leaving_inside setup past room (leaves past entry) (has_leaving setup past entry right))
+    (leaving_inside setup past room (leaves past entry) (has_leaving setup past entry right begun))
 
-pub gone-more : (setup : Setup) (entry : Entry) (past : List Entry) → EntryRule setup past entry → ((room : QueueId) → left past room ≤ length (entered setup.topology past room))
+pub gone-more : (setup : Setup) (entry : Entry) (past : List Entry) → EntryRule setup past entry → HasBegun setup past entry → ((room : QueueId) → left past room ≤ length (entered setup.topology past room))
     → (room : QueueId) → gone setup.topology (entry ∷ past) room ≡ gone setup.topology past room ++ leaving setup.topology past entry room
 unfolding gone left entered leaving contents
-gone-more setup entry past right within room =
+gone-more setup entry past right begun within room =
     gone_plain (is_at (leaves past entry) room) (left past room) (entered setup.topology past room) _ (within room)
-    (leaving_inside setup past room (leaves past entry) (has_leaving setup past entry right))
+    (leaving_inside setup past room (leaves past entry) (has_leaving setup past entry right begun))

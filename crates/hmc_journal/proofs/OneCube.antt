@@ -1,6 +1,7 @@
 -- The parts of a network of one cube and one link.
 use Rattle.std.proofs.Common.{◌≡◌, ◌≤◌, ◌<◌, ◌∙◌, ℕ, zero, suc, Option, Some, None, List, [], ◌∷◌, All, length, refl, ap, subst, arith, eq-eqb, ne_eqb}
 use Rattle.std.proofs.lemmas.List.Elements.{All-head, All-weaker}
+use Rattle.hmc_codes.specs.Link.{IsLinkSetup}
 use Rattle.hmc_codes.specs.Request.{IsRequest}
 use Rattle.hmc_codes.specs.Shape.{IsShape}
 use Rattle.hmc_codes.specs.declared.place.Place.{Place}
@@ -25,6 +26,7 @@ pub record OneCube (setup : Setup) : Type 0 where
   pub shape : IsShape cube.shape
   pub link : LinkRow
   pub links : setup.topology.links ≡ link ∷ []
+  pub sizes : IsLinkSetup link.setup
   pub port : ℕ
   pub is_port : port < 4
   pub host_end : link.join.a ≡ places.Host 0
@@ -74,6 +76,7 @@ parts_of setup one =
       shape = cube.shape;
       link = one.link;
       links = one.links;
+      sizes = link.sizes;
       port = port.0;
       is_port = port.1;
       host_end = one.host_end;

@@ -1,63 +1,134 @@
 -- What hosts give is what the script says, and what lands is what was sent, each in order.
-use Rattle.std.proofs.Common.{◌≡◌, ◌+◌, ◌∙◌, ◌==◌, ℕ, suc, Bool, true, false, Option, Some, List, [], ◌∷◌, ◌++◌, length, map, take, drop, refl, sym, ap, subst, arith, eqb-true, append_assoc, take-append-drop}
+use Rattle.std.proofs.Common.{◌≡◌, ◌≤◌, ◌<◌, ◌+◌, ◌∙◌, ◌==◌, ℕ, zero, suc, Bool, true, false, Option, Some, List, [], ◌∷◌, ◌++◌, length, map, take, drop, refl, sym, ap, subst, arith, eqb-true, take-append-drop, length-append, not-suc-le-zero}
 use Rattle.hmc_journal.specs.Choice.{append_if}
 use Rattle.std.specs.List.{slice_get}
-use Rattle.std.proofs.Math.Seq.{take-suc, drop-append_seam}
+use Rattle.std.proofs.Math.Seq.{take-suc}
 use Rattle.std.proofs.lemmas.List.{map-append}
 use Rattle.std.proofs.lemmas.Option.{slice_get_within, get_or_from_slice_get}
 use Rattle.hmc_codes.specs.Request.{RequestFields}
 use Rattle.hmc_host.specs.Host.{items_of}
 use Rattle.hmc_script.specs.Items.{ItemFields}
-use Rattle.hmc_journal.specs.declared.outcome.Outcome.{Outcome}
 use Rattle.hmc_journal.specs.declared.entry.Entry.{Entry}
-use Rattle.hmc_journal.specs.declared.entry.Entry.TheVariants.{Gave, Sent, Landed, Shifted, Dropped, Spread, Executed, Lifted, Took, Discarded, Idle}
-use Rattle.hmc_journal.specs.Delivered.{IsPrefix, IsScripted, said}
+use Rattle.hmc_journal.specs.declared.entry.Entry.TheVariants.{Gave, Sent, Landed, Shifted, Dropped, Spread, Executed, Lifted, Took, Discarded, Unlocked, Passed, Idle}
+use Rattle.hmc_journal.specs.Delivered.{IsScripted, said, under_masks}
 use Rattle.hmc_journal.specs.Filters.{ScriptRequest, given_by}
 use Rattle.hmc_journal.specs.Hosts.{count_if, given_count, host_of}
-use Rattle.hmc_journal.specs.Lawful.{Lawful}
-use Rattle.hmc_journal.specs.Setup.{Setup}
-use Rattle.hmc_journal.specs.Wires.{sent_flits, landed_flits, line_flits}
-use Rattle.hmc_journal.proofs.EntryRule.{EntryRule, HasGiven, HasLanded, entry_rule, lawful_past}
+use Rattle.hmc_journal.specs.Lawful.{Lawful, has_passed}
+use Rattle.hmc_journal.specs.Setup.{Topology, Setup}
+use Rattle.hmc_schedule.specs.declared.step.Step.TheVariants as steps
+use Rattle.hmc_send.specs.LinkEntries as links
+use Rattle.hmc_send.specs.LinkLines.{StampedFlit, line, landings, under_mask}
+use Rattle.hmc_send.specs.LinkLines.{sent_flits as links_sent}
+use Rattle.hmc_journal.specs.Directions.{sent_flits, landed_flits, landed_masks, mask_of_step}
+use Rattle.hmc_journal.specs.Links.{toward, sizes_on, entries_on}
+use Rattle.hmc_journal.proofs.EntryRule.{EntryRule, HasGiven, entry_rule, lawful_past, not_passed}
+use Rattle.hmc_journal.proofs.Projections.{flits_of_line, sent_are, landed_count, landed_are}
 
--- a prefix stays one of a list that grows
-prefix_of_more : {X : Type 0} (test : Bool) (more front whole : List X) → IsPrefix front whole → IsPrefix front (append_if test more whole)
-prefix_of_more true more front whole is = (is.0 ++ more, ap (λ l. l ++ more) is.1 ∙ append_assoc front is.0 more)
-prefix_of_more false more front whole is = is
+-- ---- what lands is what was sent, under the masks of the steps
 
--- a prefix grows by what stands after it
-prefix_and_next : (front whole rest : List (List ℕ)) (flit : List ℕ) → drop (length front) whole ≡ flit ∷ rest → IsPrefix front whole → IsPrefix (front ++ flit ∷ []) whole
-prefix_and_next front whole rest flit line is =
-    let behind : is.0 ≡ flit ∷ rest = sym (drop-append_seam front is.0) ∙ ap (drop (length front)) (sym is.1) ∙ line in
-    (rest, is.1 ∙ ap (λ l. front ++ l) behind ∙ sym (append_assoc front (flit ∷ []) rest))
+under_more : (masks sent more : List (List ℕ)) → length masks ≤ length sent → under_masks masks (sent ++ more) ≡ under_masks masks sent
+under_more [] sent more within = refl
+under_more (m ∷ masks) [] more within = absurd (not-suc-le-zero within)
+under_more (m ∷ masks) (f ∷ sent) more within = ap (λ l. under_mask m f ∷ l) (under_more masks sent more (omega arith))
 
-landing : (test : Bool) (direction d : ℕ) (past : List Entry) (flit : List ℕ) (outcome : Outcome) → (direction == d) ≡ test → HasLanded past direction flit outcome
-    → IsPrefix (landed_flits d past) (sent_flits d past) → IsPrefix (append_if test (flit ∷ []) (landed_flits d past)) (sent_flits d past)
-unfolding line_flits
-landing false direction d past flit outcome test right is = is
-landing true direction d past flit outcome test right is =
-    prefix_and_next (landed_flits d past) (sent_flits d past) right.rest flit
-    (subst (λ (n : ℕ). drop (length (landed_flits n past)) (sent_flits n past) ≡ flit ∷ right.rest) (eqb-true direction d test) right.line) is
+under_next : (masks sent : List (List ℕ)) (mask flit : List ℕ) → slice_get (drop (length masks) sent) 0 ≡ Some flit → under_masks (masks ++ mask ∷ []) sent ≡ under_masks masks sent ++ under_mask mask flit ∷ []
+under_next [] [] mask flit is = absurd cc
+under_next [] (f ∷ sent) mask flit is = let same : f ≡ flit = cc in ap (λ (g : List ℕ). under_mask mask g ∷ []) same
+under_next (m ∷ masks) [] mask flit is = absurd cc
+under_next (m ∷ masks) (f ∷ sent) mask flit is = ap (λ l. under_mask m f ∷ l) (under_next masks sent mask flit is)
 
-one_entry : (setup : Setup) (d : ℕ) (entry : Entry) (past : List Entry) → EntryRule setup past entry → IsPrefix (landed_flits d past) (sent_flits d past)
-    → IsPrefix (landed_flits d (entry ∷ past)) (sent_flits d (entry ∷ past))
-unfolding landed_flits sent_flits
-one_entry setup d (Sent direction what flit) past right is = prefix_of_more (direction == d) (flit ∷ []) (landed_flits d past) (sent_flits d past) is
-one_entry setup d (Landed direction flit outcome) past right is = landing (direction == d) direction d past flit outcome refl right is
-one_entry setup d (Gave host tag poisoned request) past right is = is
-one_entry setup d (Shifted cube port goal) past right is = is
-one_entry setup d (Dropped cube port) past right is = is
-one_entry setup d (Spread cube vault bank) past right is = is
-one_entry setup d (Executed unit host tag request answer) past right is = is
-one_entry setup d (Lifted cube from port) past right is = is
-one_entry setup d (Took host tag answer) past right is = is
-one_entry setup d (Discarded host) past right is = is
-one_entry setup d (Idle step cause) past right is = is
+inside : (masks sent : List (List ℕ)) (flit : List ℕ) → slice_get (drop (length masks) sent) 0 ≡ Some flit → length masks < length sent
+inside [] [] flit is = absurd cc
+inside [] (f ∷ sent) flit is = omega arith
+inside (m ∷ masks) [] flit is = absurd cc
+inside (m ∷ masks) (f ∷ sent) flit is = let less = inside masks sent flit is in omega arith
 
--- the flits that landed are a prefix of those that were sent
-pub wire_order : (setup : Setup) (d : ℕ) (past : List Entry) → Lawful setup past → IsPrefix (landed_flits d past) (sent_flits d past)
-unfolding landed_flits sent_flits
-wire_order setup d [] lawful = ([], refl)
-wire_order setup d (entry ∷ past) lawful = one_entry setup d entry past (entry_rule setup entry past lawful) (wire_order setup d past (lawful_past setup entry past lawful))
+front_flit : (sent : List StampedFlit) (n : ℕ) (front : StampedFlit) → slice_get (drop n sent) 0 ≡ Some front → slice_get (drop n (flits_of_line sent)) 0 ≡ Some front.flit
+front_flit [] zero front is = absurd cc
+front_flit [] (suc n) front is = absurd cc
+front_flit (x ∷ sent) zero front is = let same : x ≡ front = cc in ap (λ (y : StampedFlit). Some y.flit) same
+front_flit (x ∷ sent) (suc n) front is = front_flit sent n front is
+
+pub record AreUnderMasks (setup : Setup) (d : ℕ) (past : List Entry) : Type 0 where
+  pub are : landed_flits d past ≡ under_masks (landed_masks d setup.schedule past) (sent_flits d past)
+  pub within : length (landed_masks d setup.schedule past) ≤ length (sent_flits d past)
+  pub count : has_passed past ≡ false → length (landed_masks d setup.schedule past) ≡ landed_count d past
+
+-- one more is sent
+sends : (setup : Setup) (here : Bool) (d : ℕ) (past : List Entry) (flit : List ℕ) (masks landed sent : List (List ℕ)) → landed ≡ under_masks masks sent → length masks ≤ length sent
+    → (landed ≡ under_masks masks (append_if here (flit ∷ []) sent)) × (length masks ≤ length (append_if here (flit ∷ []) sent))
+sends setup true d past flit masks landed sent are within = (are ∙ sym (under_more masks sent (flit ∷ []) within), omega (arith, length-append sent (flit ∷ [])))
+sends setup false d past flit masks landed sent are within = (are, within)
+
+-- one more lands
+lands : (here : Bool) (mask flit : List ℕ) (masks landed sent : List (List ℕ)) (count : ℕ) → landed ≡ under_masks masks sent → length masks ≤ length sent → length masks ≡ count
+    → (here ≡ true → (front : List ℕ) × (slice_get (drop (length masks) sent) 0 ≡ Some front) × (flit ≡ under_mask mask front))
+    → (append_if here (flit ∷ []) landed ≡ under_masks (append_if here (mask ∷ []) masks) sent) × (length (append_if here (mask ∷ []) masks) ≤ length sent) × (length (append_if here (mask ∷ []) masks) ≡ links.count_if here count)
+lands true mask flit masks landed sent count are within many front =
+    let f = front refl in
+    let less = inside masks sent f.0 f.1 in
+    let long = length-append masks (mask ∷ []) in (
+      ap (λ l. l ++ flit ∷ []) are ∙ ap (λ (g : List ℕ). under_masks masks sent ++ g ∷ []) f.2 ∙ sym (under_next masks sent mask f.0 f.1),
+      omega arith,
+      omega arith,
+    )
+lands false mask flit masks landed sent count are within many front = (are, within, many)
+
+-- the front of a line is the next of the flits that were sent
+next_front : (topology : Topology) (d direction n : ℕ) (past : List Entry) (front : StampedFlit) → direction ≡ d → n ≡ landed_count d past
+    → slice_get (line (sizes_on topology direction).profile (toward direction) (entries_on topology direction past)) 0 ≡ Some front → slice_get (drop n (sent_flits d past)) 0 ≡ Some front.flit
+unfolding line
+next_front topology d direction n past front same many is =
+    let here : slice_get (line (sizes_on topology d).profile (toward d) (entries_on topology d past)) 0 ≡ Some front =
+    subst (λ (e : ℕ). slice_get (line (sizes_on topology e).profile (toward e) (entries_on topology e past)) 0 ≡ Some front) same is in
+    let count : landings (toward d) (entries_on topology d past) ≡ n = sym (landed_are topology d past) ∙ sym many in
+    ap (λ (l : List (List ℕ)). slice_get (drop n l) 0) (sent_are topology d past)
+    ∙ front_flit (links_sent (sizes_on topology d).profile (toward d) (entries_on topology d past)) n front
+    (subst (λ (k : ℕ). slice_get (drop k (links_sent (sizes_on topology d).profile (toward d) (entries_on topology d past))) 0 ≡ Some front) count here)
+
+landing : (setup : Setup) (d : ℕ) (past : List Entry) (direction : ℕ) (flit mask : List ℕ) (front : StampedFlit) → slice_get setup.schedule (length past) ≡ Some (steps.Land direction mask)
+    → slice_get (line (sizes_on setup.topology direction).profile (toward direction) (entries_on setup.topology direction past)) 0 ≡ Some front → flit ≡ under_mask mask front.flit
+    → has_passed past ≡ false → AreUnderMasks setup d past
+    → (append_if (direction == d) (flit ∷ []) (landed_flits d past) ≡ under_masks (append_if (direction == d) (mask_of_step (slice_get setup.schedule (length past)) ∷ []) (landed_masks d setup.schedule past)) (sent_flits d past))
+    × (length (append_if (direction == d) (mask_of_step (slice_get setup.schedule (length past)) ∷ []) (landed_masks d setup.schedule past)) ≤ length (sent_flits d past))
+    × (length (append_if (direction == d) (mask_of_step (slice_get setup.schedule (length past)) ∷ []) (landed_masks d setup.schedule past)) ≡ links.count_if (direction == d) (landed_count d past))
+landing setup d past direction flit mask front step is flit_is on are =
+    let of_step : mask_of_step (slice_get setup.schedule (length past)) ≡ mask = ap mask_of_step step in
+    lands (direction == d) (mask_of_step (slice_get setup.schedule (length past))) flit (landed_masks d setup.schedule past) (landed_flits d past) (sent_flits d past) (landed_count d past) are.are are.within (are.count on)
+    (λ here. (
+      front.flit,
+      next_front setup.topology d direction (length (landed_masks d setup.schedule past)) past front (eqb-true direction d here) (are.count on) is,
+      flit_is ∙ ap (λ (m : List ℕ). under_mask m front.flit) (sym of_step),
+    ))
+
+one_entry : (setup : Setup) (d : ℕ) (entry : Entry) (past : List Entry) → EntryRule setup past entry → has_passed past ≡ false → AreUnderMasks setup d past → AreUnderMasks setup d (entry ∷ past)
+unfolding landed_flits sent_flits landed_masks landed_count
+one_entry setup d (Sent direction what flit) past right on is =
+    let more = sends setup (direction == d) d past flit (landed_masks d setup.schedule past) (landed_flits d past) (sent_flits d past) is.are is.within in
+    record { are = more.0; within = more.1; count = λ none. is.count on }
+one_entry setup d (Landed direction flit outcome) past right on is =
+    let more = landing setup d past direction flit right.mask right.landing.front right.step right.landing.is_front right.landing.flit_is on is in
+    record { are = more.0; within = more.1; count = λ none. more.2 }
+one_entry setup d (Passed direction flit) past right on is =
+    let more = landing setup d past direction flit right.mask right.front right.step right.is_front right.flit_is on is in
+    record { are = more.0; within = more.1; count = λ none. absurd (let clash : true ≡ false = none in cc) }
+one_entry setup d (Gave host tag poisoned request) past right on is = record { are = is.are; within = is.within; count = λ none. is.count on }
+one_entry setup d (Shifted cube port goal) past right on is = record { are = is.are; within = is.within; count = λ none. is.count on }
+one_entry setup d (Dropped cube port) past right on is = record { are = is.are; within = is.within; count = λ none. is.count on }
+one_entry setup d (Spread cube vault bank) past right on is = record { are = is.are; within = is.within; count = λ none. is.count on }
+one_entry setup d (Executed unit host tag request answer) past right on is = record { are = is.are; within = is.within; count = λ none. is.count on }
+one_entry setup d (Lifted cube from port) past right on is = record { are = is.are; within = is.within; count = λ none. is.count on }
+one_entry setup d (Took host tag answer) past right on is = record { are = is.are; within = is.within; count = λ none. is.count on }
+one_entry setup d (Discarded host) past right on is = record { are = is.are; within = is.within; count = λ none. is.count on }
+one_entry setup d (Unlocked direction) past right on is = record { are = is.are; within = is.within; count = λ none. is.count on }
+one_entry setup d (Idle step cause) past right on is = record { are = is.are; within = is.within; count = λ none. is.count on }
+
+-- the flits that landed are the first that were sent, each under the mask of its step
+pub wire_order : (setup : Setup) (d : ℕ) (past : List Entry) → Lawful setup past → AreUnderMasks setup d past
+unfolding landed_flits sent_flits landed_masks landed_count
+wire_order setup d [] lawful = record { are = refl; within = omega arith; count = λ none. refl }
+wire_order setup d (entry ∷ past) lawful =
+    one_entry setup d entry past (entry_rule setup entry past lawful) (not_passed setup entry past lawful) (wire_order setup d past (lawful_past setup entry past lawful))
 
 -- the requests of a script that a host gives first
 abbrev first_of : Setup → (host count : ℕ) → List ScriptRequest
@@ -97,6 +168,8 @@ one_given setup h (Executed unit host tag request answer) past right is = is
 one_given setup h (Lifted cube from port) past right is = is
 one_given setup h (Took host tag answer) past right is = is
 one_given setup h (Discarded host) past right is = is
+one_given setup h (Unlocked direction) past right is = is
+one_given setup h (Passed direction flit) past right is = is
 one_given setup h (Idle step cause) past right is = is
 
 -- what a host gave are the first requests that the script has for it

@@ -24,7 +24,8 @@ use Rattle.hmc_journal.proofs.Moves.{gone}
 use Rattle.hmc_journal.proofs.Standing.{IsAsking, Stands}
 use Rattle.hmc_journal.proofs.Entering.{Kept, front_stands, own_item, asking_at}
 use Rattle.hmc_journal.proofs.Sound.{kept}
-use Rattle.hmc_journal.proofs.QueueToQueue.{asks_gathered, asks_of, unit_is}
+use Rattle.hmc_journal.proofs.Views.{asks_gathered}
+use Rattle.hmc_journal.proofs.QueueToQueue.{asks_of, unit_is}
 use Rattle.hmc_journal.proofs.Units.{unit_executed}
 
 -- another host

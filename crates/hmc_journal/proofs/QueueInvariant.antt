@@ -1,5 +1,5 @@
 -- What the queues hold after a lawful journal of one cube and one link.
-use Rattle.std.proofs.Common.{◌⊎◌, inl, inr, ◌≡◌, ◌<◌, ◌∙◌, ℕ, zero, suc, Bool, true, false, Option, Some, None, List, [], ◌∷◌, ◌++◌, length, refl, sym, ap, arith, eq-eqb, slice_index_or, not-suc-le-zero}
+use Rattle.std.proofs.Common.{◌≡◌, ◌<◌, ◌∙◌, ℕ, zero, suc, Bool, true, false, Option, Some, None, List, [], ◌∷◌, ◌++◌, length, refl, sym, ap, arith, eq-eqb, slice_index_or, not-suc-le-zero}
 use Rattle.std.specs.Prelude.{option_to_list}
 use Rattle.std.proofs.lemmas.List.Elements.{All-weaker}
 use Rattle.std.proofs.lemmas.Option.{slice_get-get_or}
@@ -15,10 +15,10 @@ use Rattle.hmc_journal.proofs.OneCube.{OneCube}
 use Rattle.hmc_journal.proofs.Standing.{IsAsking, IsReplying, Stands}
 use Rattle.hmc_journal.proofs.Entering.{contents_stand}
 use Rattle.hmc_journal.proofs.Sound.{kept}
-use Rattle.hmc_journal.proofs.Tokens.{lands_within, stands_first}
+use Rattle.hmc_journal.proofs.LinkInvariant.{link_invariant}
 use Rattle.hmc_journal.proofs.Phases.{Errand, Phase, errands_held, is_free}
 use Rattle.hmc_journal.proofs.Phases.Errand.{Tells}
-use Rattle.hmc_journal.proofs.QueuesAndWires.{forwarded, stretch}
+use Rattle.hmc_journal.proofs.Stretches.{forwarded, stretch}
 use Rattle.hmc_journal.proofs.TagWork.{telling_by, errand, errands, errand_replying}
 use Rattle.hmc_journal.proofs.TagStep.{is_out, TagHasPhase}
 use Rattle.hmc_journal.proofs.Tags.{has_phase}
@@ -65,11 +65,6 @@ answer_awaited setup past one k default lawful inside =
 is_reply : (packet : PacketFields) → IsReplying packet → IsHostAnswer packet
 is_reply packet is = record { replies = is.replies; host = is.slid }
 
-first_or_second : (d : ℕ) → d < 2 → (d ≡ 0) ⊎ (d ≡ 1)
-first_or_second zero below = inl refl
-first_or_second (suc zero) below = inr refl
-first_or_second (suc (suc d)) below = absurd (omega arith)
-
 pub queue_invariant : (setup : Setup) (past : List Entry) → OneCube setup → Lawful setup past → QueueInvariant setup past
 queue_invariant setup past one lawful =
     let keeps = kept setup past one lawful in
@@ -80,6 +75,5 @@ queue_invariant setup past one lawful =
       registers = All-weaker (Stands setup.topology one.port (Registers 0)) IsCubeRequest (λ p is. is_ask p is.asking) _ (stand (Registers 0));
       answers = λ from. All-weaker (Stands setup.topology one.port (Answers 0 from)) IsHostAnswer (λ p is. is_reply p is) _ (stand (Answers 0 from));
       hosts = λ k default inside. answer_awaited setup past one k default lawful inside;
-      fits = λ direction flit rest line. lands_within setup past direction flit rest one lawful line;
-      in_flight_flits = λ direction below. stands_first setup past direction one (first_or_second direction below) lawful;
+      links = λ direction below. link_invariant setup one past direction below lawful;
     }

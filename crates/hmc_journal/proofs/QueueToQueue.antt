@@ -1,7 +1,6 @@
--- What left a room is what entered the next one on the way to a unit.
+-- What left a queue is what entered the next one on the way to a unit.
 use Rattle.std.proofs.Common.{◌≡◌, ◌∙◌, ◌==◌, ◌&&◌, ℕ, zero, suc, Bool, true, false, not, if◌then◌else◌, Option, Some, List, [], ◌∷◌, ◌++◌, refl, sym, ap, ap₂, eq-eqb, append-nil}
 use Rattle.hmc_journal.specs.Choice.{append_if}
-use Rattle.std.proofs.lemmas.List.Concat.{flat_map-append}
 use Rattle.hmc_codes.specs.Commands.{is_posted}
 use Rattle.hmc_codes.specs.Request.{RequestFields}
 use Rattle.hmc_codes.specs.Shape.{vault_of, bank_of}
@@ -12,39 +11,27 @@ use Rattle.hmc_codes.specs.declared.unit.Unit.TheVariants as units
 use Rattle.hmc_packet.specs.declared.what.What.{What}
 use Rattle.hmc_packet.specs.declared.what.What.TheVariants.{New}
 use Rattle.hmc_packet.specs.Packet.{PacketFields}
-use Rattle.hmc_packet.specs.Transactions.{request_in, answer_in}
 use Rattle.hmc_journal.specs.declared.outcome.Goal.{Goal}
 use Rattle.hmc_journal.specs.declared.outcome.Goal.TheVariants as goals
 use Rattle.hmc_journal.specs.declared.entry.Entry.{Entry}
-use Rattle.hmc_journal.specs.declared.entry.Entry.TheVariants.{Gave, Sent, Landed, Shifted, Dropped, Spread, Executed, Lifted, Took, Discarded, Idle}
+use Rattle.hmc_journal.specs.declared.entry.Entry.TheVariants.{Gave, Sent, Landed, Shifted, Dropped, Spread, Executed, Lifted, Took, Discarded, Unlocked, Passed, Idle}
 use Rattle.hmc_serial.specs.Unit.{unit_of, unit_by, is_for_registers}
 use Rattle.hmc_journal.specs.Setup.{Setup, Topology, shape_of, unit_in, end_of}
-use Rattle.hmc_journal.specs.Wires.{unsent}
-use Rattle.hmc_journal.specs.Queues.{QueueId, same_queue, is_at, buffer_at, leaves, enters, unless_posted, answers_of, front_of, packet_if, left, entered, contents, queue_of, goal_queue, arrived, arrival_in, output_from, taken_in, landing_buffer}
+use Rattle.hmc_journal.specs.Directions.{unsent}
+use Rattle.hmc_journal.specs.Queues.{QueueId, same_queue, is_at, buffer_at, leaves, enters, unless_posted, answers_of, front_of, packet_if, left, entered, contents, queue_of, goal_queue, arrived, arrival_in, output_from, landing_buffer}
 use Rattle.hmc_journal.specs.Queues.QueueId.{Output, Port, Vault, Bank, Registers}
 use Rattle.hmc_journal.specs.Filters.{TaggedRequest, same_unit}
 use Rattle.hmc_journal.specs.Lawful.{Lawful}
 use Rattle.hmc_journal.proofs.OneCube.{OneCube}
 use Rattle.hmc_journal.specs.Next.{tag_of}
-use Rattle.hmc_journal.specs.Delivered.{tagged_request, tagged_requests, tagged_answer, tagged_answers}
+use Rattle.hmc_journal.specs.Delivered.{tagged_request, tagged_requests}
 use Rattle.hmc_journal.proofs.EntryRule.{EntryRule, HasFront, HasShifted, HasDropped, entry_rule, lawful_past, goal_of}
-use Rattle.hmc_journal.proofs.Moves.{begins_off, taken_off, gone, leaving, entering, entered-more, gone-more, front_is, same_queue_refl, output_off, arrives, arrived_is, arrived_off}
+use Rattle.hmc_journal.proofs.Moves.{begins_off, arrived_first, gone, leaving, entering, entered-more, gone-more, front_is, same_queue_refl, output_off, arrives, arrived_is, arrived_off}
 use Rattle.hmc_journal.proofs.Standing.{IsAsking, Stands, IsRequestOf, request_of_packet}
 use Rattle.hmc_journal.proofs.Entering.{Kept, front_stands}
-use Rattle.hmc_journal.proofs.Sound.{kept}
-
--- a view of lists of packets that is gathered packet by packet
-pub record IsGathered {X : Type 0} (view : List PacketFields → List X) : Type 0 where
-  pub none : view [] ≡ []
-  pub append : (xs ys : List PacketFields) → view (xs ++ ys) ≡ view xs ++ view ys
-
-pub asks_gathered : (topology : Topology) (host : ℕ) (unit : RequestUnit) → IsGathered (tagged_requests topology host unit)
-unfolding tagged_requests
-asks_gathered topology host unit = record { none = refl; append = flat_map-append (λ packet. tagged_request topology host unit packet (request_in packet)) }
-
-pub takings_gathered : IsGathered tagged_answers
-unfolding tagged_answers
-takings_gathered = record { none = refl; append = flat_map-append (λ packet. tagged_answer packet (answer_in packet)) }
+use Rattle.hmc_journal.proofs.Stretches.{tokens_landed}
+use Rattle.hmc_journal.proofs.Views.{IsGathered, asks_gathered}
+use Rattle.hmc_journal.proofs.Sound.{kept, has_begun}
 
 -- by induction: what is gathered of what left a room
 pub gathered_of_gone : {X : Type 0} (view : List PacketFields → List X) (total : List Entry → List X) → IsGathered view → (setup : Setup) (one : OneCube setup) (room : QueueId) → total [] ≡ []
@@ -56,7 +43,7 @@ gathered_of_gone view total gathered setup one room first step (entry ∷ past) 
     let before = lawful_past setup entry past lawful in
     let right = entry_rule setup entry past lawful in
     let keeps = kept setup past one before in
-    ap view (gone-more setup entry past right keeps.within room) ∙ gathered.append (gone setup.topology past room) (leaving setup.topology past entry room)
+    ap view (gone-more setup entry past right (has_begun setup one past entry right keeps) keeps.within room) ∙ gathered.append (gone setup.topology past room) (leaving setup.topology past entry room)
     ∙ ap (λ l. l ++ view (leaving setup.topology past entry room)) (gathered_of_gone view total gathered setup one room first step past before)
     ∙ sym (step entry past right keeps)
 
@@ -203,13 +190,15 @@ port_hops setup one unit to queue apart (Dropped cube here) past right keeps =
 port_hops setup one unit to queue apart (Gave host tag poisoned request) past right keeps = untouched setup.topology unit (Port 0 one.port) to past (Gave host tag poisoned request) refl (arrived_off (output_from setup.topology (places.Host host)) _ to (output_off _ to queue.output))
 port_hops setup one unit to queue apart (Sent d what flit) past right keeps = untouched setup.topology unit (Port 0 one.port) to past (Sent d what flit) (sent_leaves past d what flit (Port 0 one.port) refl) refl
 port_hops setup one unit to queue apart (Landed d flit outcome) past right keeps =
-    untouched setup.topology unit (Port 0 one.port) to past (Landed d flit outcome) refl (arrived_off (taken_in outcome (landing_buffer setup.topology d)) _ to (taken_off outcome (buffer_at (end_of setup.topology d)) to (queue.buffer (end_of setup.topology d))))
+    untouched setup.topology unit (Port 0 one.port) to past (Landed d flit outcome) refl (arrived_first (landing_buffer setup.topology d) to (tokens_landed setup.topology d flit outcome past) (queue.buffer (end_of setup.topology d)))
 port_hops setup one unit to queue apart (Spread cube vault bank) past right keeps = untouched setup.topology unit (Port 0 one.port) to past (Spread cube vault bank) refl (arrived_off (Some (Bank cube vault bank)) _ to (queue.bank cube vault bank))
 port_hops setup one unit to queue apart (Executed other host tag request answer) past right keeps =
     untouched setup.topology unit (Port 0 one.port) to past (Executed other host tag request answer) (queue_not_port other 0 one.port) (arrived_off (unless_posted (is_posted request.command) (answers_of other)) _ to (unless_enters (is_posted request.command) other to (queue.answers other)))
 port_hops setup one unit to queue apart (Lifted cube from port) past right keeps = untouched setup.topology unit (Port 0 one.port) to past (Lifted cube from port) refl (arrived_off (output_from setup.topology (places.Port cube port)) _ to (output_off _ to queue.output))
 port_hops setup one unit to queue apart (Took host tag answer) past right keeps = untouched setup.topology unit (Port 0 one.port) to past (Took host tag answer) refl refl
 port_hops setup one unit to queue apart (Discarded host) past right keeps = untouched setup.topology unit (Port 0 one.port) to past (Discarded host) refl refl
+port_hops setup one unit to queue apart (Unlocked d) past right keeps = untouched setup.topology unit (Port 0 one.port) to past (Unlocked d) refl refl
+port_hops setup one unit to queue apart (Passed d flit) past right keeps = untouched setup.topology unit (Port 0 one.port) to past (Passed d flit) refl refl
 port_hops setup one unit to queue apart (Idle step cause) past right keeps = untouched setup.topology unit (Port 0 one.port) to past (Idle step cause) refl refl
 
 -- to a vault, and to the registers

@@ -1,7 +1,6 @@
 -- Answers on their way back: what a host took of a cube was accepted at its link, and that was lifted in the cube.
 use Rattle.std.proofs.Common.{◌≡◌, ◌∙◌, ◌==◌, ◌&&◌, ℕ, zero, suc, Bool, true, false, if◌then◌else◌, Option, Some, List, [], ◌∷◌, ◌++◌, refl, sym, ap, ap₂, eq-eqb, append-nil}
 use Rattle.std.specs.Prelude.{option_map}
-use Rattle.std.proofs.lemmas.List.Concat.{flat_map-append}
 use Rattle.hmc_codes.specs.Commands.{is_posted}
 use Rattle.hmc_codes.specs.declared.answer.Answer.{Answer}
 use Rattle.hmc_codes.specs.declared.lift.Lift.{Lift}
@@ -13,42 +12,24 @@ use Rattle.hmc_journal.specs.declared.entry.Entry.{Entry}
 use Rattle.hmc_journal.specs.declared.entry.Entry.TheVariants.{Gave, Sent, Landed, Shifted, Executed, Lifted, Took, Discarded}
 use Rattle.hmc_journal.specs.Choice.{append_if}
 use Rattle.hmc_journal.specs.Setup.{Setup, Topology, end_of}
-use Rattle.hmc_journal.specs.Wires.{accepted}
-use Rattle.hmc_journal.specs.Queues.{QueueId, is_at, buffer_at, leaves, enters, front_of, packet_if, entered, contents, output_from, landing_buffer, taken_in, goal_queue, unless_posted, answers_of, arrived}
+use Rattle.hmc_journal.specs.Queues.{QueueId, is_at, leaves, enters, front_of, packet_if, entered, contents, output_from, landing_buffer, goal_queue, unless_posted, answers_of, arrived}
 use Rattle.hmc_journal.specs.Queues.QueueId.{Output, Host, Answers}
 use Rattle.hmc_journal.specs.Filters.{TaggedAnswer}
 use Rattle.hmc_journal.specs.Lawful.{Lawful}
-use Rattle.hmc_journal.specs.Delivered.{IsPrefix, tagged_answer, answer_to, answers_to, answers_lifted, answers_taken}
+use Rattle.hmc_journal.specs.Delivered.{tagged_answer, answers_to, answers_lifted, answers_taken}
 use Rattle.hmc_journal.proofs.OneCube.{OneCube}
 use Rattle.hmc_journal.proofs.EntryRule.{EntryRule, HasTaken, HasLifted, entry_rule, lawful_past}
-use Rattle.hmc_journal.proofs.Wire.{behind, numbering, numbering_from}
-use Rattle.hmc_journal.proofs.Moves.{append_if-append, taken_off, gone, leaving, entering, entered-more, front_is, arrives, arrived_off}
+use Rattle.hmc_journal.proofs.Moves.{append_if-append, arrived_first, gone, leaving, entering, entered-more, front_is, arrives, arrived_off}
 use Rattle.hmc_journal.proofs.OneLink.{one_link}
-use Rattle.hmc_journal.proofs.Standing.{Stands, answer_in-numbered}
+use Rattle.hmc_journal.proofs.Standing.{Stands}
 use Rattle.hmc_journal.proofs.Entering.{Kept, front_stands, lifted_into}
 use Rattle.hmc_journal.proofs.Sound.{kept}
 use Rattle.hmc_journal.proofs.TagStep.{discarded_step}
-use Rattle.hmc_journal.proofs.QueueToQueue.{IsGathered, gathered_of_gone, none_leaves, none_enters, leaving_front, entering_at, sent_leaves, unless_enters}
+use Rattle.hmc_journal.proofs.Stretches.{tokens_landed}
+use Rattle.hmc_journal.proofs.Views.{replies_gathered}
+use Rattle.hmc_journal.proofs.QueueToQueue.{gathered_of_gone, none_leaves, none_enters, leaving_front, entering_at, sent_leaves, unless_enters}
 use Rattle.hmc_journal.proofs.Ends.{buffer_not_output, answers_not_output, goal_not_output, queue_not_host}
 use Rattle.hmc_journal.proofs.OtherHosts.{other_host, host_is}
-
-pub replies_gathered : (cube host : ℕ) → IsGathered (answers_to cube host)
-unfolding answers_to
-replies_gathered cube host = record { none = refl; append = flat_map-append (answer_to cube host) }
-
--- a wire's numbers aren't seen
-taking_same : (before : List PacketFields) (packet : PacketFields) → tagged_answer (behind before packet) (answer_in (behind before packet)) ≡ tagged_answer packet (answer_in packet)
-unfolding behind
-taking_same before packet = ap (tagged_answer packet) (answer_in-numbered packet _ _)
-
-reply_same : (cube host : ℕ) (before : List PacketFields) (packet : PacketFields) → answer_to cube host (behind before packet) ≡ answer_to cube host packet
-unfolding behind
-reply_same cube host before packet = ap (λ (l : List TaggedAnswer). if (packet.cube == cube) && (packet.slid == host) then l else []) (unfold behind in (taking_same before packet))
-
-replies-numbering : (cube host : ℕ) (before packets : List PacketFields) → answers_to cube host (numbering_from before packets) ≡ answers_to cube host packets
-unfolding numbering_from answers_to
-replies-numbering cube host before [] = refl
-replies-numbering cube host before (packet ∷ packets) = ap₂ (λ (a b : List TaggedAnswer). a ++ b) (reply_same cube host before packet) (replies-numbering cube host (before ++ packet ∷ []) packets)
 
 -- what is for another cube
 no_reply : (cube host : ℕ) (packet : PacketFields) → (packet.cube == cube) ≡ false → answers_to cube host (packet ∷ []) ≡ []
@@ -93,7 +74,7 @@ lifted-more setup one c h (Lifted cube from port) past right keeps = lifted_more
 lifted-more setup one c h (Gave host tag poisoned request) past right keeps =
     none_lifted setup.topology c h past (Gave host tag poisoned request) (arrived_off (output_from setup.topology (places.Host host)) _ (Output 1) (given_not setup one host))
 lifted-more setup one c h (Landed d flit outcome) past right keeps =
-    none_lifted setup.topology c h past (Landed d flit outcome) (arrived_off (taken_in outcome (landing_buffer setup.topology d)) _ (Output 1) (taken_off outcome (buffer_at (end_of setup.topology d)) (Output 1) (buffer_not_output (end_of setup.topology d) 1)))
+    none_lifted setup.topology c h past (Landed d flit outcome) (arrived_first (landing_buffer setup.topology d) (Output 1) (tokens_landed setup.topology d flit outcome past) (buffer_not_output (end_of setup.topology d) 1))
 lifted-more setup one c h (Shifted cube here goal) past right keeps =
     none_lifted setup.topology c h past (Shifted cube here goal) (arrived_off (goal_queue setup.topology cube goal) _ (Output 1) (goal_not_output setup.topology cube goal 1 (is_for_registers right.at.front.command) _ right.is_goal))
 lifted-more setup one c h (Executed unit host tag request answer) past right keeps =
@@ -109,14 +90,6 @@ lifted_entered setup one c h (entry ∷ past) lawful =
     ∙ ap (λ (l : List TaggedAnswer). l ++ answers_to c h (entering setup.topology past entry (Output 1))) (lifted_entered setup one c h past before)
     ∙ sym ((replies_gathered c h).append (entered setup.topology past (Output 1)) (entering setup.topology past entry (Output 1)))
     ∙ ap (answers_to c h) (sym (entered-more setup.topology entry past (Output 1)))
-
--- of the packets that entered the queue those that were accepted are the first
-pub lifted_back : (setup : Setup) (one : OneCube setup) (c h : ℕ) (past : List Entry) → Lawful setup past → IsPrefix (accepted 1 past) (numbering (entered setup.topology past (Output 1)))
-    → IsPrefix (answers_to c h (accepted 1 past)) (answers_lifted setup.topology c h past)
-lifted_back setup one c h past lawful front = (
-  answers_to c h front.0,
-  lifted_entered setup one c h past lawful ∙ sym (replies-numbering c h [] (entered setup.topology past (Output 1))) ∙ ap (answers_to c h) front.1 ∙ (replies_gathered c h).append (accepted 1 past) front.0,
-)
 
 -- what left the host's buffer was taken
 reply_of : (cube : ℕ) (packet : PacketFields) (answer : Answer) (own : Bool) → packet.slid ≡ 0 → packet.poisoned ≡ false → answer_in packet ≡ Some answer → (packet.cube == cube) ≡ own

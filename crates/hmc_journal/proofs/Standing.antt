@@ -1,8 +1,8 @@
 -- Which packets stand in which room.
-use Rattle.std.proofs.Common.{◌≡◌, ◌<◌, ◌^◌, ◌∙◌, ℕ, zero, suc, Bool, true, false, if◌then◌else◌, Some, None, is_some, List, [], ◌∷◌, ◌++◌, All, length, slice_get, refl, sym, ap, subst, arith}
+use Rattle.std.proofs.Common.{◌≡◌, ◌<◌, ◌^◌, ◌∙◌, ℕ, zero, suc, Bool, true, false, if◌then◌else◌, Some, None, is_some, List, ◌++◌, All, length, slice_get, refl, sym, ap, subst, arith}
 use Rattle.hmc_journal.proofs.EntryRule.{goal_of}
 use Rattle.std.proofs.lemmas.List.{take_at, drop_at}
-use Rattle.std.proofs.lemmas.List.Elements.{All-take, All-drop, All-head, All-cons, All-nil, All-same}
+use Rattle.std.proofs.lemmas.List.Elements.{All-take, All-drop, All-same}
 use Rattle.std.proofs.lemmas.Option.{slice_get_within, get_or_from_slice_get}
 use Rattle.hmc_codes.specs.Commands.{layout_of, family_of, family_of_layout, is_ask, is_flow}
 use Rattle.hmc_codes.specs.Request.{RequestFields, IsRequest}
@@ -14,7 +14,7 @@ use Rattle.hmc_codes.specs.declared.command.Command.TheVariants.{WrRs, RdRs, MdR
 use Rattle.hmc_codes.specs.declared.family.Family.TheVariants as families
 use Rattle.hmc_codes.specs.declared.layout.Layout.{Layout}
 use Rattle.hmc_codes.specs.declared.layout.Layout.TheVariants as layouts
-use Rattle.hmc_packet.specs.Packet.{PacketFields}
+use Rattle.hmc_packet.specs.Packet.{PacketFields, IsPacket}
 use Rattle.hmc_codes.specs.Answer.{CanReply, IsAnswer}
 use Rattle.hmc_packet.specs.Transactions.{request_packet, reply_packet, request_in, answer_by, answer_in, payload_of}
 use Rattle.hmc_packet.proofs.TransactionLemmas.{asks-layout, IsPacket-request_packet, request_in-request_packet, IsPacket-reply_packet, answer_in-reply_packet, answer_in-replies}
@@ -23,7 +23,13 @@ use Rattle.hmc_journal.specs.declared.outcome.Goal.TheVariants as goals
 use Rattle.hmc_journal.specs.Setup.{Topology, shape_of}
 use Rattle.hmc_journal.specs.Queues.{QueueId}
 use Rattle.hmc_journal.specs.Queues.QueueId.{Output, Port, Host, Vault, Bank, Registers, Answers}
-use Rattle.hmc_journal.proofs.Wire.{IsCounted, IsCounted-behind, behind, numbering_from}
+use Rattle.hmc_journal.specs.Delivered.{unnumbered}
+
+-- a packet of a transaction, with an error number that fits either profile
+pub record IsCounted (packet : PacketFields) : Type 0 where
+  pub is_packet : IsPacket packet
+  pub layout : is_flow (layout_of packet.command) ≡ false
+  pub errstat : packet.errstat < 8
 
 -- a request of host 0 to cube 0
 pub record IsAsking (packet : PacketFields) : Type 0 where
@@ -72,45 +78,54 @@ Stands topology port (Host zero) packet = IsReplying packet
 Stands topology port _ packet = ⊥
 
 -- numbers on the way change nothing of it
-answer_numbered : (command : Command) (packet : PacketFields) (frp seq : ℕ) → answer_by command (record packet { rtc = 0; frp = frp; seq = seq }) ≡ answer_by command packet
+answer_unnumbered : (command : Command) (packet : PacketFields) → answer_by command (unnumbered packet) ≡ answer_by command packet
 unfolding answer_by
-answer_numbered WrRs packet frp seq = refl
-answer_numbered RdRs packet frp seq = refl
-answer_numbered MdRdRs packet frp seq = refl
-answer_numbered MdWrRs packet frp seq = refl
-answer_numbered Error packet frp seq = refl
-answer_numbered _ packet frp seq = refl
+answer_unnumbered WrRs packet = refl
+answer_unnumbered RdRs packet = refl
+answer_unnumbered MdRdRs packet = refl
+answer_unnumbered MdWrRs packet = refl
+answer_unnumbered Error packet = refl
+answer_unnumbered _ packet = refl
 
-pub answer_in-numbered : (packet : PacketFields) (frp seq : ℕ) → answer_in (record packet { rtc = 0; frp = frp; seq = seq }) ≡ answer_in packet
+pub answer_in-unnumbered : (packet : PacketFields) → answer_in (unnumbered packet) ≡ answer_in packet
 unfolding answer_in
-answer_in-numbered packet frp seq = answer_numbered packet.command packet frp seq
+answer_in-unnumbered packet = answer_unnumbered packet.command packet
 
-pub request_in-numbered : (packet : PacketFields) (frp seq : ℕ) → request_in (record packet { rtc = 0; frp = frp; seq = seq }) ≡ request_in packet
+pub request_in-unnumbered : (packet : PacketFields) → request_in (unnumbered packet) ≡ request_in packet
 unfolding request_in
-request_in-numbered packet frp seq = refl
+request_in-unnumbered packet = refl
 
-pub IsAsking-behind : (before : List PacketFields) (packet : PacketFields) → IsAsking packet → IsAsking (behind before packet)
-unfolding behind request_in
-IsAsking-behind before packet is = record {
-  counted = IsCounted-behind before packet is.counted;
-  asks = is.asks;
-  cube = is.cube;
-  slid = is.slid;
-  request = is.request;
-  is_request = is.is_request;
-  found = is.found;
+-- of two packets that are alike apart from their numbers
+pub alike : {X : Type 0} (view : PacketFields → X) → ((p : PacketFields) → view (unnumbered p) ≡ view p) → (packet other : PacketFields) → unnumbered packet ≡ unnumbered other → view packet ≡ view other
+alike view blind packet other same = sym (blind packet) ∙ ap view same ∙ blind other
+
+IsCounted-alike : (packet other : PacketFields) → unnumbered packet ≡ unnumbered other → IsPacket packet → IsCounted other → IsCounted packet
+IsCounted-alike packet other same fits is = record {
+  is_packet = fits;
+  layout = alike (λ p. is_flow (layout_of p.command)) (λ p. refl) packet other same ∙ is.layout;
+  errstat = subst (λ (n : ℕ). n < 8) (sym (alike (λ p. p.errstat) (λ p. refl) packet other same)) is.errstat;
 }
 
-pub IsReplying-behind : (before : List PacketFields) (packet : PacketFields) → IsReplying packet → IsReplying (behind before packet)
-unfolding behind
-IsReplying-behind before packet is = record {
-  counted = IsCounted-behind before packet is.counted;
-  replies = is.replies;
-  cube = is.cube;
-  slid = is.slid;
-  unpoisoned = is.unpoisoned;
+IsAsking-alike : (packet other : PacketFields) → unnumbered packet ≡ unnumbered other → IsPacket packet → IsAsking other → IsAsking packet
+IsAsking-alike packet other same fits is = record {
+  counted = IsCounted-alike packet other same fits is.counted;
+  asks = alike (λ p. family_of p.command) (λ p. refl) packet other same ∙ is.asks;
+  cube = alike (λ p. p.cube) (λ p. refl) packet other same ∙ is.cube;
+  slid = alike (λ p. p.slid) (λ p. refl) packet other same ∙ is.slid;
+  request = is.request;
+  is_request = is.is_request;
+  found = alike request_in request_in-unnumbered packet other same ∙ is.found;
+}
+
+IsReplying-alike : (packet other : PacketFields) → unnumbered packet ≡ unnumbered other → IsPacket packet → IsReplying other → IsReplying packet
+IsReplying-alike packet other same fits is = record {
+  counted = IsCounted-alike packet other same fits is.counted;
+  replies = alike (λ p. family_of p.command) (λ p. refl) packet other same ∙ is.replies;
+  cube = alike (λ p. p.cube) (λ p. refl) packet other same ∙ is.cube;
+  slid = alike (λ p. p.slid) (λ p. refl) packet other same ∙ is.slid;
+  unpoisoned = alike (λ p. p.poisoned) (λ p. refl) packet other same ∙ is.unpoisoned;
   answer = is.answer;
-  found = answer_in-numbered packet _ _ ∙ is.found;
+  found = alike answer_in answer_in-unnumbered packet other same ∙ is.found;
 }
 
 -- the packets of both directions count
@@ -119,10 +134,11 @@ IsCounted-output topology port zero packet is = is.counted
 IsCounted-output topology port (suc zero) packet is = is.counted
 IsCounted-output topology port (suc (suc direction)) packet is = absurd is
 
-pub Stands-behind : (topology : Topology) (port direction : ℕ) (before : List PacketFields) (packet : PacketFields) → Stands topology port (Output direction) packet → Stands topology port (Output direction) (behind before packet)
-Stands-behind topology port zero before packet is = IsAsking-behind before packet is
-Stands-behind topology port (suc zero) before packet is = IsReplying-behind before packet is
-Stands-behind topology port (suc (suc direction)) before packet is = absurd is
+-- a packet stands with other numbers too
+pub Stands-alike : (topology : Topology) (port direction : ℕ) (packet other : PacketFields) → unnumbered packet ≡ unnumbered other → IsPacket packet → Stands topology port (Output direction) other → Stands topology port (Output direction) packet
+Stands-alike topology port zero packet other same fits is = IsAsking-alike packet other same fits is
+Stands-alike topology port (suc zero) packet other same fits is = IsReplying-alike packet other same fits is
+Stands-alike topology port (suc (suc direction)) packet other same fits is = absurd is
 
 -- the packets of parts of a list
 pub All-front : {X : Type 0} (P : X → Type 0) (xs ys : List X) → All P (xs ++ ys) → All P xs
@@ -130,14 +146,6 @@ All-front P xs ys all = All-same P _ _ (sym (take_at xs ys (length xs) refl)) (A
 
 pub All-back : {X : Type 0} (P : X → Type 0) (xs ys : List X) → All P (xs ++ ys) → All P ys
 All-back P xs ys all = All-same P _ _ (sym (drop_at xs ys (length xs) refl)) (All-drop P (length xs) (xs ++ ys) all)
-
-pub All-numbering : (topology : Topology) (port direction : ℕ) (before packets : List PacketFields) → All (Stands topology port (Output direction)) packets → All (Stands topology port (Output direction)) (numbering_from before packets)
-unfolding numbering_from
-All-numbering topology port direction before [] all = All-nil (Stands topology port (Output direction))
-All-numbering topology port direction before (packet ∷ packets) all =
-    All-cons (Stands topology port (Output direction)) (behind before packet) (numbering_from (before ++ packet ∷ []) packets)
-    (Stands-behind topology port direction before packet (All-head (Stands topology port (Output direction)) packet packets all))
-    (All-numbering topology port direction (before ++ packet ∷ []) packets (All-back (Stands topology port (Output direction)) (packet ∷ []) packets all))
 
 pub all_get : {X : Type 0} (P : X → Type 0) (xs : List X) (i : ℕ) (x : X) → All P xs → slice_get xs i ≡ Some x → P x
 all_get P xs i x all is = subst P (get_or_from_slice_get xs i x x is) (all i x (slice_get_within xs i x is))
@@ -169,7 +177,7 @@ flow_of layout is = ap is_flow is
 pub IsAsking-request_packet : (request : RequestFields) (tag host : ℕ) (poisoned : Bool) → IsRequest request → request.cube ≡ 0 → tag < 2 ^ 11 → host ≡ 0 → IsAsking (request_packet request tag host poisoned)
 unfolding request_packet
 IsAsking-request_packet request tag host poisoned is cube few none = record {
-  counted = record { is_packet = IsPacket-request_packet request tag host poisoned is few (omega arith); layout = flow_of (layout_of request.command) (asks-layout (layout_of request.command) is.asks) };
+  counted = record { is_packet = IsPacket-request_packet request tag host poisoned is few (omega arith); layout = flow_of (layout_of request.command) (asks-layout (layout_of request.command) is.asks); errstat = omega arith };
   asks = is.asks;
   cube = cube;
   slid = none;
@@ -220,11 +228,25 @@ replied_tag (Register value) tag host cube can = refl
 replied_tag Stored tag host cube can = refl
 replied_tag (Refused errstat) tag host cube can = refl
 
-pub IsReplying-reply_packet : (answer : Answer) (tag host cube : ℕ) → CanReply answer → IsAnswer answer → tag < 2 ^ 11 → host ≡ 0 → cube ≡ 0 → IsReplying (reply_packet answer tag host cube)
-IsReplying-reply_packet answer tag host cube can fits few none own =
+-- the number of an error fits either profile
+abbrev pub IsSmallError : Answer → Type 0
+IsSmallError (Refused errstat) = errstat < 8
+IsSmallError _ = Unit {0}
+
+small_error : (answer : Answer) (tag host cube : ℕ) → CanReply answer → IsSmallError answer → (reply_packet answer tag host cube).errstat < 8
+unfolding reply_packet
+small_error Silent tag host cube can small = absurd can
+small_error (Done flag) tag host cube can small = omega arith
+small_error (Read flag payload) tag host cube can small = omega arith
+small_error (Register value) tag host cube can small = omega arith
+small_error Stored tag host cube can small = omega arith
+small_error (Refused errstat) tag host cube can small = small
+
+pub IsReplying-reply_packet : (answer : Answer) (tag host cube : ℕ) → CanReply answer → IsAnswer answer → IsSmallError answer → tag < 2 ^ 11 → host ≡ 0 → cube ≡ 0 → IsReplying (reply_packet answer tag host cube)
+IsReplying-reply_packet answer tag host cube can fits small few none own =
     let found = answer_in-reply_packet answer tag host cube can fits in
     let replies = (answer_in-replies (reply_packet answer tag host cube)).0 (ap is_some found) in record {
-      counted = record { is_packet = IsPacket-reply_packet answer tag host cube can fits few (omega arith) (omega arith); layout = reply_layout _ replies };
+      counted = record { is_packet = IsPacket-reply_packet answer tag host cube can fits few (omega arith) (omega arith); layout = reply_layout _ replies; errstat = small_error answer tag host cube can small };
       replies = replies;
       cube = replied_cube answer tag host cube can ∙ own;
       slid = replied_slid answer tag host cube can ∙ none;

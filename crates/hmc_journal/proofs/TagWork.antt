@@ -1,5 +1,5 @@
 -- What packets do for a tag, and how an entry moves it.
-use Rattle.std.proofs.Common.{◌≡◌, ◌≤◌, ◌<◌, ◌+◌, ◌∙◌, ◌==◌, ℕ, Bool, true, false, Option, Some, None, List, [], ◌∷◌, ◌++◌, length, map, drop, get_or, refl, sym, ap, ap₂, subst, arith, append-nil, append_assoc, zero-add}
+use Rattle.std.proofs.Common.{◌≡◌, ◌≤◌, ◌<◌, ◌+◌, ◌∙◌, ◌==◌, ℕ, Bool, true, false, Option, Some, None, List, [], ◌∷◌, ◌++◌, length, drop, get_or, refl, sym, ap, ap₂, subst, arith, append-nil, zero-add}
 use Rattle.std.specs.Prelude.{option_to_list}
 use Rattle.std.specs.List.{flat_map}
 use Rattle.std.proofs.lemmas.List.{drop-append-le, drop_more}
@@ -12,22 +12,15 @@ use Rattle.hmc_codes.specs.declared.layout.Layout.{Layout}
 use Rattle.hmc_codes.specs.declared.layout.Layout.TheVariants as layouts
 use Rattle.hmc_packet.specs.Packet.{PacketFields, null_packet}
 use Rattle.hmc_packet.specs.Transactions.{request_in, answer_in}
-use Rattle.hmc_journal.specs.declared.outcome.Outcome.{Outcome}
 use Rattle.hmc_journal.specs.declared.entry.Entry.{Entry}
-use Rattle.hmc_journal.specs.Setup.{Setup, Topology}
-use Rattle.hmc_journal.specs.Wires.{pending, accepted, landed_packet, packets_by}
-use Rattle.hmc_journal.specs.Queues.{QueueId, is_at, front_of, one_if, packet_if, entered, begun, Arrival, arrival_in, arrived}
-use Rattle.hmc_journal.specs.Queues.QueueId.{Output}
-use Rattle.hmc_journal.specs.Next.{outcome_of}
-use Rattle.hmc_journal.proofs.EntryRule.{HasLanded}
-use Rattle.hmc_journal.proofs.Wire.{behind, numbering}
+use Rattle.hmc_journal.specs.Delivered.{unnumbered}
+use Rattle.hmc_journal.specs.Setup.{Topology}
+use Rattle.hmc_journal.specs.Queues.{QueueId, is_at, front_of, one_if, packet_if, entered, Arrival, arrival_in, arrived}
 use Rattle.hmc_journal.proofs.Moves.{entering, entered-more, same_queue_is, arrives, arrived_is}
-use Rattle.hmc_journal.proofs.Standing.{IsAsking, IsReplying, request_in-numbered, answer_in-numbered}
-use Rattle.hmc_journal.proofs.Entering.{Kept}
-use Rattle.hmc_journal.proofs.Tokens.{lands_front}
+use Rattle.hmc_journal.proofs.Standing.{IsAsking, IsReplying, request_in-unnumbered, answer_in-unnumbered}
 use Rattle.hmc_journal.proofs.Phases.{Errand, Moves, errands_if}
 use Rattle.hmc_journal.proofs.Phases.Errand.{Asks, Tells}
-use Rattle.hmc_journal.proofs.QueuesAndWires.{forwarded, stretch, forwards, forwarded-more, HasPassing, passing_inside, IsBlind, output_view}
+use Rattle.hmc_journal.proofs.Stretches.{forwarded, stretch, forwards, forwarded-more, HasPassing, passing_inside}
 
 abbrev pub asking_by : (posted same : Bool) → RequestFields → Option Errand
 asking_by true same request = None
@@ -54,9 +47,10 @@ errand_list tag packet = option_to_list (errand tag packet)
 unfoldable pub errands : (tag : ℕ) → List PacketFields → List Errand
 errands tag packets = flat_map (errand_list tag) packets
 
-pub errand_blind : (tag : ℕ) → IsBlind (errand tag)
-unfolding errand behind
-errand_blind tag before packet = ap₂ (λ (r : Option RequestFields) (a : Option Answer). errand_by packet.poisoned r a (packet.tag == tag)) (request_in-numbered packet _ _) (answer_in-numbered packet _ _)
+-- the numbers of a packet change nothing of it
+pub errand_blind : (tag : ℕ) (packet : PacketFields) → errand tag (unnumbered packet) ≡ errand tag packet
+unfolding errand
+errand_blind tag packet = ap₂ (λ (r : Option RequestFields) (a : Option Answer). errand_by packet.poisoned r a (packet.tag == tag)) (request_in-unnumbered packet) (answer_in-unnumbered packet)
 
 pub errand_poisoned : (tag : ℕ) (packet : PacketFields) → packet.poisoned ≡ true → errand tag packet ≡ None
 unfolding errand
@@ -81,28 +75,6 @@ errand_replying tag packet is =
     ap₂ (λ (b : Bool) (r : Option RequestFields). errand_by b r (answer_in packet) (packet.tag == tag)) is.unpoisoned (no_request packet is)
     ∙ ap (λ (a : Option Answer). errand_by false None a (packet.tag == tag)) is.found
 
--- the front of the wire's stretch does what the packet does that lands
-pub record HasLanding (topology : Topology) (past : List Entry) (d tag : ℕ) (landed : PacketFields) : Type 0 where
-  pub at : HasPassing topology past (Output d)
-  pub same : errand tag at.front ≡ errand tag landed
-
-has_landing_by : (topology : Topology) (past : List Entry) (d tag : ℕ) (landed : PacketFields) (packets : List PacketFields) (more : List (Option Errand)) → stretch topology past (Output d) ≡ packets → map (errand tag) packets ≡ errand tag landed ∷ more
-    → HasLanding topology past d tag landed
-has_landing_by topology past d tag landed [] more is are = cc
-has_landing_by topology past d tag landed (front ∷ rest) more is are = record { at = record { front = front; rest = rest; is = is }; same = cc }
-
-pub has_landing : (setup : Setup) (port : ℕ) (past : List Entry) (d tag : ℕ) (flit : List ℕ) (outcome : Outcome) → HasLanded past d flit outcome → Kept setup port past
-    → packets_by outcome (landed_packet d flit past) ≡ landed_packet d flit past ∷ [] → HasLanding setup.topology past d tag (landed_packet d flit past)
-unfolding stretch forwarded
-has_landing setup port past d tag flit outcome has kept taken =
-    let landed = landed_packet d flit past in
-    let front = lands_front setup port past d flit has.rest kept has.line in
-    let one : packets_by (outcome_of (pending d past) flit) landed ≡ landed ∷ [] = ap (λ (o : Outcome). packets_by o landed) (sym has.is_outcome) ∙ taken in
-    let are : numbering (begun setup.topology past d) ≡ accepted d past ++ (landed ∷ front.0) =
-    front.1 ∙ ap (λ (l : List PacketFields). (accepted d past ++ l) ++ front.0) one ∙ append_assoc (accepted d past) (landed ∷ []) front.0 in
-    has_landing_by setup.topology past d tag landed (stretch setup.topology past (Output d)) _ refl
-    (output_view (errand tag) (errand_blind tag) setup past d (accepted d past) (landed ∷ front.0) are)
-
 -- a stretch before and after an entry
 abbrev pub HasFrom : Topology → List Entry → Option QueueId → Type 0
 HasFrom topology past None = Unit {0}
@@ -112,18 +84,18 @@ abbrev pub leaving_errands : Topology → List Entry → (tag : ℕ) → Option 
 leaving_errands topology past tag None = []
 leaving_errands topology past tag (Some queue) = errand_list tag (front_of (stretch topology past queue))
 
-front_errand : (topology : Topology) (past : List Entry) (tag : ℕ) (from : Option QueueId) (queue : QueueId) (here : Bool) → HasFrom topology past from → is_at from queue ≡ here → forwarded past queue ≤ length (entered topology past queue)
-    → errands tag (stretch topology past queue) ≡ errands_if here (leaving_errands topology past tag from) ++ errands tag (drop (one_if here + forwarded past queue) (entered topology past queue))
+front_errand : (topology : Topology) (past : List Entry) (tag : ℕ) (from : Option QueueId) (queue : QueueId) (here : Bool) → HasFrom topology past from → is_at from queue ≡ here → forwarded topology past queue ≤ length (entered topology past queue)
+    → errands tag (stretch topology past queue) ≡ errands_if here (leaving_errands topology past tag from) ++ errands tag (drop (one_if here + forwarded topology past queue) (entered topology past queue))
 unfolding errands stretch
-front_errand topology past tag from queue false has is within = ap (λ (n : ℕ). flat_map (errand_list tag) (drop n (entered topology past queue))) (sym (zero-add (forwarded past queue)))
+front_errand topology past tag from queue false has is within = ap (λ (n : ℕ). flat_map (errand_list tag) (drop n (entered topology past queue))) (sym (zero-add (forwarded topology past queue)))
 front_errand topology past tag None queue true has is within = cc
 front_errand topology past tag (Some there) queue true has is within =
     let same : there ≡ queue = same_queue_is there queue is in
-    let inside : forwarded past queue < length (entered topology past queue) = subst (λ (r : QueueId). forwarded past r < length (entered topology past r)) same (passing_inside topology past there has) in
-    let next : forwarded past queue + 1 ≡ 1 + forwarded past queue = omega arith in
-    let split : drop (forwarded past queue) (entered topology past queue) ≡ get_or (entered topology past queue) (forwarded past queue) null_packet ∷ drop (forwarded past queue + 1) (entered topology past queue) = drop_more (entered topology past queue) (forwarded past queue) null_packet inside in
-    let front : front_of (drop (forwarded past there) (entered topology past there)) ≡ get_or (entered topology past queue) (forwarded past queue) null_packet =
-    ap (λ (r : QueueId). front_of (drop (forwarded past r) (entered topology past r))) same ∙ ap front_of split in
+    let inside : forwarded topology past queue < length (entered topology past queue) = subst (λ (r : QueueId). forwarded topology past r < length (entered topology past r)) same (passing_inside topology past there has) in
+    let next : forwarded topology past queue + 1 ≡ 1 + forwarded topology past queue = omega arith in
+    let split : drop (forwarded topology past queue) (entered topology past queue) ≡ get_or (entered topology past queue) (forwarded topology past queue) null_packet ∷ drop (forwarded topology past queue + 1) (entered topology past queue) = drop_more (entered topology past queue) (forwarded topology past queue) null_packet inside in
+    let front : front_of (drop (forwarded topology past there) (entered topology past there)) ≡ get_or (entered topology past queue) (forwarded topology past queue) null_packet =
+    ap (λ (r : QueueId). front_of (drop (forwarded topology past r) (entered topology past r))) same ∙ ap front_of split in
     ap (flat_map (errand_list tag)) split
     ∙ ap₂ (λ (p : PacketFields) (n : ℕ). errand_list tag p ++ flat_map (errand_list tag) (drop n (entered topology past queue))) (sym front) next
 
@@ -136,22 +108,22 @@ within_one : (here : Bool) (n m : ℕ) → n ≤ m → (here ≡ true → n < m)
 within_one true n m few some = let inside : n < m = some refl in omega arith
 within_one false n m few some = omega arith
 
-from_inside : (topology : Topology) (past : List Entry) (from : Option QueueId) (queue : QueueId) → HasFrom topology past from → is_at from queue ≡ true → forwarded past queue < length (entered topology past queue)
+from_inside : (topology : Topology) (past : List Entry) (from : Option QueueId) (queue : QueueId) → HasFrom topology past from → is_at from queue ≡ true → forwarded topology past queue < length (entered topology past queue)
 from_inside topology past None queue has is = cc
-from_inside topology past (Some there) queue has is = subst (λ (r : QueueId). forwarded past r < length (entered topology past r)) (same_queue_is there queue is) (passing_inside topology past there has)
+from_inside topology past (Some there) queue has is = subst (λ (r : QueueId). forwarded topology past r < length (entered topology past r)) (same_queue_is there queue is) (passing_inside topology past there has)
 
-pub entry_moves : (topology : Topology) (entry : Entry) (past : List Entry) (tag : ℕ) (there : Option QueueId) (coming : Unit {0} → PacketFields) → arrives topology past entry ≡ arrival_in there coming → ((queue : QueueId) → forwarded past queue ≤ length (entered topology past queue)) → HasFrom topology past (forwards past entry)
-    → Moves (λ queue. errands tag (stretch topology past queue)) (λ queue. errands tag (stretch topology (entry ∷ past) queue)) (forwards past entry) there
-    (leaving_errands topology past tag (forwards past entry)) (errand_list tag (coming tt))
+pub entry_moves : (topology : Topology) (entry : Entry) (past : List Entry) (tag : ℕ) (there : Option QueueId) (coming : Unit {0} → PacketFields) → arrives topology past entry ≡ arrival_in there coming → ((queue : QueueId) → forwarded topology past queue ≤ length (entered topology past queue)) → HasFrom topology past (forwards topology past entry)
+    → Moves (λ queue. errands tag (stretch topology past queue)) (λ queue. errands tag (stretch topology (entry ∷ past) queue)) (forwards topology past entry) there
+    (leaving_errands topology past tag (forwards topology past entry)) (errand_list tag (coming tt))
 unfolding stretch errands entering
 entry_moves topology entry past tag there coming is within has = record {
-  rest = λ queue. errands tag (drop (one_if (is_at (forwards past entry) queue) + forwarded past queue) (entered topology past queue));
-  out = λ queue. front_errand topology past tag (forwards past entry) queue (is_at (forwards past entry) queue) has refl (within queue);
+  rest = λ queue. errands tag (drop (one_if (is_at (forwards topology past entry) queue) + forwarded topology past queue) (entered topology past queue));
+  out = λ queue. front_errand topology past tag (forwards topology past entry) queue (is_at (forwards topology past entry) queue) has refl (within queue);
   into = λ queue.
-      ap₂ (λ (n : ℕ) (l : List PacketFields). flat_map (errand_list tag) (drop n l)) (forwarded-more entry past queue) (entered-more topology entry past queue)
-      ∙ ap (flat_map (errand_list tag)) (drop-append-le (one_if (is_at (forwards past entry) queue) + forwarded past queue) (entered topology past queue) (entering topology past entry queue)
-      (within_one (is_at (forwards past entry) queue) (forwarded past queue) (length (entered topology past queue)) (within queue) (from_inside topology past (forwards past entry) queue has)))
-      ∙ flat_map-append (errand_list tag) (drop (one_if (is_at (forwards past entry) queue) + forwarded past queue) (entered topology past queue)) (entering topology past entry queue)
-      ∙ ap (λ (l : List Errand). flat_map (errand_list tag) (drop (one_if (is_at (forwards past entry) queue) + forwarded past queue) (entered topology past queue)) ++ l)
+      ap₂ (λ (n : ℕ) (l : List PacketFields). flat_map (errand_list tag) (drop n l)) (forwarded-more topology entry past queue) (entered-more topology entry past queue)
+      ∙ ap (flat_map (errand_list tag)) (drop-append-le (one_if (is_at (forwards topology past entry) queue) + forwarded topology past queue) (entered topology past queue) (entering topology past entry queue)
+      (within_one (is_at (forwards topology past entry) queue) (forwarded topology past queue) (length (entered topology past queue)) (within queue) (from_inside topology past (forwards topology past entry) queue has)))
+      ∙ flat_map-append (errand_list tag) (drop (one_if (is_at (forwards topology past entry) queue) + forwarded topology past queue) (entered topology past queue)) (entering topology past entry queue)
+      ∙ ap (λ (l : List Errand). flat_map (errand_list tag) (drop (one_if (is_at (forwards topology past entry) queue) + forwarded topology past queue) (entered topology past queue)) ++ l)
       (ap (λ (a : Option Arrival). errands tag (arrived queue a)) is ∙ ap (errands tag) (arrived_is there coming queue) ∙ entering_errand tag (is_at there queue) coming);
 }

@@ -10,15 +10,16 @@ use Rattle.hmc_codes.specs.Commands.{is_posted}
 use Rattle.hmc_codes.specs.Request.{RequestFields, IsRequest}
 use Rattle.hmc_codes.specs.declared.answer.Answer.{Answer}
 use Rattle.hmc_codes.specs.declared.place.Place.TheVariants as places
+use Rattle.hmc_packet.specs.Landings as receivers
 use Rattle.hmc_packet.specs.Packet.{PacketFields}
 use Rattle.hmc_packet.specs.Transactions.{request_packet, answer_in}
 use Rattle.hmc_packet.proofs.TransactionLemmas.{request_in-request_packet}
 use Rattle.hmc_host.specs.Tags.{lowest_free, with_out, none_out}
 use Rattle.hmc_host.specs.Give.{wants_tag}
 use Rattle.hmc_journal.specs.declared.entry.Entry.{Entry}
-use Rattle.hmc_journal.specs.declared.entry.Entry.TheVariants.{Gave, Sent, Landed, Shifted, Dropped, Spread, Executed, Lifted, Took, Discarded, Idle}
+use Rattle.hmc_journal.specs.declared.entry.Entry.TheVariants.{Gave, Sent, Landed, Shifted, Dropped, Spread, Executed, Lifted, Took, Discarded, Unlocked, Passed, Idle}
 use Rattle.hmc_journal.specs.Setup.{Setup, Topology}
-use Rattle.hmc_journal.specs.Wires.{accepted}
+use Rattle.hmc_journal.specs.Directions.{accepted, receiver_of}
 use Rattle.hmc_journal.specs.Queues.{QueueId, leaves, enters, left, entered, output_from, tag_number}
 use Rattle.hmc_journal.specs.Queues.QueueId.{Output, Port, Host, Vault, Bank, Registers, Answers}
 use Rattle.hmc_journal.specs.Hosts.{tags_out, host_of}
@@ -26,13 +27,13 @@ use Rattle.hmc_journal.specs.Filters.{Completion, same_tag, asked_under, replies
 use Rattle.hmc_journal.specs.Lawful.{Lawful}
 use Rattle.hmc_journal.proofs.OneCube.{OneCube}
 use Rattle.hmc_journal.proofs.EntryRule.{EntryRule, IsTagged, entry_rule, lawful_past}
-use Rattle.hmc_journal.proofs.Entering.{Kept, front_stands, own_item}
-use Rattle.hmc_journal.proofs.Sound.{kept}
+use Rattle.hmc_journal.proofs.Entering.{front_stands, own_item}
+use Rattle.hmc_journal.proofs.Arrived.{KeptAll, kept_all}
 use Rattle.hmc_journal.proofs.Phases.{Errand, Moves, HasPhase, nothing_moves, asks}
 use Rattle.hmc_journal.proofs.Phases.Phase.{Free}
-use Rattle.hmc_journal.proofs.QueuesAndWires.{forwarded, stretch, forwards}
+use Rattle.hmc_journal.proofs.Stretches.{forwarded, stretch, forwards}
 use Rattle.hmc_journal.proofs.TagWork.{asking_by, errand_by, errand, errand_list, errands, entry_moves}
-use Rattle.hmc_journal.proofs.TagStep.{errands_at, TagHasPhase, within, landed_step, sent_step, idle_step, shifted_step, dropped_step, spread_step, lifted_step, discarded_step, execute_step, took_step}
+use Rattle.hmc_journal.proofs.TagStep.{errands_at, TagHasPhase, within, landed_step, sent_step, unlocked_step, passed_step, idle_step, shifted_step, dropped_step, spread_step, lifted_step, discarded_step, execute_step, took_step}
 
 -- a request that is given under no tag: it is poisoned, or posted
 untagged_errand : (poisoned posted : Bool) (request : RequestFields) (answer : Option Answer) (same : Bool) → (not poisoned && not posted) ≡ false → is_posted request.command ≡ posted → errand_by poisoned (Some request) answer same ≡ None
@@ -91,7 +92,7 @@ gave_by setup past number host (Some tag) poisoned request true zeroth is awaite
     let found : lowest_free (tags_out 0 past) ≡ Some tag = ap (λ (h : ℕ). lowest_free (tags_out h past)) (sym zeroth) ∙ tagged.1 ∙ sym tagged.2 in
     gave_tagged _ _ (Output 0) _ number tag (tag == number) request _ _ _ (tags_out 0 past) moves one refl found has
 
-gave_step : (setup : Setup) (one : OneCube setup) (past : List Entry) (number host : ℕ) (tag : Option ℕ) (poisoned : Bool) (request : RequestFields) → EntryRule setup past (Gave host tag poisoned request) → Kept setup one.port past
+gave_step : (setup : Setup) (one : OneCube setup) (past : List Entry) (number host : ℕ) (tag : Option ℕ) (poisoned : Bool) (request : RequestFields) → EntryRule setup past (Gave host tag poisoned request) → KeptAll setup one.port past
     → TagHasPhase setup.topology past number → TagHasPhase setup.topology (Gave host tag poisoned request ∷ past) number
 unfolding asked_under replies_under answers_under tags_out forwards leaves enters host_of
 gave_step setup one past number host tag poisoned request right kept has =
@@ -108,18 +109,20 @@ gave_step setup one past number host tag poisoned request right kept has =
     (slice_index_or (choose b (with_out tag (tags_out 0 past)) (tags_out 0 past)) number false)) (sym here) given
 
 -- every entry
-phase-more : (setup : Setup) (one : OneCube setup) (entry : Entry) (past : List Entry) (number : ℕ) → EntryRule setup past entry → Kept setup one.port past → TagHasPhase setup.topology past number → TagHasPhase setup.topology (entry ∷ past) number
-phase-more setup one (Gave host tag poisoned request) past number right kept has = gave_step setup one past number host tag poisoned request right kept has
-phase-more setup one (Sent d what flit) past number right kept has = sent_step setup one.port past number d what flit kept has
-phase-more setup one (Landed d flit outcome) past number right kept has = landed_step setup one.port past number d flit outcome right kept has
-phase-more setup one (Shifted cube here goal) past number right kept has = shifted_step setup one.port past number cube here goal right kept has
-phase-more setup one (Dropped cube here) past number right kept has = dropped_step setup one.port past number cube here right kept has
-phase-more setup one (Spread cube vault bank) past number right kept has = spread_step setup one.port past number cube vault bank right kept has
-phase-more setup one (Executed unit host tag request answer) past number right kept has = execute_step setup one.port past number unit host tag request answer right kept has
-phase-more setup one (Lifted cube from out) past number right kept has = lifted_step setup one past number cube from out right kept has
-phase-more setup one (Took host tag answer) past number right kept has = took_step setup one.port past number host tag answer right kept (front_stands setup one.port past (Host host) kept right.at) has
-phase-more setup one (Discarded host) past number right kept has = absurd (discarded_step setup one.port past number host right (front_stands setup one.port past (Host host) kept right.at))
-phase-more setup one (Idle step cause) past number right kept has = idle_step setup one.port past number step cause kept has
+phase-more : (setup : Setup) (one : OneCube setup) (entry : Entry) (past : List Entry) (number : ℕ) → EntryRule setup past entry → KeptAll setup one.port past → KeptAll setup one.port (entry ∷ past) → TagHasPhase setup.topology past number → TagHasPhase setup.topology (entry ∷ past) number
+phase-more setup one (Gave host tag poisoned request) past number right kept kept_then has = gave_step setup one past number host tag poisoned request right kept has
+phase-more setup one (Sent d what flit) past number right kept kept_then has = sent_step setup one.port past number d what flit kept has
+phase-more setup one (Landed d flit outcome) past number right kept kept_then has = landed_step setup one.port past number d flit outcome kept (kept_then.links d) has
+phase-more setup one (Shifted cube here goal) past number right kept kept_then has = shifted_step setup one.port past number cube here goal right kept has
+phase-more setup one (Dropped cube here) past number right kept kept_then has = dropped_step setup one.port past number cube here right kept has
+phase-more setup one (Spread cube vault bank) past number right kept kept_then has = spread_step setup one.port past number cube vault bank right kept has
+phase-more setup one (Executed unit host tag request answer) past number right kept kept_then has = execute_step setup one.port past number unit host tag request answer right kept has
+phase-more setup one (Lifted cube from out) past number right kept kept_then has = lifted_step setup one past number cube from out right kept has
+phase-more setup one (Took host tag answer) past number right kept kept_then has = took_step setup one.port past number host tag answer right kept (front_stands setup one.port past (Host host) kept.kept right.at) has
+phase-more setup one (Discarded host) past number right kept kept_then has = absurd (discarded_step setup one.port past number host right (front_stands setup one.port past (Host host) kept.kept right.at))
+phase-more setup one (Unlocked d) past number right kept kept_then has = unlocked_step setup one.port past number d kept has
+phase-more setup one (Passed d flit) past number right kept kept_then has = passed_step setup one.port past number d flit kept has
+phase-more setup one (Idle step cause) past number right kept kept_then has = idle_step setup one.port past number step cause kept has
 
 none_out_at : (n number : ℕ) → slice_index_or (replicate n false) number false ≡ false
 none_out_at zero number = refl
@@ -127,7 +130,7 @@ none_out_at (suc n) zero = refl
 none_out_at (suc n) (suc number) = none_out_at n number
 
 errands_at_first : (topology : Topology) (number : ℕ) (queue : QueueId) → errands_at topology [] number queue ≡ []
-unfolding errands stretch forwarded left entered accepted
+unfolding errands stretch forwarded left entered accepted receiver_of receivers.accepted
 errands_at_first topology number (Output d) = refl
 errands_at_first topology number (Port cube port) = refl
 errands_at_first topology number (Host host) = refl
@@ -147,4 +150,4 @@ pub has_phase : (setup : Setup) (past : List Entry) (one : OneCube setup) (numbe
 has_phase setup [] one number lawful = phase_at_first setup.topology number
 has_phase setup (entry ∷ past) one number lawful =
     let before = lawful_past setup entry past lawful in
-    phase-more setup one entry past number (entry_rule setup entry past lawful) (kept setup past one before) (has_phase setup past one number before)
+    phase-more setup one entry past number (entry_rule setup entry past lawful) (kept_all setup past one before) (kept_all setup (entry ∷ past) one lawful) (has_phase setup past one number before)

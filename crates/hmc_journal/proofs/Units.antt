@@ -16,7 +16,7 @@ use Rattle.hmc_journal.specs.declared.entry.Entry.{Entry}
 use Rattle.hmc_journal.specs.declared.entry.Entry.TheVariants.{Sent, Landed, Shifted, Spread, Executed, Gave, Lifted}
 use Rattle.hmc_serial.specs.Unit.{is_for_registers}
 use Rattle.hmc_journal.specs.Setup.{Setup, Topology, shape_of, unit_in, end_of}
-use Rattle.hmc_journal.specs.Queues.{QueueId, same_queue, is_at, buffer_at, leaves, enters, answers_of, front_of, packet_if, entered, contents, queue_of, goal_queue, output_from, taken_in, landing_buffer, unless_posted}
+use Rattle.hmc_journal.specs.Queues.{QueueId, same_queue, is_at, buffer_at, leaves, enters, answers_of, front_of, packet_if, entered, contents, queue_of, goal_queue, output_from, landing_buffer, unless_posted}
 use Rattle.hmc_journal.specs.Queues.QueueId.{Output, Vault, Bank, Registers}
 use Rattle.hmc_journal.specs.Filters.{TaggedRequest, same_unit, executed_by}
 use Rattle.hmc_journal.specs.Lawful.{Lawful}
@@ -24,10 +24,12 @@ use Rattle.hmc_journal.proofs.OneCube.{OneCube}
 use Rattle.hmc_journal.specs.Next.{tag_of}
 use Rattle.hmc_journal.specs.Delivered.{tagged_requests}
 use Rattle.hmc_journal.proofs.EntryRule.{EntryRule, HasSpread, HasExecuted}
-use Rattle.hmc_journal.proofs.Moves.{taken_off, append_if-append, gone, leaving, entering, front_is, same_queue_is, output_off, arrived_off}
+use Rattle.hmc_journal.proofs.Moves.{arrived_first, append_if-append, gone, leaving, entering, front_is, same_queue_is, output_off, arrived_off}
 use Rattle.hmc_journal.proofs.Standing.{IsAsking, IsBound, Stands}
 use Rattle.hmc_journal.proofs.Entering.{Kept, front_stands, same_request}
-use Rattle.hmc_journal.proofs.QueueToQueue.{asks_gathered, gathered_of_gone, Hops, untouched, hop, none_leaves, leaving_front, entering_at, sent_leaves, unless_enters, asks_of, asks_other, unit_is}
+use Rattle.hmc_journal.proofs.Stretches.{tokens_landed}
+use Rattle.hmc_journal.proofs.Views.{asks_gathered}
+use Rattle.hmc_journal.proofs.QueueToQueue.{gathered_of_gone, Hops, untouched, hop, none_leaves, leaving_front, entering_at, sent_leaves, unless_enters, asks_of, asks_other, unit_is}
 
 -- the unit of a packet that stands in a vault or in a bank
 goal_vault : (registers : Bool) (v b vault : ℕ) → (if registers then goals.Registers else goals.Vault v) ≡ goals.Vault vault → (if registers then units.Registers 0 else units.Bank 0 v b) ≡ units.Bank 0 vault b
@@ -102,7 +104,7 @@ vault_hops setup one vault bank (Spread cube here to) past right keeps = spread_
 vault_hops setup one vault bank (Sent d what flit) past right keeps =
     untouched setup.topology (units.Bank 0 vault bank) (Vault 0 vault) (Bank 0 vault bank) past (Sent d what flit) (sent_leaves past d what flit (Vault 0 vault) refl) refl
 vault_hops setup one vault bank (Landed d flit outcome) past right keeps =
-    untouched setup.topology (units.Bank 0 vault bank) (Vault 0 vault) (Bank 0 vault bank) past (Landed d flit outcome) refl (arrived_off (taken_in outcome (landing_buffer setup.topology d)) _ (Bank 0 vault bank) (taken_off outcome (buffer_at (end_of setup.topology d)) (Bank 0 vault bank) (buffer_not_bank (end_of setup.topology d) 0 vault bank)))
+    untouched setup.topology (units.Bank 0 vault bank) (Vault 0 vault) (Bank 0 vault bank) past (Landed d flit outcome) refl (arrived_first (landing_buffer setup.topology d) (Bank 0 vault bank) (tokens_landed setup.topology d flit outcome past) (buffer_not_bank (end_of setup.topology d) 0 vault bank))
 vault_hops setup one vault bank (Shifted cube here goal) past right keeps =
     untouched setup.topology (units.Bank 0 vault bank) (Vault 0 vault) (Bank 0 vault bank) past (Shifted cube here goal) refl (arrived_off (goal_queue setup.topology cube goal) _ (Bank 0 vault bank) (goal_not_bank setup.topology cube goal 0 vault bank))
 vault_hops setup one vault bank (Executed other host tag request answer) past right keeps =

@@ -13,14 +13,13 @@ use Rattle.hmc_codes.specs.declared.place.Place.TheVariants as places
 use Rattle.hmc_codes.specs.declared.unit.Unit.TheVariants as units
 use Rattle.hmc_script.specs.Items.{ItemFields}
 use Rattle.hmc_schedule.specs.declared.step.Step.TheVariants as steps
-use Rattle.hmc_packet.specs.declared.what.What.TheVariants.{New, Null}
+use Rattle.hmc_packet.specs.declared.what.What.TheVariants.{New}
 use Rattle.hmc_packet.specs.Packet.{null_packet}
 use Rattle.hmc_crc.specs.Bits.{bits_below, bits_of, number_of}
 use Rattle.hmc_crc.specs.Remainder.{coefficients, divisor, zeros, plus, divide, remainder, crc_of}
 use Rattle.hmc_codes.specs.Codes.{all_commands, command_of}
-use Rattle.hmc_packet.specs.Header.{header_word, header_of, header_is_clean}
+use Rattle.hmc_packet.specs.Header.{header_of, header_is_clean}
 use Rattle.hmc_packet.specs.Tail.{tail_word, tail_of, tail_is_clean}
-use Rattle.hmc_packet.specs.Spelling.{word_bytes, half_bytes, covered, check_of, bytes_of, cut, flits_with, spelling}
 use Rattle.hmc_codes.specs.Flit.{zero_flit}
 use Rattle.hmc_packet.specs.Parts.{word_of, half_of, lng_of}
 use Rattle.hmc_packet.specs.Reading.{is_null, is_null_alone, has_length, fitting, command_in, is_clean, poison_in, packet_from, seen_in, judgement_of, bytes_read, read_of}
@@ -35,22 +34,30 @@ use Rattle.hmc_serial.specs.Machine.{opening_state, apply, answer_to}
 use Rattle.hmc_serial.specs.Perform.{perform_on}
 use Rattle.hmc_host.specs.Give.{give_says}
 use Rattle.hmc_host.specs.Tags.{none_out, number_out, lowest_free}
-use Rattle.hmc_journal.specs.declared.outcome.Cause.TheVariants.{Ended, Fence, Empty, Full}
+use Rattle.hmc_journal.specs.declared.outcome.Cause.TheVariants.{Fence, Full}
 use Rattle.hmc_journal.specs.declared.outcome.Goal.TheVariants.{Vault}
-use Rattle.hmc_journal.specs.declared.outcome.Outcome.TheVariants.{Quiet, Gathered, Accepted, Poisoned}
+use Rattle.hmc_packet.specs.declared.outcome.Outcome.TheVariants.{Accepted, Poisoned}
+use Rattle.hmc_packet.specs.Landings.{pending, mode}
+use Rattle.hmc_packet.specs.Landings as landings
+use Rattle.hmc_tokens.specs.Account.{code_for}
+use Rattle.hmc_send.specs.Entries.{places, unfinished, taken_fronts}
+use Rattle.hmc_send.specs.LinkEntries.{receiver_entries, handed_packets, takes}
+use Rattle.hmc_send.specs.LinkSenders.{given_after, sender_entries, tokens}
+use Rattle.hmc_send.specs.Places.{flit_of}
 use Rattle.hmc_journal.specs.declared.entry.Entry.{Entry}
 use Rattle.hmc_journal.specs.declared.entry.Entry.TheVariants.{Gave, Sent, Landed, Shifted, Dropped, Spread, Executed, Lifted, Took, Discarded, Idle}
 use Rattle.hmc_serial.specs.Unit.{unit_of}
 use Rattle.hmc_journal.specs.Setup.{Topology, Setup, other, start_of, end_of, shapes_of, direction_from, direction_among, port_towards, unit_in}
-use Rattle.hmc_journal.specs.Wires.{sent_flits, landed_flits, line_flits, unsent, pending, landed_packet, accepted, return_pointer}
-use Rattle.hmc_journal.specs.Queues.{contents, entered, left, leaves, enters, begun}
+use Rattle.hmc_journal.specs.Directions.{unsent, receiver_of, landed_packets}
+use Rattle.hmc_journal.specs.Links.{link_entries}
+use Rattle.hmc_journal.specs.Queues.{contents, entered, left, leaves, enters}
 use Rattle.hmc_journal.specs.Queues.QueueId.{Output, Answers}
 use Rattle.hmc_journal.specs.Hosts.{given_count, tags_out, host_of}
-use Rattle.hmc_journal.specs.StepView.{view_of, direction_view, state_of, numbered, numbering, numbering_from, behind}
+use Rattle.hmc_journal.specs.StepView.{view_of, state_of}
 use Rattle.hmc_journal.specs.Serial.{state_after, IsSerial}
-use Rattle.hmc_journal.specs.Next.{next, choice, outcome_of}
+use Rattle.hmc_journal.specs.Next.{next, choice}
 use Rattle.hmc_journal.specs.Drained.{is_drained}
-use Rattle.hmc_journal.specs.Lawful.{journal_of, journal_behind}
+use Rattle.hmc_journal.specs.Counts.{token_counts}
 use Rattle.hmc_journal.specs.Lines.{line_of as entry_line}
 use Rattle.hmc_journal.specs.Text.{lines_of}
 use Rattle.hmc_journal.specs.Counts.{taken_count, executed_count, dropped_count, host_counts, cube_counts}
@@ -82,17 +89,6 @@ four_reads = record {
   schedule = [];
 }
 
--- the first alone, with a step for each move
-abbrev one_read : Setup
-one_read = record {
-  topology = one_cube;
-  script = item_of false false (read_at 0x40) ∷ [];
-  schedule =
-      steps.Give 0 ∷ steps.Send 0 ∷ steps.Land 0 (replicate 16 0) ∷ steps.Shift 0 0 ∷ steps.Spread 0 0 ∷ steps.Bank 0 0 0 ∷
-      steps.Lift 0 (lifts.Vault 0) ∷ steps.Send 1 ∷ steps.Land 1 (replicate 16 0) ∷ steps.Send 1 ∷ steps.Land 1 (replicate 16 0) ∷
-      steps.Take 0 ∷ steps.Give 0 ∷ [];
-}
-
 abbrev gave_first : Entry
 gave_first = Gave 0 (Some 0) false (read_at 0x40)
 
@@ -105,13 +101,6 @@ gave_third = Gave 0 (Some 1) false (read_at 0xc0)
 -- the first request as it is sent
 abbrev first_flit : List ℕ
 first_flit = 0xb0 ∷ 0 ∷ 0 ∷ 0x40 ∷ 0 ∷ 0 ∷ 0 ∷ 0 ∷ 0 ∷ 0x02 ∷ 0x04 ∷ 0 ∷ 0x0d ∷ 0x2e ∷ 0xe0 ∷ 0x99 ∷ []
-
--- its answer, which gives back 16 zero bytes
-abbrev head_flit : List ℕ
-head_flit = 0x38 ∷ 0x01 ∷ replicate 14 0
-
-abbrev last_flit : List ℕ
-last_flit = 0 ∷ 0 ∷ 0 ∷ 0 ∷ 0 ∷ 0 ∷ 0 ∷ 0 ∷ 0x01 ∷ 0x04 ∷ 0x04 ∷ 0 ∷ 0x7f ∷ 0x16 ∷ 0x26 ∷ 0x95 ∷ []
 
 -- the first request, poisoned
 abbrev poisoned_flit : List ℕ
@@ -139,12 +128,8 @@ number_out-taken = refl
 
 -- the first flit of a packet takes it out of the output queue
 contents-begun : contents one_cube (Sent 0 New first_flit ∷ gave_poisoned ∷ gave_first ∷ []) (Output 0) ≡ request_packet (read_at 0x80) 0 0 true ∷ []
-unfolding contents entered left leaves enters unsent direction_from direction_among
+unfolding contents entered left leaves enters unsent direction_from direction_among lng_of word_of half_of
 contents-begun = refl
-
-begun-first : begun one_cube (Sent 0 New first_flit ∷ gave_poisoned ∷ gave_first ∷ []) 0 ≡ request_packet (read_at 0x40) 0 0 false ∷ []
-unfolding begun contents entered left leaves enters unsent direction_from direction_among
-begun-first = refl
 
 -- requests come in the order of the script, a poisoned one without a tag
 next-first : next four_reads [] (steps.Give 0) ≡ gave_first
@@ -167,7 +152,7 @@ next-fence = refl
 
 -- nothing is on its way at first, and a request that was given is
 is_drained-first : map (is_drained one_cube) ([] ∷ (gave_first ∷ []) ∷ []) ≡ true ∷ false ∷ []
-unfolding is_drained contents entered left leaves enters begun accepted direction_from direction_among
+unfolding is_drained contents entered left leaves enters direction_from direction_among link_entries token_counts tokens sender_entries given_after places unfinished receiver_entries landings.accepted takes handed_packets unsent code_for
 is_drained-first = refl
 
 -- a packet of one flit that came to a bank
@@ -180,32 +165,21 @@ answered_once = Executed (units.Bank 0 0 0) 0 (Some 0) (read_at 0x40) (Read fals
 
 -- a poisoned packet is dropped, and another waits where the vault's queue is full
 next-dropped : next four_reads (Landed 0 poisoned_flit Poisoned ∷ Shifted 0 0 (Vault 0) ∷ Landed 0 first_flit Accepted ∷ []) (steps.Shift 0 0) ≡ Dropped 0 0
-unfolding next choice view_of contents entered left leaves enters unsent landed_packet pending direction_from direction_among read_of is_null_alone is_null zero_flit has_length lng_of word_of half_of bytes_read judgement_of command_in fitting all_commands command_of table_line is_clean header_is_clean tail_is_clean tail_word header_of tail_of poison_in packet_from seen_in crc_of remainder divide plus zeros divisor coefficients bits_below bits_of number_of xor
+unfolding next choice view_of contents entered left leaves enters unsent landed_packets receiver_of pending direction_from direction_among read_of is_null_alone is_null zero_flit has_length lng_of word_of half_of bytes_read judgement_of command_in fitting all_commands command_of table_line is_clean header_is_clean tail_is_clean tail_word header_of tail_of poison_in packet_from seen_in crc_of remainder divide plus zeros divisor coefficients bits_below bits_of number_of xor
 next-dropped = refl
 
 next-waits : next four_reads (Landed 0 first_flit Accepted ∷ Shifted 0 0 (Vault 0) ∷ Landed 0 first_flit Accepted ∷ []) (steps.Shift 0 0) ≡ Idle (steps.Shift 0 0) Full
-unfolding next choice view_of contents entered left leaves enters unsent landed_packet pending direction_from direction_among read_of is_null_alone is_null zero_flit has_length lng_of word_of half_of bytes_read judgement_of command_in fitting all_commands command_of table_line is_clean header_is_clean tail_is_clean tail_word header_of tail_of poison_in packet_from seen_in crc_of remainder divide plus zeros divisor coefficients bits_below bits_of number_of xor
+unfolding next choice view_of contents entered left leaves enters unsent landed_packets receiver_of pending direction_from direction_among read_of is_null_alone is_null zero_flit has_length lng_of word_of half_of bytes_read judgement_of command_in fitting all_commands command_of table_line is_clean header_is_clean tail_is_clean tail_word header_of tail_of poison_in packet_from seen_in crc_of remainder divide plus zeros divisor coefficients bits_below bits_of number_of xor
 next-waits = refl
 
 -- where the answers are full a posted request is executed, and another waits
 next-posted : next four_reads (at_bank posted_flit answered_once) (steps.Bank 0 0 0) ≡ Executed (units.Bank 0 0 0) 0 None posted Silent
-unfolding next choice view_of contents entered left leaves enters unsent landed_packet pending direction_from direction_among read_of is_null_alone is_null zero_flit has_length lng_of word_of half_of bytes_read judgement_of command_in fitting all_commands command_of table_line is_clean header_is_clean tail_is_clean tail_word header_of tail_of poison_in packet_from seen_in crc_of remainder divide plus zeros divisor coefficients bits_below bits_of number_of xor request_in payload_of state_of state_after opening_state opening opening_registers apply answer_to perform_on action_of atomic_of memory_error acted_of
+unfolding next choice view_of contents entered left leaves enters unsent landed_packets receiver_of pending direction_from direction_among read_of is_null_alone is_null zero_flit has_length lng_of word_of half_of bytes_read judgement_of command_in fitting all_commands command_of table_line is_clean header_is_clean tail_is_clean tail_word header_of tail_of poison_in packet_from seen_in crc_of remainder divide plus zeros divisor coefficients bits_below bits_of number_of xor request_in payload_of state_of state_after opening_state opening opening_registers apply answer_to perform_on action_of atomic_of memory_error acted_of
 next-posted = refl
 
 next-answers_full : next four_reads (at_bank first_flit answered_once) (steps.Bank 0 0 0) ≡ Idle (steps.Bank 0 0 0) Full
-unfolding next choice view_of contents entered left leaves enters unsent landed_packet pending direction_from direction_among read_of is_null_alone is_null zero_flit has_length lng_of word_of half_of bytes_read judgement_of command_in fitting all_commands command_of table_line is_clean header_is_clean tail_is_clean tail_word header_of tail_of poison_in packet_from seen_in crc_of remainder divide plus zeros divisor coefficients bits_below bits_of number_of xor request_in payload_of state_of state_after opening_state opening opening_registers apply answer_to perform_on action_of atomic_of memory_error acted_of
+unfolding next choice view_of contents entered left leaves enters unsent landed_packets receiver_of pending direction_from direction_among read_of is_null_alone is_null zero_flit has_length lng_of word_of half_of bytes_read judgement_of command_in fitting all_commands command_of table_line is_clean header_is_clean tail_is_clean tail_word header_of tail_of poison_in packet_from seen_in crc_of remainder divide plus zeros divisor coefficients bits_below bits_of number_of xor request_in payload_of state_of state_after opening_state opening opening_registers apply answer_to perform_on action_of atomic_of memory_error acted_of
 next-answers_full = refl
-
--- a read, from its giving to the taking of its answer
-journal_of-read : journal_of one_read ≡
-    Idle (steps.Give 0) Ended ∷ Took 0 0 (Read false (replicate 16 0)) ∷ Landed 1 last_flit Accepted ∷ Sent 1 New last_flit ∷
-    Landed 1 head_flit Gathered ∷ Sent 1 New head_flit ∷ Lifted 0 (lifts.Vault 0) 0 ∷
-    Executed (units.Bank 0 0 0) 0 (Some 0) (read_at 0x40) (Read false (replicate 16 0)) ∷ Spread 0 0 0 ∷ Shifted 0 0 (Vault 0) ∷
-    Landed 0 first_flit Accepted ∷ Sent 0 New first_flit ∷ gave_first ∷ []
-unfolding journal_of journal_behind next choice view_of host_of given_count tags_out none_out give_says direction_from direction_among contents entered left leaves enters unsent landed_packet pending begun direction_view line_flits sent_flits landed_flits accepted return_pointer port_towards unit_of
-    spelling flits_with cut bytes_of covered check_of word_bytes half_bytes header_word tail_word request_packet reply_packet answer_in answer_by request_in payload_of state_of state_after opening_state opening opening_registers apply answer_to perform_on action_of atomic_of memory_error
-    read_of is_null_alone is_null zero_flit has_length lng_of word_of half_of bytes_read judgement_of command_in fitting all_commands command_of table_line is_clean header_is_clean tail_is_clean header_of tail_of poison_in packet_from seen_in crc_of remainder divide plus zeros divisor coefficients bits_below bits_of number_of xor
-journal_of-read = refl
 
 -- Of two links the first joins host 0 to port 0, and the second port 1 to host 1.
 abbrev two_links : Topology
@@ -240,27 +214,6 @@ unit_of-each : map (unit_in one_cube) (read_at 0x40 ∷ read_at 0x140 ∷ read_a
     ≡ units.Bank 0 0 0 ∷ units.Bank 0 1 0 ∷ units.Bank 0 0 1 ∷ units.Bank 0 1 1 ∷ units.Registers 0 ∷ []
 unfolding unit_of
 unit_of-each = refl
-
--- FRP counts flits and SEQ packets, from zero again after 511 and 7
-numbered-next : numbered 3 2 (request_packet (read_at 0x40) 9 0 false) ≡ record (request_packet (read_at 0x40) 9 0 false) { frp = 4; seq = 3 }
-unfolding request_packet
-numbered-next = refl
-
-numbered-again : numbered 511 7 (request_packet (read_at 0x40) 9 0 false) ≡ request_packet (read_at 0x40) 9 0 false
-unfolding request_packet
-numbered-again = refl
-
-numbering-three : map (λ packet. packet.frp ∷ packet.seq ∷ []) (numbering (request_packet (read_at 0x40) 0 0 false ∷ reply_packet (Read false (replicate 16 0)) 0 0 0 ∷ request_packet posted 0 0 false ∷ [])) ≡ (1 ∷ 1 ∷ []) ∷ (3 ∷ 2 ∷ []) ∷ (4 ∷ 3 ∷ []) ∷ []
-unfolding numbering_from behind request_packet reply_packet
-numbering-three = refl
-
--- zeros between packets are a NULL; within a packet of 17 flits they are gathered
-abbrev long_head : List ℕ
-long_head = 0xcf ∷ 0x08 ∷ replicate 14 0
-
-outcome_of-zeros : outcome_of [] zero_flit ∷ outcome_of (long_head ∷ []) zero_flit ∷ outcome_of (long_head ∷ replicate 14 zero_flit) zero_flit ∷ [] ≡ Quiet ∷ Gathered ∷ Gathered ∷ []
-unfolding is_null zero_flit lng_of word_of
-outcome_of-zeros = refl
 
 -- Host 0 asks four times, one of these poisoned and one posted, and host 1 once; three are
 -- executed, and one answer is taken.
@@ -340,53 +293,21 @@ lines_of-order : lines_of (Discarded 1 ∷ Dropped 0 2 ∷ []) ≡ entry_line (D
 unfolding lines_of
 lines_of-order = refl
 
--- where each room is empty but a packet is on the line, something is on its way
+-- where each queue is empty but a packet is on the line, something is on its way
 is_drained-line : is_drained one_cube (Sent 0 New first_flit ∷ gave_first ∷ []) ≡ false
-unfolding is_drained contents entered left leaves enters unsent begun accepted direction_from direction_among
+unfolding is_drained contents entered left leaves enters direction_from direction_among flit_of lng_of word_of half_of table_line request_packet taken_fronts mode link_entries token_counts tokens sender_entries given_after places unfinished receiver_entries landings.accepted takes handed_packets unsent code_for
 is_drained-line = refl
-
--- a full line takes no flit, and an empty one gives none
-next-line_full : next one_read (Sent 0 New first_flit ∷ gave_first ∷ []) (steps.Send 0) ≡ Idle (steps.Send 0) Full
-unfolding next choice view_of direction_view line_flits sent_flits landed_flits
-next-line_full = refl
-
-next-line_empty : next one_read [] (steps.Land 0 (replicate 16 1)) ≡ Idle (steps.Land 0 zero_flit) Empty
-unfolding next choice view_of direction_view line_flits sent_flits landed_flits
-next-line_empty = refl
-
--- with one token a packet waits until the one before has left the receiving buffer
-abbrev one_token : Setup
-one_token = record four_reads {
-  topology = record one_cube {
-    links = record { join = record { a = places.Host 0; b = places.Port 0 0 }; setup = record { line = 2; tokens = 1; retry = 17; output = 2; profile = One } } ∷ [];
-  };
-}
-
-abbrev begun_once : List Entry
-begun_once = Landed 0 first_flit Accepted ∷ Sent 0 New first_flit ∷ gave_third ∷ gave_first ∷ []
-
--- the third request as it is sent second
-abbrev second_flit : List ℕ
-second_flit = 0xb0 ∷ 0x10 ∷ 0 ∷ 0xc0 ∷ 0 ∷ 0 ∷ 0 ∷ 0 ∷ 0 ∷ 0x04 ∷ 0x08 ∷ 0 ∷ 0xa9 ∷ 0x91 ∷ 0x4a ∷ 0xd1 ∷ []
-
-next-no_token : next one_token begun_once (steps.Send 0) ≡ Sent 0 Null zero_flit
-unfolding next choice view_of direction_view line_flits sent_flits landed_flits contents entered left leaves enters unsent begun accepted return_pointer landed_packet pending direction_from direction_among read_of is_null_alone is_null zero_flit has_length lng_of word_of half_of bytes_read judgement_of command_in fitting all_commands command_of table_line is_clean header_is_clean tail_is_clean tail_word header_of tail_of poison_in packet_from seen_in crc_of remainder divide plus zeros divisor coefficients bits_below bits_of number_of xor request_packet
-next-no_token = refl
-
-next-token : next one_token (Shifted 0 0 (Vault 0) ∷ begun_once) (steps.Send 0) ≡ Sent 0 New second_flit
-unfolding next choice view_of direction_view line_flits sent_flits landed_flits contents entered left leaves enters unsent begun accepted return_pointer landed_packet pending direction_from direction_among read_of is_null_alone is_null zero_flit has_length lng_of word_of half_of bytes_read judgement_of command_in fitting all_commands command_of table_line is_clean header_is_clean tail_is_clean header_of tail_of poison_in packet_from seen_in crc_of remainder divide plus zeros divisor coefficients bits_below bits_of number_of xor spelling flits_with cut bytes_of covered check_of word_bytes half_bytes header_word tail_word request_packet reply_packet
-next-token = refl
 
 -- a bank's queue, and an output queue, that are full
 next-bank_full : next four_reads (Shifted 0 0 (Vault 0) ∷ Landed 0 first_flit Accepted ∷ at_bank first_flit []) (steps.Spread 0 0) ≡ Idle (steps.Spread 0 0) Full
-unfolding next choice view_of contents entered left leaves enters unsent landed_packet pending direction_from direction_among read_of is_null_alone is_null zero_flit has_length lng_of word_of half_of bytes_read judgement_of command_in fitting all_commands command_of table_line is_clean header_is_clean tail_is_clean tail_word header_of tail_of poison_in packet_from seen_in crc_of remainder divide plus zeros divisor coefficients bits_below bits_of number_of xor
+unfolding next choice view_of contents entered left leaves enters unsent landed_packets receiver_of pending direction_from direction_among read_of is_null_alone is_null zero_flit has_length lng_of word_of half_of bytes_read judgement_of command_in fitting all_commands command_of table_line is_clean header_is_clean tail_is_clean tail_word header_of tail_of poison_in packet_from seen_in crc_of remainder divide plus zeros divisor coefficients bits_below bits_of number_of xor
 next-bank_full = refl
 
 next-output_full : next four_reads (Lifted 0 lifts.Registers 0 ∷ Lifted 0 lifts.Registers 0 ∷ answered_once) (steps.Lift 0 (lifts.Vault 0)) ≡ Idle (steps.Lift 0 (lifts.Vault 0)) Full
-unfolding next choice view_of contents entered left leaves enters unsent landed_packet pending direction_from direction_among read_of is_null_alone is_null zero_flit has_length lng_of word_of half_of bytes_read judgement_of command_in fitting all_commands command_of table_line is_clean header_is_clean tail_is_clean tail_word header_of tail_of poison_in packet_from seen_in crc_of remainder divide plus zeros divisor coefficients bits_below bits_of number_of xor port_towards reply_packet
+unfolding next choice view_of contents entered left leaves enters unsent landed_packets receiver_of pending direction_from direction_among read_of is_null_alone is_null zero_flit has_length lng_of word_of half_of bytes_read judgement_of command_in fitting all_commands command_of table_line is_clean header_is_clean tail_is_clean tail_word header_of tail_of poison_in packet_from seen_in crc_of remainder divide plus zeros divisor coefficients bits_below bits_of number_of xor port_towards reply_packet
 next-output_full = refl
 
 -- a host drops a poisoned packet
 next-discarded : next four_reads (Landed 1 poisoned_flit Poisoned ∷ []) (steps.Take 0) ≡ Discarded 0
-unfolding next choice view_of contents entered left leaves enters unsent landed_packet pending direction_from direction_among read_of is_null_alone is_null zero_flit has_length lng_of word_of half_of bytes_read judgement_of command_in fitting all_commands command_of table_line is_clean header_is_clean tail_is_clean tail_word header_of tail_of poison_in packet_from seen_in crc_of remainder divide plus zeros divisor coefficients bits_below bits_of number_of xor
+unfolding next choice view_of contents entered left leaves enters unsent landed_packets receiver_of pending direction_from direction_among read_of is_null_alone is_null zero_flit has_length lng_of word_of half_of bytes_read judgement_of command_in fitting all_commands command_of table_line is_clean header_is_clean tail_is_clean tail_word header_of tail_of poison_in packet_from seen_in crc_of remainder divide plus zeros divisor coefficients bits_below bits_of number_of xor
 next-discarded = refl

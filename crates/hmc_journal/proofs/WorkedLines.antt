@@ -1,6 +1,6 @@
 -- What entries are counted as, and the length of the longest line, counted by hand.
 use Rattle.std.proofs.Common.{◌≡◌, [], ◌∷◌, Some, None, true, refl, length}
-use Rattle.std.specs.Prelude.{map, replicate}
+use Rattle.std.specs.Prelude.{map, replicate, codes}
 use Rattle.std.specs.Fmt.{digits}
 use Rattle.hex.specs.Hex.{encode_with}
 use Rattle.hmc_codes.specs.Flit.{zero_flit}
@@ -11,15 +11,17 @@ use Rattle.hmc_codes.specs.declared.answer.Answer.TheVariants.{Silent, Read}
 use Rattle.hmc_codes.specs.declared.command.Command.TheVariants.{Rd16, Pwr256}
 use Rattle.hmc_codes.specs.declared.lift.Lift.TheVariants as lifts
 use Rattle.hmc_codes.specs.declared.unit.Unit.TheVariants as units
-use Rattle.hmc_packet.specs.declared.what.What.TheVariants.{Null}
+use Rattle.hmc_packet.specs.declared.bad.Bad.TheVariants as bads
+use Rattle.hmc_packet.specs.declared.kind.Kind.TheVariants as kinds
+use Rattle.hmc_packet.specs.declared.outcome.Outcome.TheVariants.{Quiet, Trained, Gathered, Accepted, Poisoned, Repeat, AbortedBad, AbortedOrder, Ran}
+use Rattle.hmc_packet.specs.declared.what.What.TheVariants.{Null, Again}
 use Rattle.hmc_schedule.specs.declared.step.Step.TheVariants as steps
 use Rattle.hmc_journal.specs.declared.event.Event.TheVariants as events
-use Rattle.hmc_journal.specs.declared.outcome.Cause.TheVariants.{Empty}
+use Rattle.hmc_journal.specs.declared.outcome.Cause.TheVariants.{Empty, Full, Starved}
 use Rattle.hmc_journal.specs.declared.outcome.Goal.TheVariants as goals
-use Rattle.hmc_journal.specs.declared.outcome.Outcome.TheVariants.{Quiet}
-use Rattle.hmc_journal.specs.declared.entry.Entry.TheVariants.{Gave, Sent, Landed, Shifted, Dropped, Spread, Executed, Lifted, Took, Discarded, Idle}
+use Rattle.hmc_journal.specs.declared.entry.Entry.TheVariants.{Gave, Sent, Landed, Shifted, Dropped, Spread, Executed, Lifted, Took, Discarded, Unlocked, Passed, Idle}
 use Rattle.hmc_journal.specs.Event.{event_of, cause_of}
-use Rattle.hmc_journal.specs.Lines.{line_of}
+use Rattle.hmc_journal.specs.Lines.{line_of, outcome_text}
 
 abbrev read : RequestFields
 read = record { command = Rd16; cube = 1; address = 0x40; payload = [] }
@@ -30,8 +32,8 @@ event_of-counted : map event_of (Gave 1 (Some 5) true read ∷ Took 2 9 Silent �
 event_of-counted = refl
 
 -- a dropped answer of a host isn't counted, and neither is a step that did nothing
-event_of-others : map event_of (Sent 0 Null zero_flit ∷ Landed 0 zero_flit Quiet ∷ Shifted 7 0 goals.Registers ∷ Spread 7 0 0 ∷ Lifted 7 lifts.Registers 0 ∷ Discarded 1 ∷ Idle (steps.Give 1) Empty ∷ []) ≡
-    events.Other ∷ events.Other ∷ events.Other ∷ events.Other ∷ events.Other ∷ events.Other ∷ events.Other ∷ []
+event_of-others : map event_of (Sent 0 Null zero_flit ∷ Landed 0 zero_flit Quiet ∷ Shifted 7 0 goals.Registers ∷ Spread 7 0 0 ∷ Lifted 7 lifts.Registers 0 ∷ Discarded 1 ∷ Unlocked 1 ∷ Passed 1 zero_flit ∷ Idle (steps.Give 1) Empty ∷ []) ≡
+    events.Other ∷ events.Other ∷ events.Other ∷ events.Other ∷ events.Other ∷ events.Other ∷ events.Other ∷ events.Other ∷ events.Other ∷ []
 event_of-others = refl
 
 cause_of-idle : map cause_of (Idle (steps.Give 1) Empty ∷ Discarded 1 ∷ []) ≡ Some Empty ∷ None ∷ []
@@ -44,3 +46,14 @@ line_of-longest : length (line_of (Executed (units.Bank 255 255 255) 255 (Some 6
     (Read true (replicate 256 0xff)))) ≡ 1085
 unfolding line_of request_text answer_text encode_with digits table_line
 line_of-longest = refl
+
+-- the words of each outcome
+outcome_text-words : map outcome_text (Quiet ∷ Trained ∷ Gathered ∷ Accepted ∷ Poisoned ∷ Repeat ∷ AbortedBad bads.Length ∷ AbortedBad bads.Command ∷ AbortedBad bads.Reserved ∷ AbortedBad bads.Crc ∷ AbortedOrder ∷ Ran kinds.Start ∷ Ran kinds.Clear ∷ []) ≡
+    codes "quiet" ∷ codes "trained" ∷ codes "gathered" ∷ codes "accepted" ∷ codes "poisoned" ∷ codes "repeat" ∷ codes "aborted length" ∷ codes "aborted command" ∷ codes "aborted reserved" ∷ codes "aborted crc" ∷ codes "aborted order" ∷ codes "ran start" ∷ codes "ran clear" ∷ []
+outcome_text-words = refl
+
+-- lines of a link
+line_of-link : map line_of (Sent 10 Again zero_flit ∷ Landed 11 zero_flit (AbortedBad bads.Reserved) ∷ Unlocked 12 ∷ Passed 13 zero_flit ∷ Idle (steps.Land 14 zero_flit) Empty ∷ Idle (steps.Send 15) Full ∷ Idle (steps.Send 16) Starved ∷ []) ≡
+    codes "sent 10 again 00000000000000000000000000000000\n" ∷ codes "landed 11 00000000000000000000000000000000 aborted reserved\n" ∷ codes "unlocked 12\n" ∷ codes "passed 13 00000000000000000000000000000000\n" ∷ codes "idle land 14 empty\n" ∷ codes "idle send 15 full\n" ∷ codes "idle send 16 starved\n" ∷ []
+unfolding line_of encode_with digits zero_flit
+line_of-link = refl

@@ -5,15 +5,15 @@ use Rattle.hmc_codes.specs.Numbers.{upto}
 use Rattle.hmc_codes.specs.declared.lift.Lift.TheVariants as lifts
 use Rattle.hmc_journal.specs.declared.entry.Entry.{Entry}
 use Rattle.hmc_journal.specs.Setup.{Topology, shape_of}
-use Rattle.hmc_journal.specs.Wires.{accepted}
-use Rattle.hmc_journal.specs.Queues.{QueueId, landing_buffer, contents, begun}
+use Rattle.hmc_journal.specs.Counts.{token_counts}
+use Rattle.hmc_journal.specs.Queues.{QueueId, landing_buffer, contents}
 use Rattle.hmc_journal.specs.Queues.QueueId.{Output, Vault, Bank, Registers, Answers}
 
--- no queue holds a packet, and each packet that was begun on a direction was accepted
+-- no queue holds a packet, and each request and each answer that was begun on a direction was
+-- accepted: none of its flits is in transit
 pub record IsDrained (topology : Topology) (past : List Entry) : Type 0 where
   pub queues : (queue : QueueId) → contents topology past queue ≡ []
-  pub wires : (direction : ℕ) →
-      length (begun topology past direction) ≡ length (accepted direction past)
+  pub transit : (direction : ℕ) → (token_counts topology past direction).transit ≡ 0
 
 -- the queues of a vault: its own, those of its banks, and that of its answers
 abbrev pub vault_queues : Topology → (cube vault : ℕ) → List QueueId
@@ -46,6 +46,5 @@ queues_of topology =
 unfoldable pub is_drained : Topology → List Entry → Bool
 is_drained topology past =
     list_all (λ queue. length (contents topology past queue) == 0) (queues_of topology) &&
-    list_all (λ direction.
-    length (begun topology past direction) == length (accepted direction past))
+    list_all (λ direction. (token_counts topology past direction).transit == 0)
     (directions_of topology)

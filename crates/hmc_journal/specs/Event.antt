@@ -1,8 +1,8 @@
--- What is asked of an entry: what it is counted as, and why nothing happened.
-use Rattle.std.specs.Prelude.{Option, Some, None}
+-- What is asked of an entry: what it is counted as, why nothing happened, and whether it passed.
+use Rattle.std.specs.Prelude.{Bool, true, false, Option, Some, None}
 use Rattle.hmc_journal.specs.declared.outcome.Cause.{Cause}
 use Rattle.hmc_journal.specs.declared.entry.Entry.{Entry}
-use Rattle.hmc_journal.specs.declared.entry.Entry.TheVariants.{Gave, Took, Executed, Dropped, Idle}
+use Rattle.hmc_journal.specs.declared.entry.Entry.TheVariants.{Gave, Took, Executed, Dropped, Passed, Idle}
 use Rattle.hmc_journal.specs.declared.event.Event.{Event}
 use Rattle.hmc_journal.specs.declared.event.Event.TheVariants as events
 
@@ -18,3 +18,8 @@ event_of _ = events.Other
 abbrev pub cause_of : Entry → Option Cause
 cause_of (Idle step cause) = Some cause
 cause_of _ = None
+
+-- a landing that passed
+abbrev pub is_passed : Entry → Bool
+is_passed (Passed direction flit) = true
+is_passed _ = false

@@ -10,8 +10,8 @@ use Rattle.hmc_journal.specs.Setup.{Setup, shapes_of}
 
 -- A journal has its newest entry first, so an earlier journal is its end.
 pub record Guarantees (setup : Setup) (journal : List Entry) : Type 0 where
-  -- there is an entry for each step of the schedule, and each is the one that its step gives after
-  -- the entries before it
+  -- there is an entry for each step of the schedule, or the last is a landing that passed, and each
+  -- is the one that its step gives after the entries before it
   pub whole : IsWhole setup journal
   -- the requests that each host gave are a prefix of those that the script has for it
   pub scripted : IsScripted setup.script journal
@@ -20,7 +20,7 @@ pub record Guarantees (setup : Setup) (journal : List Entry) : Type 0 where
   -- at every moment: what was executed was carried there, and what was answered was carried back,
   -- in order and under its tag
   pub delivered : (later past : List Entry) → journal ≡ later ++ past →
-      DeliveredInOrder setup.topology past
+      DeliveredInOrder setup past
   -- where the report says `drained`, all requests that weren't poisoned were executed, and all
   -- under a tag were answered
   pub served : is_drained setup.topology journal ≡ true → AllServed setup.topology journal

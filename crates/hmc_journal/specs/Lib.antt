@@ -1,9 +1,10 @@
 pub mod Lines
 pub mod Setup
 pub mod Choice
-pub mod Wires
+pub mod Directions
 pub mod Basics
 pub mod Queues
+pub mod Links
 pub mod Hosts
 pub mod Serial
 pub mod StepView

@@ -8,16 +8,19 @@ use Rattle.hmc_codes.specs.declared.lift.Lift.{Lift}
 use Rattle.hmc_codes.specs.declared.lift.Lift.TheVariants as lifts
 use Rattle.hmc_codes.specs.declared.unit.Unit.{Unit}
 use Rattle.hmc_codes.specs.declared.unit.Unit.TheVariants.{Bank, Registers}
+use Rattle.hmc_packet.specs.declared.bad.Bad.{Bad}
+use Rattle.hmc_packet.specs.declared.bad.Bad.TheVariants as bads
+use Rattle.hmc_packet.specs.declared.kind.Kind.TheVariants as kinds
 use Rattle.hmc_packet.specs.declared.what.What.{What}
 use Rattle.hmc_packet.specs.declared.what.What.TheVariants.{Train, Clear, Start, Null, Pret, Tret, New, Again}
-use Rattle.hmc_journal.specs.declared.outcome.Outcome.{Outcome}
-use Rattle.hmc_journal.specs.declared.outcome.Outcome.TheVariants.{Quiet, Gathered, Accepted, Poisoned}
+use Rattle.hmc_packet.specs.declared.outcome.Outcome.{Outcome}
+use Rattle.hmc_packet.specs.declared.outcome.Outcome.TheVariants.{Quiet, Trained, Gathered, Accepted, Poisoned, Repeat, AbortedBad, AbortedOrder, Ran}
 use Rattle.hmc_journal.specs.declared.outcome.Goal.{Goal}
 use Rattle.hmc_journal.specs.declared.outcome.Goal.TheVariants as goals
 use Rattle.hmc_journal.specs.declared.outcome.Cause.{Cause}
 use Rattle.hmc_journal.specs.declared.outcome.Cause.TheVariants as causes
 use Rattle.hmc_journal.specs.declared.entry.Entry.{Entry}
-use Rattle.hmc_journal.specs.declared.entry.Entry.TheVariants.{Gave, Sent, Landed, Shifted, Dropped, Spread, Executed, Lifted, Took, Discarded, Idle}
+use Rattle.hmc_journal.specs.declared.entry.Entry.TheVariants.{Gave, Sent, Landed, Shifted, Dropped, Spread, Executed, Lifted, Took, Discarded, Unlocked, Passed, Idle}
 use Rattle.hmc_schedule.specs.declared.step.Step.{Step}
 use Rattle.hmc_schedule.specs.declared.step.Step.TheVariants as steps
 
@@ -47,12 +50,25 @@ what_text Tret = codes "tret"
 what_text New = codes "new"
 what_text Again = codes "again"
 
+-- why flits are no packet
+abbrev pub bad_text : Bad → List ℕ
+bad_text bads.Length = codes "aborted length"
+bad_text bads.Command = codes "aborted command"
+bad_text bads.Reserved = codes "aborted reserved"
+bad_text bads.Crc = codes "aborted crc"
+
 -- the outcome of a landing
 abbrev pub outcome_text : Outcome → List ℕ
 outcome_text Quiet = codes "quiet"
+outcome_text Trained = codes "trained"
 outcome_text Gathered = codes "gathered"
 outcome_text Accepted = codes "accepted"
 outcome_text Poisoned = codes "poisoned"
+outcome_text Repeat = codes "repeat"
+outcome_text (AbortedBad bad) = bad_text bad
+outcome_text AbortedOrder = codes "aborted order"
+outcome_text (Ran kinds.Start) = codes "ran start"
+outcome_text (Ran kinds.Clear) = codes "ran clear"
 
 -- a vault, the registers or a port as one word
 abbrev pub goal_text : Goal → List ℕ
@@ -72,6 +88,7 @@ cause_text causes.Fence = codes "fence"
 cause_text causes.Tags = codes "tags"
 cause_text causes.Empty = codes "empty"
 cause_text causes.Full = codes "full"
+cause_text causes.Starved = codes "starved"
 
 -- the words of a step, without a mask
 abbrev pub step_words : Step → List (List ℕ)
@@ -110,5 +127,8 @@ line_of (Lifted cube from port) =
 line_of (Took host tag answer) =
     line (codes "took" ∷ decimal host ∷ decimal tag ∷ answer_text answer ∷ [])
 line_of (Discarded host) = line (codes "discarded" ∷ decimal host ∷ [])
+line_of (Unlocked direction) = line (codes "unlocked" ∷ decimal direction ∷ [])
+line_of (Passed direction flit) =
+    line (codes "passed" ∷ decimal direction ∷ encode_lower flit ∷ [])
 line_of (Idle step cause) =
     line (codes "idle" ∷ spaced_words (step_words step) ∷ cause_text cause ∷ [])

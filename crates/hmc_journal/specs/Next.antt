@@ -1,6 +1,6 @@
 -- The table of steps: the entry of a step, by what it sees. LinkSteps and CubeSteps say what the
 -- steps do; `with_front` and `unless_full` give the causes of idle steps.
-use Rattle.std.specs.Prelude.{not, List}
+use Rattle.std.specs.Prelude.{◌/◌, not, List}
 use Rattle.hmc_codes.specs.Shape.{bank_of}
 use Rattle.hmc_codes.specs.declared.place.Place.TheVariants as places
 use Rattle.hmc_codes.specs.declared.unit.Unit.TheVariants as units
@@ -10,28 +10,27 @@ use Rattle.hmc_host.specs.Give.{give_says}
 use Rattle.hmc_host.specs.Settle.{settle_says}
 use Rattle.hmc_journal.specs.declared.outcome.Cause.TheVariants as causes
 use Rattle.hmc_journal.specs.declared.entry.Entry.{Entry}
-use Rattle.hmc_journal.specs.declared.entry.Entry.TheVariants.{Idle}
-use Rattle.hmc_journal.specs.Setup.{Topology, Setup, shape_of, link_of, port_towards}
+use Rattle.hmc_journal.specs.declared.entry.Entry.TheVariants.{Idle, Unlocked}
+use Rattle.hmc_journal.specs.Setup.{Topology, Setup, shape_of, port_towards}
 use Rattle.hmc_journal.specs.Queues.{output_from}
-use Rattle.hmc_journal.specs.Queues.QueueId.{Output, Port, Host, Vault, Answers}
+use Rattle.hmc_journal.specs.Queues.QueueId.{Port, Host, Vault, Answers}
+use Rattle.hmc_journal.specs.Links.{sizes_on}
 use Rattle.hmc_journal.specs.StepView.{StepView, view_of}
 pub use Rattle.hmc_journal.specs.Waiting.{size_of, queue_size, is_full, lacks_room, with_front, unless_full}
 pub use Rattle.hmc_journal.specs.Answers.{gave_entry, took_entry, spread_entry, tag_of, ran_entry}
-pub use Rattle.hmc_journal.specs.LinkSteps.{flit_of, begun_with, sent_flit, sent_entry, outcome_read, outcome_with, outcome_of, landed_entry}
+pub use Rattle.hmc_journal.specs.LinkSteps.{sent_entry, send_entry, landed_entry, landed_flit, landed_front, land_entry}
 pub use Rattle.hmc_journal.specs.CubeSteps.{goal_at, shifted_entry, shift_entry, spread_to_bank, execution_entry, executed_entry, lifted_entry}
 
--- the entry of a step by what it sees; the last three steps are in no schedule yet
+-- the entry of a step by what it sees; the steps through and retire are in no schedule yet
 unfoldable pub choice : Topology → StepView → Step → Entry
 choice topology view (steps.Give host) =
     gave_entry host
     (give_says (view.host host)
     (not (lacks_room topology view (output_from topology (places.Host host)))))
 choice topology view (steps.Send direction) =
-    sent_entry (link_of topology direction).setup direction (view.direction_at direction)
-    (view.inside (Output direction))
+    send_entry (sizes_on topology direction) direction (view.entries (direction / 2))
 choice topology view (steps.Land direction mask) =
-    landed_entry direction mask (view.direction_at direction).line
-    (view.direction_at direction).pending
+    land_entry (sizes_on topology direction) direction (view.entries (direction / 2)) mask
 choice topology view (steps.Shift cube port) =
     with_front (steps.Shift cube port) (view.inside (Port cube port))
     (shift_entry topology view cube port)
@@ -49,6 +48,7 @@ choice topology view (steps.Lift cube from) =
 choice topology view (steps.Take host) =
     with_front (steps.Take host) (view.inside (Host host))
     (λ front. took_entry host (settle_says front))
+choice topology view (steps.Unlock direction) = Unlocked direction
 choice topology view step = Idle step causes.Empty
 
 -- the entry of a step after a journal

@@ -1,6 +1,6 @@
 -- The queues that packets wait in. Each holds the packets that entered it except those that left.
 -- The tables of moves are here and nowhere else.
-use Rattle.std.specs.Prelude.{ℕ, zero, suc, ◌+◌, Bool, true, false, ◌==◌, ◌&&◌, List, [], ◌∷◌, ◌++◌, take, drop, Option, Some, None, option_map}
+use Rattle.std.specs.Prelude.{ℕ, zero, suc, ◌+◌, Bool, true, false, ◌==◌, ◌&&◌, List, [], ◌∷◌, ◌++◌, take, drop, filter, Option, Some, None, option_map}
 use Rattle.hmc_codes.specs.Commands.{is_posted}
 use Rattle.hmc_codes.specs.declared.lift.Lift.{Lift}
 use Rattle.hmc_codes.specs.declared.lift.Lift.TheVariants as lifts
@@ -11,14 +11,13 @@ use Rattle.hmc_codes.specs.declared.unit.Unit.TheVariants as units
 use Rattle.hmc_packet.specs.declared.what.What.TheVariants.{New}
 use Rattle.hmc_packet.specs.Packet.{PacketFields}
 use Rattle.hmc_packet.specs.Transactions.{request_packet, reply_packet}
-use Rattle.hmc_journal.specs.declared.outcome.Outcome.{Outcome}
-use Rattle.hmc_journal.specs.declared.outcome.Outcome.TheVariants.{Accepted, Poisoned}
+use Rattle.hmc_send.specs.Places.{is_token}
 use Rattle.hmc_journal.specs.declared.outcome.Goal.{Goal}
 use Rattle.hmc_journal.specs.declared.outcome.Goal.TheVariants as goals
 use Rattle.hmc_journal.specs.declared.entry.Entry.{Entry}
 use Rattle.hmc_journal.specs.declared.entry.Entry.TheVariants.{Gave, Sent, Landed, Shifted, Dropped, Spread, Executed, Lifted, Took, Discarded}
 use Rattle.hmc_journal.specs.Setup.{Topology, end_of, direction_from}
-use Rattle.hmc_journal.specs.Wires.{unsent, landed_packet}
+use Rattle.hmc_journal.specs.Directions.{unsent, landed_packets}
 pub use Rattle.hmc_journal.specs.Basics.{same_lift, front_of, tag_number, one_if, packet_if}
 
 -- the output queue of a direction, the input buffers of ports and hosts, the queues of vaults,
@@ -99,12 +98,6 @@ abbrev pub unless_posted : Bool → QueueId → Option QueueId
 unless_posted true queue = None
 unless_posted false queue = Some queue
 
--- a packet that was accepted, poisoned or not, enters the buffer
-abbrev pub taken_in : Outcome → QueueId → Option QueueId
-taken_in Accepted queue = Some queue
-taken_in Poisoned queue = Some queue
-taken_in _ queue = None
-
 -- a packet that enters a queue; it is computed only where it is looked at
 pub record Arrival : Type 0 where
   pub queue : QueueId
@@ -115,21 +108,27 @@ abbrev pub arrival_in : Option QueueId → (Unit {0} → PacketFields) → Optio
 arrival_in None packet = None
 arrival_in (Some queue) packet = Some (record { queue = queue; packet = packet })
 
+-- the arrival of the first of some packets, if there is one
+abbrev pub arrival_of : QueueId → List PacketFields → Option Arrival
+arrival_of queue [] = None
+arrival_of queue (packet ∷ rest) = arrival_in (Some queue) (λ _. packet)
+
 -- the packet, if one arrives in this queue
 abbrev pub arrived : QueueId → Option Arrival → List PacketFields
 arrived here None = []
 arrived here (Some arrival) = packet_if (same_queue arrival.queue here) arrival.packet
 
--- The packet that enters a queue, by what is inside the queues before: a request, a packet that
--- landed, an answer, or the front of the queue that it leaves.
+-- The packet that enters a queue, by what is inside the queues before: a request; a request or an
+-- answer that a landing accepts, poisoned or not (an accepted TRET enters no buffer); an answer; or
+-- the front of the queue that it leaves.
 unfoldable pub enters : Topology → (inside : QueueId → List PacketFields) → List Entry → Entry →
     Option Arrival
 enters topology inside past (Gave host tag poisoned request) =
     arrival_in (output_from topology (places.Host host))
     (λ _. request_packet request (tag_number tag) host poisoned)
 enters topology inside past (Landed direction flit outcome) =
-    arrival_in (taken_in outcome (landing_buffer topology direction))
-    (λ _. landed_packet direction flit past)
+    arrival_of (landing_buffer topology direction)
+    (filter is_token (landed_packets topology direction flit outcome past))
 enters topology inside past (Shifted cube port goal) =
     arrival_in (goal_queue topology cube goal) (λ _. front_of (inside (Port cube port)))
 enters topology inside past (Spread cube vault bank) =

@@ -1,8 +1,8 @@
 //! What happened at one step.
 
-use crate::{Cause, Goal, Outcome};
+use crate::{Cause, Goal};
 use hmc_codes::{Answer, Flit, Lift, Request, Unit};
-use hmc_packet::What;
+use hmc_packet::{Outcome, What};
 use hmc_schedule::Step;
 
 /// What happened at one step. A tag is None for a request that takes none.
@@ -21,7 +21,7 @@ pub enum Entry {
         what: What,
         flit: Flit,
     },
-    /// A flit landed at the other end.
+    /// A flit landed at the other end; it is shown as its mask left it.
     Landed {
         direction: u8,
         flit: Flit,
@@ -67,6 +67,15 @@ pub enum Entry {
     /// The front of a host's buffer was poisoned, and was dropped.
     Discarded {
         host: u8,
+    },
+    /// The receiver of a direction lost its framing.
+    Unlocked {
+        direction: u8,
+    },
+    /// A flit landed, and a check succeeded over flits that a mask changed. No step follows.
+    Passed {
+        direction: u8,
+        flit: Flit,
     },
     /// The step did nothing.
     Idle {

@@ -7,17 +7,17 @@
 ghost use Rattle.std.specs.Prelude.{◌≡◌, ◌<◌, [], length};
 ghost use Rattle.hmc_codes.specs.Flit.{zero_flit};
 ghost use Rattle.hmc_journal.specs.declared.entry.Entry.{Entry};
-ghost use Rattle.hmc_journal.specs.Event.{event_of, cause_of};
+ghost use Rattle.hmc_journal.specs.Event.{event_of, cause_of, is_passed};
 ghost use Rattle.hmc_journal.specs.Lines.{line_of};
 ghost use Rattle.hmc_schedule.specs.declared.step.Step.{Step};
 
 use crate::line::{
     discarded_line, dropped_line, executed_line, gave_line, idle_line, landed_line, lifted_line,
-    sent_line, shifted_line, spread_line, took_line,
+    passed_line, sent_line, shifted_line, spread_line, took_line, unlocked_line,
 };
-use crate::{Cause, Entry, Event, Goal, Outcome};
+use crate::{Cause, Entry, Event, Goal};
 use hmc_codes::{Answer, Command, Flit, Lift, LineText, Payload, Request, Unit, ZERO_FLIT};
-use hmc_packet::What;
+use hmc_packet::{Outcome, What};
 use hmc_schedule::Step;
 use std::marker::Model;
 
@@ -67,6 +67,12 @@ pub(crate) enum Short {
     },
     Discarded {
         host: u8,
+    },
+    Unlocked {
+        direction: u8,
+    },
+    Passed {
+        direction: u8,
     },
     Idle {
         cause: Cause,
@@ -200,6 +206,21 @@ impl LastEntry {
         self.short = Short::Discarded { host };
     }
 
+    /// The receiver of a direction lost its framing.
+    pub fn unlocked(&mut self, direction: u8)
+        ensures { self.new ≡ Entry.Unlocked direction }
+    {
+        self.short = Short::Unlocked { direction };
+    }
+
+    /// A flit landed, and a check succeeded over flits that a mask changed.
+    pub fn passed(&mut self, direction: u8, flit: &Flit)
+        ensures { self.new ≡ Entry.Passed direction flit.now }
+    {
+        self.short = Short::Passed { direction };
+        self.flit = *flit;
+    }
+
     /// The step did nothing.
     pub fn idle(&mut self, step: &Step, cause: Cause)
         ensures { self.new ≡ Entry.Idle step.now cause }
@@ -231,6 +252,13 @@ impl LastEntry {
         }
     }
 
+    /// Whether it is a landing that passed.
+    pub fn has_passed(&self) -> bool
+        ensures { result ≡ is_passed self.now }
+    {
+        matches!(self.short, Short::Passed { .. })
+    }
+
     /// Writes the line of the entry into an empty text, with a line feed at its end.
     #[tactic(auto, unfolding(crate::specs::Lines::line_of))]
     pub fn line(&self, into: &mut LineText)
@@ -257,6 +285,8 @@ impl LastEntry {
             Short::Lifted { cube, from, port } => lifted_line(into, cube, from, port),
             Short::Took { host, tag } => took_line(into, host, tag, &self.answer),
             Short::Discarded { host } => discarded_line(into, host),
+            Short::Unlocked { direction } => unlocked_line(into, direction),
+            Short::Passed { direction } => passed_line(into, direction, &self.flit),
             Short::Idle { cause } => idle_line(into, &self.step, cause),
         }
     }
@@ -303,6 +333,11 @@ impl LastEntry {
                 answer: self.answer,
             },
             Short::Discarded { host } => Entry::Discarded { host },
+            Short::Unlocked { direction } => Entry::Unlocked { direction },
+            Short::Passed { direction } => Entry::Passed {
+                direction,
+                flit: self.flit,
+            },
             Short::Idle { cause } => Entry::Idle {
                 step: self.step,
                 cause,

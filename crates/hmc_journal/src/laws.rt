@@ -14,8 +14,9 @@ ghost use Rattle.hmc_journal.specs.Setup.{Setup, shapes_of};
 ghost use Rattle.hmc_journal.specs.Text.{lines_of};
 ghost use Rattle.hmc_journal.specs.Guarantees.{Guarantees};
 
-/// Two lawful journals of one case and of one length are equal. A whole one is `journal_of` the
-/// case. A lawful journal was lawful at every earlier moment.
+/// Two lawful journals of one case and of one length are equal. A whole one, which has an entry
+/// for each step or ends at a landing that passed, is `journal_of` the case. A lawful journal was
+/// lawful at every earlier moment.
 pub fn one_journal()
     ensures same { (setup : Setup) (past others : List Entry) → Lawful setup past →
         Lawful setup others → length past ≡ length others → past ≡ others }
@@ -39,7 +40,8 @@ pub fn lawful_is_serial()
 {}
 
 /// After a lawful journal of one cube and one link the queues hold requests on their way to a unit
-/// and answers on their way to their host, and what lands has room.
+/// and answers on their way to their host. Of each direction of the link the entries are such as
+/// its users keep to, and its output queue and its buffer hold what these entries say.
 pub fn lawful_keeps_queues()
     ensures { (setup : Setup) (past : List Entry) → IsOneCube setup → Lawful setup past →
         QueueInvariant setup past }
@@ -49,7 +51,7 @@ pub fn lawful_keeps_queues()
 /// them once no packet is on its way.
 pub fn lawful_delivers()
     ensures delivered { (setup : Setup) (past : List Entry) → IsOneCube setup → Lawful setup past →
-        DeliveredInOrder setup.topology past }
+        DeliveredInOrder setup past }
     ensures served { (setup : Setup) (past : List Entry) → IsOneCube setup → Lawful setup past →
         IsDrained setup.topology past → AllServed setup.topology past }
 {}

@@ -21,4 +21,4 @@ pub use laws::{
     journal_guarantees, lawful_delivers, lawful_is_scripted, lawful_is_serial, lawful_keeps_queues,
     lines_are_in_order, one_journal,
 };
-pub use outcome::{Cause, Goal, Outcome};
+pub use outcome::{Cause, Goal};

@@ -4,14 +4,14 @@ ghost use Rattle.std.specs.Prelude.{◌≡◌, ◌<◌, ◌≤◌, ◌+◌, ◌�
 ghost use Rattle.std.specs.Fmt.{decimal};
 ghost use Rattle.hex.specs.Hex.{encode_lower};
 ghost use Rattle.hmc_codes.specs.Text.{line, spaced_words, request_text, answer_text};
-ghost use Rattle.hmc_journal.specs.Lines.{line_of, tag_text, request_words, unit_text, what_text, outcome_text, goal_text, lift_text, cause_text, step_words};
+ghost use Rattle.hmc_journal.specs.Lines.{line_of, tag_text, request_words, unit_text, what_text, outcome_text, bad_text, goal_text, lift_text, cause_text, step_words};
 
-use crate::{Cause, Entry, Goal, Outcome};
+use crate::{Cause, Entry, Goal};
 use hmc_codes::{
     Answer, Flit, Lift, LineText, Memory, Request, Unit, append_decimal, append_sixteen,
     append_spaced,
 };
-use hmc_packet::{What, is_null};
+use hmc_packet::{Bad, Kind, Outcome, What, is_null};
 use hmc_schedule::Step;
 use std::alloc::Global;
 
@@ -109,20 +109,38 @@ fn what_word(what: What) -> &'static str
 // The outcome ends the line.
 fn outcome_end(outcome: Outcome) -> &'static str
     ensures word { result.now ≡ 32 ∷ (outcome_text outcome ++ (10 ∷ [])) }
-    ensures few { length result.now ≤ 10 }
+    ensures few { length result.now ≤ 18 }
 {
     match outcome {
         Outcome::Quiet => " quiet\n",
+        Outcome::Trained => " trained\n",
         Outcome::Gathered => " gathered\n",
         Outcome::Accepted => " accepted\n",
         Outcome::Poisoned => " poisoned\n",
+        Outcome::Repeat => " repeat\n",
+        Outcome::AbortedBad(bad) => aborted_end(bad),
+        Outcome::AbortedOrder => " aborted order\n",
+        Outcome::Ran(Kind::Start) => " ran start\n",
+        Outcome::Ran(Kind::Clear) => " ran clear\n",
+    }
+}
+
+fn aborted_end(bad: Bad) -> &'static str
+    ensures word { result.now ≡ 32 ∷ (bad_text bad ++ (10 ∷ [])) }
+    ensures few { length result.now ≤ 18 }
+{
+    match bad {
+        Bad::Length => " aborted length\n",
+        Bad::Command => " aborted command\n",
+        Bad::Reserved => " aborted reserved\n",
+        Bad::Crc => " aborted crc\n",
     }
 }
 
 // The cause ends the line.
 fn cause_end(cause: Cause) -> &'static str
     ensures word { result.now ≡ 32 ∷ (cause_text cause ++ (10 ∷ [])) }
-    ensures few { length result.now ≤ 7 }
+    ensures few { length result.now ≤ 9 }
 {
     match cause {
         Cause::Ended => " ended\n",
@@ -130,6 +148,7 @@ fn cause_end(cause: Cause) -> &'static str
         Cause::Tags => " tags\n",
         Cause::Empty => " empty\n",
         Cause::Full => " full\n",
+        Cause::Starved => " starved\n",
     }
 }
 
@@ -347,6 +366,28 @@ pub(crate) fn discarded_line(into: &mut LineText, host: u8)
     into.push_str("\n");
 }
 
+/// The line of a receiver that lost its framing.
+pub(crate) fn unlocked_line(into: &mut LineText, direction: u8)
+    requires empty { into.old.bytes ≡ [] }
+    ensures text { into.new.bytes ≡ line (codes "unlocked" ∷ decimal direction ∷ []) }
+    ensures short { length into.new.bytes < 2048 }
+{
+    push_numbered(into, "unlocked", direction);
+    into.push_str("\n");
+}
+
+/// The line of a landing that passed.
+pub(crate) fn passed_line(into: &mut LineText, direction: u8, flit: &Flit)
+    requires empty { into.old.bytes ≡ [] }
+    ensures text { into.new.bytes ≡
+        line (codes "passed" ∷ decimal direction ∷ encode_lower flit.now ∷ []) }
+    ensures short { length into.new.bytes < 2048 }
+{
+    push_numbered(into, "passed", direction);
+    push_flit(into, flit);
+    into.push_str("\n");
+}
+
 /// The line of a step that did nothing.
 pub(crate) fn idle_line(into: &mut LineText, step: &Step, cause: Cause)
     requires empty { into.old.bytes ≡ [] }
@@ -397,6 +438,8 @@ impl Entry {
             Entry::Lifted { cube, from, port } => lifted_line(into, *cube, *from, *port),
             Entry::Took { host, tag, answer } => took_line(into, *host, *tag, answer),
             Entry::Discarded { host } => discarded_line(into, *host),
+            Entry::Unlocked { direction } => unlocked_line(into, *direction),
+            Entry::Passed { direction, flit } => passed_line(into, *direction, flit),
             Entry::Idle { step, cause } => idle_line(into, step, *cause),
         }
     }

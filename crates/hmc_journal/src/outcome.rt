@@ -1,17 +1,4 @@
-//! The outcome of a landing, where a packet went, and why nothing happened.
-
-/// What a receiver made of a flit.
-#[derive(Clone, Copy, Debug, PartialEq, Eq)]
-pub enum Outcome {
-    /// A flit that is part of no packet.
-    Quiet,
-    /// The packet isn't whole yet.
-    Gathered,
-    /// The flit completed a packet, which was accepted.
-    Accepted,
-    /// The flit completed a poisoned packet, which was accepted.
-    Poisoned,
-}
+//! Where a packet went, and why nothing happened.
 
 /// Where a packet went from the buffer of a port.
 #[derive(Clone, Copy, Debug, PartialEq, Eq)]
@@ -37,4 +24,6 @@ pub enum Cause {
     Empty,
     /// There is no room where it would go.
     Full,
+    /// The next flit of a packet that is passed on isn't there yet.
+    Starved,
 }

@@ -24,3 +24,5 @@ pub mod Numbers
 pub mod ListCalls
 pub mod Throughs
 pub mod LinkThroughs
+pub mod Quiet
+pub mod Idle

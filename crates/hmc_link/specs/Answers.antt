@@ -26,3 +26,8 @@ abbrev pub link_sent : (full : Bool) → Sent → LinkSent
 link_sent true sent = links.Full
 link_sent false (Out flit as_what) = links.Out flit as_what
 link_sent false Starved = links.Starved
+
+-- no flit was sent
+abbrev pub sends_none : LinkSent → Bool
+sends_none (links.Out flit as_what) = false
+sends_none _ = true

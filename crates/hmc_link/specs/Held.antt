@@ -1,5 +1,5 @@
 -- What a link holds, as the contracts see it.
-use Rattle.std.specs.Prelude.{ℕ, ◌+◌, ◌-◌, Bool, ◌&&◌, nat_le, is_none, List, [], ◌∷◌, drop, slice_get, Option, Some, None}
+use Rattle.std.specs.Prelude.{◌≡◌, ℕ, ◌+◌, ◌-◌, Bool, ◌&&◌, nat_le, is_none, List, [], ◌∷◌, drop, slice_get, Option, Some, None}
 use Rattle.hmc_codes.specs.Link.{LinkFields}
 use Rattle.hmc_codes.specs.declared.counts.TokenRow.{TokenRow}
 use Rattle.hmc_packet.specs.declared.view.Mode.{Mode}
@@ -92,3 +92,9 @@ abbrev pub flits_seen : Mode → List (List ℕ) → Option (List (List ℕ))
 flits_seen Good [] = None
 flits_seen Good (first ∷ rest) = Some (first ∷ rest)
 flits_seen mode flits = None
+
+-- an end holds no packet, and each packet that it began was accepted
+pub record IsQuiet (e : EndFields) : Type 0 where
+  pub queue : e.queue ≡ []
+  pub transit : e.transit ≡ 0
+  pub buffer : e.buffer ≡ []

@@ -132,6 +132,11 @@ abbrev pub has_passed : LinkLanded → Bool
 has_passed (links.Passed flit) = true
 has_passed _ = false
 
+-- no flit was there to land
+abbrev pub lands_none : LinkLanded → Bool
+lands_none links.Empty = true
+lands_none _ = false
+
 -- the requests and responses that it removes from the list of its direction
 abbrev pub removed : LinkLanded → List PacketFields
 removed (links.Came flit landed) = stored landed

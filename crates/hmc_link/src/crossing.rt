@@ -7,7 +7,7 @@ ghost use Rattle.hmc_send.specs.LinkEntries.{LinkEntry};
 ghost use Rattle.hmc_send.specs.LinkLines.{line};
 ghost use Rattle.hmc_send.specs.declared.toward.Toward.{Toward};
 ghost use Rattle.hmc_link.specs.Answers.{after_call};
-ghost use Rattle.hmc_link.specs.Landings.{link_landed, has_passed, removed, stored, IsUntouched};
+ghost use Rattle.hmc_link.specs.Landings.{link_landed, has_passed, lands_none, removed, stored, IsUntouched};
 ghost use Rattle.hmc_link.specs.StandsFor.{EndsStandFor, AreEnds};
 
 use crate::LinkLanded;
@@ -58,6 +58,8 @@ pub fn cross<S: Intake, L: Intake>(from: &mut End<S>, to: &mut End<L>, mask: &Fl
         EndsStandFor link d from.new to.new (after_call link past (LinkCall.land d mask.now)) }
     ensures from_untouched { has_passed result ≡ true → IsUntouched from.old from.new }
     ensures to_untouched { has_passed result ≡ true → IsUntouched to.old to.new }
+    ensures from_idle { lands_none result ≡ true → from.new ≡ from.old }
+    ensures to_idle { lands_none result ≡ true → to.new ≡ to.old }
 {
     let Some(sent) = from.take_flit() else {
         return LinkLanded::Empty;

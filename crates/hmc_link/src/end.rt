@@ -1,6 +1,6 @@
 //! An end of a link.
 
-ghost use Rattle.std.specs.Prelude.{◌≡◌, ◌<◌, ◌≤◌, ◌+◌, IfOk, [], length};
+ghost use Rattle.std.specs.Prelude.{◌≡◌, ◌<◌, ◌≤◌, ◌+◌, ◌&&◌, ◌==◌, IfOk, [], length};
 ghost use Rattle.hmc_send.specs.declared.toward.Toward.{Toward};
 ghost use Rattle.hmc_packet.specs.Packet.{flits_of};
 
@@ -71,14 +71,15 @@ impl<I: Intake> Model for End<I> {
 
 #[tactic(auto, using(hmc_tokens::specs::Queue::all_cost_one))]
 impl<I: Intake> End<I> {
-    ghost use Rattle.std.specs.Prelude.{◌++◌, ◌∷◌, ◌-◌, ℕ, None, false, List, drop, nat_lt, nat_le, slice_get, sum_by, option_map};
+    ghost use Rattle.std.specs.Prelude.{◌++◌, ◌∷◌, ◌-◌, ℕ, None, true, false, List, drop, nat_lt, nat_le, slice_get, sum_by, option_map};
     ghost use Rattle.std.specs.Option.{ForSome};
     ghost use Rattle.hmc_codes.specs.Limits.{most_tokens};
     ghost use Rattle.hmc_codes.specs.Link.{LinkFields};
     ghost use Rattle.hmc_packet.specs.Landings.{mode, pending};
     ghost use Rattle.hmc_send.specs.Given.{IsTaken};
-    ghost use Rattle.hmc_link.specs.Held.{after_taken, flits_seen};
-    ghost use Rattle.hmc_link.specs.Answers.{link_sent};
+    ghost use Rattle.std.specs.Prelude.{◌↔◌, IsTrue, is_some, not};
+    ghost use Rattle.hmc_link.specs.Held.{after_taken, flits_seen, IsQuiet};
+    ghost use Rattle.hmc_link.specs.Answers.{link_sent, sends_none};
     ghost use Rattle.hmc_link.specs.Parts.{EndParts, parts_of, parts_unlocked, parts_after_send, parts_through, line_of, view_by};
     ghost use Rattle.hmc_codes.specs.declared.profile.Profile.{Profile};
     ghost use Rattle.hmc_packet.specs.Landings.{ReceiverEntry, flits_in};
@@ -175,6 +176,23 @@ impl<I: Intake> End<I> {
         self.changed = false;
     }
 
+    // Whether the buffer holds no packet.
+    fn has_empty_buffer(&self) -> bool
+        ensures { is_some (slice_get self.now.buffer 0) ≡ not result }
+    {
+        self.intake.front().is_none()
+    }
+
+    /// Whether the output queue and the buffer hold no packet, and each packet that was begun was
+    /// accepted.
+    pub fn is_quiet(&self) -> bool
+        ensures { IsTrue result ↔ IsQuiet self.now }
+    {
+        let queue = self.queue.is_empty();
+        let buffer = self.has_empty_buffer();
+        are_quiet(queue, self.transit, buffer)
+    }
+
     // Whether the line holds as many flits as it can.
     fn is_full(&self) -> bool
         ensures { result ≡ nat_le self.now.setup.line (length self.now.line) }
@@ -193,6 +211,7 @@ impl<I: Intake> End<I> {
             IsKept link past → EndStandsFor link self.old (parts_of link d past) →
             EndStandsFor link self.new
             (parts_after_send link feed result (parts_of link d past)) }
+        ensures idle { sends_none result ≡ true → self.new ≡ self.old }
     {
         let own = self.receiver.view();
         let before = self.account.held;
@@ -219,6 +238,7 @@ impl<I: Intake> End<I> {
             IsKept link past → EndStandsFor link self.old (parts_of link d past) →
             EndStandsFor link self.new
             (parts_after_send link feed result (parts_of link d past)) }
+        ensures idle { sends_none result ≡ true → self.new ≡ self.old }
     {
         feed_is_bytes(&feed);
         if self.is_full() {
@@ -394,4 +414,11 @@ impl<I: Intake> End<I> {
         self.sender.begin_through(head, flits, &mut self.account);
         self.transit += u32::from(flits);
     }
+}
+
+// Whether the queue and the buffer are empty, and no flit is in transit.
+fn are_quiet(queue: bool, transit: u32, buffer: bool) -> bool
+    ensures { result ≡ ((queue && (transit == 0)) && buffer) }
+{
+    queue && transit == 0 && buffer
 }

@@ -1,6 +1,6 @@
 //! A link.
 
-ghost use Rattle.std.specs.Prelude.{◌≡◌, ◌<◌, ◌+◌, ◌++◌, ◌∷◌, ℕ, map, true, false, not, [], List, IfOk, length, nat_lt, slice_get, option_map};
+ghost use Rattle.std.specs.Prelude.{◌≡◌, ◌<◌, ◌+◌, ◌++◌, ◌∷◌, ◌↔◌, IsTrue, ℕ, map, true, false, not, [], List, IfOk, length, nat_lt, slice_get, option_map};
 ghost use Rattle.hmc_codes.specs.Link.{LinkFields};
 ghost use Rattle.hmc_packet.specs.declared.feed.Feed.TheVariants.{Waiting};
 ghost use Rattle.hmc_packet.specs.Head.{head_in};
@@ -14,9 +14,9 @@ ghost use Rattle.hmc_send.specs.LinkCalls.{LinkCall, has_room, is_full, may_pass
 ghost use Rattle.hmc_send.specs.LinkEntries.{LinkEntry, receiver_entries};
 ghost use Rattle.hmc_send.specs.LinkLines.{line};
 ghost use Rattle.hmc_send.specs.LinkSenders.{sender_entries, tokens};
-ghost use Rattle.hmc_link.specs.Held.{sending_end, landing_end, is_ready, flits_seen};
-ghost use Rattle.hmc_link.specs.Answers.{after_call, front_in, link_sent};
-ghost use Rattle.hmc_link.specs.Landings.{link_landed, has_passed, is_out_of_order, removed, IsUntouched};
+ghost use Rattle.hmc_link.specs.Held.{sending_end, landing_end, is_ready, flits_seen, IsQuiet};
+ghost use Rattle.hmc_link.specs.Answers.{after_call, front_in, link_sent, sends_none};
+ghost use Rattle.hmc_link.specs.Landings.{link_landed, has_passed, lands_none, is_out_of_order, removed, IsUntouched};
 ghost use Rattle.hmc_link.specs.List.{handed_list, listed_packet, listed_open};
 ghost use Rattle.hmc_link.specs.StandsFor.{LinkStandsFor};
 
@@ -204,6 +204,7 @@ impl<A: Intake, B: Intake> Link<A, B> {
         ensures stands { (link : LinkFields) (past : List LinkEntry) →
             LinkStandsFor link self.old past →
             LinkStandsFor link self.new (after_call link past (LinkCall.send toward feed)) }
+        ensures idle { sends_none result ≡ true → self.new ≡ self.old }
         ensures going { self.new.going ≡ true }
     {
         feed_is_bytes(&feed);
@@ -229,6 +230,7 @@ impl<A: Intake, B: Intake> Link<A, B> {
             LinkStandsFor link self.old past → has_passed result ≡ false →
             handed_list link toward past ≡ map listed_packet (removed result)
             ++ handed_list link toward (after_call link past (LinkCall.land toward mask)) }
+        ensures idle { lands_none result ≡ true → self.new ≡ self.old }
         ensures going { self.new.going ≡ not (has_passed result) }
         ensures ordered { is_out_of_order result ≡ false }
         ensures a_untouched { has_passed result ≡ true → IsUntouched self.old.a self.new.a }
@@ -347,5 +349,15 @@ impl<A: Intake, B: Intake> Link<A, B> {
                 self.back += 1;
             }
         }
+    }
+
+    /// Whether no output queue and no buffer holds a packet, and each packet that was begun was
+    /// accepted.
+    pub fn is_quiet(&self) -> bool
+        ensures { IsTrue result ↔ (IsQuiet self.now.a × IsQuiet self.now.b) }
+    {
+        let a = self.a.is_quiet();
+        let b = self.b.is_quiet();
+        a && b
     }
 }

@@ -5,7 +5,7 @@ use Rattle.hmc_journal.proofs.OneCube.{among_host}
 use Rattle.std.specs.Prelude.{slice_index_or}
 use Rattle.std.specs.List.{All, range_with_len, cons_option}
 use Rattle.std.proofs.lemmas.Bool.Decides.{nat_tests}
-use Rattle.std.proofs.lemmas.List.Elements.{All-head, All-weaker, All-cons, All-nil}
+use Rattle.std.proofs.lemmas.List.Elements.{All-head, All-cons, All-nil}
 use Rattle.hmc_codes.specs.Link.{LinkFields, IsLinkSetup}
 use Rattle.hmc_codes.specs.Request.{IsRequest}
 use Rattle.hmc_codes.specs.declared.lift.Lift.{Lift}
@@ -26,7 +26,7 @@ use Rattle.hmc_case.specs.Together.{host_at, hosts_of}
 use Rattle.hmc_case.specs.declared.setup.LinkRow.{LinkRow}
 use Rattle.hmc_journal.specs.Network.{IsOneCube, AreApart, IsLinkOf, IsItemOf, IsNetwork}
 use Rattle.hmc_journal.specs.Setup.{Topology, setup_of, start_of, direction_from, direction_among}
-use Rattle.hmc_net.specs.Ready.{IsVaultFor, IsBankFor, IsLiftFor, IsStepFor}
+use Rattle.hmc_net.specs.Ready.{IsVaultFor, IsBankFor, IsLiftFor, IsMasked, IsStepFor}
 
 -- a link from host 0 to a port of cube 0
 pub record IsOnly (case : CaseFields) (cube : CubeSetupFields) (link : LinkRow) : Type 0 where
@@ -110,8 +110,8 @@ link_of_case link port cubes a b is_port some sizes = record {
   apart = subst (λ (p : Place). AreApart p link.join.b) (sym a) (subst (λ (p : Place). AreApart (places.Host 0) p) (sym b) tt);
 }
 
-network_of : (case : CaseFields) (cube : CubeSetupFields) (link : LinkRow) → IsCase case → IsScript case.script → IsOnly case cube link → IsCubeSetup cube → IsLinkSetup link.setup → IsNetwork (setup_of case)
-network_of case cube link is script only is_cube sizes =
+network_of : (case : CaseFields) (cube : CubeSetupFields) (link : LinkRow) → IsCase case → IsScript case.script → All IsMasked case.schedule → IsOnly case cube link → IsCubeSetup cube → IsLinkSetup link.setup → IsNetwork (setup_of case)
+network_of case cube link is script masks only is_cube sizes =
     let cubes : length case.net.cubes ≡ 1 = is.net.one_cube in
     let links : length case.net.links ≡ 1 = is.net.one_link in record {
       hosts = 1;
@@ -128,9 +128,9 @@ network_of case cube link is script only is_cube sizes =
       items = items_of case is script only.hosts;
     }
 
-pub one_cube_of : (case : CaseFields) (cube : CubeSetupFields) (link : LinkRow) → IsCase case → IsScript case.script → IsOnly case cube link → IsCubeSetup cube → IsLinkSetup link.setup → IsOneCube (setup_of case)
-one_cube_of case cube link is script only is_cube sizes = record {
-  network = network_of case cube link is script only is_cube sizes;
+pub one_cube_of : (case : CaseFields) (cube : CubeSetupFields) (link : LinkRow) → IsCase case → IsScript case.script → All IsMasked case.schedule → IsOnly case cube link → IsCubeSetup cube → IsLinkSetup link.setup → IsOneCube (setup_of case)
+one_cube_of case cube link is script masks only is_cube sizes = record {
+  network = network_of case cube link is script masks only is_cube sizes;
   cube = cube;
   cubes = only.cubes;
   link = link;
@@ -185,32 +185,32 @@ port_fits : (cube : CubeSetupFields) (port : ℕ) (sizes : LinkFields) (number a
 port_fits cube port sizes zero at is = (refl, ap (λ (n : ℕ). Some n) (sym (joined_is port at sizes is.some_port is.joined)))
 port_fits cube port sizes (suc number) at is = absurd (omega (arith, is.some_cube))
 
-step_fits : (cube : CubeSetupFields) (port : ℕ) (sizes : LinkFields) (step : Step) → IsStepOf (plan_of (one_net cube (row_of port sizes))) step → IsStepFor (topology_for cube port sizes) step
-step_fits cube port sizes (steps.Give host) is = omega arith
-step_fits cube port sizes (steps.Send direction) is = is
-step_fits cube port sizes (steps.Land direction mask) is = is
-step_fits cube port sizes (steps.Shift number at) is = port_fits cube port sizes number at is
-step_fits cube port sizes (steps.Spread number vault) is = vault_fits cube port sizes number vault is
-step_fits cube port sizes (steps.Bank number vault bank) is = bank_fits cube port sizes number vault bank is.some_vault is.some_bank
-step_fits cube port sizes (steps.Registers number) is = omega arith
-step_fits cube port sizes (steps.Lift number from) is = lift_fits cube port sizes number from is
-step_fits cube port sizes (steps.Take host) is = omega arith
-step_fits cube port sizes (steps.Through number at) is = tt
-step_fits cube port sizes (steps.Unlock direction) is = tt
-step_fits cube port sizes (steps.Retire slot) is = tt
+step_fits : (cube : CubeSetupFields) (port : ℕ) (sizes : LinkFields) (step : Step) → IsStepOf (plan_of (one_net cube (row_of port sizes))) step → IsMasked step → IsStepFor (topology_for cube port sizes) step
+step_fits cube port sizes (steps.Give host) is long = omega arith
+step_fits cube port sizes (steps.Send direction) is long = is
+step_fits cube port sizes (steps.Land direction mask) is long = (is, long)
+step_fits cube port sizes (steps.Shift number at) is long = port_fits cube port sizes number at is
+step_fits cube port sizes (steps.Spread number vault) is long = vault_fits cube port sizes number vault is
+step_fits cube port sizes (steps.Bank number vault bank) is long = bank_fits cube port sizes number vault bank is.some_vault is.some_bank
+step_fits cube port sizes (steps.Registers number) is long = omega arith
+step_fits cube port sizes (steps.Lift number from) is long = lift_fits cube port sizes number from is
+step_fits cube port sizes (steps.Take host) is long = omega arith
+step_fits cube port sizes (steps.Through number at) is long = tt
+step_fits cube port sizes (steps.Unlock direction) is long = is
+step_fits cube port sizes (steps.Retire slot) is long = tt
 
 row_is : (link : LinkRow) (port : ℕ) → link.join.a ≡ places.Host 0 → link.join.b ≡ places.Port 0 port → link ≡ row_of port link.setup
 row_is link port a b = ap₂ (λ (x y : Place). record { join = record { a = x; b = y }; setup = link.setup }) a b
 
-pub steps_fit : (case : CaseFields) (cube : CubeSetupFields) (link : LinkRow) → IsCase case → IsOnly case cube link → All (IsStepFor (setup_of case).topology) case.schedule
-steps_fit case cube link is only =
+pub steps_fit : (case : CaseFields) (cube : CubeSetupFields) (link : LinkRow) → IsCase case → All IsMasked case.schedule → IsOnly case cube link → All (IsStepFor (setup_of case).topology) case.schedule
+steps_fit case cube link is masks only =
     let row : link ≡ row_of only.port link.setup = row_is link only.port only.host_end only.cube_end in
     let links : case.net.links ≡ row_of only.port link.setup ∷ [] = only.links ∙ ap (λ (r : LinkRow). r ∷ []) row in
     let net : case.net ≡ one_net cube (row_of only.port link.setup) =
     ap₂ (λ (c : List CubeSetupFields) (l : List LinkRow). record { cubes = c; links = l; hosts = case.net.hosts }) only.cubes links ∙ ap (λ n. record { cubes = cube ∷ []; links = row_of only.port link.setup ∷ []; hosts = n }) only.hosts in
     let topology : topology_for cube only.port link.setup ≡ (setup_of case).topology = ap (λ (n : CaseNet). record { cubes = n.cubes; links = n.links }) (sym net) in
     subst (λ t. All (IsStepFor t) case.schedule) topology
-    (All-weaker (IsStepOf (plan_of (one_net cube (row_of only.port link.setup)))) (IsStepFor (topology_for cube only.port link.setup)) (step_fits cube only.port link.setup) case.schedule (subst (λ n. All (IsStepOf (plan_of n)) case.schedule) net is.schedule))
+    (λ n d there. step_fits cube only.port link.setup (slice_index_or case.schedule n d) (subst (λ m. All (IsStepOf (plan_of m)) case.schedule) net is.schedule n d there) (masks n d there))
 
 pub first_same : {X : Type 0} (xs : List X) (x y : X) → xs ≡ x ∷ [] → xs ≡ y ∷ [] → x ≡ y
 first_same xs x y a b = cc

@@ -17,13 +17,13 @@ use Rattle.hmc_cube.specs.Cube.{no_vault}
 use Rattle.hmc_schedule.specs.declared.step.Step.{Step}
 use Rattle.hmc_journal.specs.declared.outcome.Cause.{Cause}
 use Rattle.hmc_journal.specs.declared.entry.Entry.{Entry}
-use Rattle.hmc_journal.specs.declared.entry.Entry.TheVariants.{Gave, Sent, Landed, Shifted, Dropped, Spread, Executed, Lifted, Took, Discarded, Idle}
+use Rattle.hmc_journal.specs.declared.entry.Entry.TheVariants.{Gave, Sent, Landed, Shifted, Dropped, Spread, Executed, Lifted, Took, Discarded, Unlocked, Passed, Idle}
 use Rattle.hmc_journal.specs.Queues.{QueueId, leaves, enters, unless_posted, front_of, tag_number, contents, arrival_in}
 use Rattle.hmc_journal.specs.Queues.QueueId.{Output, Port, Host, Vault, Bank, Registers, Answers}
 use Rattle.hmc_net.specs.NetState.{NetState, topology_of, vault_in, queues_in}
 use Rattle.hmc_net.proofs.Moves.{without, IsGoing, with_arrival}
 use Rattle.hmc_net.proofs.Fits.{IsEntryOf}
-use Rattle.hmc_net.proofs.Queues.{AreTold, IsMove, left_of, front_told, port_direction, gave_moves, sent_moves, landed_forth, landed_back, shifted_moves, dropped_moves}
+use Rattle.hmc_net.proofs.Queues.{AreTold, IsMove, cube_part, left_of, front_told, port_direction, gave_moves, sent_moves, landed_moves, unlocked_moves, passed_moves, shifted_moves, dropped_moves}
 
 -- a vault that is changed twice
 changed_again : (vaults : List VaultFields) (v : ℕ) (x : VaultFields) (f : VaultFields → VaultFields) → v < length vaults → slice_set (slice_set vaults v x) v (f (vault_in (slice_set vaults v x) v)) ≡ slice_set vaults v (f x)
@@ -55,7 +55,7 @@ spread_moves net past vault bank told is = record {
   left_is = left_of net past (Vault 0 vault) told is.1;
   leaves_there = (refl, is.0.1);
   enters_there = (refl, vault_after net.cube.vaults vault _ is.0.1, banks_after net.cube.vaults vault bank _ is.0.1 refl is.2);
-  holding = ap (λ l. record (queues_in net) { vaults = l }) (spread_vaults net.cube.vaults vault bank is.1.front is.1.rest _ is.0.1 is.1.is (sym (front_told net past (Vault 0 vault) told) ∙ ap front_of is.1.is));
+  holding = ap (λ l. cube_part (record (queues_in net) { vaults = l })) (spread_vaults net.cube.vaults vault bank is.1.front is.1.rest _ is.0.1 is.1.is (sym (front_told net past (Vault 0 vault) tt told) ∙ ap front_of is.1.is));
 }
 
 -- a unit's front is answered, unless it is posted
@@ -81,17 +81,17 @@ bank_moves net past vault bank host tag request answer true posted told is = rec
   left_is = left_of net past (Bank 0 vault bank) told is.1;
   leaves_there = is.0;
   enters_there = subst (λ t. IsGoing (without (queues_in net) (Some (Bank 0 vault bank))) (arrival_in (unless_posted t (Answers 0 (lifts.Vault vault))) (λ _. reply_packet answer (tag_number tag) host request.cube))) (sym posted) tt;
-  holding = ap (λ l. record (queues_in net) { vaults = slice_set net.cube.vaults vault (record (without_waiting (vault_in net.cube.vaults vault) bank) { answers = l }) }) (posted_replies request answer host (tag_number tag) (vault_in net.cube.vaults vault).answers posted)
-      ∙ ap (λ t. with_arrival (without (queues_in net) (Some (Bank 0 vault bank))) (arrival_in (unless_posted t (Answers 0 (lifts.Vault vault))) (λ _. reply_packet answer (tag_number tag) host request.cube))) (sym posted);
+  holding = ap (λ l. cube_part (record (queues_in net) { vaults = slice_set net.cube.vaults vault (record (without_waiting (vault_in net.cube.vaults vault) bank) { answers = l }) })) (posted_replies request answer host (tag_number tag) (vault_in net.cube.vaults vault).answers posted)
+      ∙ ap (λ t. cube_part (with_arrival (without (queues_in net) (Some (Bank 0 vault bank))) (arrival_in (unless_posted t (Answers 0 (lifts.Vault vault))) (λ _. reply_packet answer (tag_number tag) host request.cube)))) (sym posted);
 }
 bank_moves net past vault bank host tag request answer false posted told is = record {
   leaves_is = refl;
   left_is = left_of net past (Bank 0 vault bank) told is.1;
   leaves_there = is.0;
   enters_there = subst (λ t. IsGoing (without (queues_in net) (Some (Bank 0 vault bank))) (arrival_in (unless_posted t (Answers 0 (lifts.Vault vault))) (λ _. reply_packet answer (tag_number tag) host request.cube))) (sym posted) (refl, vault_after net.cube.vaults vault _ is.0.1);
-  holding = ap (λ l. record (queues_in net) { vaults = slice_set net.cube.vaults vault (record (without_waiting (vault_in net.cube.vaults vault) bank) { answers = l }) }) (answered_replies request answer host (tag_number tag) (vault_in net.cube.vaults vault).answers posted)
-      ∙ ap (λ l. record (queues_in net) { vaults = l }) (bank_answered net.cube.vaults vault bank (reply_packet answer (tag_number tag) host request.cube) is.0.1)
-      ∙ ap (λ t. with_arrival (without (queues_in net) (Some (Bank 0 vault bank))) (arrival_in (unless_posted t (Answers 0 (lifts.Vault vault))) (λ _. reply_packet answer (tag_number tag) host request.cube))) (sym posted);
+  holding = ap (λ l. cube_part (record (queues_in net) { vaults = slice_set net.cube.vaults vault (record (without_waiting (vault_in net.cube.vaults vault) bank) { answers = l }) })) (answered_replies request answer host (tag_number tag) (vault_in net.cube.vaults vault).answers posted)
+      ∙ ap (λ l. cube_part (record (queues_in net) { vaults = l })) (bank_answered net.cube.vaults vault bank (reply_packet answer (tag_number tag) host request.cube) is.0.1)
+      ∙ ap (λ t. cube_part (with_arrival (without (queues_in net) (Some (Bank 0 vault bank))) (arrival_in (unless_posted t (Answers 0 (lifts.Vault vault))) (λ _. reply_packet answer (tag_number tag) host request.cube)))) (sym posted);
 }
 
 registers_moves : (net : NetState) (past : List Entry) (host : ℕ) (tag : Option ℕ) (request : RequestFields) (answer : Answer) (posted : Bool) → is_posted request.command ≡ posted → AreTold net past → IsEntryOf net (Executed (units.Registers 0) host tag request answer)
@@ -102,16 +102,16 @@ registers_moves net past host tag request answer true posted told is = record {
   left_is = left_of net past (Registers 0) told is.1;
   leaves_there = refl;
   enters_there = subst (λ t. IsGoing (without (queues_in net) (Some (Registers 0))) (arrival_in (unless_posted t (Answers 0 lifts.Registers)) (λ _. reply_packet answer (tag_number tag) host request.cube))) (sym posted) tt;
-  holding = ap (λ l. record (queues_in net) { register_queue = drop 1 net.cube.register_queue; answers = l }) (posted_replies request answer host (tag_number tag) net.cube.answers posted)
-      ∙ ap (λ t. with_arrival (without (queues_in net) (Some (Registers 0))) (arrival_in (unless_posted t (Answers 0 lifts.Registers)) (λ _. reply_packet answer (tag_number tag) host request.cube))) (sym posted);
+  holding = ap (λ l. cube_part (record (queues_in net) { register_queue = drop 1 net.cube.register_queue; answers = l })) (posted_replies request answer host (tag_number tag) net.cube.answers posted)
+      ∙ ap (λ t. cube_part (with_arrival (without (queues_in net) (Some (Registers 0))) (arrival_in (unless_posted t (Answers 0 lifts.Registers)) (λ _. reply_packet answer (tag_number tag) host request.cube)))) (sym posted);
 }
 registers_moves net past host tag request answer false posted told is = record {
   leaves_is = refl;
   left_is = left_of net past (Registers 0) told is.1;
   leaves_there = refl;
   enters_there = subst (λ t. IsGoing (without (queues_in net) (Some (Registers 0))) (arrival_in (unless_posted t (Answers 0 lifts.Registers)) (λ _. reply_packet answer (tag_number tag) host request.cube))) (sym posted) refl;
-  holding = ap (λ l. record (queues_in net) { register_queue = drop 1 net.cube.register_queue; answers = l }) (answered_replies request answer host (tag_number tag) net.cube.answers posted)
-      ∙ ap (λ t. with_arrival (without (queues_in net) (Some (Registers 0))) (arrival_in (unless_posted t (Answers 0 lifts.Registers)) (λ _. reply_packet answer (tag_number tag) host request.cube))) (sym posted);
+  holding = ap (λ l. cube_part (record (queues_in net) { register_queue = drop 1 net.cube.register_queue; answers = l })) (answered_replies request answer host (tag_number tag) net.cube.answers posted)
+      ∙ ap (λ t. cube_part (with_arrival (without (queues_in net) (Some (Registers 0))) (arrival_in (unless_posted t (Answers 0 lifts.Registers)) (λ _. reply_packet answer (tag_number tag) host request.cube)))) (sym posted);
 }
 
 -- an answer is lifted to the port
@@ -122,16 +122,16 @@ lifted_moves net past (lifts.Vault vault) told is = record {
   left_is = left_of net past (Answers 0 (lifts.Vault vault)) told is.2;
   leaves_there = is.0;
   enters_there = subst (λ d. IsGoing (without (queues_in net) (Some (Answers 0 (lifts.Vault vault)))) (arrival_in (option_map Output d) (λ _. front_of (contents (topology_of net) past (Answers 0 (lifts.Vault vault)))))) (sym (port_direction net)) (omega arith);
-  holding = ap (λ p. with_arrival (without (queues_in net) (Some (Answers 0 (lifts.Vault vault)))) (Some (record { queue = Output 1; packet = λ _. p }))) (front_told net past (Answers 0 (lifts.Vault vault)) told)
-      ∙ ap (λ d. with_arrival (without (queues_in net) (Some (Answers 0 (lifts.Vault vault)))) (arrival_in (option_map Output d) (λ _. front_of (contents (topology_of net) past (Answers 0 (lifts.Vault vault)))))) (sym (port_direction net));
+  holding = ap (λ p. cube_part (with_arrival (without (queues_in net) (Some (Answers 0 (lifts.Vault vault)))) (Some (record { queue = Output 1; packet = λ _. p })))) (front_told net past (Answers 0 (lifts.Vault vault)) tt told)
+      ∙ ap (λ d. cube_part (with_arrival (without (queues_in net) (Some (Answers 0 (lifts.Vault vault)))) (arrival_in (option_map Output d) (λ _. front_of (contents (topology_of net) past (Answers 0 (lifts.Vault vault))))))) (sym (port_direction net));
 }
 lifted_moves net past lifts.Registers told is = record {
   leaves_is = refl;
   left_is = left_of net past (Answers 0 lifts.Registers) told is.2;
   leaves_there = is.0;
   enters_there = subst (λ d. IsGoing (without (queues_in net) (Some (Answers 0 lifts.Registers))) (arrival_in (option_map Output d) (λ _. front_of (contents (topology_of net) past (Answers 0 lifts.Registers))))) (sym (port_direction net)) (omega arith);
-  holding = ap (λ p. with_arrival (without (queues_in net) (Some (Answers 0 lifts.Registers))) (Some (record { queue = Output 1; packet = λ _. p }))) (front_told net past (Answers 0 lifts.Registers) told)
-      ∙ ap (λ d. with_arrival (without (queues_in net) (Some (Answers 0 lifts.Registers))) (arrival_in (option_map Output d) (λ _. front_of (contents (topology_of net) past (Answers 0 lifts.Registers))))) (sym (port_direction net));
+  holding = ap (λ p. cube_part (with_arrival (without (queues_in net) (Some (Answers 0 lifts.Registers))) (Some (record { queue = Output 1; packet = λ _. p })))) (front_told net past (Answers 0 lifts.Registers) tt told)
+      ∙ ap (λ d. cube_part (with_arrival (without (queues_in net) (Some (Answers 0 lifts.Registers))) (arrival_in (option_map Output d) (λ _. front_of (contents (topology_of net) past (Answers 0 lifts.Registers)))))) (sym (port_direction net));
 }
 
 lifted_at : (net : NetState) (past : List Entry) (from : Lift) (port : ℕ) → port ≡ net.port → AreTold net past → IsEntryOf net (Lifted 0 from port) → IsMove net past (Lifted 0 from port) (Some (Answers 0 from))
@@ -139,13 +139,13 @@ lifted_at net past from port same told is =
     subst (λ p. IsMove net past (Lifted 0 from p) (Some (Answers 0 from))) (sym same) (lifted_moves net past from told (subst (λ p. IsEntryOf net (Lifted 0 from p)) same is))
 
 -- the front of the host's buffer leaves
-took_moves : (net : NetState) (past : List Entry) (tag : ℕ) (answer : Answer) → AreTold net past → IsEntryOf net (Took 0 tag answer) → IsMove net past (Took 0 tag answer) (Some (Host 0))
+took_moves : (net : NetState) (past : List Entry) (tag : ℕ) (answer : Answer) → IsMove net past (Took 0 tag answer) (Some (Host 0))
 unfolding leaves enters
-took_moves net past tag answer told is = record { leaves_is = refl; left_is = left_of net past (Host 0) told is.1; leaves_there = refl; enters_there = tt; holding = refl }
+took_moves net past tag answer = record { leaves_is = refl; left_is = λ none. absurd none; leaves_there = refl; enters_there = tt; holding = refl }
 
-discarded_moves : (net : NetState) (past : List Entry) → AreTold net past → IsEntryOf net (Discarded 0) → IsMove net past (Discarded 0) (Some (Host 0))
+discarded_moves : (net : NetState) (past : List Entry) → IsMove net past (Discarded 0) (Some (Host 0))
 unfolding leaves enters
-discarded_moves net past told is = record { leaves_is = refl; left_is = left_of net past (Host 0) told is.1; leaves_there = refl; enters_there = tt; holding = refl }
+discarded_moves net past = record { leaves_is = refl; left_is = λ none. absurd none; leaves_there = refl; enters_there = tt; holding = refl }
 
 idle_moves : (net : NetState) (past : List Entry) (step : Step) (cause : Cause) → IsMove net past (Idle step cause) None
 unfolding leaves enters
@@ -155,13 +155,13 @@ idle_moves net past step cause = record { leaves_is = refl; left_is = tt; leaves
 pub moves_of : (net : NetState) (past : List Entry) (entry : Entry) → AreTold net past → IsEntryOf net entry → (leaving : Option QueueId) × IsMove net past entry leaving
 moves_of net past (Gave zero tag poisoned request) told is = (None, gave_moves net past tag poisoned request)
 moves_of net past (Gave (suc host) tag poisoned request) told is = absurd (omega arith)
-moves_of net past (Sent direction what flit) told is = sent_moves net past direction what flit told is
-moves_of net past (Landed zero flit outcome) told is = (None, landed_forth net past flit outcome told)
-moves_of net past (Landed (suc zero) flit outcome) told is = (None, landed_back net past flit outcome told)
-moves_of net past (Landed (suc (suc direction)) flit outcome) told is = absurd (omega (arith, is.0))
+moves_of net past (Sent direction what flit) told is = sent_moves net past direction what flit is
+moves_of net past (Landed direction flit outcome) told is = (None, landed_moves net past direction flit outcome is)
+moves_of net past (Unlocked direction) told is = (None, unlocked_moves net past direction)
+moves_of net past (Passed direction flit) told is = (None, passed_moves net past direction flit)
 moves_of net past (Shifted zero port goal) told is = (Some (Port 0 port), shifted_moves net past port goal told is)
 moves_of net past (Shifted (suc cube) port goal) told is = absurd (omega (arith, is.0))
-moves_of net past (Dropped zero port) told is = (Some (Port 0 port), dropped_moves net past port told is)
+moves_of net past (Dropped zero port) told is = (Some (Port 0 port), dropped_moves net past port is)
 moves_of net past (Dropped (suc cube) port) told is = absurd (omega (arith, is.0))
 moves_of net past (Spread zero vault bank) told is = (Some (Vault 0 vault), spread_moves net past vault bank told is)
 moves_of net past (Spread (suc cube) vault bank) told is = absurd (omega (arith, is.0.0))
@@ -172,8 +172,8 @@ moves_of net past (Executed (units.Registers (suc cube)) host tag request answer
 moves_of net past (Lifted zero from port) told is = (Some (Answers 0 from), lifted_at net past from port is.1 told is)
 moves_of net past (Lifted (suc cube) (lifts.Vault vault) port) told is = absurd (omega (arith, is.0.0))
 moves_of net past (Lifted (suc cube) lifts.Registers port) told is = absurd (omega (arith, is.0))
-moves_of net past (Took zero tag answer) told is = (Some (Host 0), took_moves net past tag answer told is)
+moves_of net past (Took zero tag answer) told is = (Some (Host 0), took_moves net past tag answer)
 moves_of net past (Took (suc host) tag answer) told is = absurd (omega (arith, is.0))
-moves_of net past (Discarded zero) told is = (Some (Host 0), discarded_moves net past told is)
+moves_of net past (Discarded zero) told is = (Some (Host 0), discarded_moves net past)
 moves_of net past (Discarded (suc host)) told is = absurd (omega (arith, is.0))
 moves_of net past (Idle step cause) told is = (None, idle_moves net past step cause)

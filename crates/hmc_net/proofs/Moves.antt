@@ -1,17 +1,17 @@
 -- The rooms after one more entry: the front of one leaves, and a packet enters another.
-use Rattle.std.proofs.Common.{◌≡◌, ◌≤◌, ◌+◌, ◌&&◌, ◌==◌, ◌∙◌, ℕ, zero, suc, Bool, true, false, Option, Some, None, List, [], ◌∷◌, ◌++◌, length, take, drop, refl, sym, ap, ap₂, arith, append-nil, length-append, length-drop}
+use Rattle.std.proofs.Common.{◌≡◌, ◌≤◌, ◌+◌, ◌&&◌, ◌==◌, ◌∙◌, ℕ, zero, suc, Bool, true, false, Option, Some, None, List, [], ◌∷◌, ◌++◌, length, drop, refl, sym, ap, ap₂, subst, arith, append-nil, length-append, length-drop}
 use Rattle.hmc_journal.proofs.Moves.{arrives}
-use Rattle.std.specs.Prelude.{slice_index_or}
-use Rattle.std.proofs.lemmas.List.{drop-append-le, take-append-le, take_more}
+use Rattle.std.proofs.lemmas.List.{drop-append-le}
 use Rattle.std.proofs.lemmas.Bool.Decides.{nat_tests}
 use Rattle.hmc_codes.specs.declared.lift.Lift.{Lift}
 use Rattle.hmc_codes.specs.declared.lift.Lift.TheVariants as lifts
-use Rattle.hmc_packet.specs.Packet.{PacketFields, null_packet}
+use Rattle.hmc_packet.specs.Packet.{PacketFields}
 use Rattle.hmc_journal.specs.declared.entry.Entry.{Entry}
 use Rattle.hmc_journal.specs.Setup.{Topology}
-use Rattle.hmc_journal.specs.Queues.{QueueId, same_queue, same_lift, is_at, leaves, Arrival, arrived, one_if, packet_if, front_of, left, entered, contents, begun}
+use Rattle.hmc_journal.specs.Queues.{QueueId, same_queue, same_lift, is_at, leaves, Arrival, arrived, one_if, packet_if, left, entered, contents}
 use Rattle.hmc_journal.specs.Queues.QueueId.{Output, Port, Host, Vault, Bank, Registers, Answers}
 use Rattle.hmc_net.specs.NetState.{NetQueues, packets_at}
+use Rattle.hmc_net.specs.Stands.{IsCubeQueue}
 use Rattle.hmc_net.proofs.QueueChanges.{changed, change_if, IsQueueIn, held_changed}
 
 -- lists
@@ -26,19 +26,6 @@ drop_one_more n xs = let e : 1 + n ≡ suc n = omega arith in ap (λ k. drop k x
 pub drop_step : (a : Bool) (n : ℕ) (xs more : List PacketFields) → one_if a + n ≤ length xs → drop (one_if a + n) (xs ++ more) ≡ change_if a (drop 1) (drop n xs) ++ more
 drop_step true n xs more within = drop-append-le (1 + n) xs more within ∙ ap (λ l. l ++ more) (drop_one_more n xs)
 drop_step false n xs more within = let few : n ≤ length xs = omega arith in ap (λ k. drop k (xs ++ more)) (omega arith) ∙ drop-append-le n xs more few
-
-at_front : (n : ℕ) (xs : List PacketFields) → front_of (drop n xs) ≡ slice_index_or xs n null_packet
-at_front zero xs = refl
-at_front (suc n) [] = refl
-at_front (suc n) (x ∷ xs) = at_front n xs
-
-take_step : (a : Bool) (n : ℕ) (xs more : List PacketFields) → one_if a + n ≤ length xs → take (one_if a + n) (xs ++ more) ≡ take n xs ++ packet_if a (λ _. front_of (drop n xs))
-take_step true n xs more within =
-    let e : 1 + n ≡ n + 1 = omega arith in
-    take-append-le (1 + n) xs more within ∙ ap (λ k. take k xs) e ∙ take_more xs n null_packet (omega arith) ∙ ap (λ x. take n xs ++ x ∷ []) (sym (at_front n xs))
-take_step false n xs more within =
-    let e : 0 + n ≡ n = omega arith in
-    ap (λ k. take k (xs ++ more)) e ∙ take-append-le n xs more (omega arith) ∙ sym (append-nil (take n xs))
 
 -- one room is another one
 number_is : (m n : ℕ) → (m == n) ≡ true → m ≡ n
@@ -77,32 +64,32 @@ front_within topology past r q front rest true is front_is within =
     let some : length (drop (left past q) (entered topology past q)) ≡ suc (length rest) = ap length here in
     omega (arith, length-drop (left past q) (entered topology past q))
 
--- a room that a packet leaves, if one does, has a front
+-- a queue of a cube that a packet leaves, if one does, has a front
 abbrev pub IsLeft : Topology → List Entry → Option QueueId → Type 0
 IsLeft topology past None = Unit {0}
-IsLeft topology past (Some r) = (front : PacketFields) × (rest : List PacketFields) × (contents topology past r ≡ front ∷ rest)
+IsLeft topology past (Some r) = IsCubeQueue r → (front : PacketFields) × (rest : List PacketFields) × (contents topology past r ≡ front ∷ rest)
 
-left_within : (topology : Topology) (past : List Entry) (leaving : Option QueueId) (q : QueueId) → IsLeft topology past leaving → left past q ≤ length (entered topology past q) → one_if (is_at leaving q) + left past q ≤ length (entered topology past q)
-left_within topology past None q is within = omega arith
-left_within topology past (Some r) q is within = front_within topology past r q is.0 is.1 (same_queue r q) refl is.2 within
+-- a queue of a cube is none of the others
+left_by : (topology : Topology) (past : List Entry) (r q : QueueId) (test : Bool) → same_queue r q ≡ test → IsCubeQueue q → IsLeft topology past (Some r) → left past q ≤ length (entered topology past q) → one_if test + left past q ≤ length (entered topology past q)
+left_by topology past r q false same cube is within = omega arith
+left_by topology past r q true same cube is within =
+    let at = is (subst IsCubeQueue (sym (same_queue_is r q same)) cube) in front_within topology past r q at.0 at.1 true same at.2 within
 
-pub contents_step : (topology : Topology) (past : List Entry) (entry : Entry) (q : QueueId) → IsLeft topology past (leaves past entry) → left past q ≤ length (entered topology past q)
+left_within : (topology : Topology) (past : List Entry) (leaving : Option QueueId) (q : QueueId) → IsCubeQueue q → IsLeft topology past leaving → left past q ≤ length (entered topology past q) → one_if (is_at leaving q) + left past q ≤ length (entered topology past q)
+left_within topology past None q cube is within = omega arith
+left_within topology past (Some r) q cube is within = left_by topology past r q (same_queue r q) refl cube is within
+
+pub contents_step : (topology : Topology) (past : List Entry) (entry : Entry) (q : QueueId) → IsCubeQueue q → IsLeft topology past (leaves past entry) → left past q ≤ length (entered topology past q)
     → contents topology (entry ∷ past) q ≡ change_if (is_at (leaves past entry) q) (drop 1) (contents topology past q) ++ arrived q (arrives topology past entry)
 unfolding contents left entered
-contents_step topology past entry q is within =
-    drop_step (is_at (leaves past entry) q) (left past q) (entered topology past q) _ (left_within topology past (leaves past entry) q is within)
+contents_step topology past entry q cube is within =
+    drop_step (is_at (leaves past entry) q) (left past q) (entered topology past q) _ (left_within topology past (leaves past entry) q cube is within)
 
-pub within_step : (topology : Topology) (past : List Entry) (entry : Entry) (q : QueueId) → IsLeft topology past (leaves past entry) → left past q ≤ length (entered topology past q)
+pub within_step : (topology : Topology) (past : List Entry) (entry : Entry) (q : QueueId) → IsCubeQueue q → IsLeft topology past (leaves past entry) → left past q ≤ length (entered topology past q)
     → left (entry ∷ past) q ≤ length (entered topology (entry ∷ past) q)
 unfolding left entered
-within_step topology past entry q is within =
-    omega (arith, left_within topology past (leaves past entry) q is within, length-append {A = PacketFields})
-
-pub begun_step : (topology : Topology) (past : List Entry) (entry : Entry) (direction : ℕ) → IsLeft topology past (leaves past entry) → left past (Output direction) ≤ length (entered topology past (Output direction))
-    → begun topology (entry ∷ past) direction ≡ begun topology past direction ++ packet_if (is_at (leaves past entry) (Output direction)) (λ _. front_of (contents topology past (Output direction)))
-unfolding begun contents left entered
-begun_step topology past entry direction is within =
-    take_step (is_at (leaves past entry) (Output direction)) (left past (Output direction)) (entered topology past (Output direction)) _ (left_within topology past (leaves past entry) (Output direction) is within)
+within_step topology past entry q cube is within =
+    omega (arith, left_within topology past (leaves past entry) q cube is within, length-append {A = PacketFields})
 
 -- the packets that are left after a change
 abbrev pub without : NetQueues → Option QueueId → NetQueues
@@ -136,9 +123,9 @@ with_held h (Some arrival) q is = held_changed h arrival.queue q (λ l. l ++ arr
 -- After an entry the queues hold what they held, without the front of the one and with the packet
 -- that enters the other.
 pub queues_step : (topology : Topology) (past : List Entry) (entry : Entry) (h : NetQueues) → IsLeft topology past (leaves past entry) → IsThere h (leaves past entry) → IsGoing (without h (leaves past entry)) (arrives topology past entry)
-    → (q : QueueId) → left past q ≤ length (entered topology past q) → packets_at h q ≡ contents topology past q
+    → (q : QueueId) → IsCubeQueue q → left past q ≤ length (entered topology past q) → packets_at h q ≡ contents topology past q
     → packets_at (with_arrival (without h (leaves past entry)) (arrives topology past entry)) q ≡ contents topology (entry ∷ past) q
-queues_step topology past entry h is leaves_there enters_there q within same =
+queues_step topology past entry h is leaves_there enters_there q cube within same =
     with_held (without h (leaves past entry)) (arrives topology past entry) q enters_there ∙
     ap (λ l. l ++ arrived q (arrives topology past entry)) (without_held h (leaves past entry) q leaves_there ∙ ap (change_if (is_at (leaves past entry) q) (drop 1)) same) ∙
-    sym (contents_step topology past entry q is within)
+    sym (contents_step topology past entry q cube is within)

@@ -1,52 +1,78 @@
--- What an entry leaves of the rooms is what they hold after it.
-use Rattle.std.proofs.Common.{◌≡◌, ◌==◌, ◌∙◌, ℕ, zero, suc, Bool, if◌then◌else◌, Option, Some, None, List, [], ◌∷◌, ◌++◌, refl, sym, ap, arith, append-nil}
+-- What an entry leaves of the queues of the cube is what they hold after it.
+use Rattle.std.proofs.Common.{◌≡◌, ◌<◌, ◌==◌, ◌∙◌, ℕ, zero, suc, Bool, if◌then◌else◌, Option, Some, None, List, [], ◌∷◌, refl, sym, ap, arith}
 use Rattle.hmc_journal.proofs.Moves.{arrives}
+use Rattle.std.specs.Prelude.{filter}
 use Rattle.hmc_codes.specs.Request.{RequestFields}
+use Rattle.hmc_codes.specs.declared.lift.Lift.TheVariants as lifts
 use Rattle.hmc_codes.specs.declared.place.Place.TheVariants as places
+use Rattle.hmc_packet.specs.declared.outcome.Outcome.{Outcome}
 use Rattle.hmc_packet.specs.declared.what.What.{What}
-use Rattle.hmc_packet.specs.declared.what.What.TheVariants.{New, Null}
+use Rattle.hmc_packet.specs.declared.what.What.TheVariants as whats
 use Rattle.hmc_packet.specs.Packet.{PacketFields}
-use Rattle.hmc_packet.specs.Reading.{read_of}
-use Rattle.hmc_case.specs.Setup.{only_profile}
+use Rattle.hmc_send.specs.Places.{is_token}
+use Rattle.hmc_vault.specs.Vault.{VaultFields}
 use Rattle.hmc_journal.specs.declared.outcome.Goal.{Goal}
 use Rattle.hmc_journal.specs.declared.outcome.Goal.TheVariants as goals
-use Rattle.hmc_journal.specs.declared.outcome.Outcome.{Outcome}
-use Rattle.hmc_journal.specs.declared.outcome.Outcome.TheVariants as outcomes
 use Rattle.hmc_journal.specs.declared.entry.Entry.{Entry}
-use Rattle.hmc_journal.specs.declared.entry.Entry.TheVariants.{Gave, Sent, Landed, Shifted, Dropped}
+use Rattle.hmc_journal.specs.declared.entry.Entry.TheVariants.{Gave, Sent, Landed, Shifted, Dropped, Unlocked, Passed}
 use Rattle.hmc_journal.specs.Setup.{direction_from, direction_among}
-use Rattle.hmc_journal.specs.Queues.{QueueId, leaves, enters, begins, front_of, contents}
-use Rattle.hmc_journal.specs.Queues.QueueId.{Output, Port, Vault, Registers}
-use Rattle.hmc_journal.specs.StepView.{Sending, sending_with}
-use Rattle.hmc_journal.specs.Wires.{unsent, pending, landed_packet, packet_in}
-use Rattle.hmc_net.specs.NetState.{NetState, topology_of, packets_if, queues_in, inside}
+use Rattle.hmc_journal.specs.Directions.{unsent, landed_packets}
+use Rattle.hmc_journal.specs.Queues.{QueueId, leaves, enters, begins, front_of, contents, landing_buffer, arrival_of}
+use Rattle.hmc_journal.specs.Queues.QueueId.{Output, Port, Host, Vault, Bank, Registers, Answers}
+use Rattle.hmc_net.specs.NetState.{NetState, NetQueues, topology_of, packets_if, packets_at, queues_in, inside}
 use Rattle.hmc_net.specs.Apply.{after}
-use Rattle.hmc_net.specs.Wire.{continued_by}
+use Rattle.hmc_net.specs.Stands.{IsCubeQueue}
 use Rattle.hmc_net.proofs.QueueChanges.{same_number}
 use Rattle.hmc_net.proofs.Moves.{IsLeft, IsThere, IsGoing, without, with_arrival}
-use Rattle.hmc_net.proofs.Fits.{HasFront, IsNewOf, IsEntryOf}
+use Rattle.hmc_net.proofs.Fits.{HasFront, IsEntryOf}
 
--- the rooms hold what the journal tells, and the directions send and gather it
+-- the queues hold what the journal says
 pub record AreTold (net : NetState) (past : List Entry) : Type 0 where
-  pub queues : (room : QueueId) → inside net room ≡ contents (topology_of net) past room
-  pub forth_sending : (packet : PacketFields) × (net.forth.sending ≡ sending_with (unsent 0 past) packet)
-  pub back_sending : (packet : PacketFields) × (net.back.sending ≡ sending_with (unsent 1 past) packet)
-  pub forth_pending : net.forth.pending ≡ pending 0 past
-  pub back_pending : net.back.pending ≡ pending 1 past
+  pub cube : (queue : QueueId) → IsCubeQueue queue → inside net queue ≡ contents (topology_of net) past queue
+  pub forth : net.link.a.queue ≡ contents (topology_of net) past (Output 0)
+  pub back : net.link.b.queue ≡ contents (topology_of net) past (Output 1)
+  pub port : net.link.b.buffer ≡ contents (topology_of net) past (Port 0 net.port)
+  pub host : net.link.a.buffer ≡ contents (topology_of net) past (Host 0)
 
--- how an entry moves a packet
+-- the queues of the cube
+pub record CubeQueues : Type 0 where
+  pub vaults : List VaultFields
+  pub register_queue : List PacketFields
+  pub answers : List PacketFields
+
+abbrev pub cube_part : NetQueues → CubeQueues
+cube_part h = record { vaults = h.vaults; register_queue = h.register_queue; answers = h.answers }
+
+abbrev with_part : CubeQueues → NetQueues
+with_part c = record { forth = []; back = []; port = 0; port_buffer = []; host = []; vaults = c.vaults; register_queue = c.register_queue; answers = c.answers }
+
+-- what a queue of the cube holds is in that part
+at_part : (h : NetQueues) (queue : QueueId) → IsCubeQueue queue → packets_at h queue ≡ packets_at (with_part (cube_part h)) queue
+at_part h (Vault cube vault) is = refl
+at_part h (Bank cube vault bank) is = refl
+at_part h (Registers cube) is = refl
+at_part h (Answers cube (lifts.Vault vault)) is = refl
+at_part h (Answers cube lifts.Registers) is = refl
+at_part h (Output direction) is = absurd is
+at_part h (Port cube port) is = absurd is
+at_part h (Host host) is = absurd is
+
+pub part_same : (h k : NetQueues) (queue : QueueId) → IsCubeQueue queue → cube_part h ≡ cube_part k → packets_at h queue ≡ packets_at k queue
+part_same h k queue is same = at_part h queue is ∙ ap (λ (c : CubeQueues). packets_at (with_part c) queue) same ∙ sym (at_part k queue is)
+
+-- how an entry moves a packet in the cube
 pub record IsMove (net : NetState) (past : List Entry) (entry : Entry) (leaving : Option QueueId) : Type 0 where
   pub leaves_is : leaves past entry ≡ leaving
   pub left_is : IsLeft (topology_of net) past leaving
   pub leaves_there : IsThere (queues_in net) leaving
   pub enters_there : IsGoing (without (queues_in net) leaving) (arrives (topology_of net) past entry)
-  pub holding : queues_in (after entry net) ≡ with_arrival (without (queues_in net) leaving) (arrives (topology_of net) past entry)
+  pub holding : cube_part (queues_in (after entry net)) ≡ cube_part (with_arrival (without (queues_in net) leaving) (arrives (topology_of net) past entry))
 
-pub left_of : (net : NetState) (past : List Entry) (room : QueueId) → AreTold net past → HasFront (inside net room) → IsLeft (topology_of net) past (Some room)
-left_of net past room told at = (at.front, at.rest, sym (told.queues room) ∙ at.is)
+pub left_of : (net : NetState) (past : List Entry) (queue : QueueId) → AreTold net past → HasFront (inside net queue) → IsLeft (topology_of net) past (Some queue)
+left_of net past queue told at = λ is. (at.front, at.rest, sym (told.cube queue is) ∙ at.is)
 
-pub front_told : (net : NetState) (past : List Entry) (room : QueueId) → AreTold net past → front_of (inside net room) ≡ front_of (contents (topology_of net) past room)
-front_told net past room told = ap front_of (told.queues room)
+pub front_told : (net : NetState) (past : List Entry) (queue : QueueId) → IsCubeQueue queue → AreTold net past → front_of (inside net queue) ≡ front_of (contents (topology_of net) past queue)
+front_told net past queue is told = ap front_of (told.cube queue is)
 
 -- the direction that starts at the port
 pub port_direction : (net : NetState) → direction_from (topology_of net) (places.Port 0 net.port) ≡ Some 1
@@ -57,126 +83,82 @@ pub gave_moves : (net : NetState) (past : List Entry) (tag : Option ℕ) (poison
 unfolding leaves enters direction_from direction_among
 gave_moves net past tag poisoned request = record { leaves_is = refl; left_is = tt; leaves_there = tt; enters_there = omega arith; holding = refl }
 
--- a flit of a packet that is begun takes it out of its queue
-pub begins_at : (left : ℕ) (packet : PacketFields) → sending_with left packet ≡ None → left ≡ 0
-begins_at zero packet is = refl
-begins_at (suc left) packet is = cc
+-- a flit that begins a packet takes it out of an output queue, which is none of the cube
+output_left : (net : NetState) (past : List Entry) (direction : ℕ) → direction < 2 → cube_part (without (queues_in net) (Some (Output direction))) ≡ cube_part (queues_in net)
+output_left net past zero there = refl
+output_left net past (suc direction) there = refl
 
-pub continues_at : (left : ℕ) (packet : PacketFields) (sending : Sending) → sending_with left packet ≡ Some sending → (n : ℕ) × (left ≡ suc n)
-continues_at zero packet sending is = cc
-continues_at (suc left) packet sending is = (left, refl)
-
-begins_none : (left direction : ℕ) (n : ℕ) → left ≡ suc n → begins left direction ≡ None
-begins_none left direction n is = ap (λ l. begins l direction) is
-
-sent_forth : (net : NetState) (past : List Entry) (flit : List ℕ) (sending : Option Sending) → net.forth.sending ≡ sending → AreTold net past → IsNewOf net.forth.output sending → (leaving : Option QueueId) × IsMove net past (Sent 0 New flit) leaving
+new_moves : (net : NetState) (past : List Entry) (direction left : ℕ) (flit : List ℕ) → direction < 2 → begins (unsent direction past) direction ≡ begins left direction → (leaving : Option QueueId) × IsMove net past (Sent direction whats.New flit) leaving
 unfolding leaves enters
-sent_forth net past flit None is told at = (
-  Some (Output 0),
-  record {
-    leaves_is = ap (λ l. begins l 0) (begins_at (unsent 0 past) told.forth_sending.0 (sym told.forth_sending.1 ∙ is));
-    left_is = left_of net past (Output 0) told at;
-    leaves_there = omega arith;
-    enters_there = tt;
-    holding = ap (λ s. queues_in (record net { forth = record (continued_by flit s net.forth) { line = net.forth.line ++ flit ∷ [] } })) is;
-  },
-)
-sent_forth net past flit (Some sending) is told at =
-    let more : (n : ℕ) × (unsent 0 past ≡ suc n) = continues_at (unsent 0 past) told.forth_sending.0 sending (sym told.forth_sending.1 ∙ is) in (
-      None,
-      record {
-        leaves_is = begins_none (unsent 0 past) 0 more.0 more.1;
-        left_is = tt;
-        leaves_there = tt;
-        enters_there = tt;
-        holding = ap (λ s. queues_in (record net { forth = record (continued_by flit s net.forth) { line = net.forth.line ++ flit ∷ [] } })) is;
-      },
-    )
+new_moves net past direction zero flit there is = (Some (Output direction), record { leaves_is = is; left_is = λ none. absurd none; leaves_there = there; enters_there = tt; holding = sym (output_left net past direction there) })
+new_moves net past direction (suc left) flit there is = (None, record { leaves_is = is; left_is = tt; leaves_there = tt; enters_there = tt; holding = refl })
 
-sent_back : (net : NetState) (past : List Entry) (flit : List ℕ) (sending : Option Sending) → net.back.sending ≡ sending → AreTold net past → IsNewOf net.back.output sending → (leaving : Option QueueId) × IsMove net past (Sent 1 New flit) leaving
-unfolding leaves enters
-sent_back net past flit None is told at = (
-  Some (Output 1),
-  record {
-    leaves_is = ap (λ l. begins l 1) (begins_at (unsent 1 past) told.back_sending.0 (sym told.back_sending.1 ∙ is));
-    left_is = left_of net past (Output 1) told at;
-    leaves_there = omega arith;
-    enters_there = tt;
-    holding = ap (λ s. queues_in (record net { back = record (continued_by flit s net.back) { line = net.back.line ++ flit ∷ [] } })) is;
-  },
-)
-sent_back net past flit (Some sending) is told at =
-    let more : (n : ℕ) × (unsent 1 past ≡ suc n) = continues_at (unsent 1 past) told.back_sending.0 sending (sym told.back_sending.1 ∙ is) in (
-      None,
-      record {
-        leaves_is = begins_none (unsent 1 past) 1 more.0 more.1;
-        left_is = tt;
-        leaves_there = tt;
-        enters_there = tt;
-        holding = ap (λ s. queues_in (record net { back = record (continued_by flit s net.back) { line = net.back.line ++ flit ∷ [] } })) is;
-      },
-    )
-
--- a NULL moves nothing
-other_sent : (net : NetState) (past : List Entry) (direction : ℕ) (what : What) (flit : List ℕ) → leaves past (Sent direction what flit) ≡ None → queues_in (after (Sent direction what flit) net) ≡ queues_in net → IsMove net past (Sent direction what flit) None
+other_sent : (net : NetState) (past : List Entry) (direction : ℕ) (what : What) (flit : List ℕ) → leaves past (Sent direction what flit) ≡ None → IsMove net past (Sent direction what flit) None
 unfolding enters
-other_sent net past direction what flit leaves_is holding = record { leaves_is = leaves_is; left_is = tt; leaves_there = tt; enters_there = tt; holding = holding }
+other_sent net past direction what flit is = record { leaves_is = is; left_is = tt; leaves_there = tt; enters_there = tt; holding = refl }
 
-pub sent_moves : (net : NetState) (past : List Entry) (direction : ℕ) (what : What) (flit : List ℕ) → AreTold net past → IsEntryOf net (Sent direction what flit) → (leaving : Option QueueId) × IsMove net past (Sent direction what flit) leaving
+pub sent_moves : (net : NetState) (past : List Entry) (direction : ℕ) (what : What) (flit : List ℕ) → direction < 2 → (leaving : Option QueueId) × IsMove net past (Sent direction what flit) leaving
 unfolding leaves
-sent_moves net past (suc (suc direction)) what flit told is = absurd (omega (arith, is.0))
-sent_moves net past zero New flit told is = sent_forth net past flit net.forth.sending refl told is.1
-sent_moves net past (suc zero) New flit told is = sent_back net past flit net.back.sending refl told is.1
-sent_moves net past zero Null flit told is = (None, other_sent net past 0 Null flit refl refl)
-sent_moves net past (suc zero) Null flit told is = (None, other_sent net past 1 Null flit refl refl)
-sent_moves net past zero _ flit told is = absurd is.1
-sent_moves net past (suc zero) _ flit told is = absurd is.1
+sent_moves net past direction whats.New flit there = new_moves net past direction (unsent direction past) flit there refl
+sent_moves net past direction what flit there = (None, other_sent net past direction what flit refl)
 
--- a packet that lands whole enters the buffer
-pub landed_forth : (net : NetState) (past : List Entry) (flit : List ℕ) (outcome : Outcome) → AreTold net past → IsMove net past (Landed 0 flit outcome) None
-unfolding leaves enters landed_packet
-landed_forth net past flit outcomes.Accepted told = record { leaves_is = refl; left_is = tt; leaves_there = tt; enters_there = (refl, refl); holding = ap (λ p. record (queues_in net) { port_buffer = net.port_buffer ++ packet_in (read_of only_profile (p ++ flit ∷ [])) ∷ [] }) told.forth_pending }
-landed_forth net past flit outcomes.Poisoned told = record { leaves_is = refl; left_is = tt; leaves_there = tt; enters_there = (refl, refl); holding = ap (λ p. record (queues_in net) { port_buffer = net.port_buffer ++ packet_in (read_of only_profile (p ++ flit ∷ [])) ∷ [] }) told.forth_pending }
-landed_forth net past flit outcomes.Quiet told = record { leaves_is = refl; left_is = tt; leaves_there = tt; enters_there = tt; holding = ap (λ b. record (queues_in net) { port_buffer = b }) (append-nil net.port_buffer) }
-landed_forth net past flit outcomes.Gathered told = record { leaves_is = refl; left_is = tt; leaves_there = tt; enters_there = tt; holding = ap (λ b. record (queues_in net) { port_buffer = b }) (append-nil net.port_buffer) }
+-- a packet that lands enters a buffer, which is none of the cube's queues
+abbrev IsArrived : NetState → (direction : ℕ) → List PacketFields → Type 0
+IsArrived net direction packets =
+    IsGoing (queues_in net) (arrival_of (landing_buffer (topology_of net) direction) packets) ×
+    (cube_part (queues_in net) ≡ cube_part (with_arrival (queues_in net) (arrival_of (landing_buffer (topology_of net) direction) packets)))
 
-pub landed_back : (net : NetState) (past : List Entry) (flit : List ℕ) (outcome : Outcome) → AreTold net past → IsMove net past (Landed 1 flit outcome) None
-unfolding leaves enters landed_packet
-landed_back net past flit outcomes.Accepted told = record { leaves_is = refl; left_is = tt; leaves_there = tt; enters_there = refl; holding = ap (λ p. record (queues_in net) { host = net.host_buffer ++ packet_in (read_of only_profile (p ++ flit ∷ [])) ∷ [] }) told.back_pending }
-landed_back net past flit outcomes.Poisoned told = record { leaves_is = refl; left_is = tt; leaves_there = tt; enters_there = refl; holding = ap (λ p. record (queues_in net) { host = net.host_buffer ++ packet_in (read_of only_profile (p ++ flit ∷ [])) ∷ [] }) told.back_pending }
-landed_back net past flit outcomes.Quiet told = record { leaves_is = refl; left_is = tt; leaves_there = tt; enters_there = tt; holding = ap (λ b. record (queues_in net) { host = b }) (append-nil net.host_buffer) }
-landed_back net past flit outcomes.Gathered told = record { leaves_is = refl; left_is = tt; leaves_there = tt; enters_there = tt; holding = ap (λ b. record (queues_in net) { host = b }) (append-nil net.host_buffer) }
+arrived_at : (net : NetState) (direction : ℕ) (packets : List PacketFields) → direction < 2 → IsArrived net direction packets
+arrived_at net zero [] there = (tt, refl)
+arrived_at net zero (packet ∷ rest) there = ((refl, refl), refl)
+arrived_at net (suc zero) [] there = (tt, refl)
+arrived_at net (suc zero) (packet ∷ rest) there = (refl, refl)
+arrived_at net (suc (suc direction)) packets there = absurd (omega arith)
+
+pub landed_moves : (net : NetState) (past : List Entry) (direction : ℕ) (flit : List ℕ) (outcome : Outcome) → direction < 2 → IsMove net past (Landed direction flit outcome) None
+unfolding leaves enters
+landed_moves net past direction flit outcome there =
+    let at = arrived_at net direction (filter is_token (landed_packets (topology_of net) direction flit outcome past)) there in
+    record { leaves_is = refl; left_is = tt; leaves_there = tt; enters_there = at.0; holding = at.1 }
+
+pub unlocked_moves : (net : NetState) (past : List Entry) (direction : ℕ) → IsMove net past (Unlocked direction) None
+unfolding leaves enters
+unlocked_moves net past direction = record { leaves_is = refl; left_is = tt; leaves_there = tt; enters_there = tt; holding = refl }
+
+pub passed_moves : (net : NetState) (past : List Entry) (direction : ℕ) (flit : List ℕ) → IsMove net past (Passed direction flit) None
+unfolding leaves enters
+passed_moves net past direction flit = record { leaves_is = refl; left_is = tt; leaves_there = tt; enters_there = tt; holding = refl }
 
 -- the front of the port's buffer goes on
-pub buffer_is : (net : NetState) (port : ℕ) → port ≡ net.port → inside net (Port 0 port) ≡ net.port_buffer
-buffer_is net port is = ap (λ t. packets_if t net.port_buffer) (ap (λ n. net.port == n) is ∙ same_number net.port)
+pub buffer_is : (net : NetState) (port : ℕ) → port ≡ net.port → inside net (Port 0 port) ≡ net.link.b.buffer
+buffer_is net port is = ap (λ t. packets_if t net.link.b.buffer) (ap (λ n. net.port == n) is ∙ same_number net.port)
 
-buffer_front : (net : NetState) (past : List Entry) (port : ℕ) → port ≡ net.port → AreTold net past → front_of net.port_buffer ≡ front_of (contents (topology_of net) past (Port 0 port))
-buffer_front net past port is told = ap front_of (sym (buffer_is net port is)) ∙ front_told net past (Port 0 port) told
+buffer_front : (net : NetState) (past : List Entry) (port : ℕ) → port ≡ net.port → AreTold net past → front_of net.link.b.buffer ≡ front_of (contents (topology_of net) past (Port 0 port))
+buffer_front net past port is told = ap front_of told.port ∙ ap (λ n. front_of (contents (topology_of net) past (Port 0 n))) (sym is)
 
 pub shifted_moves : (net : NetState) (past : List Entry) (port : ℕ) (goal : Goal) → AreTold net past → IsEntryOf net (Shifted 0 port goal) → IsMove net past (Shifted 0 port goal) (Some (Port 0 port))
 unfolding leaves enters
 shifted_moves net past port (goals.Vault vault) told is = record {
   leaves_is = refl;
-  left_is = left_of net past (Port 0 port) told is.2;
+  left_is = λ none. absurd none;
   leaves_there = (refl, is.1);
   enters_there = (refl, is.3);
-  holding = ap (λ p. with_arrival (without (queues_in net) (Some (Port 0 port))) (Some (record { queue = Vault 0 vault; packet = λ _. p }))) (buffer_front net past port is.1 told);
+  holding = ap (λ p. cube_part (with_arrival (without (queues_in net) (Some (Port 0 port))) (Some (record { queue = Vault 0 vault; packet = λ _. p })))) (buffer_front net past port is.1 told);
 }
 shifted_moves net past port goals.Registers told is = record {
   leaves_is = refl;
-  left_is = left_of net past (Port 0 port) told is.2;
+  left_is = λ none. absurd none;
   leaves_there = (refl, is.1);
   enters_there = refl;
-  holding = ap (λ p. with_arrival (without (queues_in net) (Some (Port 0 port))) (Some (record { queue = Registers 0; packet = λ _. p }))) (buffer_front net past port is.1 told);
+  holding = ap (λ p. cube_part (with_arrival (without (queues_in net) (Some (Port 0 port))) (Some (record { queue = Registers 0; packet = λ _. p })))) (buffer_front net past port is.1 told);
 }
 shifted_moves net past port (goals.Port other) told is = absurd is.3
 
-pub dropped_moves : (net : NetState) (past : List Entry) (port : ℕ) → AreTold net past → IsEntryOf net (Dropped 0 port) → IsMove net past (Dropped 0 port) (Some (Port 0 port))
+pub dropped_moves : (net : NetState) (past : List Entry) (port : ℕ) → IsEntryOf net (Dropped 0 port) → IsMove net past (Dropped 0 port) (Some (Port 0 port))
 unfolding leaves enters
-dropped_moves net past port told is = record {
+dropped_moves net past port is = record {
   leaves_is = refl;
-  left_is = left_of net past (Port 0 port) told is.2;
+  left_is = λ none. absurd none;
   leaves_there = (refl, is.1);
   enters_there = tt;
   holding = refl;

@@ -1,75 +1,103 @@
 -- What a step sees of a network is what it sees of the journal that the network stands for, and
 -- what the laws promise of it.
-use Rattle.std.proofs.Common.{◌≡◌, ◌≤◌, ◌∙◌, ℕ, zero, suc, Some, List, [], ◌∷◌, ◌++◌, length, drop, map, slice_get, refl, sym, ap, ap₂, subst, arith}
+use Rattle.std.proofs.Common.{◌≡◌, ◌<◌, ◌∙◌, ◌&&◌, ◌==◌, ℕ, zero, suc, Bool, true, false, not, Option, Some, List, [], ◌∷◌, length, slice_get, refl, sym, ap, ap₂, subst, eqb-true}
 use Rattle.std.specs.List.{All}
+use Rattle.std.proofs.lemmas.Bool.{and_parts}
 use Rattle.std.proofs.lemmas.List.Elements.{All-head, All-tail}
-use Rattle.std.proofs.lemmas.List.Sums.{sum_by-cons}
 use Rattle.hmc_codes.specs.declared.lift.Lift.{Lift}
-use Rattle.hmc_codes.specs.declared.lift.Lift.TheVariants as lifts
-use Rattle.hmc_packet.specs.Packet.{PacketFields, flits_of}
-use Rattle.hmc_packet.specs.Reading.{read_of}
-use Rattle.hmc_case.specs.Setup.{only_profile}
+use Rattle.hmc_packet.specs.Packet.{PacketFields}
 use Rattle.hmc_cube.specs.Places.{answers_at}
 use Rattle.hmc_host.specs.Host.{HostFields}
+use Rattle.hmc_codes.specs.Link.{LinkFields}
+use Rattle.hmc_link.specs.Held.{EndFields, LinkHeld, sending_end}
+use Rattle.hmc_link.specs.Parts.{parts_of}
+use Rattle.hmc_link.specs.StandsFor.{EndStandsFor, LinkStandsFor}
+use Rattle.hmc_packet.specs.declared.feed.Feed.TheVariants.{Waiting}
+use Rattle.hmc_send.specs.declared.toward.Toward.{Toward}
+use Rattle.hmc_send.specs.declared.toward.Toward.TheVariants.{Forth, Back}
+use Rattle.hmc_send.specs.Entries.{UnderWay, under_way}
+use Rattle.hmc_send.specs.IsSender.{IsFed}
+use Rattle.hmc_send.specs.LinkSenders.{sender_entries}
+use Rattle.hmc_journal.proofs.LinkKept.{AreDirect, no-through, nothing-fed}
+use Rattle.hmc_journal.proofs.Projections.{are_direct}
 use Rattle.hmc_serial.specs.Machine.{State}
+use Rattle.hmc_send.specs.LinkEntries.{LinkEntry}
 use Rattle.hmc_schedule.specs.declared.step.Step.{Step}
-use Rattle.hmc_schedule.specs.declared.step.Step.TheVariants as steps
+use Rattle.hmc_journal.specs.Choice.{choose}
 use Rattle.hmc_journal.specs.declared.entry.Entry.{Entry}
 use Rattle.hmc_journal.specs.Hosts.{host_of}
+use Rattle.hmc_journal.specs.Lawful.{has_passed}
+use Rattle.hmc_journal.specs.Links.{link_entries}
 use Rattle.hmc_journal.specs.QueueInvariant.{IsCubeRequest, IsHostAnswer, IsAnswerFor, QueueInvariant}
-use Rattle.hmc_journal.specs.Next.{next, choice, outcome_of}
-use Rattle.hmc_journal.specs.Queues.{QueueId, landing_buffer, left, contents, begun}
-use Rattle.hmc_journal.specs.Queues.QueueId.{Port, Host, Bank, Registers, Answers}
-use Rattle.hmc_journal.specs.Setup.{Topology, Setup, link_of}
-use Rattle.hmc_journal.specs.StepView.{DirectionView, StepView, direction_view, state_of, view_of}
-use Rattle.hmc_journal.specs.Wires.{line_flits, pending, return_pointer, landed_packet, packet_in, packets_by, flits_in}
-use Rattle.hmc_net.specs.NetState.{NetState, topology_of, inside, net_view, net_direction, host_by}
-use Rattle.hmc_net.specs.Ready.{IsFitting, IsReady, IsStepFor}
-use Rattle.hmc_net.specs.Stands.{IsDirection, StandsFor, IsNext}
-use Rattle.hmc_net.proofs.Queues.{buffer_is}
-use Rattle.hmc_net.proofs.DirectionsAfter.{AreFirst}
+use Rattle.hmc_journal.specs.Next.{next, choice}
+use Rattle.hmc_journal.specs.Queues.{QueueId, contents}
+use Rattle.hmc_journal.specs.Queues.QueueId.{Output, Port, Host, Vault, Bank, Registers, Answers}
+use Rattle.hmc_journal.specs.Setup.{Setup}
+use Rattle.hmc_journal.specs.StepView.{StepView, state_of, view_of}
+use Rattle.hmc_net.specs.NetState.{NetState, topology_of, packets_if, inside_or, host_or, machine_of, net_view}
+use Rattle.hmc_net.specs.Ready.{IsAnswerSent, IsReady, IsStepFor}
+use Rattle.hmc_net.specs.Stands.{StandsFor, IsNext}
+use Rattle.hmc_net.proofs.LinkAfter.{inside_answers}
+use Rattle.hmc_net.proofs.Queues.{AreTold}
+use Rattle.hmc_net.proofs.Standing.{told_of}
 
 -- functions that agree everywhere are one
 same_function : {A B : Type 0} (f g : A → B) → ((x : A) → f x ≡ g x) → f ≡ g
 same_function f g same = λ i. λ x. same x i
 
--- ---- the sight
+-- ---- the view
 
-abbrev sees : (QueueId → List PacketFields) → State → (ℕ → HostFields) → (ℕ → DirectionView) → StepView
-sees queues state hosts ways = record { inside = queues; state = state; host = hosts; direction_at = ways }
+-- the queue of a port that is there
+at_port : (net : NetState) (past : List Entry) (cube port : ℕ) → AreTold net past → cube ≡ 0 → net.port ≡ port → net.link.b.buffer ≡ contents (topology_of net) past (Port cube port)
+at_port net past cube port told zero_is same = told.port ∙ ap₂ (λ (c p : ℕ). contents (topology_of net) past (Port c p)) (sym zero_is) same
 
--- a step sees host 0 and the two directions
-same_choice : (topology : Topology) (queues : QueueId → List PacketFields) (state : State) (hosts others : ℕ → HostFields) (ways these : ℕ → DirectionView) (step : Step) → IsStepFor topology step
-    → hosts 0 ≡ others 0 → ways 0 ≡ these 0 → ways 1 ≡ these 1 → choice topology (sees queues state hosts ways) step ≡ choice topology (sees queues state others these) step
-unfolding choice
-same_choice topology queues state hosts others ways these (steps.Give zero) there h w v = ap (λ x. choice topology (sees queues state (λ _. x) ways) (steps.Give 0)) h
-same_choice topology queues state hosts others ways these (steps.Give (suc host)) there h w v = absurd (omega arith)
-same_choice topology queues state hosts others ways these (steps.Send zero) there h w v = ap (λ x. choice topology (sees queues state hosts (λ _. x)) (steps.Send 0)) w
-same_choice topology queues state hosts others ways these (steps.Send (suc zero)) there h w v = ap (λ x. choice topology (sees queues state hosts (λ _. x)) (steps.Send 1)) v
-same_choice topology queues state hosts others ways these (steps.Send (suc (suc direction))) there h w v = absurd (omega arith)
-same_choice topology queues state hosts others ways these (steps.Land zero mask) there h w v = ap (λ x. choice topology (sees queues state hosts (λ _. x)) (steps.Land 0 mask)) w
-same_choice topology queues state hosts others ways these (steps.Land (suc zero) mask) there h w v = ap (λ x. choice topology (sees queues state hosts (λ _. x)) (steps.Land 1 mask)) v
-same_choice topology queues state hosts others ways these (steps.Land (suc (suc direction)) mask) there h w v = absurd (omega arith)
-same_choice topology queues state hosts others ways these _ there h w v = refl
+port_seen : (net : NetState) (past : List Entry) (others : QueueId → List PacketFields) (cube port : ℕ) (test : Bool) → ((0 == cube) && (net.port == port)) ≡ test → AreTold net past → others (Port cube port) ≡ contents (topology_of net) past (Port cube port)
+    → choose test (packets_if test net.link.b.buffer) (others (Port cube port)) ≡ others (Port cube port)
+port_seen net past others cube port false is told same = refl
+port_seen net past others cube port true is told same =
+    let parts = and_parts (0 == cube) (net.port == port) is in
+    at_port net past cube port told (sym (eqb-true 0 cube parts.0)) (eqb-true net.port port parts.1) ∙ sym same
 
-forth_way : (net : NetState) (past : List Entry) → IsDirection (topology_of net) past 0 net.forth → IsDirection (topology_of net) past 1 net.back → net_direction net 0 ≡ direction_view (topology_of net) past 0
-unfolding direction_view return_pointer
-forth_way net past forth back = let l = forth.line in let s = forth.sending in let f = forth.frp in let q = forth.seq in let a = forth.in_flight_flits in let g = forth.gathered in let r = back.accepted_flits in cc
+queue_seen : (net : NetState) (past : List Entry) (others : QueueId → List PacketFields) (queue : QueueId) → AreTold net past → others queue ≡ contents (topology_of net) past queue → inside_or net others queue ≡ others queue
+queue_seen net past others (Output zero) told same = told.forth ∙ sym same
+queue_seen net past others (Output (suc zero)) told same = told.back ∙ sym same
+queue_seen net past others (Output (suc (suc direction))) told same = refl
+queue_seen net past others (Port cube port) told same = port_seen net past others cube port ((0 == cube) && (net.port == port)) refl told same
+queue_seen net past others (Host zero) told same = told.host ∙ sym same
+queue_seen net past others (Host (suc host)) told same = refl
+queue_seen net past others (Vault zero vault) told same = told.cube (Vault 0 vault) tt ∙ sym same
+queue_seen net past others (Vault (suc cube) vault) told same = refl
+queue_seen net past others (Bank zero vault bank) told same = told.cube (Bank 0 vault bank) tt ∙ sym same
+queue_seen net past others (Bank (suc cube) vault bank) told same = refl
+queue_seen net past others (Registers zero) told same = told.cube (Registers 0) tt ∙ sym same
+queue_seen net past others (Registers (suc cube)) told same = refl
+queue_seen net past others (Answers zero from) told same = told.cube (Answers 0 from) tt ∙ sym same
+queue_seen net past others (Answers (suc cube) from) told same = refl
 
-back_way : (net : NetState) (past : List Entry) → IsDirection (topology_of net) past 0 net.forth → IsDirection (topology_of net) past 1 net.back → net_direction net 1 ≡ direction_view (topology_of net) past 1
-unfolding direction_view return_pointer
-back_way net past forth back = let l = back.line in let s = back.sending in let f = back.frp in let q = back.seq in let a = back.in_flight_flits in let g = back.gathered in let r = forth.accepted_flits in cc
+host_seen : (net : NetState) (others : ℕ → HostFields) (host : ℕ) → net.host ≡ others 0 → host_or net others host ≡ others host
+host_seen net others zero same = same
+host_seen net others (suc host) same = refl
 
-abbrev told_view : Setup → List Entry → Topology → StepView
-told_view setup past topology = sees (contents topology past) (state_of topology past) (host_of setup past) (direction_view topology past)
+abbrev sees : (QueueId → List PacketFields) → State → (ℕ → HostFields) → (ℕ → List LinkEntry) → StepView
+sees queues state hosts links = record { inside = queues; state = state; host = hosts; entries = links }
 
-pub choice_seen : (net : NetState) (past : List Entry) (setup : Setup) (step : Step) → StandsFor net setup past → IsStepFor (topology_of net) step → choice (topology_of net) (net_view net) step ≡ next setup past step
-unfolding next view_of
-choice_seen net past setup step stands there =
-    ap₂ (λ (r : QueueId → List PacketFields) (s : State). choice (topology_of net) (sees r s (host_by net) (net_direction net)) step) (same_function (inside net) (contents (topology_of net) past) stands.queues) stands.state ∙
-    same_choice (topology_of net) (contents (topology_of net) past) (state_of (topology_of net) past) (host_by net) (host_of setup past) (net_direction net) (direction_view (topology_of net) past) step there
-    stands.host (forth_way net past stands.forth stands.back) (back_way net past stands.forth stands.back) ∙
-    ap (λ t. choice t (told_view setup past t) step) (sym stands.topology)
+view_seen : (net : NetState) (past : List Entry) (setup : Setup) → StandsFor net setup past → AreTold net past → net_view net (view_of setup past) ≡ view_of setup past
+unfolding view_of
+view_seen net past setup stands told =
+    let queues : inside_or net (contents setup.topology past) ≡ contents setup.topology past =
+    same_function (inside_or net (contents setup.topology past)) (contents setup.topology past) (λ queue. queue_seen net past (contents setup.topology past) queue told (ap (λ t. contents t past queue) stands.topology)) in
+    let hosts : host_or net (host_of setup past) ≡ host_of setup past = same_function (host_or net (host_of setup past)) (host_of setup past) (λ host. host_seen net (host_of setup past) host stands.host) in
+    let state : machine_of net ≡ state_of setup.topology past = stands.state ∙ ap (λ t. state_of t past) (sym stands.topology) in
+    λ i. sees (queues i) (state i) (hosts i) (λ link. link_entries setup.topology link past)
+
+pub choice_seen : (net : NetState) (past : List Entry) (setup : Setup) (step : Step) → StandsFor net setup past → AreTold net past → choice (topology_of net) (net_view net (view_of setup past)) step ≡ next setup past step
+unfolding next
+choice_seen net past setup step stands told =
+    ap (λ v. choice (topology_of net) v step) (view_seen net past setup stands told) ∙ ap (λ t. choice t (view_of setup past) step) (sym stands.topology)
+
+pub link_seen : (net : NetState) (past : List Entry) (setup : Setup) → StandsFor net setup past → has_passed past ≡ false → LinkStandsFor net.sizes net.link ((view_of setup past).entries 0)
+unfolding view_of
+link_seen net past setup stands on = subst (λ t. LinkStandsFor net.sizes net.link (link_entries t 0 past)) (sym stands.topology) (stands.link on)
 
 -- ---- the step
 
@@ -83,84 +111,40 @@ step_there net past setup step is = subst (λ t. IsStepFor t step) is.stands.top
 
 -- ---- what the laws promise
 
-flits_within : (all front : List PacketFields) (rest : List ℕ) → map flits_of all ≡ map flits_of front ++ rest → flits_in front ≤ flits_in all
-flits_within all [] rest is = omega arith
-flits_within [] (f ∷ front) rest is = absurd (cc)
-flits_within (x ∷ all) (f ∷ front) rest is =
-    let same : flits_of x ≡ flits_of f = cc in
-    let others : map flits_of all ≡ map flits_of front ++ rest = cc in
-    omega (arith, same, sum_by-cons flits_of x all, sum_by-cons flits_of f front, flits_within all front rest others)
+-- what holds of all packets of a queue by the journal holds of those in it
+all_in : (P : PacketFields → Type 0) (net : NetState) (past : List Entry) (setup : Setup) (queue : QueueId) (held : List PacketFields) → StandsFor net setup past → held ≡ contents (topology_of net) past queue → All P (contents setup.topology past queue) → All P held
+all_in P net past setup queue held stands same all = subst (All P) (sym same) (subst (λ t. All P (contents t past queue)) stands.topology all)
 
--- the flits of the packets that are under way, those in the buffer first
-abbrev IsUnderWay : Topology → List Entry → (direction : ℕ) → List PacketFields → Type 0
-IsUnderWay topology past direction buffer = (rest : List ℕ) × (map flits_of (drop (left past (landing_buffer topology direction)) (begun topology past direction)) ≡ map flits_of buffer ++ rest)
+all_sent : (packets : List PacketFields) → All IsHostAnswer packets → All (λ (p : PacketFields). p.errstat < 8) packets → All IsAnswerSent packets
+all_sent packets answers small = λ i d there. record { answers = answers i d there; errstat = small i d there }
 
-buffer_told : (net : NetState) (past : List Entry) (setup : Setup) → StandsFor net setup past → contents (topology_of net) past (Port 0 net.port) ≡ net.port_buffer
-buffer_told net past setup stands = sym (stands.queues (Port 0 net.port)) ∙ buffer_is net net.port refl
+answers_told : (net : NetState) (past : List Entry) (from : Lift) → AreTold net past → answers_at net.cube from ≡ contents (topology_of net) past (Answers 0 from)
+answers_told net past from told = sym (inside_answers net from) ∙ told.cube (Answers 0 from) tt
 
-forth_under : (net : NetState) (past : List Entry) (setup : Setup) → StandsFor net setup past → QueueInvariant setup past → IsUnderWay (topology_of net) past 0 net.port_buffer
-forth_under net past setup stands housed =
-    subst (IsUnderWay (topology_of net) past 0) (buffer_told net past setup stands)
-    (subst (λ t. IsUnderWay t past 0 (contents t past (landing_buffer t 0))) stands.topology (housed.in_flight_flits 0 (omega arith)))
+-- nothing is fed to a link that passes nothing on
+fed_by : (link : LinkFields) (d : Toward) (e : EndFields) (past : List LinkEntry) → EndStandsFor link e (parts_of link d past) → AreDirect past → IsFed e.sender.under_way Waiting
+fed_by link d e past stands direct =
+    subst (λ (u : Option UnderWay). IsFed u Waiting) (sym (stands.sender.begun ∙ ap (λ q. under_way q (sender_entries link d past)) stands.profile)) (nothing-fed link.profile (sender_entries link d past) (no-through link d past direct))
 
-back_under : (net : NetState) (past : List Entry) (setup : Setup) → StandsFor net setup past → QueueInvariant setup past → IsUnderWay (topology_of net) past 1 net.host_buffer
-back_under net past setup stands housed =
-    subst (IsUnderWay (topology_of net) past 1) (sym (stands.queues (Host 0)))
-    (subst (λ t. IsUnderWay t past 1 (contents t past (landing_buffer t 1))) stands.topology (housed.in_flight_flits 1 (omega arith)))
+fed_to : (link : LinkFields) (held : LinkHeld) (past : List LinkEntry) (d : Toward) → LinkStandsFor link held past → AreDirect past → IsFed (sending_end d held).sender.under_way Waiting
+fed_to link held past Forth stands direct = fed_by link Forth held.a past stands.a direct
+fed_to link held past Back stands direct = fed_by link Back held.b past stands.b direct
 
-first_by : (topology : Topology) (past : List Entry) (direction : ℕ) (buffer : List PacketFields) → IsUnderWay topology past direction buffer → (front : PacketFields) (rest : List PacketFields) → buffer ≡ front ∷ rest
-    → (others : List ℕ) × (map flits_of (drop (left past (landing_buffer topology direction)) (begun topology past direction)) ≡ flits_of front ∷ others)
-first_by topology past direction buffer under front rest is = (map flits_of rest ++ under.0, under.1 ∙ ap (λ (b : List PacketFields). map flits_of b ++ under.0) is)
-
-pub first_of : (net : NetState) (past : List Entry) (setup : Setup) → StandsFor net setup past → QueueInvariant setup past → AreFirst net past
-first_of net past setup stands housed = record {
-  forth = first_by (topology_of net) past 0 net.port_buffer (forth_under net past setup stands housed);
-  back = first_by (topology_of net) past 1 net.host_buffer (back_under net past setup stands housed);
-}
-
--- what holds of all packets of a room by the journal holds of those in it
-all_in : (P : PacketFields → Type 0) (net : NetState) (past : List Entry) (setup : Setup) (queue : QueueId) → StandsFor net setup past → All P (contents setup.topology past queue) → All P (inside net queue)
-all_in P net past setup queue stands all = subst (All P) (sym (stands.queues queue)) (subst (λ t. All P (contents t past queue)) stands.topology all)
-
-abbrev IsFittingBy : Topology → List Entry → (direction : ℕ) (line : List (List ℕ)) → (buffer : List PacketFields) → (gathered : List (List ℕ)) → Type 0
-IsFittingBy topology past direction line buffer gathered = (flit : List ℕ) (rest : List (List ℕ)) → line ≡ flit ∷ rest →
-    flits_in (buffer ++ packets_by (outcome_of gathered flit) (packet_in (read_of only_profile (gathered ++ flit ∷ [])))) ≤ (link_of topology direction).setup.tokens
-
-fits_told : (setup : Setup) (past : List Entry) (direction : ℕ) → QueueInvariant setup past
-    → IsFittingBy setup.topology past direction (line_flits direction past) (contents setup.topology past (landing_buffer setup.topology direction)) (pending direction past)
-unfolding landed_packet
-fits_told setup past direction housed = housed.fits direction
-
-forth_fits : (net : NetState) (past : List Entry) (setup : Setup) → StandsFor net setup past → QueueInvariant setup past → IsFitting net.sizes net.forth net.port_buffer
-forth_fits net past setup stands housed =
-    let a = subst (λ t. IsFittingBy t past 0 (line_flits 0 past) (contents t past (landing_buffer t 0)) (pending 0 past)) stands.topology (fits_told setup past 0 housed) in
-    let b = subst (λ l. IsFittingBy (topology_of net) past 0 l (contents (topology_of net) past (Port 0 net.port)) (pending 0 past)) (sym stands.forth.line) a in
-    let c = subst (λ p. IsFittingBy (topology_of net) past 0 net.forth.line (contents (topology_of net) past (Port 0 net.port)) p) (sym stands.forth.gathered) b in
-    subst (λ l. IsFittingBy (topology_of net) past 0 net.forth.line l net.forth.pending) (buffer_told net past setup stands) c
-
-back_fits : (net : NetState) (past : List Entry) (setup : Setup) → StandsFor net setup past → QueueInvariant setup past → IsFitting net.sizes net.back net.host_buffer
-back_fits net past setup stands housed =
-    let a = subst (λ t. IsFittingBy t past 1 (line_flits 1 past) (contents t past (landing_buffer t 1)) (pending 1 past)) stands.topology (fits_told setup past 1 housed) in
-    let b = subst (λ l. IsFittingBy (topology_of net) past 1 l (contents (topology_of net) past (Host 0)) (pending 1 past)) (sym stands.back.line) a in
-    let c = subst (λ p. IsFittingBy (topology_of net) past 1 net.back.line (contents (topology_of net) past (Host 0)) p) (sym stands.back.gathered) b in
-    subst (λ l. IsFittingBy (topology_of net) past 1 net.back.line l net.back.pending) (sym (stands.queues (Host 0))) c
-
-answers_told : (net : NetState) (past : List Entry) (setup : Setup) → StandsFor net setup past → QueueInvariant setup past → (from : Lift) → All IsHostAnswer (answers_at net.cube from)
-answers_told net past setup stands housed (lifts.Vault vault) = all_in IsHostAnswer net past setup (Answers 0 (lifts.Vault vault)) stands (housed.answers (lifts.Vault vault))
-answers_told net past setup stands housed lifts.Registers = all_in IsHostAnswer net past setup (Answers 0 lifts.Registers) stands (housed.answers lifts.Registers)
-
-pub ready_of : (net : NetState) (past : List Entry) (setup : Setup) → StandsFor net setup past → QueueInvariant setup past → IsReady net
-ready_of net past setup stands housed =
-    let forth = forth_under net past setup stands housed in
-    let back = back_under net past setup stands housed in
+pub ready_of : (net : NetState) (past : List Entry) (setup : Setup) → StandsFor net setup past → has_passed past ≡ false → QueueInvariant setup past
+    → ((from : Lift) → All (λ (p : PacketFields). p.errstat < 8) (contents setup.topology past (Answers 0 from))) → IsReady net
+ready_of net past setup stands on housed small =
+    let told = told_of net past setup stands on housed in
     record {
-      port_buffer = subst (All IsCubeRequest) (buffer_is net net.port refl) (all_in IsCubeRequest net past setup (Port 0 net.port) stands (housed.ports net.port));
-      banks = λ vault bank. all_in IsCubeRequest net past setup (Bank 0 vault bank) stands (housed.banks vault bank);
-      registers = all_in IsCubeRequest net past setup (Registers 0) stands housed.registers;
-      answers = answers_told net past setup stands housed;
-      hosts = subst (λ h. All (IsAnswerFor h) net.host_buffer) (sym stands.host) (all_in (IsAnswerFor (host_of setup past 0)) net past setup (Host 0) stands housed.hosts);
-      forth_fits = forth_fits net past setup stands housed;
-      back_fits = back_fits net past setup stands housed;
-      forth_in_flight = subst (λ n. flits_in net.port_buffer ≤ n) (sym stands.forth.in_flight_flits) (flits_within _ net.port_buffer forth.0 forth.1);
-      back_in_flight = subst (λ n. flits_in net.host_buffer ≤ n) (sym stands.back.in_flight_flits) (flits_within _ net.host_buffer back.0 back.1);
+      link = record {
+        going = stands.going ∙ ap not on;
+        entries = link_entries (topology_of net) 0 past;
+        stands = stands.link on;
+        fed = λ d. fed_to net.sizes net.link (link_entries (topology_of net) 0 past) d (stands.link on) (are_direct (topology_of net) 0 past);
+      };
+      port_buffer = all_in IsCubeRequest net past setup (Port 0 net.port) net.link.b.buffer stands told.port (housed.ports net.port);
+      banks = λ vault bank. all_in IsCubeRequest net past setup (Bank 0 vault bank) _ stands (told.cube (Bank 0 vault bank) tt) (housed.banks vault bank);
+      registers = all_in IsCubeRequest net past setup (Registers 0) net.cube.register_queue stands (told.cube (Registers 0) tt) housed.registers;
+      answers = λ from. all_sent (answers_at net.cube from) (all_in IsHostAnswer net past setup (Answers 0 from) (answers_at net.cube from) stands (answers_told net past from told) (housed.answers from))
+          (all_in (λ (p : PacketFields). p.errstat < 8) net past setup (Answers 0 from) (answers_at net.cube from) stands (answers_told net past from told) (small from));
+      hosts = subst (λ h. All (IsAnswerFor h) net.link.a.buffer) (sym stands.host) (all_in (IsAnswerFor (host_of setup past 0)) net past setup (Host 0) net.link.a.buffer stands told.host housed.hosts);
     }

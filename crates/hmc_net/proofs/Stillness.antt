@@ -1,28 +1,33 @@
 -- A network holds no packet exactly where its journal is drained.
-use Rattle.std.proofs.Common.{◌≡◌, ◌≤◌, ◌+◌, ◌⊎◌, ◌↔◌, inl, inr, ◌∙◌, ℕ, zero, suc, Bool, true, false, List, [], ◌∷◌, length, drop, sum_by, refl, sym, ap, subst, arith, length-drop}
-use Rattle.hmc_journal.proofs.OneCube.{parts_of}
+use Rattle.std.proofs.Common.{◌≡◌, ◌^◌, ◌↔◌, ◌∙◌, ◌==◌, ◌&&◌, ℕ, zero, suc, Bool, true, false, List, [], ◌∷◌, ◌++◌, length, map, sum_by, refl, sym, ap, subst, arith}
 use Rattle.std.specs.Prelude.{slice_index_or, IsTrue}
+use Rattle.std.specs.List.{list_all, flat_map}
+use Rattle.std.proofs.lemmas.Bool.Decides.{nat_tests}
+use Rattle.std.proofs.lemmas.List.Folds.{list_all-append, list_all-map}
 use Rattle.std.proofs.lemmas.List.Sums.{sum_by-cons}
-use Rattle.std.proofs.lemmas.List.{drop_all}
+use Rattle.hmc_codes.specs.Numbers.{upto}
 use Rattle.hmc_codes.specs.declared.lift.Lift.TheVariants as lifts
-use Rattle.hmc_packet.specs.Packet.{PacketFields, flits_of}
+use Rattle.hmc_packet.specs.Packet.{PacketFields}
 use Rattle.hmc_vault.specs.Vault.{VaultFields, bank_at, held_by}
 use Rattle.hmc_cube.specs.Cube.{no_vault, held_in_cube}
+use Rattle.hmc_send.specs.LinkSenders.{tokens}
+use Rattle.hmc_link.specs.StandsFor.{LinkStandsFor}
+use Rattle.hmc_journal.proofs.OneCube.{parts_of}
+use Rattle.hmc_journal.specs.Counts.{token_counts}
 use Rattle.hmc_journal.specs.declared.entry.Entry.{Entry}
-use Rattle.hmc_journal.specs.Drained.{IsDrained, is_drained}
-use Rattle.hmc_journal.specs.Queues.{QueueId, landing_buffer, left, entered, contents, begun}
+use Rattle.hmc_journal.specs.Drained.{IsDrained, vault_queues, cube_queues, is_drained}
+use Rattle.hmc_journal.specs.Lawful.{has_passed}
+use Rattle.hmc_journal.specs.Links.{link_entries}
+use Rattle.hmc_journal.specs.Queues.{QueueId, contents}
 use Rattle.hmc_journal.specs.Queues.QueueId.{Output, Port, Host, Vault, Bank, Registers, Answers}
 use Rattle.hmc_journal.specs.Setup.{Topology, Setup}
-use Rattle.hmc_journal.specs.Wires.{accepted, flits_in}
-use Rattle.hmc_journal.proofs.Arrived.{all_arrived}
-use Rattle.hmc_journal.proofs.Sound.{kept}
-use Rattle.hmc_journal.proofs.Tokens.{accepted_few}
-use Rattle.hmc_net.specs.NetState.{NetState, topology_of, vault_in, packets_if, only, inside}
-use Rattle.hmc_net.specs.Stands.{IsDirection, StandsFor}
+use Rattle.hmc_net.specs.NetState.{NetState, topology_of, vault_in, inside}
 use Rattle.hmc_net.specs.Quiescent.{IsQuiescent}
-use Rattle.hmc_net.specs.Wire.{DirectionState}
-use Rattle.hmc_journal.proofs.DrainedTest.{drained_by_test, test_by_drained}
-use Rattle.hmc_net.proofs.Queues.{buffer_is}
+use Rattle.hmc_net.specs.Stands.{IsCubeQueue, StandsFor}
+use Rattle.hmc_journal.proofs.DrainedTest.{drained_by_test}
+use Rattle.hmc_net.proofs.Laws.{lawful_keeps_queues}
+use Rattle.hmc_net.proofs.Queues.{AreTold}
+use Rattle.hmc_net.proofs.Standing.{told_of}
 
 -- ---- sums that are nothing
 
@@ -39,10 +44,6 @@ length_none : {X : Type 0} (xs : List X) → length xs ≡ 0 → xs ≡ []
 length_none [] none = refl
 length_none (x ∷ xs) none = absurd (omega arith)
 
-flits_none : (packets : List PacketFields) → flits_in packets ≡ 0 → packets ≡ []
-flits_none [] none = refl
-flits_none (packet ∷ rest) none = absurd (omega (arith, sum_by-cons flits_of packet rest))
-
 -- ---- a cube
 
 vault_still : (vault : VaultFields) → held_by vault ≡ 0 → (vault.vault_queue ≡ []) × ((bank : ℕ) → bank_at vault bank ≡ []) × (vault.answers ≡ [])
@@ -57,102 +58,106 @@ still_vault vault entering banks answers =
 vaults_still : (net : NetState) (vault : ℕ) → held_in_cube net.cube ≡ 0 → held_by (vault_in net.cube.vaults vault) ≡ 0
 vaults_still net vault none = zero_sum held_by no_vault net.cube.vaults vault refl (omega arith)
 
--- ---- rooms
+-- ---- the transit
 
-only_none : (cube : ℕ) (packets : List PacketFields) → packets ≡ [] → only cube packets ≡ []
-only_none zero packets none = none
-only_none (suc cube) packets none = refl
+forth_transit : (net : NetState) (past : List Entry) → LinkStandsFor net.sizes net.link (link_entries (topology_of net) 0 past) → net.link.a.transit ≡ (token_counts (topology_of net) past 0).transit
+unfolding token_counts tokens
+forth_transit net past link = link.a.transit
 
-if_none : (test : Bool) (packets : List PacketFields) → packets ≡ [] → packets_if test packets ≡ []
-if_none true packets none = none
-if_none false packets none = refl
+back_transit : (net : NetState) (past : List Entry) → LinkStandsFor net.sizes net.link (link_entries (topology_of net) 0 past) → net.link.b.transit ≡ (token_counts (topology_of net) past 1).transit
+unfolding token_counts tokens
+back_transit net past link = link.b.transit
 
-still_inside : (net : NetState) (queue : QueueId) → IsQuiescent net → inside net queue ≡ []
-still_inside net (Output zero) still = still.forth.output
-still_inside net (Output (suc zero)) still = still.back.output
-still_inside net (Output (suc (suc direction))) still = refl
-still_inside net (Port cube port) still = if_none _ net.port_buffer still.port_buffer
-still_inside net (Host host) still = only_none host net.host_buffer still.host_buffer
-still_inside net (Vault cube vault) still = only_none cube _ (vault_still (vault_in net.cube.vaults vault) (vaults_still net vault still.cube)).0
-still_inside net (Bank cube vault bank) still = only_none cube _ ((vault_still (vault_in net.cube.vaults vault) (vaults_still net vault still.cube)).1 bank)
-still_inside net (Registers cube) still = let none = still.cube in only_none cube net.cube.register_queue (length_none net.cube.register_queue (omega arith))
-still_inside net (Answers cube (lifts.Vault vault)) still = only_none cube _ (vault_still (vault_in net.cube.vaults vault) (vaults_still net vault still.cube)).2
-still_inside net (Answers cube lifts.Registers) still = let none = still.cube in only_none cube net.cube.answers (length_none net.cube.answers (omega arith))
+-- ---- the test of a network that is still
 
--- ---- directions
+abbrev empties : Topology → List Entry → QueueId → Bool
+empties topology past queue = length (contents topology past queue) == 0
 
--- what a direction needs to be told: how many packets came, how many left the buffer
-begun_accepted : (topology : Topology) (past : List Entry) (direction : ℕ) (wire : DirectionState) → IsDirection topology past direction wire → left past (landing_buffer topology direction) ≤ length (entered topology past (landing_buffer topology direction))
-    → length (entered topology past (landing_buffer topology direction)) ≡ length (accepted direction past) → wire.in_flight_flits ≡ 0 → contents topology past (landing_buffer topology direction) ≡ [] → length (begun topology past direction) ≡ length (accepted direction past)
-unfolding contents
-begun_accepted topology past direction wire way within came none empty =
-    let gone : drop (left past (landing_buffer topology direction)) (begun topology past direction) ≡ [] = flits_none _ (sym way.in_flight_flits ∙ none) in
-    omega (arith, way.forwarded, within, came, ap length gone, ap length empty, length-drop (left past (landing_buffer topology direction)) (begun topology past direction), length-drop (left past (landing_buffer topology direction)) (entered topology past (landing_buffer topology direction)))
+is_zero : (n : ℕ) → n ≡ 0 → (n == 0) ≡ true
+is_zero n is = grind (arith, nat_tests)
 
-accepted_begun : (topology : Topology) (past : List Entry) (direction : ℕ) (wire : DirectionState) → IsDirection topology past direction wire
-    → length (entered topology past (landing_buffer topology direction)) ≡ length (accepted direction past) → length (begun topology past direction) ≡ length (accepted direction past) → contents topology past (landing_buffer topology direction) ≡ [] → wire.in_flight_flits ≡ 0
-unfolding contents
-accepted_begun topology past direction wire way came same empty =
-    let most : length (begun topology past direction) ≤ left past (landing_buffer topology direction) =
-    omega (arith, came, same, ap length empty, length-drop (left past (landing_buffer topology direction)) (entered topology past (landing_buffer topology direction))) in
-    way.in_flight_flits ∙ ap flits_in (drop_all (left past (landing_buffer topology direction)) (begun topology past direction) most)
+empty_test : (topology : Topology) (past : List Entry) (queue : QueueId) (held : List PacketFields) → held ≡ contents topology past queue → held ≡ [] → empties topology past queue ≡ true
+empty_test topology past queue held told none = is_zero (length (contents topology past queue)) (ap length (sym told ∙ none))
 
-came : (net : NetState) (past : List Entry) (setup : Setup) (direction : ℕ) → StandsFor net setup past → (direction ≡ 0) ⊎ (direction ≡ 1)
-    → length (entered (topology_of net) past (landing_buffer (topology_of net) direction)) ≡ length (accepted direction past)
-came net past setup direction stands real =
-    ap (λ t. length (entered t past (landing_buffer t direction))) (sym stands.topology) ∙ ap length (all_arrived setup past direction (parts_of setup stands.one_cube) real stands.lawful)
+both_true : (a b : Bool) → a ≡ true → b ≡ true → (a && b) ≡ true
+both_true true b is same = same
+both_true false b is same = is
 
-accepted_nothing : (net : NetState) (past : List Entry) (setup : Setup) (direction : ℕ) → StandsFor net setup past → length (begun (topology_of net) past (2 + direction)) ≡ length (accepted (2 + direction) past)
-accepted_nothing net past setup direction stands =
-    let few : length (accepted (2 + direction) past) ≤ length (begun setup.topology past (2 + direction)) = accepted_few setup (parts_of setup stands.one_cube).port past (2 + direction) (kept setup past (parts_of setup stands.one_cube) stands.lawful) in
-    omega (arith, ap length (stands.others direction), ap (λ t. length (begun t past (2 + direction))) stands.topology)
+all_pass : {X : Type 0} (p : X → Bool) (xs : List X) → ((x : X) → p x ≡ true) → list_all p xs ≡ true
+all_pass p [] all = refl
+all_pass p (x ∷ xs) all = rw (all x) (all_pass p xs all)
 
-still_wires : (net : NetState) (past : List Entry) (setup : Setup) (direction : ℕ) → StandsFor net setup past → IsQuiescent net → length (begun (topology_of net) past direction) ≡ length (accepted direction past)
-still_wires net past setup zero stands still =
-    begun_accepted (topology_of net) past 0 net.forth stands.forth (stands.moves (Port 0 net.port)) (came net past setup 0 stands (inl refl)) still.forth.in_flight_flits (sym (stands.queues (Port 0 net.port)) ∙ still_inside net (Port 0 net.port) still)
-still_wires net past setup (suc zero) stands still =
-    begun_accepted (topology_of net) past 1 net.back stands.back (stands.moves (Host 0)) (came net past setup 1 stands (inr refl)) still.back.in_flight_flits (sym (stands.queues (Host 0)) ∙ still_inside net (Host 0) still)
-still_wires net past setup (suc (suc direction)) stands still =
-    let e : 2 + direction ≡ suc (suc direction) = omega arith in
-    subst (λ d. length (begun (topology_of net) past d) ≡ length (accepted d past)) e (accepted_nothing net past setup direction stands)
+all_flat : {X : Type 0} (p : X → Bool) (f : ℕ → List X) (ns : List ℕ) → ((n : ℕ) → list_all p (f n) ≡ true) → list_all p (flat_map f ns) ≡ true
+all_flat p f [] all = refl
+all_flat p f (n ∷ ns) all = list_all-append p (f n) (flat_map f ns) ∙ both_true (list_all p (f n)) (list_all p (flat_map f ns)) (all n) (all_flat p f ns all)
 
-pub still_drained : (net : NetState) (past : List Entry) (setup : Setup) → StandsFor net setup past → IsQuiescent net → IsDrained setup.topology past
-still_drained net past setup stands still = subst (λ t. IsDrained t past) (sym stands.topology) (record {
-  queues = λ queue. sym (stands.queues queue) ∙ still_inside net queue still;
-  wires = λ direction. still_wires net past setup direction stands still;
-})
+-- each queue of the cube is empty
+cube_empty : (net : NetState) (past : List Entry) (queue : QueueId) → AreTold net past → IsCubeQueue queue → inside net queue ≡ [] → empties (topology_of net) past queue ≡ true
+cube_empty net past queue told cube none = empty_test (topology_of net) past queue (inside net queue) (told.cube queue cube) none
 
-drained_cube : (net : NetState) → ((queue : QueueId) → inside net queue ≡ []) → held_in_cube net.cube ≡ 0
+vault_test : (net : NetState) (past : List Entry) (vault : ℕ) → AreTold net past → held_in_cube net.cube ≡ 0 → list_all (empties (topology_of net) past) (vault_queues (topology_of net) 0 vault) ≡ true
+vault_test net past vault told none =
+    let still = vault_still (vault_in net.cube.vaults vault) (vaults_still net vault none) in
+    let p = empties (topology_of net) past in
+    let banks = map (Bank 0 vault) (upto (2 ^ net.setup.shape.bank_bits)) in
+    both_true (p (Vault 0 vault)) (list_all p (banks ++ Answers 0 (lifts.Vault vault) ∷ [])) (cube_empty net past (Vault 0 vault) told tt still.0)
+    (list_all-append p banks (Answers 0 (lifts.Vault vault) ∷ [])
+    ∙ both_true (list_all p banks) (list_all p (Answers 0 (lifts.Vault vault) ∷ []))
+    (list_all-map p (Bank 0 vault) (upto (2 ^ net.setup.shape.bank_bits)) ∙ all_pass (λ bank. p (Bank 0 vault bank)) (upto (2 ^ net.setup.shape.bank_bits)) (λ bank. cube_empty net past (Bank 0 vault bank) told tt (still.1 bank)))
+    (both_true (p (Answers 0 (lifts.Vault vault))) true (cube_empty net past (Answers 0 (lifts.Vault vault)) told tt still.2) refl))
+
+cube_test : (net : NetState) (past : List Entry) → AreTold net past → held_in_cube net.cube ≡ 0 → list_all (empties (topology_of net) past) (cube_queues (topology_of net) 0) ≡ true
+cube_test net past told none =
+    let p = empties (topology_of net) past in
+    let vaults = flat_map (vault_queues (topology_of net) 0) (upto (2 ^ net.setup.shape.vault_bits)) in
+    both_true (p (Registers 0)) (p (Answers 0 lifts.Registers) && list_all p vaults) (cube_empty net past (Registers 0) told tt (length_none net.cube.register_queue (omega arith)))
+    (both_true (p (Answers 0 lifts.Registers)) (list_all p vaults) (cube_empty net past (Answers 0 lifts.Registers) told tt (length_none net.cube.answers (omega arith)))
+    (all_flat p (vault_queues (topology_of net) 0) (upto (2 ^ net.setup.shape.vault_bits)) (λ vault. vault_test net past vault told none)))
+
+still_test : (net : NetState) (past : List Entry) → AreTold net past → LinkStandsFor net.sizes net.link (link_entries (topology_of net) 0 past) → IsQuiescent net → is_drained (topology_of net) past ≡ true
+unfolding is_drained
+still_test net past told link still =
+    let t = topology_of net in
+    let p = empties t past in
+    let sent : ℕ → Bool = λ direction. (token_counts t past direction).transit == 0 in
+    let forth = empty_test t past (Output 0) net.link.a.queue told.forth still.a.queue in
+    let back = empty_test t past (Output 1) net.link.b.queue told.back still.b.queue in
+    let port = empty_test t past (Port 0 net.port) net.link.b.buffer told.port still.b.buffer in
+    let host = empty_test t past (Host 0) net.link.a.buffer told.host still.a.buffer in
+    let cube = list_all-append p (cube_queues t 0) [] ∙ both_true (list_all p (cube_queues t 0)) true (cube_test net past told still.cube) refl in
+    let ends = both_true (p (Output 0)) _ forth (both_true (p (Port 0 net.port)) _ port (both_true (p (Output 1)) _ back (both_true (p (Host 0)) _ host cube))) in
+    let first = is_zero (token_counts t past 0).transit (sym (forth_transit net past link) ∙ still.a.transit) in
+    let second = is_zero (token_counts t past 1).transit (sym (back_transit net past link) ∙ still.b.transit) in
+    both_true _ _ ends (both_true (sent 0) _ first (both_true (sent 1) true second refl))
+
+-- ---- a network whose journal is drained
+
+drained_cube : (net : NetState) → ((queue : QueueId) → IsCubeQueue queue → inside net queue ≡ []) → held_in_cube net.cube ≡ 0
 drained_cube net none =
     omega (
       arith,
-      ap length (none (Registers 0)),
-      ap length (none (Answers 0 lifts.Registers)),
-      sum_zero held_by no_vault net.cube.vaults (λ i. still_vault (vault_in net.cube.vaults i) (none (Vault 0 i)) (λ bank. none (Bank 0 i bank)) (none (Answers 0 (lifts.Vault i)))),
+      ap length (none (Registers 0) tt),
+      ap length (none (Answers 0 lifts.Registers) tt),
+      sum_zero held_by no_vault net.cube.vaults (λ i. still_vault (vault_in net.cube.vaults i) (none (Vault 0 i) tt) (λ bank. none (Bank 0 i bank) tt) (none (Answers 0 (lifts.Vault i)) tt)),
     )
 
-drained_net : (net : NetState) (past : List Entry) (setup : Setup) → StandsFor net setup past → IsDrained (topology_of net) past → IsQuiescent net
-drained_net net past setup stands drained =
-    let none : (queue : QueueId) → inside net queue ≡ [] = λ queue. stands.queues queue ∙ drained.queues queue in
-    record {
-      forth = record { output = none (Output 0); in_flight_flits = accepted_begun (topology_of net) past 0 net.forth stands.forth (came net past setup 0 stands (inl refl)) (drained.wires 0) (drained.queues (Port 0 net.port)) };
-      back = record { output = none (Output 1); in_flight_flits = accepted_begun (topology_of net) past 1 net.back stands.back (came net past setup 1 stands (inr refl)) (drained.wires 1) (drained.queues (Host 0)) };
-      port_buffer = sym (buffer_is net net.port refl) ∙ none (Port 0 net.port);
-      host_buffer = none (Host 0);
-      cube = drained_cube net none;
-    }
-
-pub drained_still : (net : NetState) (past : List Entry) (setup : Setup) → StandsFor net setup past → IsDrained setup.topology past → IsQuiescent net
-drained_still net past setup stands drained = drained_net net past setup stands (subst (λ t. IsDrained t past) stands.topology drained)
+drained_still : (net : NetState) (past : List Entry) → AreTold net past → LinkStandsFor net.sizes net.link (link_entries (topology_of net) 0 past) → IsDrained (topology_of net) past → IsQuiescent net
+drained_still net past told link drained = record {
+  a = record { queue = told.forth ∙ drained.queues (Output 0); transit = forth_transit net past link ∙ drained.transit 0; buffer = told.host ∙ drained.queues (Host 0) };
+  b = record { queue = told.back ∙ drained.queues (Output 1); transit = back_transit net past link ∙ drained.transit 1; buffer = told.port ∙ drained.queues (Port 0 net.port) };
+  cube = drained_cube net (λ queue cube. told.cube queue cube ∙ drained.queues queue);
+}
 
 same_test : (result test : Bool) → (IsTrue result → test ≡ true) → (test ≡ true → IsTrue result) → result ≡ test
 same_test true test forth back = sym (forth refl)
 same_test false false forth back = refl
 same_test false true forth back = back refl
 
--- so it is what the test of all rooms says
-pub drained_test : (net : NetState) (past : List Entry) (setup : Setup) (result : Bool) → StandsFor net setup past → IsTrue result ↔ IsQuiescent net → result ≡ is_drained setup.topology past
-drained_test net past setup result stands is =
+-- so it is what the test of all queues and directions says
+pub drained_test : (net : NetState) (past : List Entry) (setup : Setup) (result : Bool) → StandsFor net setup past → has_passed past ≡ false → IsTrue result ↔ IsQuiescent net → result ≡ is_drained setup.topology past
+drained_test net past setup result stands on is =
+    let housed = lawful_keeps_queues setup past stands.one_cube stands.lawful in
+    let told = told_of net past setup stands on housed in
     same_test result (is_drained setup.topology past)
-    (λ yes. test_by_drained setup.topology past (still_drained net past setup stands (is.0 yes)))
-    (λ yes. is.1 (drained_still net past setup stands (drained_by_test setup past (parts_of setup stands.one_cube) stands.lawful yes)))
+    (λ yes. ap (λ t. is_drained t past) stands.topology ∙ still_test net past told (stands.link on) (is.0 yes))
+    (λ yes. is.1 (drained_still net past told (stands.link on) (subst (λ t. IsDrained t past) stands.topology (drained_by_test setup past (parts_of setup stands.one_cube) stands.lawful yes))))

@@ -1,7 +1,8 @@
 -- A network and its journal.
-use Rattle.std.specs.Prelude.{◌≡◌, ◌≤◌, length, slice_get, Some}
+use Rattle.std.specs.Prelude.{◌≡◌, ◌≤◌, false, length, slice_get, Some}
 use Rattle.hmc_schedule.specs.declared.step.Step.{Step}
 use Rattle.hmc_journal.specs.Journal.{JournalFields}
+use Rattle.hmc_journal.specs.Lawful.{has_passed}
 use Rattle.hmc_journal.specs.Setup.{Setup}
 use Rattle.hmc_net.specs.NetState.{NetState}
 use Rattle.hmc_net.specs.Stands.{StandsFor}
@@ -16,7 +17,8 @@ pub record NetStandsFor (net : JournaledNet) (setup : Setup) : Type 0 where
   pub stands : StandsFor net.network setup net.journal.past
   pub most : length setup.schedule ≤ net.journal.most
 
--- and this is the next step of the case's schedule
+-- and this is the next step of the case's schedule; no landing passed
 pub record IsNetNext (net : JournaledNet) (setup : Setup) (step : Step) : Type 0 where
   pub stands : NetStandsFor net setup
+  pub goes_on : has_passed net.journal.past ≡ false
   pub step_is : slice_get setup.schedule (length net.journal.past) ≡ Some step

@@ -1,5 +1,3 @@
-pub mod Wire
-pub mod WireKept
 pub mod NetState
 pub mod Apply
 pub mod Ready
@@ -9,3 +7,4 @@ pub mod Opening
 pub mod Quiescent
 pub mod Went
 pub mod Gives
+pub mod Links

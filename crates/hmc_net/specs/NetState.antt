@@ -9,28 +9,24 @@ use Rattle.hmc_serial.specs.Machine.{State}
 use Rattle.hmc_vault.specs.Vault.{VaultFields, bank_at}
 use Rattle.hmc_cube.specs.Cube.{CubeFields, no_vault}
 use Rattle.hmc_host.specs.Host.{HostFields}
-use Rattle.hmc_host.specs.Tags.{none_out}
+use Rattle.hmc_link.specs.Held.{LinkHeld}
 use Rattle.hmc_case.specs.declared.setup.CubeSetup.{CubeSetup}
+use Rattle.hmc_journal.specs.Choice.{choose}
 use Rattle.hmc_journal.specs.declared.entry.Entry.{Entry}
 use Rattle.hmc_journal.specs.Queues.{QueueId}
 use Rattle.hmc_journal.specs.Queues.QueueId.{Output, Port, Host, Vault, Bank, Registers, Answers}
 use Rattle.hmc_journal.specs.Setup.{Topology}
-use Rattle.hmc_journal.specs.StepView.{DirectionView, StepView}
-use Rattle.hmc_net.specs.Wire.{DirectionState, opening_wire, wire_view}
+use Rattle.hmc_journal.specs.StepView.{StepView}
 
--- The link joins host 0 to this port of cube 0. The cube has what the setup says; the buffers are
--- those of the port and of the host; forth goes from the host to the cube. The last entry is that
--- of the latest step.
+-- The link joins host 0, at its end a, to this port of cube 0, at its end b. The cube has what the
+-- setup says. The last entry is that of the latest step.
 pub record NetState : Type 0 where
   pub setup : CubeSetup
   pub sizes : LinkFields
   pub port : ℕ
   pub cube : CubeFields
-  pub port_buffer : List PacketFields
   pub host : HostFields
-  pub host_buffer : List PacketFields
-  pub forth : DirectionState
-  pub back : DirectionState
+  pub link : LinkHeld
   pub last : Entry
 
 -- its topology
@@ -57,11 +53,11 @@ pub record NetQueues : Type 0 where
 -- what a network holds
 abbrev pub queues_in : NetState → NetQueues
 queues_in net = record {
-  forth = net.forth.output;
-  back = net.back.output;
+  forth = net.link.a.queue;
+  back = net.link.b.queue;
   port = net.port;
-  port_buffer = net.port_buffer;
-  host = net.host_buffer;
+  port_buffer = net.link.b.buffer;
+  host = net.link.a.buffer;
   vaults = net.cube.vaults;
   register_queue = net.cube.register_queue;
   answers = net.cube.answers;
@@ -108,26 +104,36 @@ packets_at holding (Answers cube from) = only cube (answers_in holding.vaults ho
 abbrev pub inside : NetState → QueueId → List PacketFields
 inside net queue = packets_at (queues_in net) queue
 
--- a host that isn't there has no requests
-abbrev pub host_by : NetState → ℕ → HostFields
-host_by net zero = net.host
-host_by net (suc host) = record { number = suc host; items = []; given = 0; tags = none_out }
+-- a queue that is there
+abbrev pub is_there : NetState → QueueId → Bool
+is_there net (Output zero) = true
+is_there net (Output (suc zero)) = true
+is_there net (Port cube port) = (0 == cube) && (net.port == port)
+is_there net (Host zero) = true
+is_there net (Vault zero vault) = true
+is_there net (Bank zero vault bank) = true
+is_there net (Registers zero) = true
+is_there net (Answers zero from) = true
+is_there net _ = false
 
--- a direction that isn't there has no flits
-abbrev pub net_direction : NetState → ℕ → DirectionView
-net_direction net zero = wire_view net.forth net.back.accepted
-net_direction net (suc zero) = wire_view net.back net.forth.accepted
-net_direction net (suc (suc direction)) = wire_view (opening_wire net.sizes) 0
+-- the packets in a queue that is there, and in another one those of a view
+abbrev pub inside_or : NetState → (QueueId → List PacketFields) → QueueId → List PacketFields
+inside_or net others queue = choose (is_there net queue) (inside net queue) (others queue)
+
+-- the host that is there, and the others by a view
+abbrev pub host_or : NetState → (ℕ → HostFields) → ℕ → HostFields
+host_or net others zero = net.host
+host_or net others (suc host) = others (suc host)
 
 -- the plain machine of one cube
 abbrev pub machine_of : NetState → State
 machine_of net = record { cubes = net.cube.state ∷ [] }
 
--- what a step sees
-abbrev pub net_view : NetState → StepView
-net_view net = record {
-  inside = inside net;
+-- What a step sees: the parts that are there, and of the entries of links and of parts that aren't
+-- there what a view says.
+abbrev pub net_view : NetState → StepView → StepView
+net_view net view = record view {
+  inside = inside_or net view.inside;
   state = machine_of net;
-  host = host_by net;
-  direction_at = net_direction net;
+  host = host_or net view.host;
 }

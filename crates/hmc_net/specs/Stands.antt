@@ -1,55 +1,47 @@
 -- When a network stands for a case and the journal of its steps.
-use Rattle.std.specs.Prelude.{◌≡◌, ◌≤◌, ◌+◌, ◌%◌, ℕ, List, [], All, length, drop, slice_get, Some}
-use Rattle.hmc_journal.specs.Wires.{pointers}
+use Rattle.std.specs.Prelude.{◌≡◌, ◌≤◌, false, not, List, All, length, slice_get, Some}
+use Rattle.hmc_link.specs.StandsFor.{LinkStandsFor}
 use Rattle.hmc_schedule.specs.declared.step.Step.{Step}
 use Rattle.hmc_journal.specs.declared.entry.Entry.{Entry}
 use Rattle.hmc_journal.specs.Hosts.{host_of}
+use Rattle.hmc_journal.specs.Lawful.{Lawful, has_passed}
+use Rattle.hmc_journal.specs.Links.{link_entries}
 use Rattle.hmc_journal.specs.Network.{IsOneCube}
-use Rattle.hmc_journal.specs.Lawful.{Lawful}
-use Rattle.hmc_journal.specs.Queues.{QueueId, landing_buffer, left, entered, contents, begun}
-use Rattle.hmc_journal.specs.Setup.{Topology, Setup}
-use Rattle.hmc_journal.specs.StepView.{sending_with, last_numbered, state_of}
-use Rattle.hmc_journal.specs.Wires.{sent_flits, landed_flits, line_flits, unsent, pending, accepted, flits_in}
+use Rattle.hmc_journal.specs.Queues.{QueueId, left, entered, contents}
+use Rattle.hmc_journal.specs.Queues.QueueId.{Output, Port, Host}
+use Rattle.hmc_journal.specs.Setup.{Setup}
+use Rattle.hmc_journal.specs.StepView.{state_of}
 use Rattle.hmc_net.specs.NetState.{NetState, topology_of, inside, machine_of}
 use Rattle.hmc_net.specs.Ready.{IsStepFor}
-use Rattle.hmc_net.specs.Wire.{DirectionState}
 
--- a direction is as the journal says
-pub record IsDirection (topology : Topology) (past : List Entry) (direction : ℕ)
-    (wire : DirectionState) : Type 0 where
-  pub line : wire.line ≡ line_flits direction past
-  pub landed : length (landed_flits direction past) ≤ length (sent_flits direction past)
-  pub sending : wire.sending
-      ≡ sending_with (unsent direction past) (last_numbered (begun topology past direction))
-  pub frp : wire.frp ≡ flits_in (begun topology past direction) % pointers
-  pub seq : wire.seq ≡ length (begun topology past direction) % 8
-  pub accepted_flits : wire.accepted ≡ flits_in (accepted direction past) % pointers
-  pub forwarded : left past (landing_buffer topology direction) ≤ length
-      (begun topology past direction)
-  pub in_flight_flits : wire.in_flight_flits
-      ≡ flits_in (drop (left past (landing_buffer topology direction))
-      (begun topology past direction))
-  pub gathered : wire.pending ≡ pending direction past
+-- a queue of a cube that is no buffer of a link
+abbrev pub IsCubeQueue : QueueId → Type 0
+IsCubeQueue (Output direction) = ⊥
+IsCubeQueue (Port cube port) = ⊥
+IsCubeQueue (Host host) = ⊥
+IsCubeQueue _ = Unit {0}
 
 -- The parts of the network are as this journal says, which is a lawful journal of the case, and the
--- steps of the case are steps of its parts. Nothing was begun on a direction that isn't there.
+-- steps of the case are steps of its parts. The link stands for the entries that the journal has of
+-- it. Nothing is said of the link once a landing passed, except that it goes on no more.
 pub record StandsFor (net : NetState) (setup : Setup) (past : List Entry) : Type 0 where
   pub one_cube : IsOneCube setup
   pub steps : All (IsStepFor setup.topology) setup.schedule
   pub topology : setup.topology ≡ topology_of net
   pub lawful : Lawful setup past
-  pub queues : (queue : QueueId) →
+  pub queues : (queue : QueueId) → IsCubeQueue queue →
       inside net queue ≡ contents (topology_of net) past queue
-  pub moves : (queue : QueueId) →
+  pub moves : (queue : QueueId) → IsCubeQueue queue →
       left past queue ≤ length (entered (topology_of net) past queue)
-  pub forth : IsDirection (topology_of net) past 0 net.forth
-  pub back : IsDirection (topology_of net) past 1 net.back
-  pub others : (direction : ℕ) → begun (topology_of net) past (2 + direction) ≡ []
+  pub going : net.link.going ≡ not (has_passed past)
+  pub link : has_passed past ≡ false →
+      LinkStandsFor net.sizes net.link (link_entries (topology_of net) 0 past)
   pub host : net.host ≡ host_of setup past 0
   pub state : machine_of net ≡ state_of (topology_of net) past
 
--- and this is the next step of the case's schedule
+-- and this is the next step of the case's schedule; no landing passed
 pub record IsNext (net : NetState) (setup : Setup) (past : List Entry)
     (step : Step) : Type 0 where
   pub stands : StandsFor net setup past
+  pub goes_on : has_passed past ≡ false
   pub step_is : slice_get setup.schedule (length past) ≡ Some step

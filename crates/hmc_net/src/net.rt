@@ -1,8 +1,10 @@
 //! The network and its journal.
 
-ghost use Rattle.std.specs.Prelude.{◌≡◌, ◌<◌, ◌^◌, [], ◌∷◌, IfOk, length, reverse};
+ghost use Rattle.std.specs.Prelude.{◌≡◌, ◌<◌, ◌^◌, [], ◌∷◌, IfOk, false, length, reverse};
 ghost use Rattle.hmc_host.specs.Tags.{number_out};
+ghost use Rattle.hmc_journal.specs.Counts.{token_counts};
 ghost use Rattle.hmc_journal.specs.Drained.{is_drained};
+ghost use Rattle.hmc_journal.specs.Lawful.{has_passed};
 ghost use Rattle.hmc_journal.specs.Next.{next};
 ghost use Rattle.hmc_journal.specs.Setup.{Setup, setup_of};
 ghost use Rattle.hmc_net.specs.Journaled.{NetStandsFor, IsNetNext};
@@ -10,7 +12,7 @@ ghost use Rattle.hmc_net.specs.Went.{went_of};
 
 use crate::{Network, Went};
 use hmc_case::Case;
-use hmc_codes::Memory;
+use hmc_codes::{Memory, TokenRow};
 use hmc_cube::Cube;
 use hmc_journal::{Cause, Entry, Journal};
 use hmc_schedule::Step;
@@ -48,7 +50,7 @@ impl Net {
     /// Takes the next step of a case's schedule. The journal has one more entry: what happened, or
     /// the first cause why nothing did.
     ///
-    /// The network stands for some case whose next step this is.
+    /// The network stands for some case whose next step this is, and no landing passed.
     pub fn step(&mut self, step: &Step) -> Went
         requires { (setup : Setup) × IsNetNext self.old setup step.now }
 
@@ -60,7 +62,7 @@ impl Net {
             self.new.journal.past ≡ next setup self.old.journal.past step.now ∷
             self.old.journal.past }
 
-        // Idle exactly where the entry is, and then nothing else changes but the last entry.
+        // Idle or passed exactly where the entry is; an idle step changes nothing else.
         ensures went { (setup : Setup) → IsNetNext self.old setup step.now →
             result ≡ went_of (next setup self.old.journal.past step.now) }
         ensures idle { (cause : Cause) → result ≡ Went.Idle cause →
@@ -71,12 +73,24 @@ impl Net {
         went
     }
 
-    /// Whether nothing is on its way.
+    /// Whether nothing is on its way. After a landing that passed this says nothing.
     pub fn drained(&self) -> bool
         ensures { (setup : Setup) → NetStandsFor self.now setup →
+            has_passed self.now.journal.past ≡ false →
             result ≡ is_drained setup.topology self.now.journal.past }
     {
         self.network.drained()
+    }
+
+    /// The five numbers of the tokens of a direction, 0 or 1. After a landing that passed they say
+    /// nothing.
+    pub fn tokens(&self, direction: u8) -> TokenRow
+        requires { direction < 2 }
+        ensures { (setup : Setup) → NetStandsFor self.now setup →
+            has_passed self.now.journal.past ≡ false →
+            result ≡ token_counts setup.topology self.now.journal.past direction }
+    {
+        self.network.tokens(direction)
     }
 
     /// The entries so far, the first one first.

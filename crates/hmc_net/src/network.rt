@@ -1,13 +1,20 @@
 //! The network.
 
-ghost use Rattle.std.specs.Prelude.{◌≡◌, ◌<◌, ◌^◌, ◌↔◌, ℕ, List, [], ◌∷◌, All, IfOk, IsTrue, Some, length};
+ghost use Rattle.std.specs.Prelude.{◌≡◌, ◌<◌, ◌↔◌, ℕ, List, [], ◌∷◌, IfOk, IsTrue, Some, false, true};
+ghost use Rattle.hmc_codes.specs.Places.{port_number};
 ghost use Rattle.hmc_host.specs.Tags.{number_out};
+ghost use Rattle.hmc_journal.specs.Counts.{token_counts};
 ghost use Rattle.hmc_journal.specs.declared.entry.Entry.{Entry};
 ghost use Rattle.hmc_journal.specs.Drained.{is_drained};
+ghost use Rattle.hmc_journal.specs.Event.{cause_of};
+ghost use Rattle.hmc_journal.specs.Lawful.{has_passed};
+ghost use Rattle.hmc_journal.specs.Links.{toward};
 ghost use Rattle.hmc_journal.specs.Next.{choice, next};
-ghost use Rattle.hmc_codes.specs.Places.{port_number};
 ghost use Rattle.hmc_journal.specs.Setup.{Setup, setup_of};
-ghost use Rattle.hmc_net.specs.Apply.{with_entry};
+ghost use Rattle.hmc_journal.specs.StepView.{StepView};
+ghost use Rattle.hmc_link.specs.StandsFor.{LinkStandsFor};
+ghost use Rattle.hmc_send.specs.LinkEntries.{LinkEntry};
+ghost use Rattle.hmc_net.specs.Apply.{with_entry, IsLinkAfter};
 ghost use Rattle.hmc_net.specs.NetState.{topology_of, net_view};
 ghost use Rattle.hmc_net.specs.Opening.{opening_net};
 ghost use Rattle.hmc_net.specs.Ready.{IsReady, IsStepFor};
@@ -15,14 +22,15 @@ ghost use Rattle.hmc_net.specs.Stands.{StandsFor, IsNext};
 ghost use Rattle.hmc_net.specs.Quiescent.{IsQuiescent};
 ghost use Rattle.hmc_net.specs.Went.{went_of};
 
+use crate::Went;
 use crate::went::went_of;
-use crate::{Went, Wire};
 use hmc_case::{Case, CubeSetup};
-use hmc_codes::{LinkSetup, Memory, Place};
+use hmc_codes::{LinkSetup, Memory, Place, TokenRow};
 use hmc_crossbar::PortBuffer;
 use hmc_cube::Cube;
 use hmc_host::{Host, HostBuffer};
-use hmc_journal::{Cause, LastEntry, lawful_keeps_queues};
+use hmc_journal::{Cause, LastEntry};
+use hmc_link::{Link, Toward};
 use hmc_schedule::Step;
 use hmc_script::Script;
 use std::alloc::Global;
@@ -40,19 +48,14 @@ pub struct Network {
     // The port of the cube that the link ends at.
     port: u8,
     cube: Cube,
-    port_buffer: PortBuffer,
     host: Host,
-    host_buffer: HostBuffer,
-    // The direction from the host to the cube, and the other one.
-    forth: Wire,
-    back: Wire,
+    // Direction Forth goes from the host to the port of the cube.
+    link: Link<HostBuffer, PortBuffer>,
     last: LastEntry,
 }
 
 impl Model for Network {
-    ghost use Rattle.hmc_tokens.specs.FlitBuffer.{packets_of, size_of};
     ghost use Rattle.hmc_net.specs.NetState.{NetState};
-    ghost use Rattle.hmc_net.specs.Opening.{opening_net};
     ghost use Rattle.hmc_net.specs.Ready.{IsNetState};
 
     ghost Value = { NetState };
@@ -62,11 +65,8 @@ impl Model for Network {
       sizes = n.sizes;
       port = n.port;
       cube = n.cube;
-      port_buffer = packets_of n.port_buffer;
       host = n.host;
-      host_buffer = packets_of n.host_buffer;
-      forth = n.forth;
-      back = n.back;
+      link = n.link;
       last = n.last;
     } };
 
@@ -75,13 +75,10 @@ impl Model for Network {
       sizes = n.sizes;
       port = n.port;
       cube = n.cube;
-      port_buffer = packets_of n.port_buffer;
       host = n.host;
-      host_buffer = packets_of n.host_buffer;
-      forth = n.forth;
-      back = n.back;
+      link = n.link;
       last = n.last;
-    }) (size_of n.port_buffer) (size_of n.host_buffer) };
+    }) };
 }
 
 impl Network {
@@ -114,26 +111,22 @@ impl Network {
         script: &Script,
     ) -> Result<Self, Memory>
         requires { port < 4 }
-        ensures { IfOk result (λ network.
-            network ≡ opening_net setup sizes port script.now network.last) }
+        ensures parts { IfOk result (λ network.
+            network ≡ opening_net setup sizes port script.now network.link network.last) }
+        ensures link { IfOk result (λ network. LinkStandsFor sizes network.link []) }
+        ensures going { IfOk result (λ network. network.link.going ≡ true) }
     {
         sizes.invariant();
         let cube = Cube::new(alloc, 0, setup.shape, setup.queue)?;
-        let port_buffer = PortBuffer::new(alloc, sizes.tokens)?;
         let host = Host::new(alloc, 0, script)?;
-        let host_buffer = HostBuffer::new(alloc, sizes.tokens)?;
-        let forth = Wire::new(alloc, sizes)?;
-        let back = Wire::new(alloc, sizes)?;
+        let link = link_of(alloc, sizes)?;
         Ok(Network {
             setup,
             sizes,
             port,
             cube,
-            port_buffer,
             host,
-            host_buffer,
-            forth,
-            back,
+            link,
             last: LastEntry::new(),
         })
     }
@@ -141,8 +134,8 @@ impl Network {
     /// Takes the next step of a case's schedule. The last entry is that of the step: what happened,
     /// or the first cause why nothing did.
     ///
-    /// The network stands for some case and the entries of its steps, and this is the case's next
-    /// step.
+    /// The network stands for some case and the entries of its steps, this is the case's next step,
+    /// and no landing passed.
     pub fn step(&mut self, step: &Step) -> Went
         requires { (setup : Setup) × (past : List Entry) × IsNext self.old setup past step.now }
 
@@ -153,13 +146,12 @@ impl Network {
         ensures last { (setup : Setup) (past : List Entry) → IsNext self.old setup past step.now →
             self.new.last ≡ next setup past step.now }
 
-        // Idle exactly where the entry is, and then nothing else changes.
+        // Idle or passed exactly where the entry is; an idle step changes nothing else.
         ensures went { (setup : Setup) (past : List Entry) → IsNext self.old setup past step.now →
             result ≡ went_of (next setup past step.now) }
         ensures idle { (cause : Cause) → result ≡ Went.Idle cause →
             self.new ≡ record self.old { last = self.new.last } }
     {
-        lawful_keeps_queues();
         self.cube.invariant();
         self.act(step);
         went_of(&self.last)
@@ -169,9 +161,16 @@ impl Network {
     fn act(&mut self, step: &Step)
         requires there { IsStepFor (topology_of self.old) step.now }
         requires ready { IsReady self.old }
-        ensures entry { self.new.last
-            ≡ choice (topology_of self.old) (net_view self.old) step.now }
-        ensures state { self.new ≡ with_entry self.new.last self.old }
+        ensures entry { (view : StepView) →
+            LinkStandsFor self.old.sizes self.old.link (view.entries 0) →
+            self.new.last ≡ choice (topology_of self.old) (net_view self.old view) step.now }
+        ensures link { (entries : List LinkEntry) →
+            LinkStandsFor self.old.sizes self.old.link entries →
+            IsLinkAfter self.old self.new entries }
+        ensures parts { self.new
+            ≡ record (with_entry self.new.last self.old) { link = self.new.link } }
+        ensures idle { (cause : Cause) → cause_of self.new.last ≡ Some cause →
+            self.new.link ≡ self.old.link }
     {
         match step {
             Step::Give(_) => self.give(),
@@ -183,8 +182,8 @@ impl Network {
             Step::Registers(_) => self.registers(),
             Step::Lift(_, from) => self.lift(*from),
             Step::Take(_) => self.take(),
+            Step::Unlock(direction) => self.unlock(*direction),
             Step::Through(..) => self.last.idle(step, Cause::Empty),
-            Step::Unlock(_) => self.last.idle(step, Cause::Empty),
             Step::Retire(_) => self.last.idle(step, Cause::Empty),
         }
     }
@@ -196,10 +195,10 @@ impl Network {
         &self.last
     }
 
-    /// Whether nothing is on its way.
+    /// Whether nothing is on its way. After a landing that passed this says nothing.
     pub fn drained(&self) -> bool
         ensures { (setup : Setup) (past : List Entry) → StandsFor self.now setup past →
-            result ≡ is_drained setup.topology past }
+            has_passed past ≡ false → result ≡ is_drained setup.topology past }
     {
         self.is_quiescent()
     }
@@ -208,12 +207,19 @@ impl Network {
     fn is_quiescent(&self) -> bool
         ensures { IsTrue result ↔ IsQuiescent self.now }
     {
-        let forth = self.forth.is_idle();
-        let back = self.back.is_idle();
-        let port_buffer = self.port_buffer.is_empty();
-        let host_buffer = self.host_buffer.is_empty();
+        let link = self.link.is_quiet();
         let cube = self.cube.held() == 0;
-        forth && back && port_buffer && host_buffer && cube
+        link && cube
+    }
+
+    /// The five numbers of the tokens of a direction, 0 or 1. After a landing that passed they say
+    /// nothing.
+    pub fn tokens(&self, direction: u8) -> TokenRow
+        requires { direction < 2 }
+        ensures { (setup : Setup) (past : List Entry) → StandsFor self.now setup past →
+            has_passed past ≡ false → result ≡ token_counts setup.topology past direction }
+    {
+        self.link.tokens(toward_of(direction))
     }
 
     /// The cube with this number, 0.
@@ -243,5 +249,27 @@ fn port_of(place: Place) -> u8
     match place {
         Place::Port { port, .. } => port,
         Place::Host(_) => unreachable!(),
+    }
+}
+
+// A link that did nothing, between the host and a port.
+fn link_of(alloc: Global, sizes: LinkSetup) -> Result<Link<HostBuffer, PortBuffer>, Memory>
+    ensures stands { IfOk result (λ link. LinkStandsFor sizes link []) }
+    ensures going { IfOk result (λ link. link.going ≡ true) }
+{
+    let host_buffer = HostBuffer::new(alloc, sizes.tokens)?;
+    let port_buffer = PortBuffer::new(alloc, sizes.tokens)?;
+    Link::new(alloc, sizes, host_buffer, port_buffer)
+}
+
+// The way of a direction.
+pub(crate) fn toward_of(direction: u8) -> Toward
+    requires { direction < 2 }
+    ensures { result ≡ toward direction }
+{
+    if direction == 0 {
+        Toward::Forth
+    } else {
+        Toward::Back
     }
 }

@@ -12,12 +12,17 @@ pub enum Went {
     Done,
     /// Nothing happened, for this cause.
     Idle(Cause),
+    /// A flit landed, and a check succeeded over flits that a mask changed. No step may follow.
+    Passed,
 }
 
 // How the step of this entry went.
 pub fn went_of(last: &LastEntry) -> Went
     ensures { result ≡ went_of last.now }
 {
+    if last.has_passed() {
+        return Went::Passed;
+    }
     match last.cause() {
         Some(cause) => Went::Idle(cause),
         None => Went::Done,

@@ -1,7 +1,7 @@
 -- Counting the steps of a journal one after another.
 use Rattle.std.proofs.Common.{◌≡◌, ◌∙◌, ℕ, List, [], ◌∷◌, refl, sym, ap}
 use Rattle.hmc_journal.specs.declared.entry.Entry.{Entry}
-use Rattle.hmc_journal.specs.declared.entry.Entry.TheVariants.{Gave, Sent, Landed, Shifted, Dropped, Spread, Executed, Lifted, Took, Discarded, Idle}
+use Rattle.hmc_journal.specs.declared.entry.Entry.TheVariants.{Gave, Sent, Landed, Shifted, Dropped, Spread, Executed, Lifted, Took, Discarded, Unlocked, Passed, Idle}
 use Rattle.hmc_journal.specs.Counts.{taken_count, executed_count, dropped_count, cube_counts}
 use Rattle.hmc_journal.specs.Hosts.{given_count}
 use Rattle.hmc_codes.specs.declared.counts.HostCounts.{HostCounts}
@@ -24,6 +24,8 @@ host_next host out (Executed unit h tag request answer) past = refl
 host_next host out (Lifted cube from port) past = refl
 host_next host out (Took h tag answer) past = refl
 host_next host out (Discarded h) past = refl
+host_next host out (Unlocked direction) past = refl
+host_next host out (Passed direction flit) past = refl
 host_next host out (Idle step cause) past = refl
 
 cube_next : (cube : ℕ) (entry : Entry) (past : List Entry) → cube_counts (entry ∷ past) cube ≡ cube_after cube (event_of entry) (cube_counts past cube)
@@ -38,6 +40,8 @@ cube_next cube (Executed unit h tag request answer) past = refl
 cube_next cube (Lifted c from port) past = refl
 cube_next cube (Took h tag answer) past = refl
 cube_next cube (Discarded h) past = refl
+cube_next cube (Unlocked direction) past = refl
+cube_next cube (Passed direction flit) past = refl
 cube_next cube (Idle step cause) past = refl
 
 -- no step

@@ -1,14 +1,12 @@
 -- The lines of a cube's memory and registers, written one after another.
-use Rattle.std.proofs.Common.{◌≡◌, ◌<◌, ◌≤◌, ◌+◌, ◌*◌, ◌∙◌, ◌⊎◌, ℕ, zero, suc, Bool, true, false, List, [], ◌∷◌, ◌++◌, length, Option, Err, refl, sym, ap, subst, inl, inr, arith, add-one, append_assoc, append-nil}
+use Rattle.std.proofs.Common.{◌≡◌, ◌<◌, ◌≤◌, ◌+◌, ◌*◌, ◌∙◌, ◌⊎◌, ℕ, zero, suc, Bool, true, false, List, [], ◌∷◌, ◌++◌, length, Option, refl, sym, ap, subst, inl, inr, arith, add-one, append_assoc, append-nil}
 use Rattle.std.specs.Prelude.{slice_range, slice_index, slice_get, Some, IsSome, ◌==◌, if◌then◌else◌}
 use Rattle.std.proofs.lemmas.Option.{slice_get-get_or}
-use Rattle.hmc_outside.specs.Lines.{WritesLines}
+use Rattle.hmc_outside.specs.Lines.{WritesLines, BreaksOff}
 use Rattle.hmc_outside.specs.Views.{SinkView}
-use Rattle.hmc_outside.specs.declared.counts.Failed.{Failed}
 use Rattle.hmc_outside.proofs.LinesLemmas.{WritesLines-none, WritesLines-after}
 use Rattle.hmc_report.specs.Lines.{is_zero, memory_line, block_lines, lines_of_blocks, register_line, value_lines, lines_of_registers}
-use Rattle.hmc_replay.specs.Output.{Writes}
-use Rattle.hmc_replay.proofs.Writing.{Err-after}
+use Rattle.hmc_replay.proofs.Writing.{BreaksOff-among}
 
 -- a block or a register that is zero has no line, and another has one
 pub block_lines-zero : (a : SinkView) (cube block : ℕ) (bytes : List ℕ) → is_zero bytes ≡ true → WritesLines a a (block_lines cube block bytes)
@@ -48,13 +46,13 @@ one_more lines line by a b c n text is before here =
     subst (WritesLines a c) (ap (λ l. lines n ++ l) is ∙ sym (by.more n) ∙ ap lines (sym (add-one n))) (WritesLines-after a b c (lines n) text before here)
 
 -- the writing of those of one more ended early
-ended_here : (lines line : ℕ → List (List ℕ)) → IsByLines lines line → (a b c : SinkView) (n all : ℕ) (text : List (List ℕ)) (error : Failed) → n < all → text ≡ line n → WritesLines a b (lines n) → Writes (Err error) b c text
-    → Writes (Err error) a c (lines all)
-ended_here lines line by a b c n all text error h is before here =
+ended_here : (lines line : ℕ → List (List ℕ)) → IsByLines lines line → (a b c : SinkView) (n all : ℕ) (text : List (List ℕ)) → n < all → text ≡ line n → WritesLines a b (lines n) → BreaksOff b c text
+    → BreaksOff a c (lines all)
+ended_here lines line by a b c n all text h is before here =
     let more = fewer lines line by (suc n) all (omega arith) in
-    subst (Writes (Err error) a c)
+    subst (BreaksOff a c)
     (ap (λ l. lines n ++ (l ++ more.0)) is ∙ sym (append_assoc (lines n) (line n) more.0) ∙ ap (λ l. l ++ more.0) (sym (by.more n)) ∙ sym more.1)
-    (Err-after a b c (lines n) text more.0 error before here)
+    (BreaksOff-among a b c (lines n) text more.0 before here)
 
 -- the lines of a block, by its place in the memory
 abbrev lines_of_block : ℕ → List ℕ → ℕ → List (List ℕ)
@@ -73,10 +71,10 @@ pub memory_more : (a b c : SinkView) (cube : ℕ) (memory bytes : List ℕ) (blo
 memory_more a b c cube memory bytes block is before here =
     one_more (lines_of_blocks cube memory) (lines_of_block cube memory) (memory_by_lines cube memory) a b c block _ (ap (block_lines cube block) is) before here
 
-pub memory_ended : (a b c : SinkView) (cube : ℕ) (memory bytes : List ℕ) (block blocks : ℕ) (error : Failed) → block < blocks → bytes ≡ slice_range memory (16 * block) (16 * block + 16)
-    → WritesLines a b (lines_of_blocks cube memory block) → Writes (Err error) b c (block_lines cube block bytes) → Writes (Err error) a c (lines_of_blocks cube memory blocks)
-memory_ended a b c cube memory bytes block blocks error h is before here =
-    ended_here (lines_of_blocks cube memory) (lines_of_block cube memory) (memory_by_lines cube memory) a b c block blocks _ error h (ap (block_lines cube block) is) before here
+pub memory_ended : (a b c : SinkView) (cube : ℕ) (memory bytes : List ℕ) (block blocks : ℕ) → block < blocks → bytes ≡ slice_range memory (16 * block) (16 * block + 16)
+    → WritesLines a b (lines_of_blocks cube memory block) → BreaksOff b c (block_lines cube block bytes) → BreaksOff a c (lines_of_blocks cube memory blocks)
+memory_ended a b c cube memory bytes block blocks h is before here =
+    ended_here (lines_of_blocks cube memory) (lines_of_block cube memory) (memory_by_lines cube memory) a b c block blocks _ h (ap (block_lines cube block) is) before here
 
 -- the lines of a register, by its place after the first that can be written
 abbrev lines_of_register : ℕ → List ℕ → ℕ → List (List ℕ)
@@ -95,10 +93,10 @@ pub registers_more : (a b c : SinkView) (cube : ℕ) (registers : List ℕ) (val
 registers_more a b c cube registers value place is before here =
     one_more (lines_of_registers cube registers) (lines_of_register cube registers) (registers_by_lines cube registers) a b c place _ (ap (value_lines cube (place + 4)) is) before here
 
-pub registers_ended : (a b c : SinkView) (cube : ℕ) (registers : List ℕ) (value place all : ℕ) (error : Failed) → place < all → value ≡ slice_index registers (place + 4)
-    → WritesLines a b (lines_of_registers cube registers place) → Writes (Err error) b c (value_lines cube (place + 4) value) → Writes (Err error) a c (lines_of_registers cube registers all)
-registers_ended a b c cube registers value place all error h is before here =
-    ended_here (lines_of_registers cube registers) (lines_of_register cube registers) (registers_by_lines cube registers) a b c place all _ error h (ap (value_lines cube (place + 4)) is) before here
+pub registers_ended : (a b c : SinkView) (cube : ℕ) (registers : List ℕ) (value place all : ℕ) → place < all → value ≡ slice_index registers (place + 4)
+    → WritesLines a b (lines_of_registers cube registers place) → BreaksOff b c (value_lines cube (place + 4) value) → BreaksOff a c (lines_of_registers cube registers all)
+registers_ended a b c cube registers value place all h is before here =
+    ended_here (lines_of_registers cube registers) (lines_of_register cube registers) (registers_by_lines cube registers) a b c place all _ h (ap (value_lines cube (place + 4)) is) before here
 
 -- what is read of a register that is there
 pub register_there : (registers : List ℕ) (place : ℕ) (read : Option ℕ) → length registers ≡ 16 → place < 12 → read ≡ slice_get registers (place + 4) → read ≡ Some (slice_index registers (place + 4))

@@ -1,8 +1,11 @@
 pub mod Writing
+pub mod CaseAnswers
 pub mod CubeLines
 pub mod Counting
 pub mod EntryLines
+pub mod FailedReports
 pub mod Finals
+pub mod Passes
 pub mod Reading
 pub mod Refusals
 pub mod Replays

@@ -14,16 +14,27 @@ use Rattle.hmc_outside.proofs.LinesLemmas.{WritesLines-none}
 use Rattle.hmc_replay.specs.Causes.{cause_of_input, status_of}
 use Rattle.hmc_replay.specs.Input.{BytesRead, IsTooLong, ReadsWhole, ReadsPart, ReadsFault, ReadsTooLong}
 use Rattle.hmc_replay.specs.Runs.{Answers, Runs}
-use Rattle.hmc_replay.specs.Top.{is_run, OneOf, lines_for, lines_to_write, IsCaseText, IsFaulty, IsReportOf, IsRefusalOf, IsAnswered, Replayed}
+use Rattle.hmc_replay.specs.Top.{is_run, OneOf, passes, report_status, lines_for, lines_to_write, IsCaseText, IsFaulty, IsReportOf, IsPassedReportOf, IsRefusalOf, IsAnswered, Replayed}
 use Rattle.hmc_replay.specs.declared.input.InputError.{InputError}
 use Rattle.hmc_replay.specs.declared.input.InputError.TheVariants as inputs
 use Rattle.hmc_replay.specs.declared.run.RunError.{RunError}
 use Rattle.hmc_replay.specs.declared.run.RunError.TheVariants as runs
+use Rattle.hmc_replay.proofs.Reports.{passes_there, passed_lines}
 
 -- ---- what was read
 
 true_false : (test : Bool) → test ≡ true → test ≡ false → ⊥
 true_false test is other = cc
+
+-- the status of the report of a case that was read
+status_of_case : (case : CaseFields) (passed : Bool) → passes case ≡ passed → report_status case ≡ (if passed then 7 else 0)
+status_of_case case passed is = ap (λ (p : Bool). if p then 7 else 0) is
+
+same_case : (result : Result CaseFields Fault) (case other : CaseFields) → result ≡ Ok case → result ≡ Ok other → other ≡ case
+same_case result case other is as_other = cc
+
+status_is : (input : List ℕ) (case other : CaseFields) (passed : Bool) → case_of input ≡ Ok case → case_of input ≡ Ok other → passes case ≡ passed → report_status other ≡ (if passed then 7 else 0)
+status_is input case other passed is as_other passed_is = ap report_status (same_case (case_of input) case other is as_other) ∙ status_of_case case passed passed_is
 
 case_fault : (result : Result CaseFields Fault) (case : CaseFields) (fault : Fault) → result ≡ Ok case → result ≡ Err fault → ⊥
 case_fault result case fault is other = cc
@@ -57,26 +68,25 @@ lines_within input few = by_test (nat_le (length input) most_input) refl
     by_test true is = refl
     by_test false is = let more = leb-false (length input) most_input is in absurd (omega (arith, few))
 
--- two of three statuses
-zero_or_six : (status : ℕ) → OneOf (0 ∷ 6 ∷ []) status → OneOf (0 ∷ 4 ∷ 6 ∷ []) status
-zero_or_six status (inl is) = inl is
-zero_or_six status (inr (inl is)) = inr (inr (inl is))
-zero_or_six status (inr (inr none)) = absurd none
+-- three of four statuses
+with_four : (status : ℕ) → OneOf (0 ∷ 6 ∷ 7 ∷ []) status → OneOf (0 ∷ 4 ∷ 6 ∷ 7 ∷ []) status
+with_four status (inl is) = inl is
+with_four status (inr is) = inr (inr is)
 
 -- nothing was written
-answered_none : (source source' : SourceView) (sink sink' : SinkView) (status : ℕ) → (OneOf (0 ∷ 4 ∷ 6 ∷ []) status → ⊥) → sink' ≡ sink → BytesRead (suc most_input) source.left source'.left → IsAnswered source source' sink sink' status
+answered_none : (source source' : SourceView) (sink sink' : SinkView) (status : ℕ) → (OneOf (0 ∷ 4 ∷ 6 ∷ 7 ∷ []) status → ⊥) → sink' ≡ sink → BytesRead (suc most_input) source.left source'.left → IsAnswered source source' sink sink' status
 answered_none source source' sink sink' status other same read =
     let none : WritesLines sink sink' [] = subst (λ v. WritesLines sink v []) (sym same) (WritesLines-none sink) in
     record {
       read = read;
-      all_lines = λ is. absurd (other (zero_or_six status is));
+      all_lines = λ is. absurd (other (with_four status is));
       no_lines = λ _. none;
       written_prefix = λ is. absurd (other (inr (inl is)));
       not_early = inl none;
     }
 
 -- an input that was read whole was answered
-answered_whole : (source source' : SourceView) (sink sink' : SinkView) (status : ℕ) (input : List ℕ) → ReadsWhole source source' input → (OneOf (0 ∷ 6 ∷ []) status → HandsOn sink sink' (lines_for (case_of input)))
+answered_whole : (source source' : SourceView) (sink sink' : SinkView) (status : ℕ) (input : List ℕ) → ReadsWhole source source' input → (OneOf (0 ∷ 6 ∷ 7 ∷ []) status → HandsOn sink sink' (lines_for (case_of input)))
     → (OneOf (1 ∷ 2 ∷ 3 ∷ 5 ∷ []) status → ⊥) → (status ≡ 4 → FailsToHandOn sink sink' (lines_for (case_of input))) → IsAnswered source source' sink sink' status
 answered_whole source source' sink sink' status input whole all other failed =
     let lines : lines_for (case_of input) ≡ lines_to_write input = sym (lines_within input whole.few) in
@@ -104,6 +114,7 @@ module _ {S O : Type 0} (source_view : S → SourceView) (sink_view : O → Sink
   replayed_none source sink none = record {
     range = omega arith;
     reported = λ is. absurd (omega (arith, is));
+    passed = λ is. absurd (omega (arith, is));
     refused = λ is. absurd (omega (arith, is));
     too_long = λ is. absurd (omega (arith, is));
     usage = (λ is. none, λ is. refl);
@@ -133,6 +144,7 @@ module _ {S O : Type 0} (source_view : S → SourceView) (sink_view : O → Sink
   replayed_report source source' sink sink' input run whole report = record {
     range = omega arith;
     reported = λ is. record { read = record { input = input; few = whole.few; consumed = whole.consumed }; report = report };
+    passed = λ is. absurd (omega (arith, is));
     refused = λ is. absurd (omega (arith, is));
     too_long = λ is. absurd (omega (arith, is));
     usage = (λ is. absurd (omega (arith, is)), λ is. absurd (true_false (is_run words) run is));
@@ -149,17 +161,49 @@ module _ {S O : Type 0} (source_view : S → SourceView) (sink_view : O → Sink
     few_stops = λ is. absurd (omega (arith, is));
     unwritten = λ is. absurd (grind (arith, is));
     answered = answered_whole _ _ _ _ 0 input whole (λ _. subst (HandsOn _ _) (ap lines_for (sym report.is_case)) report.written) (λ is. grind (arith, is)) (λ is. absurd (omega (arith, is)));
-    case_reports = λ _. always _ (λ x. length x ≤ most_input → IsCaseText x → OneOf (0 ∷ 1 ∷ 3 ∷ 4 ∷ []) 0) (λ x few case. inl refl);
+    case_reports = λ _. whole_some _ _ input (λ x. length x ≤ most_input → (is : IsCaseText x) → OneOf (report_status is.0 ∷ 1 ∷ 3 ∷ 4 ∷ []) 0) whole
+        (λ few case. inl (sym (status_is input report.case case.0 false report.is_case case.1 report.no_pass)));
     fault_refuses = λ _. whole_some _ _ input (λ x. length x ≤ most_input → IsFaulty x → OneOf (6 ∷ 1 ∷ 3 ∷ 4 ∷ []) 0) whole
         (λ few fault. absurd (case_fault (case_of input) report.case fault.0 report.is_case fault.1));
     excess_stops = λ _. whole_some _ _ input (λ x. most_input < length x → OneOf (5 ∷ 1 ∷ 3 ∷ []) 0) whole (λ more. absurd (omega (arith, more, whole.few)));
   }
+
+  replayed_passed : (source source' : S) (sink sink' : O) (input : List ℕ) → is_run words ≡ true → ReadsWhole (source_view source) (source_view source') input → IsPassedReportOf input (sink_view sink) (sink_view sink')
+      → Replayed source_view sink_view words source source' sink sink' 7
+  replayed_passed source source' sink sink' input run whole passed =
+      let written = passed_lines passed.case _ _ passed.report in record {
+        range = omega arith;
+        reported = λ is. absurd (omega (arith, is));
+        passed = λ is. record { read = record { input = input; few = whole.few; consumed = whole.consumed }; report = passed };
+        refused = λ is. absurd (omega (arith, is));
+        too_long = λ is. absurd (omega (arith, is));
+        usage = (λ is. absurd (omega (arith, is)), λ is. absurd (true_false (is_run words) run is));
+        untouched = λ is. absurd (omega (arith, is));
+        read_fault = λ is. absurd (omega (arith, is));
+        no_read_fault = inr whole.faults;
+        write_fault = λ is. absurd (omega (arith, is));
+        last_failed = λ is. absurd (omega (arith, is));
+        no_write_fault = inr passed.report.written.faults;
+        finished = λ is. (passed.report.written.calls.finishes, passed.report.written.calls.last);
+        read_whole = λ is. whole.ended;
+        stops = λ is. whole.stops;
+        no_stop = λ is. absurd (grind (arith, is));
+        few_stops = λ is. absurd (omega (arith, is));
+        unwritten = λ is. absurd (grind (arith, is));
+        answered = answered_whole _ _ _ _ 7 input whole (λ _. subst (HandsOn _ _) (ap lines_for (sym passed.is_case)) written) (λ is. grind (arith, is)) (λ is. absurd (omega (arith, is)));
+        case_reports = λ _. whole_some _ _ input (λ x. length x ≤ most_input → (is : IsCaseText x) → OneOf (report_status is.0 ∷ 1 ∷ 3 ∷ 4 ∷ []) 7) whole
+            (λ few case. inl (sym (status_is input passed.case case.0 true passed.is_case case.1 (passes_there passed.case _ _ passed.report))));
+        fault_refuses = λ _. whole_some _ _ input (λ x. length x ≤ most_input → IsFaulty x → OneOf (6 ∷ 1 ∷ 3 ∷ 4 ∷ []) 7) whole
+            (λ few fault. absurd (case_fault (case_of input) passed.case fault.0 passed.is_case fault.1));
+        excess_stops = λ _. whole_some _ _ input (λ x. most_input < length x → OneOf (5 ∷ 1 ∷ 3 ∷ []) 7) whole (λ more. absurd (omega (arith, more, whole.few)));
+      }
 
   replayed_refusal : (source source' : S) (sink sink' : O) (input : List ℕ) → is_run words ≡ true → ReadsWhole (source_view source) (source_view source') input → IsRefusalOf input (sink_view sink) (sink_view sink')
       → Replayed source_view sink_view words source source' sink sink' 6
   replayed_refusal source source' sink sink' input run whole refusal = record {
     range = omega arith;
     reported = λ is. absurd (omega (arith, is));
+    passed = λ is. absurd (omega (arith, is));
     refused = λ is. record { read = record { input = input; few = whole.few; consumed = whole.consumed }; refusal = refusal };
     too_long = λ is. absurd (omega (arith, is));
     usage = (λ is. absurd (omega (arith, is)), λ is. absurd (true_false (is_run words) run is));
@@ -176,7 +220,7 @@ module _ {S O : Type 0} (source_view : S → SourceView) (sink_view : O → Sink
     few_stops = λ is. absurd (omega (arith, is));
     unwritten = λ is. absurd (grind (arith, is));
     answered = answered_whole _ _ _ _ 6 input whole (λ _. subst (HandsOn _ _) (ap lines_for (sym refusal.is_fault)) refusal.written) (λ is. grind (arith, is)) (λ is. absurd (omega (arith, is)));
-    case_reports = λ _. whole_some _ _ input (λ x. length x ≤ most_input → IsCaseText x → OneOf (0 ∷ 1 ∷ 3 ∷ 4 ∷ []) 6) whole
+    case_reports = λ _. whole_some _ _ input (λ x. length x ≤ most_input → (is : IsCaseText x) → OneOf (report_status is.0 ∷ 1 ∷ 3 ∷ 4 ∷ []) 6) whole
         (λ few case. absurd (case_fault (case_of input) case.0 refusal.fault case.1 refusal.is_fault));
     fault_refuses = λ _. always _ (λ x. length x ≤ most_input → IsFaulty x → OneOf (6 ∷ 1 ∷ 3 ∷ 4 ∷ []) 6) (λ x few fault. inl refl);
     excess_stops = λ _. whole_some _ _ input (λ x. most_input < length x → OneOf (5 ∷ 1 ∷ 3 ∷ []) 6) whole (λ more. absurd (omega (arith, more, whole.few)));
@@ -187,6 +231,7 @@ module _ {S O : Type 0} (source_view : S → SourceView) (sink_view : O → Sink
   replayed_broken source source' sink sink' input run whole broken = record {
     range = omega arith;
     reported = λ is. absurd (omega (arith, is));
+    passed = λ is. absurd (omega (arith, is));
     refused = λ is. absurd (omega (arith, is));
     too_long = λ is. absurd (omega (arith, is));
     usage = (λ is. absurd (omega (arith, is)), λ is. absurd (true_false (is_run words) run is));
@@ -203,7 +248,7 @@ module _ {S O : Type 0} (source_view : S → SourceView) (sink_view : O → Sink
     few_stops = λ is. absurd (omega (arith, is));
     unwritten = λ is. absurd (grind (arith, is));
     answered = answered_whole _ _ _ _ 4 input whole (λ is. absurd (grind (arith, is))) (λ is. grind (arith, is)) (λ is. broken);
-    case_reports = λ _. always _ (λ x. length x ≤ most_input → IsCaseText x → OneOf (0 ∷ 1 ∷ 3 ∷ 4 ∷ []) 4) (λ x few case. inr (inr (inr (inl refl))));
+    case_reports = λ _. always _ (λ x. length x ≤ most_input → (is : IsCaseText x) → OneOf (report_status is.0 ∷ 1 ∷ 3 ∷ 4 ∷ []) 4) (λ x few case. inr (inr (inr (inl refl))));
     fault_refuses = λ _. always _ (λ x. length x ≤ most_input → IsFaulty x → OneOf (6 ∷ 1 ∷ 3 ∷ 4 ∷ []) 4) (λ x few fault. inr (inr (inr (inl refl))));
     excess_stops = λ _. whole_some _ _ input (λ x. most_input < length x → OneOf (5 ∷ 1 ∷ 3 ∷ []) 4) whole (λ more. absurd (omega (arith, more, whole.few)));
   }
@@ -215,6 +260,7 @@ module _ {S O : Type 0} (source_view : S → SourceView) (sink_view : O → Sink
   replayed_memory source source' sink sink' run read reads stops same = record {
     range = omega arith;
     reported = λ is. absurd (omega (arith, is));
+    passed = λ is. absurd (omega (arith, is));
     refused = λ is. absurd (omega (arith, is));
     too_long = λ is. absurd (omega (arith, is));
     usage = (λ is. absurd (omega (arith, is)), λ is. absurd (true_false (is_run words) run is));
@@ -231,7 +277,7 @@ module _ {S O : Type 0} (source_view : S → SourceView) (sink_view : O → Sink
     few_stops = λ is. stops;
     unwritten = λ is. same;
     answered = answered_none _ _ _ _ 1 (λ is. grind (arith, is)) (ap sink_view same) read;
-    case_reports = λ _. always _ (λ x. length x ≤ most_input → IsCaseText x → OneOf (0 ∷ 1 ∷ 3 ∷ 4 ∷ []) 1) (λ x few case. inr (inl refl));
+    case_reports = λ _. always _ (λ x. length x ≤ most_input → (is : IsCaseText x) → OneOf (report_status is.0 ∷ 1 ∷ 3 ∷ 4 ∷ []) 1) (λ x few case. inr (inl refl));
     fault_refuses = λ _. always _ (λ x. length x ≤ most_input → IsFaulty x → OneOf (6 ∷ 1 ∷ 3 ∷ 4 ∷ []) 1) (λ x few fault. inr (inl refl));
     excess_stops = λ _. always _ (λ x. most_input < length x → OneOf (5 ∷ 1 ∷ 3 ∷ []) 1) (λ x more. inr (inl refl));
   }
@@ -242,6 +288,7 @@ module _ {S O : Type 0} (source_view : S → SourceView) (sink_view : O → Sink
   replayed_read_fault source source' sink sink' run part same = record {
     range = omega arith;
     reported = λ is. absurd (omega (arith, is));
+    passed = λ is. absurd (omega (arith, is));
     refused = λ is. absurd (omega (arith, is));
     too_long = λ is. absurd (omega (arith, is));
     usage = (λ is. absurd (omega (arith, is)), λ is. absurd (true_false (is_run words) run is));
@@ -258,7 +305,7 @@ module _ {S O : Type 0} (source_view : S → SourceView) (sink_view : O → Sink
     few_stops = λ is. absurd (omega (arith, is));
     unwritten = λ is. same;
     answered = answered_none _ _ _ _ 3 (λ is. grind (arith, is)) (ap sink_view same) part.read;
-    case_reports = λ _. always _ (λ x. length x ≤ most_input → IsCaseText x → OneOf (0 ∷ 1 ∷ 3 ∷ 4 ∷ []) 3) (λ x few case. inr (inr (inl refl)));
+    case_reports = λ _. always _ (λ x. length x ≤ most_input → (is : IsCaseText x) → OneOf (report_status is.0 ∷ 1 ∷ 3 ∷ 4 ∷ []) 3) (λ x few case. inr (inr (inl refl)));
     fault_refuses = λ _. always _ (λ x. length x ≤ most_input → IsFaulty x → OneOf (6 ∷ 1 ∷ 3 ∷ 4 ∷ []) 3) (λ x few fault. inr (inr (inl refl)));
     excess_stops = λ _. always _ (λ x. most_input < length x → OneOf (5 ∷ 1 ∷ 3 ∷ []) 3) (λ x more. inr (inr (inl refl)));
   }
@@ -267,6 +314,7 @@ module _ {S O : Type 0} (source_view : S → SourceView) (sink_view : O → Sink
   replayed_too_long source source' sink sink' run part same = record {
     range = omega arith;
     reported = λ is. absurd (omega (arith, is));
+    passed = λ is. absurd (omega (arith, is));
     refused = λ is. absurd (omega (arith, is));
     too_long = λ is. part.too_long;
     usage = (λ is. absurd (omega (arith, is)), λ is. absurd (true_false (is_run words) run is));
@@ -283,7 +331,7 @@ module _ {S O : Type 0} (source_view : S → SourceView) (sink_view : O → Sink
     few_stops = λ is. absurd (omega (arith, is));
     unwritten = λ is. same;
     answered = answered_none _ _ _ _ 5 (λ is. grind (arith, is)) (ap sink_view same) part.too_long.read;
-    case_reports = λ _. too_long_some _ _ (λ x. length x ≤ most_input → IsCaseText x → OneOf (0 ∷ 1 ∷ 3 ∷ 4 ∷ []) 5) part.too_long (λ x more few case. absurd (omega (arith, more, few)));
+    case_reports = λ _. too_long_some _ _ (λ x. length x ≤ most_input → (is : IsCaseText x) → OneOf (report_status is.0 ∷ 1 ∷ 3 ∷ 4 ∷ []) 5) part.too_long (λ x more few case. absurd (omega (arith, more, few)));
     fault_refuses = λ _. too_long_some _ _ (λ x. length x ≤ most_input → IsFaulty x → OneOf (6 ∷ 1 ∷ 3 ∷ 4 ∷ []) 5) part.too_long (λ x more few fault. absurd (omega (arith, more, few)));
     excess_stops = λ _. always _ (λ x. most_input < length x → OneOf (5 ∷ 1 ∷ 3 ∷ []) 5) (λ x more. inl refl);
   }
@@ -299,6 +347,7 @@ module _ {S O : Type 0} (source_view : S → SourceView) (sink_view : O → Sink
   replayed_whole source source' sink sink' input (Err runs.WriteFault) run whole answer = replayed_broken source source' sink sink' input run whole answer
   replayed_whole source source' sink sink' input (Err runs.TooLong) run whole answer = absurd answer
   replayed_whole source source' sink sink' input (Err runs.BadCase) run whole answer = replayed_refusal source source' sink sink' input run whole answer
+  replayed_whole source source' sink sink' input (Err runs.Passed) run whole answer = replayed_passed source source' sink sink' input run whole answer
 
   replayed_part : (source source' : S) (sink sink' : O) (error : InputError) → is_run words ≡ true → ReadsPart error (source_view source) (source_view source') → sink' ≡ sink
       → Replayed source_view sink_view words source source' sink sink' (status_of (Err (cause_of_input error)))

@@ -3,7 +3,7 @@ use Rattle.std.specs.Prelude.{ℕ, Result, Ok, Err}
 use Rattle.hmc_replay.specs.declared.input.InputError.{InputError}
 use Rattle.hmc_replay.specs.declared.input.InputError.TheVariants as input
 use Rattle.hmc_replay.specs.declared.run.RunError.{RunError}
-use Rattle.hmc_replay.specs.declared.run.RunError.TheVariants.{Memory, ReadFault, WriteFault, TooLong, BadCase}
+use Rattle.hmc_replay.specs.declared.run.RunError.TheVariants.{Memory, ReadFault, WriteFault, TooLong, BadCase, Passed}
 
 -- why reading the input ended early
 abbrev pub cause_of_input : InputError → RunError
@@ -19,3 +19,4 @@ status_of (Err ReadFault) = 3
 status_of (Err WriteFault) = 4
 status_of (Err TooLong) = 5
 status_of (Err BadCase) = 6
+status_of (Err Passed) = 7

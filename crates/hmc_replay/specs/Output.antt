@@ -6,11 +6,12 @@ use Rattle.hmc_outside.specs.Views.{SinkView}
 use Rattle.hmc_outside.specs.declared.counts.Failed.{Failed}
 
 -- all lines were written, or some before a write failed
-abbrev pub Writes : Result (Unit {0}) Failed → (old new : SinkView) → List (List ℕ) → Type 0
+abbrev pub Writes : {T : Type 0} → Result T Failed → (old new : SinkView) → List (List ℕ) → Type 0
 Writes (Ok done) old new lines = WritesLines old new lines
 Writes (Err failed) old new lines = BreaksOff old new lines
 
 -- all lines were written and handed on, or a call failed
-abbrev pub Delivers : Result (Unit {0}) Failed → (old new : SinkView) → List (List ℕ) → Type 0
+abbrev pub Delivers : {T : Type 0} → Result T Failed → (old new : SinkView) → List (List ℕ) →
+    Type 0
 Delivers (Ok done) old new lines = HandsOn old new lines
 Delivers (Err failed) old new lines = FailsToHandOn old new lines

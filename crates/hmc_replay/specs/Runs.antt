@@ -1,5 +1,5 @@
 -- What a run does, by its result.
-use Rattle.std.specs.Prelude.{◌≡◌, ◌⊎◌, ℕ, List, [], ◌∷◌, Result, Ok, Err}
+use Rattle.std.specs.Prelude.{◌≡◌, ◌⊎◌, ℕ, false, List, [], ◌∷◌, Result, Ok, Err}
 use Rattle.hmc_case.specs.Case.{CaseFields, case_of}
 use Rattle.hmc_case.specs.Reading.{Fault}
 use Rattle.hmc_journal.specs.Guarantees.{Guarantees}
@@ -9,17 +9,18 @@ use Rattle.hmc_outside.specs.Finish.{HandsOn, FailsToHandOn}
 use Rattle.hmc_outside.specs.Views.{SourceView, SinkView}
 use Rattle.hmc_replay.specs.Causes.{cause_of_input}
 use Rattle.hmc_replay.specs.Input.{ReadsWhole, ReadsPart}
-use Rattle.hmc_replay.specs.Top.{bad_line, report_of, lines_for, IsReportOf, IsRefusalOf}
+use Rattle.hmc_replay.specs.Top.{bad_line, passes, report_of, lines_for, IsReportOf, EndsAtPass, IsPassedReportOf, IsRefusalOf}
 use Rattle.hmc_replay.specs.declared.input.InputError.{InputError}
 use Rattle.hmc_replay.specs.declared.run.RunError.{RunError}
-use Rattle.hmc_replay.specs.declared.run.RunError.TheVariants.{Memory, ReadFault, WriteFault, TooLong, BadCase}
+use Rattle.hmc_replay.specs.declared.run.RunError.TheVariants.{Memory, ReadFault, WriteFault, TooLong, BadCase, Passed}
 
 -- what was written for a case, with this result
 abbrev pub Reports : {O : Type 0} → CaseFields → Result (Unit {0}) RunError → (O → SinkView) →
     (old new : O) → Type 0
 Reports case (Ok done) view old new =
-    HandsOn (view old) (view new) (report_of case)
+    (passes case ≡ false) × HandsOn (view old) (view new) (report_of case)
     × Guarantees (setup_of case) (journal_of (setup_of case))
+Reports case (Err Passed) view old new = EndsAtPass case (view old) (view new)
 Reports case (Err Memory) view old new = new ≡ old
 Reports case (Err WriteFault) view old new = FailsToHandOn (view old) (view new) (report_of case)
 Reports case (Err ReadFault) view old new = ⊥
@@ -34,11 +35,13 @@ Refuses fault WriteFault view old new =
     FailsToHandOn (view old) (view new) (bad_line fault ∷ [])
 Refuses fault ReadFault view old new = ⊥
 Refuses fault TooLong view old new = ⊥
+Refuses fault Passed view old new = ⊥
 
 -- what was written for an input, with this result; nothing where memory ran out
 abbrev pub Answers : {O : Type 0} → List ℕ → Result (Unit {0}) RunError → (O → SinkView) →
     (old new : O) → Type 0
 Answers input (Ok done) view old new = IsReportOf input (view old) (view new)
+Answers input (Err Passed) view old new = IsPassedReportOf input (view old) (view new)
 Answers input (Err Memory) view old new = new ≡ old
 Answers input (Err WriteFault) view old new =
     FailsToHandOn (view old) (view new) (lines_for (case_of input))

@@ -1,17 +1,17 @@
-//! The report of a run: the lines of its steps, and the final lines.
+//! The report of a run: the lines of its steps, and the final lines. A landing that passes ends it.
 
-ghost use Rattle.std.specs.Prelude.{◌≡◌, ◌∷◌, [], List, OnOk};
+ghost use Rattle.std.specs.Prelude.{◌≡◌, ◌∷◌, [], List, false, IfOk, OnOk};
 ghost use Rattle.hmc_host.specs.Tags.{number_out};
 ghost use Rattle.hmc_journal.specs.declared.entry.Entry.{Entry};
 ghost use Rattle.hmc_journal.specs.Drained.{is_drained};
-ghost use Rattle.hmc_journal.specs.Lawful.{journal_of};
+ghost use Rattle.hmc_journal.specs.Lawful.{has_passed, journal_of};
 ghost use Rattle.hmc_journal.specs.Setup.{Setup, setup_of};
 ghost use Rattle.hmc_journal.specs.Guarantees.{Guarantees};
 ghost use Rattle.hmc_net.specs.Stands.{StandsFor};
 ghost use Rattle.hmc_report.specs.Lines.{host_line, cube_line, state_line};
 ghost use Rattle.hmc_replay.specs.Output.{Writes, Delivers};
 ghost use Rattle.hmc_replay.specs.Report.{ending_lines, final_lines};
-ghost use Rattle.hmc_replay.specs.Top.{report_of};
+ghost use Rattle.hmc_replay.specs.Top.{passes, report_of};
 
 use crate::counts::StepCounts;
 use crate::lines::{write_memory, write_registers};
@@ -85,13 +85,14 @@ fn write_final<O: Sink>(
     write_ending(sink, text, ending)
 }
 
-// What the lines after those of the cube's memory and registers say of a network.
+// What the lines after those of the cube's memory and registers say of a network, of which no
+// landing passed.
 fn ending_of(network: &Network, counts: &StepCounts) -> Ending
     ensures host { result.host ≡
         record counts.now.host { out = number_out network.now.host.tags } }
     ensures cube { result.cube ≡ counts.now.cube }
     ensures drained { (setup : Setup) (past : List Entry) → StandsFor network.now setup past →
-        result.drained ≡ is_drained setup.topology past }
+        has_passed past ≡ false → result.drained ≡ is_drained setup.topology past }
 {
     Ending {
         host: HostCounts {
@@ -103,25 +104,38 @@ fn ending_of(network: &Network, counts: &StepCounts) -> Ending
     }
 }
 
-// Steps the network of a case, in which nothing happened yet, and writes the report.
-fn write_lines<O: Sink>(sink: &mut O, case: &Case, network: &mut Network) -> Result<(), Failed>
+// Steps the network of a case, in which nothing happened yet, and writes the report. Returns
+// whether a landing passed.
+fn write_lines<O: Sink>(sink: &mut O, case: &Case, network: &mut Network) -> Result<bool, Failed>
     requires { StandsFor network.old (setup_of case.now) [] }
-    ensures { Writes result (O.shows sink.old) (O.shows sink.new) (report_of case.now) }
+    ensures written { Writes result (O.shows sink.old) (O.shows sink.new) (report_of case.now) }
+    ensures passed { IfOk result (λ passed. passed ≡ passes case.now) }
 {
     let mut text = LineText::new();
-    let counts = write_steps(sink, &mut text, case, network)?;
+    let taken = write_steps(sink, &mut text, case, network)?;
+    let Some(counts) = taken else {
+        return Ok(true);
+    };
     let ending = ending_of(network, &counts);
-    write_final(sink, &mut text, network.cube(0), &ending)
+    write_final(sink, &mut text, network.cube(0), &ending)?;
+    Ok(false)
 }
 
 /// Steps the network of a case, in which nothing happened yet, writes the report and hands it on.
-pub fn write_report<O: Sink>(sink: &mut O, case: &Case, network: &mut Network) -> Result<(), Failed>
+/// Returns whether a landing passed: then the report has no final lines.
+pub fn write_report<O: Sink>(
+    sink: &mut O,
+    case: &Case,
+    network: &mut Network,
+) -> Result<bool, Failed>
     requires { StandsFor network.old (setup_of case.now) [] }
     ensures written { Delivers result (O.shows sink.old) (O.shows sink.new) (report_of case.now) }
+    ensures passed { IfOk result (λ passed. passed ≡ passes case.now) }
     ensures guarantees { OnOk result
         (Guarantees (setup_of case.now) (journal_of (setup_of case.now))) }
 {
     journal_guarantees();
-    write_lines(sink, case, network)?;
-    finish(sink)
+    let passed = write_lines(sink, case, network)?;
+    finish(sink)?;
+    Ok(passed)
 }

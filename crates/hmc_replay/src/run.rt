@@ -29,6 +29,8 @@ pub enum RunError {
     TooLong,
     /// The input is not a valid case.
     BadCase,
+    /// A landing passed: a check succeeded over flits that a mask changed.
+    Passed,
 }
 
 impl From<InputError> for RunError {
@@ -98,11 +100,16 @@ fn refuse<O: Sink>(
 }
 
 // Steps the network of a case, and writes the report. Out of memory it writes nothing.
+// `Passed` where a landing passed; the report then ends with its line.
 fn report<O: Sink>(alloc: Global, sink: &mut O, case: &Case) -> Result<(), RunError>
     ensures { Reports case.now result O.shows sink.old sink.new }
 {
     let mut network = Network::build(alloc, case)?;
-    Ok(write_report(sink, case, &mut network)?)
+    let passed = write_report(sink, case, &mut network)?;
+    if passed {
+        return Err(RunError::Passed);
+    }
+    Ok(())
 }
 
 // Writes what is to be written for an input.

@@ -24,6 +24,7 @@ fn status_of(run: Result<(), RunError>) -> u8
         Err(RunError::WriteFault) => 4,
         Err(RunError::TooLong) => 5,
         Err(RunError::BadCase) => 6,
+        Err(RunError::Passed) => 7,
     }
 }
 
@@ -34,7 +35,7 @@ fn status_of(run: Result<(), RunError>) -> u8
 /// A source may show the bytes that are left, and a sink the pieces that were written, as those in
 /// memory do; standard input and output don't. What is said of bytes holds where they are shown.
 ///
-/// Gives the exit status, 0 to 6:
+/// Gives the exit status, 0 to 7:
 ///
 /// | Status | Meaning | Written |
 /// |---|---|---|
@@ -45,6 +46,7 @@ fn status_of(run: Result<(), RunError>) -> u8
 /// | 4 | the sink failed: a write, or the finish | whole lines, and a prefix of the next; or all |
 /// | 5 | the input is longer than 4,194,304 bytes | nothing |
 /// | 6 | the input is not a valid case | a line with its first fault |
+/// | 7 | a check succeeded over flits that masks changed | the lines of the steps up to there |
 ///
 /// specs/Top has the contract, `Replayed`, with a comment for each promise. docs/case.md has the
 /// form of a case, and docs/report.md that of a report.

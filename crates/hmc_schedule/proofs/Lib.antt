@@ -1,3 +1,4 @@
+pub mod NoiseLemmas
 pub mod RoundLemmas
 pub mod WorkLemmas
 pub mod ParseLemmas

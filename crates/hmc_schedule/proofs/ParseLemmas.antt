@@ -1,49 +1,89 @@
 -- The lines of a schedule in turn.
-use Rattle.std.proofs.Common.{◌≡◌, ◌∙◌, ◌≤◌, ℕ, ◌+◌, nat_le, Bool, true, false, Some, Result, Ok, Err, OnOk, List, [], ◌++◌, length, cond, refl, sym, subst, arith, length-append}
+use Rattle.std.proofs.Common.{◌≡◌, ◌∙◌, ◌≤◌, ℕ, ◌+◌, ◌*◌, Option, Some, None, IfSome, option_map, Result, Ok, Err, OnOk, List, [], ◌++◌, length, length-append, arith, sym, ap}
 use Rattle.std.specs.Borrow.{Bor}
-use Rattle.std.specs.List.{All}
-use Rattle.std.proofs.lemmas.Bool.Decides.{nat_tests}
-use Rattle.std.proofs.lemmas.List.Elements.{All-append}
-use Rattle.hmc_codes.specs.Limits.{most_steps}
 use Rattle.hmc_text.proofs.InTurnLemmas as turns
 use Rattle.hmc_text.proofs.InTurnLemmas.{after_left}
 use Rattle.hmc_text.specs.InTurn.{after_lines, at_line, Numbered, IsNextLine, Answers, ReportsBy, fault_of}
 use Rattle.hmc_text.specs.Lines.{lines_of}
+use Rattle.hmc_text.specs.Reading.{◌>>=◌}
 use Rattle.hmc_text.specs.declared.fault.TextFault.{TextFault}
 use Rattle.hmc_schedule.specs.declared.fault.ScheduleKind.{ScheduleKind}
-use Rattle.hmc_schedule.specs.declared.fault.ScheduleKind.TheVariants.{Steps}
-use Rattle.hmc_schedule.specs.declared.step.Step.{Step}
+use Rattle.hmc_schedule.specs.declared.meaning.Meaning.{Meaning}
+use Rattle.hmc_schedule.specs.Meaning.{IsMeaning}
 use Rattle.hmc_schedule.specs.Plan.{PlanFields}
-use Rattle.hmc_schedule.specs.Schedule.{add_steps, after_line, schedule_of}
+use Rattle.std.proofs.Math.Nat.{mul-le-mul_left}
+use Rattle.hmc_codes.specs.Limits.{most_steps}
+use Rattle.hmc_schedule.specs.declared.noise.Noise.{Noise}
+use Rattle.hmc_schedule.specs.declared.step.Step.{Step}
+use Rattle.hmc_schedule.specs.declared.written.KeptRound.{KeptRound}
+use Rattle.hmc_schedule.specs.declared.written.Rounds.{Rounds}
+use Rattle.hmc_schedule.specs.declared.written.Stretch.TheVariants.{Many}
+use Rattle.hmc_schedule.specs.Noise.{lands_in, counted, noisy_if, IsNoise}
+use Rattle.hmc_schedule.specs.Round.{repeated}
+use Rattle.hmc_schedule.specs.Written.{round_at, stretch_of, IsKept}
+use Rattle.hmc_schedule.proofs.NoiseLemmas.{noisy_if-length, lands-of, lands-le, lands-repeated}
+use Rattle.hmc_schedule.proofs.WrittenLemmas.{length-rounds, length-stretch, length-round_at}
+use Rattle.hmc_schedule.specs.Schedule.{Progress, add_steps, add_rounds, after_meaning, after_line, nothing_yet, schedule_of, IsProgress}
+use Rattle.hmc_schedule.proofs.WorkLemmas.{add_steps-ok, still_progress}
 
--- what it means that more steps were added
-add_steps-ok : (number : ℕ) (steps more new : List Step) → at_line number (add_steps steps more) ≡ Ok new → (new ≡ steps ++ more) × (length steps + length more ≤ most_steps)
-unfolding add_steps
-add_steps-ok number steps more new is =
-    by_room (nat_le (length steps + length more) most_steps) refl is where
-      by_room : (room : Bool) → nat_le (length steps + length more) most_steps ≡ room → at_line number (cond {A = Result (List Step) ScheduleKind} room (Ok (steps ++ more)) (Err Steps)) ≡ Ok new → (new ≡ steps ++ more) × (length steps + length more ≤ most_steps)
-      by_room true fits is = (cc, grind (arith, nat_tests))
-      by_room false full is = absurd (cc)
+at_line-ok : {A K : Type 0} (number : ℕ) (r : Result A K) (x : A) → at_line number r ≡ Ok x → r ≡ Ok x
+at_line-ok number (Ok y) x is = cc (is)
+at_line-ok number (Err kind) x is = absurd (cc (is))
 
-pub few_still : (number : ℕ) (steps more new : List Step) (r : Result (Unit {0}) (TextFault ScheduleKind)) → Answers {X = Unit {0}} (λ _. new) r (at_line number (add_steps steps more)) → OnOk r (length new ≤ most_steps)
-few_still number steps more new (Ok u) is =
-    let added = add_steps-ok number steps more new is in
-    rw (added.0, length-append steps more) added.1
-few_still number steps more new (Err e) is = tt
+-- a good line keeps what the lines before it kept
+pub still_good : (plan : PlanFields) (number : ℕ) (progress new : Progress) (meaning : Meaning) (r : Result (Unit {0}) (TextFault ScheduleKind)) → IsProgress plan progress → IsMeaning plan meaning → Answers {X = Unit {0}} (λ _. new) r (at_line number (after_meaning plan progress meaning)) → OnOk r (IsProgress plan new)
+still_good plan number progress new meaning (Ok u) is works made =
+    still_progress plan progress new meaning is works (at_line-ok number (after_meaning plan progress meaning) new made)
+still_good plan number progress new meaning (Err e) is works made = tt
 
-pub all_still : (P : Step → Type 0) (number : ℕ) (steps more new : List Step) (r : Result (Unit {0}) (TextFault ScheduleKind)) → Answers {X = Unit {0}} (λ _. new) r (at_line number (add_steps steps more)) → All P steps → All P more → OnOk r (All P new)
-all_still P number steps more new (Ok u) is all also =
-    subst (All P) (sym (add_steps-ok number steps more new is).0) (All-append P steps more all also)
-all_still P number steps more new (Err e) is all also = tt
+abbrev progress_of : List Step → Option Noise → Progress
+progress_of steps noise = record { steps = steps; noise = noise }
+
+-- rounds are appended, and the noise counts their landings
+pub rounds_value : (number : ℕ) (progress : Progress) (rounds steps : List Step) (noise : Option Noise) → at_line number (add_steps progress.steps (noisy_if progress.noise rounds)) ≡ Ok steps → noise ≡ option_map (counted (lands_in rounds)) progress.noise → at_line number (add_rounds progress rounds) ≡ Ok (progress_of steps noise)
+unfolding add_rounds
+rounds_value number progress rounds steps noise made is =
+    let after : Option Noise = option_map (counted (lands_in rounds)) progress.noise in
+    let added = at_line-ok number (add_steps progress.steps (noisy_if progress.noise rounds)) steps made in
+    ap (λ (r : Result (List Step) ScheduleKind). at_line number (r >>= (λ (all : List Step). Ok (progress_of all after)))) added
+    ∙ ap (λ (n : Option Noise). Ok (progress_of steps n)) (sym is)
+
+-- noise counts no more landings than a schedule has steps
+pub room_to_count : (number : ℕ) (kept : List Step) (round : KeptRound) (count : ℕ) (noise : Option Noise) (old new : List Step) → IsKept kept round → IfSome noise (IsNoise (length old)) → at_line number (add_steps old (stretch_of kept (Many (record { round = round; count = count; noise = noise })))) ≡ Ok new → IfSome noise (λ n. n.count + count * round.lands ≤ most_steps)
+room_to_count number kept round count None old new is counts made = tt
+room_to_count number kept round count (Some noise) old new is counts made =
+    let rounds : Rounds = record { round = round; count = count; noise = Some noise } in
+    let added = add_steps-ok old (stretch_of kept (Many rounds)) new (at_line-ok number (add_steps old (stretch_of kept (Many rounds))) new made) in
+    let long : length (stretch_of kept (Many rounds)) ≡ count * round.len = length-stretch kept rounds is in
+    let few : round.lands ≤ round.len = omega (arith, lands-of (round_at kept round) round.lands is.lands, lands-le (round_at kept round), length-round_at kept round is) in
+    let times : count * round.lands ≤ count * round.len = mul-le-mul_left count few in
+    omega (arith, counts.few, added.1, long, times)
+
+-- each round has one landing in each direction
+pub lands-rounds : (kept : List Step) (round : KeptRound) (count : ℕ) → IsKept kept round → lands_in (repeated count (round_at kept round)) ≡ count * round.lands
+lands-rounds kept round count is =
+    lands-repeated count (round_at kept round) ∙ ap (λ k. count * k) (lands-of (round_at kept round) round.lands is.lands)
+
+-- a stretch of rounds whose noise counts
+pub some_noise : (noise : Option Noise) (n : ℕ) → IfSome noise (IsNoise n) → IfSome noise (λ n. 1 ≤ n.every)
+some_noise None n is = tt
+some_noise (Some noise) n is = is.some
+
+-- rounds that were appended, where there was room for them
+pub few_rounds : (old mid new one round : List Step) (n : ℕ) (noise : Option Noise) → new ≡ mid ++ noisy_if noise (repeated n one) → one ≡ round → mid ≡ old → length old + n * length round ≤ most_steps → length new ≤ most_steps
+few_rounds old mid new one round n noise is same before room =
+    let more : length (noisy_if noise (repeated n one)) ≡ n * length round = noisy_if-length noise (repeated n one) ∙ length-rounds n one ∙ ap (λ (l : List Step). n * length l) same in
+    omega (arith, ap length is ∙ length-append mid (noisy_if noise (repeated n one)), more, ap length before, room)
 
 -- no line is left
-pub schedule_of-ok : (plan : PlanFields) (text : List ℕ) (left : Numbered) (steps : List Step) → left.lines ≡ [] → after_left (after_line plan) steps left ≡ after_lines (after_line plan) 1 [] (lines_of text) → schedule_of plan text ≡ Ok steps
+pub schedule_of-ok : (plan : PlanFields) (text : List ℕ) (left : Numbered) (progress : Progress) → left.lines ≡ [] → after_left (after_line plan) progress left ≡ after_lines (after_line plan) 1 nothing_yet (lines_of text) → schedule_of plan text ≡ Ok progress.steps
 unfolding schedule_of
-schedule_of-ok plan text left steps none is = sym is ∙ turns.none_left (after_line plan) left steps none
+schedule_of-ok plan text left progress none is =
+    ap (λ (r : Result Progress (ℕ × ScheduleKind)). r >>= (λ q. Ok q.steps)) (sym is ∙ turns.none_left (after_line plan) left progress none)
 
 -- the fault of the next line is that of the schedule, if no line before it has one
-pub first_fault : (plan : PlanFields) (text : List ℕ) (left behind : Numbered) (line : ℕ × Bor (List ℕ)) (steps : List Step) (fault : TextFault ScheduleKind) → IsNextLine left (Some line) behind →
-    ReportsBy fault_of fault (at_line line.0 (after_line plan steps line.1.now)) → after_left (after_line plan) steps left ≡ after_lines (after_line plan) 1 [] (lines_of text) → ReportsBy fault_of fault (schedule_of plan text)
+pub first_fault : (plan : PlanFields) (text : List ℕ) (left behind : Numbered) (line : ℕ × Bor (List ℕ)) (progress : Progress) (fault : TextFault ScheduleKind) → IsNextLine left (Some line) behind →
+    ReportsBy fault_of fault (at_line line.0 (after_line plan progress line.1.now)) → after_left (after_line plan) progress left ≡ after_lines (after_line plan) 1 nothing_yet (lines_of text) → ReportsBy fault_of fault (schedule_of plan text)
 unfolding schedule_of
-first_fault plan text left behind line steps fault is read so_far =
-    turns.first_fault (after_line plan) left behind line steps _ fault is read so_far
+first_fault plan text left behind line progress fault is read so_far =
+    turns.fault_made (λ (p : Progress). p.steps) _ fault (turns.first_fault (after_line plan) left behind line progress _ fault is read so_far)

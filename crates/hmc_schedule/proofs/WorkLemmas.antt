@@ -1,19 +1,27 @@
 -- Every step of a round is one of the plan.
-use Rattle.std.proofs.Common.{◌≡◌, ◌∙◌, ◌<◌, ℕ, zero, suc, Bool, true, false, cond, List, [], ◌∷◌, length, map, filter, get_or, replicate, refl, sym, subst, zero-add}
+use Rattle.std.proofs.Common.{◌≡◌, ◌∙◌, ◌<◌, ◌≤◌, ◌+◌, ◌++◌, nat_le, Option, Some, None, IfSome, option_map, Result, Ok, Err, ap, arith, length-append, ℕ, zero, suc, Bool, true, false, cond, List, [], ◌∷◌, length, map, filter, get_or, replicate, refl, sym, subst, zero-add}
 use Rattle.std.specs.List.{All, flat_map}
+use Rattle.std.proofs.lemmas.Bool.Decides.{nat_tests}
 use Rattle.std.proofs.lemmas.List.Elements.{All-nil, All-cons, All-head, All-tail, All-append, All-map}
 use Rattle.std.proofs.lemmas.List.FromFn.{length-range_with_len, get_or-range_with_len}
 use Rattle.hmc_codes.specs.declared.lift.Lift.TheVariants as lifts
 use Rattle.hmc_schedule.specs.declared.meaning.Meaning.{Meaning}
-use Rattle.hmc_schedule.specs.declared.meaning.Meaning.TheVariants.{Nothing, One, Rounds}
+use Rattle.hmc_schedule.specs.declared.meaning.Meaning.TheVariants.{Nothing, One, Rounds, Noisy}
 use Rattle.hmc_schedule.specs.declared.step.Step.{Step}
 use Rattle.hmc_schedule.specs.declared.step.Step.TheVariants.{Give, Send, Land, Shift, Spread, Bank, Registers, Lift, Take}
-use Rattle.hmc_schedule.specs.Meaning.{IfOne}
-use Rattle.hmc_schedule.specs.Plan.{PlanFields, IsWorking, is_joined, vaults_at, banks_at}
+use Rattle.hmc_schedule.specs.declared.noise.Noise.{Noise}
+use Rattle.hmc_schedule.specs.Meaning.{IsMeaning}
+use Rattle.hmc_schedule.specs.Noise.{lands_in, new_noise, counted, noisy_if, IsNoise}
+use Rattle.hmc_schedule.proofs.NoiseLemmas.{lands-le, noisy_if-length, noisy_if-works}
+use Rattle.hmc_schedule.specs.Plan.{PlanFields, IsStepOf, IsBuilt, IsWorking, is_joined, vaults_at, banks_at}
 use Rattle.hmc_codes.specs.Flit.{zero_flit}
 use Rattle.hmc_schedule.specs.Round.{shifts_of, spreads_of, banks_of, lifts_of, round_of, rounds_of}
 use Rattle.hmc_codes.specs.Numbers.{upto}
-use Rattle.hmc_schedule.specs.Schedule.{steps_of}
+use Rattle.hmc_codes.specs.Limits.{most_steps}
+use Rattle.hmc_text.specs.Reading.{◌>>=◌}
+use Rattle.hmc_schedule.specs.declared.fault.ScheduleKind.{ScheduleKind}
+use Rattle.hmc_schedule.specs.declared.fault.ScheduleKind.TheVariants.{Steps}
+use Rattle.hmc_schedule.specs.Schedule.{Progress, add_steps, add_rounds, add_one, after_meaning, IsProgress}
 
 upto_all : (Q : ℕ → Type 0) (n : ℕ) → ((i : ℕ) → i < n → Q i) → All Q (upto n)
 upto_all Q n each k d within =
@@ -72,6 +80,10 @@ lifts_work plan cube some =
     (map_all P (λ vault. Lift cube (lifts.Vault vault)) (vaults_at plan cube) (λ vault small. record { within = record { some_cube = some; some_lift = small }; built = tt }))
     (All-cons P (Lift cube lifts.Registers) [] last (All-nil P))
 
+zero_long : length zero_flit ≡ 16
+unfolding zero_flit
+zero_long = refl
+
 round_works : (plan : PlanFields) → All (IsWorking plan) (round_of plan)
 unfolding round_of
 round_works plan =
@@ -80,7 +92,7 @@ round_works plan =
     All-append P _ _ (All-append P _ _ (All-append P _ _ (All-append P _ _ (All-append P _ _ (All-append P _ _ (All-append P _ _ (All-append P _ _
     (map_all P Give plan.hosts (λ host small. record { within = small; built = tt }))
     (map_all P Send plan.directions (λ direction small. record { within = small; built = tt })))
-    (map_all P (λ direction. Land direction zero_flit) plan.directions (λ direction small. record { within = small; built = refl })))
+    (map_all P (λ direction. Land direction zero_flit) plan.directions (λ direction small. record { within = small; built = zero_long })))
     (each_all P (shifts_of plan) n (shifts_work plan)))
     (each_all P (spreads_of plan) n (spreads_work plan)))
     (each_all P (banks_of plan) n (banks_work plan)))
@@ -88,9 +100,100 @@ round_works plan =
     (each_all P (lifts_of plan) n (lifts_work plan)))
     (map_all P Take plan.hosts (λ host small. record { within = small; built = tt }))
 
--- so is every step that a line asks for
-pub steps_of-works : (plan : PlanFields) (meaning : Meaning) → IfOne (IsWorking plan) meaning → All (IsWorking plan) (steps_of plan meaning)
+repeated_works : (plan : PlanFields) (n : ℕ) → All (IsWorking plan) (rounds_of plan n)
 unfolding rounds_of
-steps_of-works plan Nothing works = All-nil (IsWorking plan)
-steps_of-works plan (One step) works = All-cons (IsWorking plan) step [] works (All-nil (IsWorking plan))
-steps_of-works plan (Rounds n) works = repeated_all (IsWorking plan) n (round_of plan) (round_works plan)
+repeated_works plan n = repeated_all (IsWorking plan) n (round_of plan) (round_works plan)
+
+-- what it means that more steps were added
+pub add_steps-ok : (steps more new : List Step) → add_steps steps more ≡ Ok new → (new ≡ steps ++ more) × (length steps + length more ≤ most_steps)
+unfolding add_steps
+add_steps-ok steps more new is =
+    by_room (nat_le (length steps + length more) most_steps) refl is where
+      by_room : (room : Bool) → nat_le (length steps + length more) most_steps ≡ room → cond {A = Result (List Step) ScheduleKind} room (Ok (steps ++ more)) (Err Steps) ≡ Ok new → (new ≡ steps ++ more) × (length steps + length more ≤ most_steps)
+      by_room true fits is = (cc, grind (arith, nat_tests))
+      by_room false full is = absurd (cc)
+
+-- noise that counted no more landings than there were steps counted no more than there are
+noise_kept : (noise : Option Noise) (n m : ℕ) → n ≤ m → IfSome noise (IsNoise n) → IfSome noise (IsNoise m)
+noise_kept None n m le is = tt
+noise_kept (Some noise) n m le is = record { some = is.some; few = omega (arith, is.few, le); mask = is.mask }
+
+noise_counted : (noise : Option Noise) (n m more : ℕ) → n + more ≤ m → IfSome noise (IsNoise n) → IfSome (option_map (counted more) noise) (IsNoise m)
+noise_counted None n m more le is = tt
+noise_counted (Some noise) n m more le is =
+    record { some = is.some; few = omega (arith, is.few, le); mask = is.mask }
+
+mask_long : (noise : Option Noise) (n : ℕ) → IfSome noise (IsNoise n) → (one : Noise) → noise ≡ Some one → length one.mask ≡ 16
+mask_long None n is one same = absurd (cc (same))
+mask_long (Some noise) n is one same =
+    let equal : noise ≡ one = cc (same) in subst (λ (o : Noise). length o.mask ≡ 16) equal is.mask
+
+one_added : (plan : PlanFields) (progress new : Progress) (step : Step) → IsProgress plan progress → IsWorking plan step → add_one progress step ≡ Ok new → IsProgress plan new
+unfolding add_one
+one_added plan progress new step is works made =
+    by_added (add_steps progress.steps (step ∷ [])) refl made where
+      by_added : (r : Result (List Step) ScheduleKind) → add_steps progress.steps (step ∷ []) ≡ r → (r >>= (λ steps. Ok (record progress { steps = steps }))) ≡ Ok new → IsProgress plan new
+      by_added (Err kind) added made = absurd (cc (made))
+      by_added (Ok steps) added made =
+          let all = add_steps-ok progress.steps (step ∷ []) steps added in
+          let long : length steps ≡ length progress.steps + 1 = ap length all.0 ∙ length-append progress.steps (step ∷ []) in
+          let same : record progress { steps = steps } ≡ new = cc (made) in
+          subst (IsProgress plan) same record {
+            few = omega (arith, all.1, long);
+            works = subst (All (IsWorking plan)) (sym all.0) (All-append (IsWorking plan) progress.steps (step ∷ []) is.works (All-cons (IsWorking plan) step [] works (All-nil (IsWorking plan))));
+            noise = noise_kept progress.noise (length progress.steps) (length steps) (omega (arith, long)) is.noise;
+          }
+
+rounds_added : (plan : PlanFields) (progress new : Progress) (rounds : List Step) → IsProgress plan progress → All (IsWorking plan) rounds → add_rounds progress rounds ≡ Ok new → IsProgress plan new
+unfolding add_rounds
+rounds_added plan progress new rounds is works made =
+    by_added (add_steps progress.steps (noisy_if progress.noise rounds)) refl made where
+      by_added : (r : Result (List Step) ScheduleKind) → add_steps progress.steps (noisy_if progress.noise rounds) ≡ r → (r >>= (λ steps. Ok (record { steps = steps; noise = option_map (counted (lands_in rounds)) progress.noise }))) ≡ Ok new → IsProgress plan new
+      by_added (Err kind) added made = absurd (cc (made))
+      by_added (Ok steps) added made =
+          let more = noisy_if progress.noise rounds in
+          let all = add_steps-ok progress.steps more steps added in
+          let long : length steps ≡ length progress.steps + length more = ap length all.0 ∙ length-append progress.steps more in
+          let same : record { steps = steps; noise = option_map (counted (lands_in rounds)) progress.noise } ≡ new = cc (made) in
+          subst (IsProgress plan) same record {
+            few = omega (arith, all.1, long);
+            works = subst (All (IsWorking plan)) (sym all.0) (All-append (IsWorking plan) progress.steps more is.works (noisy_if-works plan progress.noise rounds (mask_long progress.noise (length progress.steps) is.noise) works));
+            noise = noise_counted progress.noise (length progress.steps) (length steps) (lands_in rounds) (omega (arith, long, noisy_if-length progress.noise rounds, lands-le rounds)) is.noise;
+          }
+
+-- what a line states keeps it
+pub still_progress : (plan : PlanFields) (progress new : Progress) (meaning : Meaning) → IsProgress plan progress → IsMeaning plan meaning → after_meaning plan progress meaning ≡ Ok new → IsProgress plan new
+still_progress plan progress new Nothing is works made =
+    let same : progress ≡ new = cc (made) in subst (IsProgress plan) same is
+still_progress plan progress new (One step) is works made =
+    one_added plan progress new step is works made
+still_progress plan progress new (Rounds n) is works made =
+    rounds_added plan progress new (rounds_of plan n) is (repeated_works plan n) made
+still_progress plan progress new (Noisy noise) is works made =
+    let same : record progress { noise = noise } ≡ new = cc (made) in
+    subst (IsProgress plan) same record {
+      few = is.few;
+      works = is.works;
+      noise = noise_kept noise 0 (length progress.steps) (omega arith) works;
+    }
+
+some_mask : (noise : Option Noise) → IfSome noise (λ n. length n.mask ≡ 16) → (one : Noise) → noise ≡ Some one → length one.mask ≡ 16
+some_mask None long one same = absurd (cc (same))
+some_mask (Some noise) long one same =
+    let equal : noise ≡ one = cc (same) in subst (λ (o : Noise). length o.mask ≡ 16) equal long
+
+rounds_work : (plan : PlanFields) (noise : Option (ℕ × List ℕ)) (n : ℕ) → IfSome (option_map new_noise noise) (λ n. length n.mask ≡ 16) → All (IsWorking plan) (noisy_if (option_map new_noise noise) (rounds_of plan n))
+rounds_work plan noise n long =
+    noisy_if-works plan (option_map new_noise noise) (rounds_of plan n) (some_mask (option_map new_noise noise) long) (repeated_works plan n)
+
+-- rounds that are appended name parts of the plan
+pub rounds_within : (plan : PlanFields) (noise : Option (ℕ × List ℕ)) (n : ℕ) (before : List Step) → IfSome (option_map new_noise noise) (λ n. length n.mask ≡ 16) → All (IsStepOf plan) before → All (IsStepOf plan) (before ++ noisy_if (option_map new_noise noise) (rounds_of plan n))
+rounds_within plan noise n before long all =
+    let work = rounds_work plan noise n long in
+    All-append (IsStepOf plan) before (noisy_if (option_map new_noise noise) (rounds_of plan n)) all (λ k d small. (work k d small).within)
+
+-- and are built so far
+pub rounds_built : (plan : PlanFields) (noise : Option (ℕ × List ℕ)) (n : ℕ) (before : List Step) → IfSome (option_map new_noise noise) (λ n. length n.mask ≡ 16) → All IsBuilt before → All IsBuilt (before ++ noisy_if (option_map new_noise noise) (rounds_of plan n))
+rounds_built plan noise n before long all =
+    let work = rounds_work plan noise n long in
+    All-append IsBuilt before (noisy_if (option_map new_noise noise) (rounds_of plan n)) all (λ k d small. (work k d small).built)

@@ -1,5 +1,5 @@
 -- Definitions computed at a plan of two cubes: the second has one vault, four banks, and a link at port 1 alone.
-use Rattle.std.proofs.Common.{◌≡◌, ◌+◌, ℕ, List, length, nat_le, [], ◌∷◌, ◌++◌, Ok, Err, true, false, refl, arith}
+use Rattle.std.proofs.Common.{◌≡◌, ◌+◌, ℕ, List, length, nat_le, [], ◌∷◌, ◌++◌, Some, None, Result, Ok, Err, filter, replicate, true, false, refl, arith}
 use Rattle.std.proofs.lemmas.Bool.Decides.{nat_tests}
 use Rattle.std.specs.Prelude.{codes, map}
 use Rattle.hex.specs.Hex.{decode_pairs}
@@ -7,22 +7,27 @@ use Rattle.hmc_codes.specs.declared.lift.Lift.TheVariants as lifts
 use Rattle.hmc_text.specs.InTurn.{after_lines}
 use Rattle.hmc_text.specs.Lines.{lines_of}
 use Rattle.hmc_text.specs.Number.{number_after, number_in, number_of}
-use Rattle.hmc_text.specs.Reading.{number_word}
+use Rattle.hmc_text.specs.Reading.{◌>>=◌, number_word}
 use Rattle.hmc_text.specs.Words.{words_of}
+use Rattle.hmc_schedule.specs.declared.fault.ScheduleKind.{ScheduleKind}
 use Rattle.hmc_schedule.specs.declared.fault.ScheduleKind.TheVariants as kinds
+use Rattle.hmc_schedule.specs.declared.meaning.Meaning.{Meaning}
+use Rattle.hmc_schedule.specs.declared.meaning.Meaning.TheVariants as meanings
 use Rattle.hmc_schedule.specs.declared.step.Step.{Step}
 use Rattle.hmc_schedule.specs.declared.step.Step.TheVariants as steps
 use Rattle.hmc_schedule.specs.declared.verb.Verb.TheVariants as verbs
+use Rattle.hmc_schedule.specs.declared.written.Rounds.{Rounds}
 use Rattle.hmc_schedule.specs.declared.written.Segment.{Segment}
 use Rattle.hmc_schedule.specs.declared.written.Stretch.TheVariants as stretches
-use Rattle.hmc_schedule.specs.Meaning.{numbered_step, land_of, port_step, spread_of, bank_of, lift_of, step_of, one_of, statement_of, meaning_of}
-use Rattle.hmc_schedule.specs.Operands.{port_words, vault_words, vault_lift, lift_word, mask_word, mask_words, count_word}
+use Rattle.hmc_schedule.specs.Meaning.{numbered_step, land_of, port_step, spread_of, bank_of, lift_of, step_of, one_of, rounds_meaning, noise_end, noise_begin, noise_meaning, noise_or_one, statement_of, meaning_of}
+use Rattle.hmc_schedule.specs.Operands.{port_words, vault_words, vault_lift, lift_word, mask_word, mask_words, due_mask, count_word}
 use Rattle.hmc_schedule.specs.Plan.{PlanFields, IsPlan, IsStepOf}
 use Rattle.hmc_codes.specs.Flit.{zero_flit}
-use Rattle.hmc_schedule.specs.Round.{shifts_of, spreads_of, banks_of, lifts_of, round_of}
-use Rattle.hmc_schedule.specs.Schedule.{add_steps, after_line, schedule_of}
+use Rattle.hmc_schedule.specs.Round.{shifts_of, spreads_of, banks_of, lifts_of, round_of, rounds_of}
+use Rattle.hmc_schedule.specs.Noise.{is_land, noisy, IsNoise}
+use Rattle.hmc_schedule.specs.Schedule.{add_steps, add_rounds, add_one, after_line, schedule_of}
 use Rattle.hmc_schedule.specs.Verb.{verbs as all_verbs, verb_of}
-use Rattle.hmc_schedule.specs.Written.{steps_in, IsWritten}
+use Rattle.hmc_schedule.specs.Written.{steps_in, IsKept, IsWritten}
 
 abbrev two_cubes : PlanFields
 two_cubes = record {
@@ -62,10 +67,10 @@ step_of-retire : map (λ slot. step_of two_cubes verbs.Retire (slot ∷ [])) (co
 unfolding step_of numbered_step number_word number_of number_in number_after
 step_of-retire = refl
 
--- so far none of them is a step, and neither is noise
-one_of-unbuilt : map (λ first. one_of two_cubes first (codes "0" ∷ [])) (codes "through" ∷ codes "unlock" ∷ codes "retire" ∷ codes "noise" ∷ []) ≡
-    Err kinds.Step ∷ Err kinds.Step ∷ Err kinds.Step ∷ Err kinds.Step ∷ []
-unfolding one_of verb_of all_verbs
+-- so far neither a packet that goes on while it still arrives nor a retired unit is a step
+one_of-unbuilt : map (λ first. one_of two_cubes first (codes "0" ∷ [])) (codes "through" ∷ codes "unlock" ∷ codes "retire" ∷ codes "Unlock" ∷ []) ≡
+    Err kinds.Step ∷ Ok (meanings.One (steps.Unlock 0)) ∷ Err kinds.Step ∷ Err kinds.Step ∷ []
+unfolding one_of verb_of all_verbs step_of numbered_step number_word number_of number_in number_after
 one_of-unbuilt = refl
 
 count_word-ends : map (λ count. count_word (count ∷ [])) (codes "0" ∷ codes "1" ∷ codes "1000000" ∷ codes "1000001" ∷ []) ≡
@@ -73,11 +78,36 @@ count_word-ends : map (λ count. count_word (count ∷ [])) (codes "0" ∷ codes
 unfolding count_word number_word number_of number_in number_after
 count_word-ends = refl
 
--- masks of other than zero bits aren't built yet
-mask_word-rows : map mask_word (codes "00000000000000000000000000000000" ∷ codes "0000000000000000000000000000000F" ∷ codes "00" ∷ []) ≡
-    Ok zero_flit ∷ Err kinds.Mask ∷ Err kinds.Mask ∷ []
-unfolding mask_word decode_pairs zero_flit
+-- two masks; a mask of too few digits and one with a sign that is no digit
+abbrev last_bit : List ℕ
+last_bit = replicate 15 0 ++ 1 ∷ []
+
+abbrev first_byte : List ℕ
+first_byte = 175 ∷ replicate 15 0
+
+mask_word-rows : map mask_word (codes "00000000000000000000000000000001" ∷ codes "aF000000000000000000000000000000" ∷ codes "00" ∷ codes "0x000000000000000000000000000000" ∷ []) ≡
+    Ok last_bit ∷ Ok first_byte ∷ Err kinds.Mask ∷ Err kinds.Mask ∷ []
+unfolding mask_word decode_pairs
 mask_word-rows = refl
+
+-- the words after `noise`, judged from left to right
+abbrev noise_meanings : List (List (List ℕ)) → List (Result Meaning ScheduleKind)
+noise_meanings rows = map noise_meaning rows
+
+noise_meaning-good : noise_meanings ((codes "off" ∷ []) ∷ (codes "1000000" ∷ codes "00000000000000000000000000000001" ∷ []) ∷ []) ≡
+    Ok (meanings.Noisy None) ∷ Ok (meanings.Noisy (Some (record { every = 1000000; mask = last_bit; count = 0 }))) ∷ []
+unfolding noise_meaning noise_end noise_begin count_word due_mask mask_word decode_pairs number_word number_of number_in number_after
+noise_meaning-good = refl
+
+noise_meaning-words : noise_meanings ([] ∷ (codes "5" ∷ []) ∷ (codes "off" ∷ codes "5" ∷ []) ∷ (codes "5" ∷ codes "00000000000000000000000000000001" ∷ codes "off" ∷ []) ∷ []) ≡
+    Err kinds.Words ∷ Err kinds.Words ∷ Err kinds.Words ∷ Err kinds.Words ∷ []
+unfolding noise_meaning noise_end noise_begin count_word due_mask mask_word decode_pairs number_word number_of number_in number_after
+noise_meaning-words = refl
+
+noise_meaning-other : noise_meanings ((codes "Off" ∷ []) ∷ (codes "0" ∷ codes "00" ∷ []) ∷ (codes "1000001" ∷ []) ∷ (codes "5" ∷ codes "00" ∷ codes "off" ∷ []) ∷ []) ≡
+    Err kinds.Number ∷ Err kinds.Range ∷ Err kinds.Range ∷ Err kinds.Mask ∷ []
+unfolding noise_meaning noise_end noise_begin count_word due_mask mask_word decode_pairs number_word number_of number_in number_after
+noise_meaning-other = refl
 
 -- the last step that a schedule has room for, and the one after it
 add_steps-last : (before : List Step) → length before ≡ 999999 → add_steps before (steps.Give 0 ∷ []) ≡ Ok (before ++ steps.Give 0 ∷ [])
@@ -110,29 +140,76 @@ IsStepOf-no_slot is = omega (arith, is)
 
 schedule_of-good : schedule_of two_cubes (codes "land 3" ++ 10 ∷ codes "# none" ++ 10 ∷ codes "lift 1 r" ++ 10 ∷ codes "bank 1 0 3") ≡
     Ok (steps.Land 3 zero_flit ∷ steps.Lift 1 lifts.Registers ∷ steps.Bank 1 0 3 ∷ [])
-unfolding schedule_of after_lines after_line add_steps lines_of words_of meaning_of statement_of one_of verb_of all_verbs step_of land_of bank_of lift_of vault_words lift_word mask_words number_word number_of number_in number_after
+unfolding schedule_of after_lines after_line add_steps add_one lines_of words_of meaning_of statement_of noise_or_one one_of verb_of all_verbs step_of land_of bank_of lift_of vault_words lift_word mask_words number_word number_of number_in number_after
 schedule_of-good = refl
 
 schedule_of-fault : schedule_of two_cubes (codes "spread 1 0" ++ 10 ∷ codes "lift 1 1" ++ 10 ∷ codes "jump") ≡ Err (2, kinds.Range)
-unfolding schedule_of after_lines after_line add_steps lines_of words_of meaning_of statement_of one_of verb_of all_verbs step_of spread_of lift_of vault_words lift_word vault_lift number_word number_of number_in number_after
+unfolding schedule_of after_lines after_line add_steps add_one lines_of words_of meaning_of statement_of noise_or_one one_of verb_of all_verbs step_of spread_of lift_of vault_words lift_word vault_lift number_word number_of number_in number_after
 schedule_of-fault = refl
+
+-- one host, one link, and a cube of one vault and one bank: a round lands twice
+abbrev one_cube : PlanFields
+one_cube = record {
+  hosts = 1;
+  directions = 2;
+  cubes = record { shape = record { vault_bits = 0; bank_bits = 0; rows = 1; block = 256 }; ports = true ∷ false ∷ false ∷ false ∷ [] } ∷ [];
+}
+
+-- in a round each second landing has the mask, and no other step changes
+schedule_of-noisy_round : schedule_of one_cube (codes "noise 2 00000000000000000000000000000001" ++ 10 ∷ codes "round 1") ≡
+    Ok (steps.Give 0 ∷ steps.Send 0 ∷ steps.Send 1 ∷ steps.Land 0 zero_flit ∷ steps.Land 1 last_bit ∷ steps.Shift 0 0 ∷ steps.Spread 0 0 ∷ steps.Bank 0 0 0 ∷
+    steps.Registers 0 ∷ steps.Lift 0 (lifts.Vault 0) ∷ steps.Lift 0 lifts.Registers ∷ steps.Take 0 ∷ [])
+unfolding schedule_of after_lines after_line add_steps add_rounds lines_of words_of meaning_of statement_of rounds_meaning noise_or_one noise_meaning noise_begin count_word due_mask mask_word decode_pairs number_word number_of number_in number_after rounds_of round_of shifts_of spreads_of banks_of lifts_of noisy
+schedule_of-noisy_round = refl
+
+-- the landings alone of a schedule
+abbrev landings : List ℕ → Result (List Step) (ℕ × ScheduleKind)
+landings text = schedule_of one_cube text >>= (λ all. Ok (filter is_land all))
+
+-- The count goes on over both directions, the ends of rounds, and landings outside rounds, which are
+-- not counted and keep their own masks.
+landings-over_rounds : landings (codes "noise 3 00000000000000000000000000000001" ++ 10 ∷ codes "round 2" ++ 10 ∷ codes "land 1" ++ 10 ∷ codes "land 0 af000000000000000000000000000000" ++ 10 ∷ codes "round 1") ≡
+    Ok (steps.Land 0 zero_flit ∷ steps.Land 1 zero_flit ∷ steps.Land 0 last_bit ∷ steps.Land 1 zero_flit ∷
+    steps.Land 1 zero_flit ∷ steps.Land 0 first_byte ∷ steps.Land 0 zero_flit ∷ steps.Land 1 last_bit ∷ [])
+unfolding schedule_of after_lines after_line add_steps add_rounds add_one lines_of words_of meaning_of statement_of rounds_meaning noise_or_one one_of verb_of all_verbs step_of land_of noise_meaning noise_begin count_word due_mask mask_words mask_word decode_pairs number_word number_of number_in number_after rounds_of round_of shifts_of spreads_of banks_of lifts_of noisy zero_flit
+landings-over_rounds = refl
+
+-- a second `noise` line begins to count anew, and `noise off` ends it
+landings-anew : landings (codes "noise 2 00000000000000000000000000000001" ++ 10 ∷ codes "round 1" ++ 10 ∷ codes "noise 3 af000000000000000000000000000000" ++ 10 ∷ codes "round 2" ++ 10 ∷ codes "noise off" ++ 10 ∷ codes "round 1") ≡
+    Ok (steps.Land 0 zero_flit ∷ steps.Land 1 last_bit ∷ steps.Land 0 zero_flit ∷ steps.Land 1 zero_flit ∷
+    steps.Land 0 first_byte ∷ steps.Land 1 zero_flit ∷ steps.Land 0 zero_flit ∷ steps.Land 1 zero_flit ∷ [])
+unfolding schedule_of after_lines after_line add_steps add_rounds lines_of words_of meaning_of statement_of rounds_meaning noise_or_one noise_meaning noise_begin noise_end count_word due_mask mask_word decode_pairs number_word number_of number_in number_after rounds_of round_of shifts_of spreads_of banks_of lifts_of noisy zero_flit
+landings-anew = refl
 
 -- two rounds of two steps, and then a step
 abbrev give_take : List Step
 give_take = steps.Give 0 ∷ steps.Take 0 ∷ []
 
+abbrev two_rounds : Rounds
+two_rounds = record { round = record { start = 0; len = 2; lands = 0 }; count = 2; noise = None }
+
 abbrev rounds_and_send : ℕ → List Segment
-rounds_and_send start = record { start = 0; stretch = stretches.Rounds 2 } ∷ record { start = start; stretch = stretches.One (steps.Send 1) } ∷ []
+rounds_and_send start = record { start = 0; stretch = stretches.Many two_rounds } ∷ record { start = start; stretch = stretches.One (steps.Send 1) } ∷ []
 
 steps_in-rounds_and_send : steps_in give_take (rounds_and_send 4) ≡ steps.Give 0 ∷ steps.Take 0 ∷ steps.Give 0 ∷ steps.Take 0 ∷ steps.Send 1 ∷ []
 unfolding steps_in
 steps_in-rounds_and_send = refl
 
--- what is never kept: a segment that begins too early, and a wrong number of steps
+-- what is never kept: a segment that begins too early, a wrong number of steps, a round past the end
 IsWritten-early : IsWritten give_take (rounds_and_send 3) 5 → ⊥
 unfolding steps_in
-IsWritten-early is = omega (arith, is.starts 1 (record { start = 0; stretch = stretches.Rounds 2 }) (omega arith))
+IsWritten-early is = omega (arith, is.starts 1 (record { start = 0; stretch = stretches.Many two_rounds }) (omega arith))
 
 IsWritten-wrong_total : IsWritten give_take (rounds_and_send 4) 4 → ⊥
 unfolding steps_in
 IsWritten-wrong_total is = omega (arith, is.total)
+
+IsKept-past_the_end : IsKept give_take (record { start = 1; len = 2; lands = 0 }) → ⊥
+IsKept-past_the_end is = omega (arith, is.inside)
+
+-- noise that gives no landing a mask, one that counted more landings than there are steps
+IsNoise-never : IsNoise 5 (record { every = 0; mask = last_bit; count = 0 }) → ⊥
+IsNoise-never is = omega (arith, is.some)
+
+IsNoise-many : IsNoise 5 (record { every = 1; mask = last_bit; count = 6 }) → ⊥
+IsNoise-many is = omega (arith, is.few)

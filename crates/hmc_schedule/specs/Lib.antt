@@ -2,6 +2,7 @@ pub mod Plan
 pub mod Kind
 pub mod Verb
 pub mod Operands
+pub mod Noise
 pub mod Meaning
 pub mod Round
 pub mod Written

@@ -1,18 +1,19 @@
 -- What a line of a schedule states.
-use Rattle.std.specs.Prelude.{ℕ, List, length, codes, Result, Ok, if◌then◌else◌}
+use Rattle.std.specs.Prelude.{ℕ, List, length, codes, Some, None, IfSome, Result, Ok, if◌then◌else◌}
 use Rattle.std.specs.Str.{bytes_eq}
 use Rattle.hmc_text.specs.Reading.{◌>>=◌, or_fault, next_word, no_word}
 use Rattle.hmc_text.specs.Words.{is_passed_over}
 use Rattle.hmc_schedule.specs.declared.fault.ScheduleKind.{ScheduleKind}
 use Rattle.hmc_schedule.specs.declared.fault.ScheduleKind.TheVariants as kinds
 use Rattle.hmc_schedule.specs.declared.meaning.Meaning.{Meaning}
-use Rattle.hmc_schedule.specs.declared.meaning.Meaning.TheVariants.{Nothing, One, Rounds}
+use Rattle.hmc_schedule.specs.declared.meaning.Meaning.TheVariants.{Nothing, One, Rounds, Noisy}
 use Rattle.hmc_schedule.specs.declared.step.Step.{Step}
 use Rattle.hmc_schedule.specs.declared.step.Step.TheVariants as steps
 use Rattle.hmc_schedule.specs.declared.verb.Verb.{Verb}
 use Rattle.hmc_schedule.specs.declared.verb.Verb.TheVariants.{Give, Send, Land, Shift, Spread, Bank, Registers, Lift, Take, Through, Unlock, Retire}
-use Rattle.hmc_schedule.specs.Operands.{index_word, port_words, vault_words, lift_word, mask_words, count_word}
-use Rattle.hmc_schedule.specs.Plan.{PlanFields, slots, vaults_at, banks_at}
+use Rattle.hmc_schedule.specs.Operands.{index_word, port_words, vault_words, lift_word, mask_words, due_mask, count_word}
+use Rattle.hmc_schedule.specs.Noise.{IsNoise}
+use Rattle.hmc_schedule.specs.Plan.{PlanFields, IsWorking, slots, vaults_at, banks_at}
 use Rattle.hmc_schedule.specs.Verb.{verb_of, verb_if_built}
 
 -- a step with one number below the limit
@@ -88,17 +89,44 @@ rounds_meaning words = do
   end ← no_word kinds.Words count.1
   Ok (Rounds count.0)
 
--- rounds, or one step
+-- the end of noise, after which no word follows
+unfoldable pub noise_end : List (List ℕ) → Result Meaning ScheduleKind
+noise_end words = do
+  end ← no_word kinds.Words words
+  Ok (Noisy None)
+
+-- noise that begins: its number and its mask, after which no word follows
+unfoldable pub noise_begin : List (List ℕ) → Result Meaning ScheduleKind
+noise_begin words = do
+  every ← count_word words
+  mask ← due_mask every.1
+  end ← no_word kinds.Words mask.1
+  Ok (Noisy (Some (record { every = every.0; mask = mask.0; count = 0 })))
+
+-- noise ends, or begins with the count 0
+unfoldable pub noise_meaning : List (List ℕ) → Result Meaning ScheduleKind
+noise_meaning words = do
+  first ← next_word kinds.Words words
+  if bytes_eq first.0 (codes "off") then noise_end first.1 else noise_begin words
+
+-- noise, or one step
+unfoldable pub noise_or_one : PlanFields → List ℕ → List (List ℕ) → Result Meaning ScheduleKind
+noise_or_one plan first words =
+    if bytes_eq first (codes "noise") then noise_meaning words else one_of plan first words
+
+-- rounds, noise, or one step
 unfoldable pub statement_of : PlanFields → List (List ℕ) → Result Meaning ScheduleKind
 statement_of plan words = do
   first ← next_word kinds.Words words
-  if bytes_eq first.0 (codes "round") then rounds_meaning first.1 else one_of plan first.0 first.1
+  if bytes_eq first.0 (codes "round") then rounds_meaning first.1
+      else noise_or_one plan first.0 first.1
 
 -- what the words of a line state
 unfoldable pub meaning_of : PlanFields → List (List ℕ) → Result Meaning ScheduleKind
 meaning_of plan words = if is_passed_over words then Ok Nothing else statement_of plan words
 
--- P holds of the step, if a line names one
-abbrev pub IfOne : (Step → Type 0) → Meaning → Type 0
-IfOne P (One step) = P step
-IfOne P meaning = Unit {0}
+-- what the meaning of every line keeps: a step is one of the plan, and noise counted nothing yet
+abbrev pub IsMeaning : PlanFields → Meaning → Type 0
+IsMeaning plan (One step) = IsWorking plan step
+IsMeaning plan (Noisy noise) = IfSome noise (IsNoise 0)
+IsMeaning plan meaning = Unit {0}

@@ -1,5 +1,5 @@
 -- The words after the first word of a line, from left to right.
-use Rattle.std.specs.Prelude.{ℕ, ◌+◌, ◌==◌, List, [], ◌∷◌, length, codes, Option, Some, None, Result, Ok, if◌then◌else◌}
+use Rattle.std.specs.Prelude.{ℕ, ◌+◌, ◌==◌, List, [], ◌∷◌, length, codes, Some, None, Result, Ok, if◌then◌else◌}
 use Rattle.std.specs.Result.{result_ok}
 use Rattle.std.specs.Str.{bytes_eq}
 use Rattle.hex.specs.Hex.{decode_sized}
@@ -44,16 +44,9 @@ lift_word vaults words = do
   first ← next_word kinds.Words words
   if bytes_eq first.0 (codes "r") then Ok (lifts.Registers, first.1) else vault_lift vaults words
 
--- the mask, if masks like it are built so far
-abbrev pub mask_if_built : List ℕ → Option (List ℕ)
-mask_if_built mask = if bytes_eq mask zero_flit then Some mask else None
-
 -- two hexadecimal digits for each byte of a flit
 unfoldable pub mask_word : List ℕ → Result (List ℕ) ScheduleKind
-mask_word word = do
-  mask ← or_fault kinds.Mask (result_ok (decode_sized word 16))
-  mask ← or_fault kinds.Mask (mask_if_built mask)
-  Ok mask
+mask_word word = or_fault kinds.Mask (result_ok (decode_sized word 16))
 
 -- a mask, which is zero where there is no word
 unfoldable pub mask_words : List (List ℕ) → Result (List ℕ × List (List ℕ)) ScheduleKind
@@ -62,7 +55,14 @@ mask_words (word ∷ words) = do
   mask ← mask_word word
   Ok (mask, words)
 
--- the number of rounds, which is 1 to that of the steps of a schedule
+-- a mask that may not be missing
+unfoldable pub due_mask : List (List ℕ) → Result (List ℕ × List (List ℕ)) ScheduleKind
+due_mask words = do
+  first ← next_word kinds.Words words
+  mask ← mask_word first.0
+  Ok (mask, first.1)
+
+-- a number of rounds or of landings, which is 1 to that of the steps of a schedule
 unfoldable pub count_word : List (List ℕ) → Result (ℕ × List (List ℕ)) ScheduleKind
 count_word words = do
   count ← index_word (most_steps + 1) words

@@ -2,7 +2,6 @@
 use Rattle.std.specs.Prelude.{◌≡◌, ◌<◌, ◌≤◌, ◌*◌, ◌^◌, ℕ, Bool, true, false, List, length, slice_index_or, slice_get}
 use Rattle.std.specs.Option.{option_map_or}
 use Rattle.hmc_codes.specs.Limits.{most_cubes, most_links, most_hosts, ports}
-use Rattle.hmc_codes.specs.Flit.{zero_flit}
 use Rattle.hmc_codes.specs.declared.lift.Lift.{Lift}
 use Rattle.hmc_codes.specs.declared.lift.Lift.TheVariants as lifts
 use Rattle.hmc_schedule.specs.declared.plan.CubePlan.{CubePlan}
@@ -91,11 +90,10 @@ IsStepOf plan (steps.Through cube port) = IsPortOf plan cube port
 IsStepOf plan (steps.Unlock direction) = direction < plan.directions
 IsStepOf plan (steps.Retire slot) = slot < slots
 
--- a step that is built so far: it has no mask, and doesn't go through, unlock or retire
+-- a step that is built so far: it doesn't go through or retire, and each mask has 16 bytes
 abbrev pub IsBuilt : Step → Type 0
-IsBuilt (steps.Land direction mask) = mask ≡ zero_flit
+IsBuilt (steps.Land direction mask) = length mask ≡ 16
 IsBuilt (steps.Through cube port) = ⊥
-IsBuilt (steps.Unlock direction) = ⊥
 IsBuilt (steps.Retire slot) = ⊥
 IsBuilt step = Unit {0}
 

@@ -45,9 +45,13 @@ round_of plan =
     flat_map (lifts_of plan) cubes ++
     map Take (upto plan.hosts)
 
--- n rounds, one after another
+-- some steps, n times one after another
+abbrev pub repeated : ℕ → List Step → List Step
+repeated n steps = flat_map (λ round. round) (replicate n steps)
+
+-- n rounds, one after another, without noise
 unfoldable pub rounds_of : PlanFields → ℕ → List Step
-rounds_of plan n = flat_map (λ round. round) (replicate n (round_of plan))
+rounds_of plan n = repeated n (round_of plan)
 
 -- the steps of a part of a cube in a round
 abbrev pub part_of : Part → PlanFields → ℕ → List Step

@@ -8,13 +8,13 @@ use std::fmt;
 /// What is wrong with a line.
 #[derive(Clone, Copy, Debug, PartialEq, Eq)]
 pub enum ScheduleKind {
-    /// The first word is not that of a step.
+    /// The first word is not that of a step, of rounds or of noise.
     Step,
     /// A word is missing, or words are left.
     Words,
     /// The word is not a number where one is due.
     Number,
-    /// The network has no part of this number, or a round's count is out of range.
+    /// The network has no part of this number, or a number of rounds or landings is out of range.
     Range,
     /// The word is not a mask.
     Mask,

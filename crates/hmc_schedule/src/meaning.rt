@@ -3,11 +3,14 @@
 ghost use Rattle.std.specs.Prelude.{◌≡◌, IfOk, IsSome};
 ghost use Rattle.hmc_text.specs.Reading.{Gives};
 ghost use Rattle.hmc_text.specs.Words.{words_of};
-ghost use Rattle.hmc_schedule.specs.Meaning.{numbered_step, port_step, land_of, spread_of, bank_of, lift_of, step_of, one_of, rounds_meaning, statement_of, meaning_of, IfOne};
-ghost use Rattle.hmc_schedule.specs.Plan.{PlanFields, IsStepOf, IsBuilt, IsWorking};
+ghost use Rattle.hmc_schedule.specs.Meaning.{numbered_step, port_step, land_of, spread_of, bank_of, lift_of, step_of, one_of, rounds_meaning, noise_end, noise_begin, noise_meaning, noise_or_one, statement_of, meaning_of, IsMeaning};
+ghost use Rattle.hmc_schedule.specs.Plan.{PlanFields, IsStepOf, IsBuilt};
 ghost use Rattle.hmc_schedule.specs.Verb.{verb_if_built};
 
-use crate::operands::{count_word, index_word, lift_word, mask_words, port_words, vault_words};
+use crate::noise::Noise;
+use crate::operands::{
+    count_word, due_mask, index_word, lift_word, mask_words, port_words, vault_words,
+};
 use crate::verb::{Verb, verb_of};
 use crate::{Plan, ScheduleKind, Step};
 use hmc_text::reading::{next_word, no_word};
@@ -22,6 +25,8 @@ pub enum Meaning {
     One(Step),
     /// A number of rounds.
     Rounds(u32),
+    /// From here on rounds have this noise, or none.
+    Noisy(Option<Noise>),
 }
 
 /// The slots of logic units.
@@ -141,7 +146,7 @@ fn step<'a>(plan: &Plan, verb: Verb, line: &'a [u8]) -> Result<(Step, &'a [u8]),
 #[tactic(auto, unfolding(crate::specs::Meaning::one_of))]
 fn one(plan: &Plan, first: &[u8], line: &[u8]) -> Result<Meaning, ScheduleKind>
     ensures value { result ≡ one_of plan.now first.now (words_of line.now) }
-    ensures works { IfOk result (IfOne (IsWorking plan.now)) }
+    ensures works { IfOk result (IsMeaning plan.now) }
 {
     let Some(verb) = verb_of(first) else {
         return Err(ScheduleKind::Step);
@@ -158,30 +163,76 @@ fn one(plan: &Plan, first: &[u8], line: &[u8]) -> Result<Meaning, ScheduleKind>
 #[tactic(auto, unfolding(crate::specs::Meaning::rounds_meaning))]
 fn rounds(line: &[u8]) -> Result<Meaning, ScheduleKind>
     ensures value { result ≡ rounds_meaning (words_of line.now) }
-    ensures works { (plan : PlanFields) → IfOk result (IfOne (IsWorking plan)) }
+    ensures works { (plan : PlanFields) → IfOk result (IsMeaning plan) }
 {
     let (count, rest) = count_word(line)?;
     no_word(ScheduleKind::Words, rest)?;
     Ok(Meaning::Rounds(count))
 }
 
+// The end of noise, after which no word follows.
+#[tactic(auto, unfolding(crate::specs::Meaning::noise_end))]
+fn noise_end(line: &[u8]) -> Result<Meaning, ScheduleKind>
+    ensures value { result ≡ noise_end (words_of line.now) }
+    ensures works { (plan : PlanFields) → IfOk result (IsMeaning plan) }
+{
+    no_word(ScheduleKind::Words, line)?;
+    Ok(Meaning::Noisy(None))
+}
+
+// Noise that begins: its number and its mask, after which no word follows.
+#[tactic(auto, unfolding(crate::specs::Meaning::noise_begin))]
+fn noise_begin(line: &[u8]) -> Result<Meaning, ScheduleKind>
+    ensures value { result ≡ noise_begin (words_of line.now) }
+    ensures works { (plan : PlanFields) → IfOk result (IsMeaning plan) }
+{
+    let (every, rest) = count_word(line)?;
+    let (mask, rest) = due_mask(rest)?;
+    no_word(ScheduleKind::Words, rest)?;
+    let count = 0;
+    Ok(Meaning::Noisy(Some(Noise { every, mask, count })))
+}
+
+#[tactic(auto, unfolding(crate::specs::Meaning::noise_meaning))]
+fn noise_meaning(line: &[u8]) -> Result<Meaning, ScheduleKind>
+    ensures value { result ≡ noise_meaning (words_of line.now) }
+    ensures works { (plan : PlanFields) → IfOk result (IsMeaning plan) }
+{
+    let (first, rest) = next_word(ScheduleKind::Words, line)?;
+    if first == b"off".as_slice() {
+        return noise_end(rest);
+    }
+    noise_begin(line)
+}
+
+#[tactic(auto, unfolding(crate::specs::Meaning::noise_or_one))]
+fn noise_or_one(plan: &Plan, first: &[u8], line: &[u8]) -> Result<Meaning, ScheduleKind>
+    ensures value { result ≡ noise_or_one plan.now first.now (words_of line.now) }
+    ensures works { IfOk result (IsMeaning plan.now) }
+{
+    if first == b"noise".as_slice() {
+        return noise_meaning(line);
+    }
+    one(plan, first, line)
+}
+
 #[tactic(auto, unfolding(crate::specs::Meaning::statement_of))]
 fn statement(plan: &Plan, line: &[u8]) -> Result<Meaning, ScheduleKind>
     ensures value { result ≡ statement_of plan.now (words_of line.now) }
-    ensures works { IfOk result (IfOne (IsWorking plan.now)) }
+    ensures works { IfOk result (IsMeaning plan.now) }
 {
     let (first, rest) = next_word(ScheduleKind::Words, line)?;
     if first == b"round".as_slice() {
         return rounds(rest);
     }
-    one(plan, first, rest)
+    noise_or_one(plan, first, rest)
 }
 
 /// What a line states, word by word from left to right. The fault is the first one.
 #[tactic(auto, unfolding(crate::specs::Meaning::meaning_of))]
 pub fn meaning_of(plan: &Plan, line: &[u8]) -> Result<Meaning, ScheduleKind>
     ensures value { result ≡ meaning_of plan.now (words_of line.now) }
-    ensures works { IfOk result (IfOne (IsWorking plan.now)) }
+    ensures works { IfOk result (IsMeaning plan.now) }
 {
     if is_passed_over(line) {
         return Ok(Meaning::Nothing);

@@ -1,13 +1,12 @@
 //! The words after the first word of a line.
 
-ghost use Rattle.std.specs.Prelude.{◌≡◌, ◌<◌, ℕ, IfOk, IfSome, length};
+ghost use Rattle.std.specs.Prelude.{◌≡◌, ◌<◌, ◌≤◌, ℕ, IfOk, length};
 ghost use Rattle.std.specs.Result.{result_ok};
 ghost use Rattle.hex.specs.Hex.{decode_sized};
 ghost use Rattle.hmc_text.specs.Reading.{Gives};
 ghost use Rattle.hmc_text.specs.Words.{words_of};
-ghost use Rattle.hmc_schedule.specs.Operands.{index_word, port_words, vault_words, vault_lift, lift_word, mask_if_built, mask_word, mask_words, count_word};
+ghost use Rattle.hmc_schedule.specs.Operands.{index_word, port_words, vault_words, vault_lift, lift_word, mask_word, mask_words, due_mask, count_word};
 ghost use Rattle.hmc_schedule.specs.Plan.{IsPortOf, IsVaultOf, IsLiftBelow};
-ghost use Rattle.hmc_codes.specs.Flit.{zero_flit};
 
 use crate::{Plan, ScheduleKind};
 use hex::FromHex;
@@ -89,28 +88,12 @@ fn flit(digits: &[u8]) -> Option<Flit>
     <[u8; 16]>::from_hex(digits).ok()
 }
 
-// The mask, if masks like it are built so far.
-#[tactic(auto, unfolding(hmc_codes::specs::Flit::zero_flit))]
-fn mask_if_built(mask: Flit) -> Option<Flit>
-    ensures value { result ≡ mask_if_built mask }
-    ensures zero { IfSome result (λ mask. mask ≡ zero_flit) }
-{
-    if mask.as_slice() == ZERO_FLIT.as_slice() {
-        Some(mask)
-    } else {
-        None
-    }
-}
-
 #[tactic(auto, unfolding(crate::specs::Operands::mask_word))]
 fn mask_word(word: &[u8]) -> Result<Flit, ScheduleKind>
     ensures value { result ≡ mask_word word.now }
-    ensures zero { IfOk result (λ mask. mask ≡ zero_flit) }
+    ensures size { IfOk result (λ mask. length mask ≡ 16) }
 {
     let Some(mask) = flit(word) else {
-        return Err(ScheduleKind::Mask);
-    };
-    let Some(mask) = mask_if_built(mask) else {
         return Err(ScheduleKind::Mask);
     };
     Ok(mask)
@@ -120,7 +103,7 @@ fn mask_word(word: &[u8]) -> Result<Flit, ScheduleKind>
 #[tactic(auto, unfolding(crate::specs::Operands::mask_words, hmc_codes::specs::Flit::zero_flit))]
 pub fn mask_words(line: &[u8]) -> Result<(Flit, &[u8]), ScheduleKind>
     ensures value { Gives (λ p. (p.0, words_of p.1.now)) result (mask_words (words_of line.now)) }
-    ensures zero { IfOk result (λ p. p.0 ≡ zero_flit) }
+    ensures size { IfOk result (λ p. length p.0 ≡ 16) }
 {
     let Some((word, rest)) = first_word(line) else {
         return Ok((ZERO_FLIT, line));
@@ -129,10 +112,22 @@ pub fn mask_words(line: &[u8]) -> Result<(Flit, &[u8]), ScheduleKind>
     Ok((mask, rest))
 }
 
-/// The number of rounds, 1 to `MOST_STEPS`, and the rest of the line.
+/// A mask that may not be missing, and the rest of the line.
+#[tactic(auto, unfolding(crate::specs::Operands::due_mask))]
+pub fn due_mask(line: &[u8]) -> Result<(Flit, &[u8]), ScheduleKind>
+    ensures value { Gives (λ p. (p.0, words_of p.1.now)) result (due_mask (words_of line.now)) }
+    ensures size { IfOk result (λ p. length p.0 ≡ 16) }
+{
+    let (word, rest) = next_word(ScheduleKind::Words, line)?;
+    let mask = mask_word(word)?;
+    Ok((mask, rest))
+}
+
+/// A number of rounds or of landings, 1 to `MOST_STEPS`, and the rest of the line.
 #[tactic(auto, unfolding(crate::specs::Operands::count_word))]
 pub fn count_word(line: &[u8]) -> Result<(u32, &[u8]), ScheduleKind>
-    ensures { Gives (λ p. (p.0, words_of p.1.now)) result (count_word (words_of line.now)) }
+    ensures value { Gives (λ p. (p.0, words_of p.1.now)) result (count_word (words_of line.now)) }
+    ensures some { IfOk result (λ p. 1 ≤ p.0) }
 {
     let (count, rest) = number_word(
         ScheduleKind::Words,

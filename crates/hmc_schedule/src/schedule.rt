@@ -1,16 +1,26 @@
 //! Schedules.
 
-ghost use Rattle.std.specs.Prelude.{◌≡◌, ◌<◌, ◌≤◌, length, slice_get, Some};
+ghost use Rattle.std.specs.Prelude.{◌≡◌, ◌<◌, ◌≤◌, ◌+◌, ◌*◌, ◌++◌, [], length, option_map, slice_get, Some, IfSome, OnOk, OnErr};
+ghost use Rattle.std.specs.List.{All};
 ghost use Rattle.hmc_codes.specs.Limits.{most_steps};
+ghost use Rattle.hmc_schedule.specs.Plan.{IsStepOf, IsBuilt};
+ghost use Rattle.hmc_schedule.specs.Noise.{new_noise, noisy_if};
+ghost use Rattle.hmc_schedule.specs.Round.{round_of, rounds_of};
+ghost use Rattle.hmc_schedule.specs.Written.{IsRoundOf};
 
-use crate::Step;
-use crate::written::Written;
+use crate::noise::Noise;
+use crate::round::round;
+use crate::written::{Rounds, Stretch, Written};
+use crate::{Plan, Step};
+use hmc_codes::{Flit, Memory};
+use std::alloc::Global;
 use std::marker::Model;
 
 /// At most `MOST_STEPS` steps, in order. Contracts see them as a list. It takes memory for each
-/// line that states steps, and for one round.
+/// line that states steps and for one round, and for a round at each call of `rounds`.
 #[derive(Drop)]
 pub struct Schedule {
+    alloc: Global,
     written: Written,
 }
 
@@ -26,13 +36,39 @@ impl Model for Schedule {
     ghost invariant = { λ s. length s.written.steps ≤ most_steps };
 }
 
+// Noise of this number and mask that has counted nothing yet.
+fn new_noise(noise: Option<(u32, Flit)>) -> Option<Noise>
+    ensures value { result ≡ option_map new_noise noise }
+    ensures mask { IfSome result (λ noise. length noise.mask ≡ 16) }
+{
+    match noise {
+        Some(pair) => {
+            let every = pair.0;
+            let mask = pair.1;
+            let count = 0;
+            Some(Noise { every, mask, count })
+        }
+        None => None,
+    }
+}
+
 impl Schedule {
-    pub(crate) fn of(written: Written) -> Schedule
+    pub(crate) fn of(alloc: Global, written: Written) -> Schedule
         ensures steps { result ≡ written.steps }
         ensures few { length result ≤ most_steps }
     {
         let _ = written.len();
-        Schedule { written }
+        Schedule { alloc, written }
+    }
+
+    /// A schedule without steps. It takes no memory.
+    pub fn new(alloc: Global) -> Schedule
+        ensures { result ≡ [] }
+    {
+        Schedule {
+            alloc,
+            written: Written::new(alloc),
+        }
     }
 
     /// The number of steps.
@@ -43,11 +79,39 @@ impl Schedule {
     }
 
     /// The step at this place, counted from 0 and below the length. It is found in as many tests as
-    /// the number of lines with steps has binary digits.
+    /// the number of segments has binary digits.
     pub fn step(&self, at: u32) -> Step
         requires { at < length self.now }
         ensures { slice_get self.now at ≡ Some result }
     {
         self.written.step(at)
+    }
+
+    /// Appends n rounds of a network with these parts, with noise of this number and mask whose
+    /// count begins at 0, or without. Both numbers are at least 1, and the schedule then has at
+    /// most `MOST_STEPS` steps. Where it is out of memory nothing changes.
+    pub fn rounds(&mut self, plan: &Plan, n: u32, noise: Option<(u32, Flit)>) -> Result<(), Memory>
+        requires some { 1 ≤ n }
+        requires noise { IfSome noise (λ noise. 1 ≤ noise.0) }
+        requires room { length self.old + n * length (round_of plan.now) ≤ most_steps }
+        ensures ok { OnOk result
+            (self.new ≡ self.old ++ noisy_if (option_map new_noise noise) (rounds_of plan.now n)) }
+        ensures err { OnErr result (self.new ≡ self.old) }
+
+        // Each step of the rounds names parts that the plan has, and is built so far.
+        ensures within { All (IsStepOf plan.now) self.old
+            → OnOk result (All (IsStepOf plan.now) self.new) }
+        ensures built { All IsBuilt self.old → OnOk result (All IsBuilt self.new) }
+    {
+        let steps = round(self.alloc, plan)?;
+        let kept = self.written.keep(&steps, plan.directions)?;
+        let rounds = Rounds {
+            round: kept,
+            count: n,
+            noise: new_noise(noise),
+        };
+        self.written
+            .append(Stretch::Many(rounds), n * steps.len() as u32)?;
+        Ok(())
     }
 }

@@ -60,7 +60,7 @@ impl Verb {
         ensures { result ≡ verb_if_built self }
     {
         match self {
-            Verb::Through | Verb::Unlock | Verb::Retire => None,
+            Verb::Through | Verb::Retire => None,
             _ => Some(self),
         }
     }

@@ -1,21 +1,47 @@
 //! A schedule as it is written: a segment for each line that has steps.
 
-ghost use Rattle.std.specs.Prelude.{◌≡◌, ◌<◌, ◌≤◌, ◌+◌, ◌-◌, ◌++◌, [], length, slice_get, Some, OnOk, OnErr};
+ghost use Rattle.std.specs.Prelude.{◌≡◌, ◌<◌, ◌≤◌, ◌+◌, ◌-◌, ◌*◌, ◌/◌, ◌%◌, ◌++◌, [], length, filter, slice_get, Some, IfOk, OnOk, OnErr};
 ghost use Rattle.std.specs.List.Sorted.{IsNonDecreasingBy, IsPartitionPoint};
 ghost use Rattle.hmc_codes.specs.Limits.{most_steps};
-ghost use Rattle.hmc_schedule.specs.Written.{stretch_of};
+ghost use Rattle.hmc_schedule.specs.Noise.{is_land, lands_of, mask_at};
+ghost use Rattle.hmc_schedule.specs.declared.written.Stretch.TheVariants as stretch;
+ghost use Rattle.hmc_schedule.specs.Written.{round_at, stretch_of, noisy_at, IsKept, IsRounds, IsStretch};
 
 use crate::Step;
+use crate::noise::Noise;
+use hmc_codes::Flit;
 use std::alloc::{AllocError, Global};
 use std::marker::Model;
+
+/// Where the steps of a round are kept.
+#[derive(Clone, Copy)]
+pub struct KeptRound {
+    /// The place of the first of them.
+    pub start: usize,
+    /// How many they are.
+    pub len: usize,
+    /// The number of landings among them, one in each direction.
+    pub lands: u8,
+}
+
+/// A round, several times, with noise or without.
+#[derive(Clone, Copy)]
+pub struct Rounds {
+    /// The round.
+    pub round: KeptRound,
+    /// How many times.
+    pub count: u32,
+    /// Its noise, with the landings that were counted before the first of these rounds.
+    pub noise: Option<Noise>,
+}
 
 /// The steps that a line states.
 #[derive(Clone, Copy)]
 pub enum Stretch {
     /// One step.
     One(Step),
-    /// A number of rounds.
-    Rounds(u32),
+    /// Some rounds.
+    Many(Rounds),
 }
 
 /// The steps of a line, and where they begin.
@@ -27,11 +53,11 @@ pub struct Segment {
     pub stretch: Stretch,
 }
 
-/// At most `MOST_STEPS` steps, in memory for the lines that state them and for one round. Contracts
-/// see the steps of a round, and the list of all steps.
+/// At most `MOST_STEPS` steps, in memory for the lines that state them and for each kept round.
+/// Contracts see the steps of the kept rounds, and the list of all steps.
 #[derive(Drop)]
 pub struct Written {
-    round: Vec<Step>,
+    kept: Vec<Step>,
     segments: Vec<Segment>,
     len: u32,
 }
@@ -42,11 +68,11 @@ impl Model for Written {
     ghost Value = { WrittenFields };
 
     ghost view = { λ w. record {
-      round = w.round.items;
-      steps = steps_in w.round.items w.segments.items;
+      kept = w.kept.items;
+      steps = steps_in w.kept.items w.segments.items;
     } };
 
-    ghost invariant = { λ w. IsWritten w.round.items w.segments.items w.len };
+    ghost invariant = { λ w. IsWritten w.kept.items w.segments.items w.len };
 }
 
 // The number of segments that begin at or before this place.
@@ -59,27 +85,70 @@ fn begun_count(segments: &[Segment], at: u32) -> usize
     segments.partition_point(|segment| segment.start <= at)
 }
 
-// The step at this place, where a round has these steps. The segment has the place.
-fn step_of(round: &[Step], segment: Segment, at: u32) -> Step
+// The mask of the landing with this number, where it was this one without noise.
+fn mask_at(noise: Noise, number: u64, mask: Flit) -> Flit
+    requires { 1 ≤ noise.every }
+    ensures { result ≡ mask_at noise number mask }
+{
+    if number % u64::from(noise.every) == 0 {
+        noise.mask
+    } else {
+        mask
+    }
+}
+
+// The step at this place of noisy rounds, which without noise is this one. The landings counted
+// before it are those before the rounds, those of whole rounds, and those in the directions below.
+fn noisy_at(noise: Noise, round: KeptRound, at: u32, step: Step) -> Step
+    requires some { 1 ≤ noise.every }
+    requires round { 0 < round.len }
+    ensures { result ≡ noisy_at noise round at step }
+{
+    match step {
+        Step::Land(direction, mask) => {
+            let whole = (at as usize / round.len) as u64 * u64::from(round.lands);
+            let before = u64::from(noise.count) + whole + u64::from(direction);
+            Step::Land(direction, mask_at(noise, before + 1, mask))
+        }
+        _ => step,
+    }
+}
+
+// The step at this place of rounds that are kept.
+fn step_of_rounds(kept: &[Step], rounds: Rounds, at: u32) -> Step
+    requires rounds { IsRounds kept.now rounds }
+    requires inside { at < length (stretch_of kept.now (stretch.Many rounds)) }
+    ensures { slice_get (stretch_of kept.now (stretch.Many rounds)) at ≡ Some result }
+{
+    let round = rounds.round;
+    let step = kept[round.start + at as usize % round.len];
+    match rounds.noise {
+        Some(noise) => noisy_at(noise, round, at, step),
+        None => step,
+    }
+}
+
+// The step at this place of the kept rounds and their segments. The segment has the place.
+fn step_of(kept: &[Step], segment: Segment, at: u32) -> Step
+    requires stretch { IsStretch kept.now segment.stretch }
     requires begun { segment.start ≤ at }
-    requires inside { at - segment.start < length (stretch_of round.now segment.stretch) }
-    ensures { slice_get (stretch_of round.now segment.stretch) (at - segment.start) ≡ Some result }
+    requires inside { at - segment.start < length (stretch_of kept.now segment.stretch) }
+    ensures { slice_get (stretch_of kept.now segment.stretch) (at - segment.start) ≡ Some result }
 {
     match segment.stretch {
         Stretch::One(step) => step,
-        Stretch::Rounds(_) => round[(at - segment.start) as usize % round.len()],
+        Stretch::Many(rounds) => step_of_rounds(kept, rounds, at - segment.start),
     }
 }
 
 impl Written {
-    /// No steps, where a round has these steps.
+    /// No steps. It takes no memory.
     #[tactic(auto, unfolding(crate::specs::Written::steps_in))]
-    pub fn new(alloc: Global, round: Vec<Step>) -> Self
-        ensures round { result.round ≡ round.items }
-        ensures steps { result.steps ≡ [] }
+    pub fn new(alloc: Global) -> Self
+        ensures { result.steps ≡ [] }
     {
         Written {
-            round,
+            kept: Vec::new(alloc),
             segments: Vec::new(alloc),
             len: 0,
         }
@@ -93,29 +162,37 @@ impl Written {
         self.len
     }
 
-    /// The number of steps of a round.
-    pub fn round_len(&self) -> usize
-        ensures { result ≡ length self.now.round }
-    {
-        self.round.len()
-    }
-
     /// The step at this place, counted from 0 and below the length.
     pub fn step(&self, at: u32) -> Step
         requires { at < length self.now.steps }
         ensures { slice_get self.now.steps at ≡ Some result }
     {
         let segment = self.segments[begun_count(&self.segments, at) - 1];
-        step_of(&self.round, segment, at)
+        step_of(&self.kept, segment, at)
+    }
+
+    /// Keeps a round with this number of landings, one in each direction, and returns where it is.
+    pub fn keep(&mut self, round: &[Step], lands: u8) -> Result<KeptRound, AllocError>
+        requires { filter is_land round.now ≡ lands_of lands }
+        ensures steps { self.new.steps ≡ self.old.steps }
+        ensures kept { IfOk result (IsKept self.new.kept) }
+        ensures round { IfOk result (λ place. round_at self.new.kept place ≡ round.now) }
+        ensures lands { IfOk result (λ place. place.lands ≡ lands) }
+    {
+        let start = self.kept.len();
+        self.kept.extend_from_slice(round)?;
+        let len = round.len();
+        Ok(KeptRound { start, len, lands })
     }
 
     /// Appends so many steps, for which there is room.
     pub fn append(&mut self, stretch: Stretch, count: u32) -> Result<(), AllocError>
-        requires count { count ≡ length (stretch_of self.old.round stretch) }
+        requires stretch { IsStretch self.old.kept stretch }
+        requires count { count ≡ length (stretch_of self.old.kept stretch) }
         requires room { length self.old.steps + count ≤ most_steps }
-        ensures round { self.new.round ≡ self.old.round }
+        ensures kept { self.new.kept ≡ self.old.kept }
         ensures ok { OnOk result
-            (self.new.steps ≡ self.old.steps ++ stretch_of self.old.round stretch) }
+            (self.new.steps ≡ self.old.steps ++ stretch_of self.old.kept stretch) }
         ensures err { OnErr result (self.new ≡ self.old) }
     {
         self.segments.push(Segment {

@@ -7,7 +7,7 @@ use std::alloc::Global;
 use std::test::Fail;
 
 /// More than any of these reports has.
-const ROOM: usize = 8_192;
+const ROOM: usize = 32_768;
 
 /// One cube of 1,024 bytes, with a host at its port 0.
 const NET: &str = "[[cubes]]
@@ -117,7 +117,7 @@ fn each_line_is_one_write(alloc: Global, input: &[u8], report: &str) -> Result<b
 fn each_line_of_a_report_is_one_write(rt: HostRuntime) -> Result<(), Fail> {
     let alloc = rt.alloc();
     let script = format!(in alloc; "0 wr16 0 0 {BYTES}\n0 mdwr 0 4 5\n")?;
-    let case = case_on(alloc, &script, "round 8\n")?;
+    let case = case_on(alloc, &script, "round 78\n")?;
     let (status, report) = Run::of(&["run"], case.as_bytes()).gives(alloc)?;
     assert!(rt; status == 0, "status");
     let last = "register 0 4 00000005\nhost 0 2 2 0\ncube 0 2 0\nstate drained\n";
@@ -126,7 +126,7 @@ fn each_line_of_a_report_is_one_write(rt: HostRuntime) -> Result<(), Fail> {
         report.contains(&*format!(in alloc; "memory 0 0x0 {BYTES}\n")?),
         "memory"
     );
-    assert!(rt; report.lines().count() == 101, "lines");
+    assert!(rt; report.lines().count() == 941, "lines");
     assert!(rt;
         each_line_is_one_write(alloc, case.as_bytes(), &report)?,
         "writes"

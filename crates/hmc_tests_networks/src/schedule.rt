@@ -54,7 +54,10 @@ fn wide(alloc: Global) -> Result<Plan, AllocError> {
     })
 }
 
-const STEPS: [(&str, Step); 16] = [
+// The mask of the last bit of a flit.
+const LAST_BIT: [u8; 16] = [0, 0, 0, 0, 0, 0, 0, 0, 0, 0, 0, 0, 0, 0, 0, 0x80];
+
+const STEPS: [(&str, Step); 20] = [
     ("give 1", Step::Give(1)),
     ("send 5", Step::Send(5)),
     ("land 5", Step::Land(5, [0; 16])),
@@ -62,6 +65,16 @@ const STEPS: [(&str, Step); 16] = [
         "land 0 00000000000000000000000000000000",
         Step::Land(0, [0; 16]),
     ),
+    (
+        "land 0 00000000000000000000000000000080",
+        Step::Land(0, LAST_BIT),
+    ),
+    (
+        "land 3 fFFFFFFFFFFFFFFFFFFFFFFFFFFFFFfF",
+        Step::Land(3, [0xFF; 16]),
+    ),
+    ("unlock 4", Step::Unlock(4)),
+    ("unlock 0x1", Step::Unlock(1)),
     ("shift 0 2", Step::Shift(0, 2)),
     ("spread 0 1", Step::Spread(0, 1)),
     ("bank 0 1 1", Step::Bank(0, 1, 1)),
@@ -174,6 +187,35 @@ fn a_round_is_written_out(rt: HostRuntime) -> Result<(), Fail> {
     assert_longhand(&rt, alloc, &small, ("", 0, "\n# nothing\n \t"))?;
     assert_longhand(&rt, alloc, &small, ("round 1", 12, SMALL_ROUND))?;
     assert_longhand(&rt, alloc, &wide, ("round 1", 37, WIDE_ROUND))
+}
+
+// Every third landing of these rounds: the first of the second round.
+const NOISY: &str = "noise 3 00000000000000000000000000000080\nround 2\n";
+
+// A round of the small network, with this mask at its first landing.
+const SECOND_ROUND: &str =
+    "give 0\nsend 0\nsend 1\nland 0 00000000000000000000000000000080\nland 1\nshift 0 0\n\
+    spread 0 0\nbank 0 0 0\nregisters 0\nlift 0 0\nlift 0 r\ntake 0\n";
+
+// Noise counts the landings of rounds alone, on over their lines, and anew after each `noise`.
+#[test]
+fn noise_counts_the_landings_of_rounds(rt: HostRuntime) -> Result<(), Fail> {
+    let alloc = rt.alloc();
+    let plan = small(alloc)?;
+    let mask = "00000000000000000000000000000080";
+    let together = format!(in alloc; "round 1\n{SECOND_ROUND}")?;
+    let apart = format!(in alloc; "noise 3 {mask}\nround 1\nland 0\nround 1\n")?;
+    let apart_rounds = format!(in alloc; "round 1\nland 0\n{SECOND_ROUND}")?;
+    assert!(rt; is_same_text(alloc, &plan, NOISY, &together)?, "two rounds");
+    assert!(rt;
+        is_same_text(alloc, &plan, &apart, &apart_rounds)?,
+        "two lines"
+    );
+    let anew = format!(in alloc; "noise 3 {mask}\nround 1\nnoise 3 {mask}\nround 1\n")?;
+    assert!(rt; is_same_text(alloc, &plan, &anew, "round 2\n")?, "anew");
+    let off = format!(in alloc; "noise 1 {mask}\nnoise off\nround 1\n")?;
+    assert!(rt; is_same_text(alloc, &plan, &off, "round 1\n")?, "off");
+    Ok(())
 }
 
 #[test]

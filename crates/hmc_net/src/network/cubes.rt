@@ -1,9 +1,13 @@
 //! The steps of cubes.
 
-ghost use Rattle.std.specs.Prelude.{◌≡◌, ◌<◌, ◌^◌, IfSome};
+ghost use Rattle.std.specs.Prelude.{◌≡◌, ◌<◌, ◌^◌, IfSome, List, Some};
 ghost use Rattle.hmc_codes.specs.Commands.{is_posted};
+ghost use Rattle.hmc_journal.specs.Event.{cause_of};
 ghost use Rattle.hmc_journal.specs.Next.{choice, goal_at, spread_entry, tag_of, ran_entry};
-ghost use Rattle.hmc_net.specs.Apply.{with_entry, to_of};
+ghost use Rattle.hmc_journal.specs.StepView.{StepView};
+ghost use Rattle.hmc_link.specs.StandsFor.{LinkStandsFor};
+ghost use Rattle.hmc_send.specs.LinkEntries.{LinkEntry};
+ghost use Rattle.hmc_net.specs.Apply.{with_entry, to_of, IsLinkAfter};
 ghost use Rattle.hmc_net.specs.NetState.{topology_of, net_view};
 ghost use Rattle.hmc_net.specs.Ready.{IsReady, IsLiftFor};
 
@@ -12,43 +16,34 @@ use hmc_codes::{Command, Lift, Unit};
 use hmc_crossbar::To;
 use hmc_cube::{Executed, Spread};
 use hmc_journal::{Cause, Goal, LastEntry};
+use hmc_link::Toward;
 use hmc_schedule::Step;
-use hmc_tokens::Intake;
 
 impl Network {
     // The front of the port's buffer goes on, or is dropped.
     pub(crate) fn shift(&mut self, port: u8)
         requires there { port ≡ self.old.port }
         requires ready { IsReady self.old }
-        ensures entry { self.new.last
-            ≡ choice (topology_of self.old) (net_view self.old) (Step.Shift 0 port) }
-        ensures state { self.new ≡ with_entry self.new.last self.old }
+        ensures entry { (view : StepView) →
+            LinkStandsFor self.old.sizes self.old.link (view.entries 0) →
+            self.new.last
+            ≡ choice (topology_of self.old) (net_view self.old view) (Step.Shift 0 port) }
+        ensures link { (entries : List LinkEntry) →
+            LinkStandsFor self.old.sizes self.old.link entries →
+            IsLinkAfter self.old self.new entries }
+        ensures parts { self.new
+            ≡ record (with_entry self.new.last self.old) { link = self.new.link } }
+        ensures idle { (cause : Cause) → cause_of self.new.last ≡ Some cause →
+            self.new.link ≡ self.old.link }
     {
-        if self.port_buffer.is_empty() {
-            self.last.idle(&Step::Shift(0, port), Cause::Empty);
-            return;
-        }
-        self.shift_front(port);
-    }
-
-    // The same. Where the buffer is empty, no packet is to be moved.
-    fn shift_front(&mut self, port: u8)
-        requires there { port ≡ self.old.port }
-        requires ready { IsReady self.old }
-        ensures entry { self.new.last
-            ≡ choice (topology_of self.old) (net_view self.old) (Step.Shift 0 port) }
-        ensures state { self.new ≡ with_entry self.new.last self.old }
-    {
-        let Some(front) = self.port_buffer.front() else {
+        let Some(front) = self.link.front(Toward::Forth) else {
             self.last.idle(&Step::Shift(0, port), Cause::Empty);
             return;
         };
-        let flits = front.flits();
         let setup = self.setup;
         let to = To::of(setup.shape, &front);
         let Some(goal) = goal_at(to) else {
-            let _ = self.port_buffer.take_out();
-            self.forth.leave(flits);
+            let _ = self.link.take(Toward::Forth);
             self.last.dropped(0, port);
             return;
         };
@@ -56,18 +51,26 @@ impl Network {
             self.last.idle(&Step::Shift(0, port), Cause::Full);
             return;
         }
-        let _ = self.port_buffer.take_out();
-        self.forth.leave(flits);
+        let _ = self.link.take(Toward::Forth);
         self.cube.enter(to, front);
         self.last.shifted(0, port, goal);
     }
 
     // The front of a vault's queue goes to its bank.
     pub(crate) fn spread(&mut self, vault: u8)
-        requires { vault < 2 ^ self.old.setup.shape.vault_bits }
-        ensures entry { self.new.last
-            ≡ choice (topology_of self.old) (net_view self.old) (Step.Spread 0 vault) }
-        ensures state { self.new ≡ with_entry self.new.last self.old }
+        requires there { vault < 2 ^ self.old.setup.shape.vault_bits }
+        requires ready { IsReady self.old }
+        ensures entry { (view : StepView) →
+            LinkStandsFor self.old.sizes self.old.link (view.entries 0) →
+            self.new.last
+            ≡ choice (topology_of self.old) (net_view self.old view) (Step.Spread 0 vault) }
+        ensures link { (entries : List LinkEntry) →
+            LinkStandsFor self.old.sizes self.old.link entries →
+            IsLinkAfter self.old self.new entries }
+        ensures parts { self.new
+            ≡ record (with_entry self.new.last self.old) { link = self.new.link } }
+        ensures idle { (cause : Cause) → cause_of self.new.last ≡ Some cause →
+            self.new.link ≡ self.old.link }
     {
         self.cube.invariant();
         let spread = self.cube.spread(vault);
@@ -79,9 +82,17 @@ impl Network {
         requires vault { vault < 2 ^ self.old.setup.shape.vault_bits }
         requires bank { bank < 2 ^ self.old.setup.shape.bank_bits }
         requires ready { IsReady self.old }
-        ensures entry { self.new.last
-            ≡ choice (topology_of self.old) (net_view self.old) (Step.Bank 0 vault bank) }
-        ensures state { self.new ≡ with_entry self.new.last self.old }
+        ensures entry { (view : StepView) →
+            LinkStandsFor self.old.sizes self.old.link (view.entries 0) →
+            self.new.last
+            ≡ choice (topology_of self.old) (net_view self.old view) (Step.Bank 0 vault bank) }
+        ensures link { (entries : List LinkEntry) →
+            LinkStandsFor self.old.sizes self.old.link entries →
+            IsLinkAfter self.old self.new entries }
+        ensures parts { self.new
+            ≡ record (with_entry self.new.last self.old) { link = self.new.link } }
+        ensures idle { (cause : Cause) → cause_of self.new.last ≡ Some cause →
+            self.new.link ≡ self.old.link }
     {
         if self.cube.bank_is_empty(vault, bank) {
             self.last.idle(&Step::Bank(0, vault, bank), Cause::Empty);
@@ -95,9 +106,17 @@ impl Network {
         requires vault { vault < 2 ^ self.old.setup.shape.vault_bits }
         requires bank { bank < 2 ^ self.old.setup.shape.bank_bits }
         requires ready { IsReady self.old }
-        ensures entry { self.new.last
-            ≡ choice (topology_of self.old) (net_view self.old) (Step.Bank 0 vault bank) }
-        ensures state { self.new ≡ with_entry self.new.last self.old }
+        ensures entry { (view : StepView) →
+            LinkStandsFor self.old.sizes self.old.link (view.entries 0) →
+            self.new.last
+            ≡ choice (topology_of self.old) (net_view self.old view) (Step.Bank 0 vault bank) }
+        ensures link { (entries : List LinkEntry) →
+            LinkStandsFor self.old.sizes self.old.link entries →
+            IsLinkAfter self.old self.new entries }
+        ensures parts { self.new
+            ≡ record (with_entry self.new.last self.old) { link = self.new.link } }
+        ensures idle { (cause : Cause) → cause_of self.new.last ≡ Some cause →
+            self.new.link ≡ self.old.link }
     {
         let unit = Unit::Bank {
             cube: 0,
@@ -111,9 +130,17 @@ impl Network {
     // The registers execute the front of their queue.
     pub(crate) fn registers(&mut self)
         requires { IsReady self.old }
-        ensures entry { self.new.last
-            ≡ choice (topology_of self.old) (net_view self.old) (Step.Registers 0) }
-        ensures state { self.new ≡ with_entry self.new.last self.old }
+        ensures entry { (view : StepView) →
+            LinkStandsFor self.old.sizes self.old.link (view.entries 0) →
+            self.new.last
+            ≡ choice (topology_of self.old) (net_view self.old view) (Step.Registers 0) }
+        ensures link { (entries : List LinkEntry) →
+            LinkStandsFor self.old.sizes self.old.link entries →
+            IsLinkAfter self.old self.new entries }
+        ensures parts { self.new
+            ≡ record (with_entry self.new.last self.old) { link = self.new.link } }
+        ensures idle { (cause : Cause) → cause_of self.new.last ≡ Some cause →
+            self.new.link ≡ self.old.link }
     {
         if self.cube.register_queue_is_empty() {
             self.last.idle(&Step::Registers(0), Cause::Empty);
@@ -125,9 +152,17 @@ impl Network {
     // The same. Where the queue is empty, no request is to be moved.
     fn registers_front(&mut self)
         requires { IsReady self.old }
-        ensures entry { self.new.last
-            ≡ choice (topology_of self.old) (net_view self.old) (Step.Registers 0) }
-        ensures state { self.new ≡ with_entry self.new.last self.old }
+        ensures entry { (view : StepView) →
+            LinkStandsFor self.old.sizes self.old.link (view.entries 0) →
+            self.new.last
+            ≡ choice (topology_of self.old) (net_view self.old view) (Step.Registers 0) }
+        ensures link { (entries : List LinkEntry) →
+            LinkStandsFor self.old.sizes self.old.link entries →
+            IsLinkAfter self.old self.new entries }
+        ensures parts { self.new
+            ≡ record (with_entry self.new.last self.old) { link = self.new.link } }
+        ensures idle { (cause : Cause) → cause_of self.new.last ≡ Some cause →
+            self.new.link ≡ self.old.link }
     {
         let ran = self.cube.registers();
         let unit = Unit::Registers { cube: 0 };
@@ -138,9 +173,17 @@ impl Network {
     pub(crate) fn lift(&mut self, from: Lift)
         requires there { IsLiftFor (topology_of self.old) 0 from }
         requires ready { IsReady self.old }
-        ensures entry { self.new.last
-            ≡ choice (topology_of self.old) (net_view self.old) (Step.Lift 0 from) }
-        ensures state { self.new ≡ with_entry self.new.last self.old }
+        ensures entry { (view : StepView) →
+            LinkStandsFor self.old.sizes self.old.link (view.entries 0) →
+            self.new.last
+            ≡ choice (topology_of self.old) (net_view self.old view) (Step.Lift 0 from) }
+        ensures link { (entries : List LinkEntry) →
+            LinkStandsFor self.old.sizes self.old.link entries →
+            IsLinkAfter self.old self.new entries }
+        ensures parts { self.new
+            ≡ record (with_entry self.new.last self.old) { link = self.new.link } }
+        ensures idle { (cause : Cause) → cause_of self.new.last ≡ Some cause →
+            self.new.link ≡ self.old.link }
     {
         if self.cube.answers_are_empty(from) {
             self.last.idle(&Step::Lift(0, from), Cause::Empty);
@@ -153,20 +196,28 @@ impl Network {
     fn lift_answer(&mut self, from: Lift)
         requires there { IsLiftFor (topology_of self.old) 0 from }
         requires ready { IsReady self.old }
-        ensures entry { self.new.last
-            ≡ choice (topology_of self.old) (net_view self.old) (Step.Lift 0 from) }
-        ensures state { self.new ≡ with_entry self.new.last self.old }
+        ensures entry { (view : StepView) →
+            LinkStandsFor self.old.sizes self.old.link (view.entries 0) →
+            self.new.last
+            ≡ choice (topology_of self.old) (net_view self.old view) (Step.Lift 0 from) }
+        ensures link { (entries : List LinkEntry) →
+            LinkStandsFor self.old.sizes self.old.link entries →
+            IsLinkAfter self.old self.new entries }
+        ensures parts { self.new
+            ≡ record (with_entry self.new.last self.old) { link = self.new.link } }
+        ensures idle { (cause : Cause) → cause_of self.new.last ≡ Some cause →
+            self.new.link ≡ self.old.link }
     {
         let Some(front) = self.cube.lift_front(from) else {
             self.last.idle(&Step::Lift(0, from), Cause::Empty);
             return;
         };
-        if !self.back.room() {
+        if !self.link.room(Toward::Back) {
             self.last.idle(&Step::Lift(0, from), Cause::Full);
             return;
         }
         let _ = self.cube.lift(from);
-        self.back.hand(front);
+        self.link.hand(Toward::Back, front);
         self.last.lifted(0, from, self.port);
     }
 }

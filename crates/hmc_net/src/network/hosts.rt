@@ -1,27 +1,41 @@
 //! The steps of hosts.
 
-ghost use Rattle.std.specs.Prelude.{◌≡◌};
+ghost use Rattle.std.specs.Prelude.{◌≡◌, true, List, Some, length, nat_lt};
+ghost use Rattle.hmc_codes.specs.Link.{LinkFields};
+ghost use Rattle.hmc_journal.specs.Event.{cause_of};
 ghost use Rattle.hmc_journal.specs.Next.{choice, gave_entry, took_entry};
+ghost use Rattle.hmc_journal.specs.StepView.{StepView};
+ghost use Rattle.hmc_link.specs.StandsFor.{LinkStandsFor};
+ghost use Rattle.hmc_send.specs.LinkEntries.{LinkEntry};
+ghost use Rattle.hmc_net.specs.Apply.{with_entry, IsLinkAfter};
 ghost use Rattle.hmc_net.specs.Gives.{IsGiven, given_to, cause_by};
-ghost use Rattle.hmc_net.specs.Apply.{with_entry};
 ghost use Rattle.hmc_net.specs.NetState.{topology_of, net_view};
 ghost use Rattle.hmc_net.specs.Ready.{IsReady};
-ghost use Rattle.hmc_net.specs.Wire.{has_output_room};
 
-use crate::{Network, Wire};
-use hmc_host::{Given, Hindrance, Settled};
+use crate::Network;
+use hmc_crossbar::PortBuffer;
+use hmc_host::{Given, Hindrance, HostBuffer, Settled};
 use hmc_journal::{Cause, LastEntry};
+use hmc_link::{Link, Toward};
 use hmc_schedule::Step;
-use hmc_tokens::Intake;
 
 impl Network {
     // The host gives its next request to the link.
     pub(crate) fn give(&mut self)
-        ensures entry { self.new.last
-            ≡ choice (topology_of self.old) (net_view self.old) (Step.Give 0) }
-        ensures state { self.new ≡ with_entry self.new.last self.old }
+        requires { IsReady self.old }
+        ensures entry { (view : StepView) →
+            LinkStandsFor self.old.sizes self.old.link (view.entries 0) →
+            self.new.last
+            ≡ choice (topology_of self.old) (net_view self.old view) (Step.Give 0) }
+        ensures link { (entries : List LinkEntry) →
+            LinkStandsFor self.old.sizes self.old.link entries →
+            IsLinkAfter self.old self.new entries }
+        ensures parts { self.new
+            ≡ record (with_entry self.new.last self.old) { link = self.new.link } }
+        ensures idle { (cause : Cause) → cause_of self.new.last ≡ Some cause →
+            self.new.link ≡ self.old.link }
     {
-        let room = self.forth.room();
+        let room = self.link.room(Toward::Forth);
         if let Some(hindrance) = self.host.hindrance(room) {
             self.last.idle(&Step::Give(0), cause_of(hindrance));
             return;
@@ -31,61 +45,71 @@ impl Network {
 
     // The same. Where nothing is given, no packet is to be moved.
     fn give_next(&mut self, room: bool)
-        requires { room ≡ has_output_room self.old.forth }
-        ensures entry { self.new.last
-            ≡ choice (topology_of self.old) (net_view self.old) (Step.Give 0) }
-        ensures state { self.new ≡ with_entry self.new.last self.old }
+        requires ready { IsReady self.old }
+        requires room { room ≡ nat_lt (length self.old.link.a.queue) self.old.link.a.setup.output }
+        ensures entry { (view : StepView) →
+            LinkStandsFor self.old.sizes self.old.link (view.entries 0) →
+            self.new.last
+            ≡ choice (topology_of self.old) (net_view self.old view) (Step.Give 0) }
+        ensures link { (entries : List LinkEntry) →
+            LinkStandsFor self.old.sizes self.old.link entries →
+            IsLinkAfter self.old self.new entries }
+        ensures parts { self.new
+            ≡ record (with_entry self.new.last self.old) { link = self.new.link } }
+        ensures idle { (cause : Cause) → cause_of self.new.last ≡ Some cause →
+            self.new.link ≡ self.old.link }
     {
         let given = self.host.give(room);
-        hand_given(&mut self.forth, &given);
+        hand_given(&mut self.link, &given);
         note_given(&mut self.last, &given);
     }
 
     // The host takes the answer of the packet that came first, or drops that.
     pub(crate) fn take(&mut self)
         requires { IsReady self.old }
-        ensures entry { self.new.last
-            ≡ choice (topology_of self.old) (net_view self.old) (Step.Take 0) }
-        ensures state { self.new ≡ with_entry self.new.last self.old }
+        ensures entry { (view : StepView) →
+            LinkStandsFor self.old.sizes self.old.link (view.entries 0) →
+            self.new.last
+            ≡ choice (topology_of self.old) (net_view self.old view) (Step.Take 0) }
+        ensures link { (entries : List LinkEntry) →
+            LinkStandsFor self.old.sizes self.old.link entries →
+            IsLinkAfter self.old self.new entries }
+        ensures parts { self.new
+            ≡ record (with_entry self.new.last self.old) { link = self.new.link } }
+        ensures idle { (cause : Cause) → cause_of self.new.last ≡ Some cause →
+            self.new.link ≡ self.old.link }
     {
-        if self.host_buffer.is_empty() {
-            self.last.idle(&Step::Take(0), Cause::Empty);
-            return;
-        }
-        self.take_front();
-    }
-
-    // The same. Where the buffer is empty, no packet is to be moved.
-    fn take_front(&mut self)
-        requires { IsReady self.old }
-        ensures entry { self.new.last
-            ≡ choice (topology_of self.old) (net_view self.old) (Step.Take 0) }
-        ensures state { self.new ≡ with_entry self.new.last self.old }
-    {
-        let Some(front) = self.host_buffer.front() else {
+        let Some(front) = self.link.front(Toward::Back) else {
             self.last.idle(&Step::Take(0), Cause::Empty);
             return;
         };
-        let _ = self.host_buffer.take_out();
-        self.back.leave(front.flits());
+        let _ = self.link.take(Toward::Back);
         let settled = self.host.settle(&front);
         note_settled(&mut self.last, &settled);
     }
 }
 
 // Hands to the link what the host gave, if it gave something.
-fn hand_given(forth: &mut Wire, given: &Given)
-    requires { IsGiven given.now forth.old }
-    ensures { forth.new ≡ given_to given.now forth.old }
+fn hand_given(link: &mut Link<HostBuffer, PortBuffer>, given: &Given)
+    requires going { link.old.going ≡ true }
+    requires fit { IsGiven given.now (nat_lt (length link.old.a.queue) link.old.a.setup.output) }
+    ensures stands { (sizes : LinkFields) (entries : List LinkEntry) →
+        LinkStandsFor sizes link.old entries →
+        LinkStandsFor sizes link.new (given_to given.now entries) }
+    ensures going { link.new.going ≡ true }
+    ensures same { (cause : Cause) → cause_of (gave_entry 0 given.now) ≡ Some cause →
+        link.new ≡ link.old }
 {
-    if let Given::Gave {
-        packet,
-        request,
-        ..
-    } = given
-    {
-        request.invariant();
-        forth.hand(*packet);
+    match given {
+        Given::Gave {
+            packet,
+            request,
+            ..
+        } => {
+            request.invariant();
+            link.hand(Toward::Forth, *packet);
+        }
+        Given::Ended | Given::Fence | Given::Tags | Given::Full => {}
     }
 }
 

@@ -1,46 +1,134 @@
 //! The steps of links.
 
-ghost use Rattle.std.specs.Prelude.{◌≡◌, ◌<◌};
-ghost use Rattle.hmc_schedule.specs.declared.step.Step.TheVariants.{Send, Land};
+ghost use Rattle.std.specs.Prelude.{◌≡◌, ◌<◌, List, Some, length};
+ghost use Rattle.hmc_journal.specs.Event.{cause_of};
 ghost use Rattle.hmc_journal.specs.Next.{choice};
-ghost use Rattle.hmc_net.specs.Apply.{with_entry};
+ghost use Rattle.hmc_journal.specs.StepView.{StepView};
+ghost use Rattle.hmc_link.specs.StandsFor.{LinkStandsFor};
+ghost use Rattle.hmc_send.specs.LinkEntries.{LinkEntry};
+ghost use Rattle.hmc_net.specs.Apply.{with_entry, IsLinkAfter};
+ghost use Rattle.hmc_net.specs.Links.{sent_by, landed_by, outcome_of, IsCameFlit};
 ghost use Rattle.hmc_net.specs.NetState.{topology_of, net_view};
 ghost use Rattle.hmc_net.specs.Ready.{IsReady};
 
 use crate::Network;
-use hmc_codes::Flit;
+use crate::network::toward_of;
+use hmc_codes::{Flit, ZERO_FLIT};
+use hmc_journal::{Cause, LastEntry};
+use hmc_link::{LinkLanded, LinkSent};
+use hmc_packet::{Feed, Landed, Outcome, constant_flits};
+use hmc_schedule::Step;
 
 impl Network {
     // A flit is sent in a direction.
     pub(crate) fn send(&mut self, direction: u8)
-        requires { direction < 2 }
-        ensures entry { self.new.last
-            ≡ choice (topology_of self.old) (net_view self.old) (Send direction) }
-        ensures state { self.new ≡ with_entry self.new.last self.old }
-    {
-        if direction == 0 {
-            let return_pointer = self.back.accepted();
-            self.forth.send(0, return_pointer, &mut self.last);
-        } else {
-            let return_pointer = self.forth.accepted();
-            self.back.send(1, return_pointer, &mut self.last);
-        }
-    }
-
-    // The next flit of a direction lands.
-    pub(crate) fn land(&mut self, direction: u8, mask: &Flit)
         requires there { direction < 2 }
         requires ready { IsReady self.old }
-        ensures entry { self.new.last
-            ≡ choice (topology_of self.old) (net_view self.old) (Land direction mask.now) }
-        ensures state { self.new ≡ with_entry self.new.last self.old }
+        ensures entry { (view : StepView) →
+            LinkStandsFor self.old.sizes self.old.link (view.entries 0) →
+            self.new.last
+            ≡ choice (topology_of self.old) (net_view self.old view) (Step.Send direction) }
+        ensures link { (entries : List LinkEntry) →
+            LinkStandsFor self.old.sizes self.old.link entries →
+            IsLinkAfter self.old self.new entries }
+        ensures parts { self.new
+            ≡ record (with_entry self.new.last self.old) { link = self.new.link } }
+        ensures idle { (cause : Cause) → cause_of self.new.last ≡ Some cause →
+            self.new.link ≡ self.old.link }
     {
-        if direction == 0 {
-            self.forth
-                .land(0, mask, &mut self.port_buffer, &mut self.last);
-        } else {
-            self.back
-                .land(1, mask, &mut self.host_buffer, &mut self.last);
+        let sent = self.link.send(toward_of(direction), Feed::Waiting);
+        note_sent(&mut self.last, direction, &sent);
+    }
+
+    // The next flit of a direction lands under a mask.
+    pub(crate) fn land(&mut self, direction: u8, mask: &Flit)
+        requires there { (direction < 2) × (length mask.now ≡ 16) }
+        requires ready { IsReady self.old }
+        ensures entry { (view : StepView) →
+            LinkStandsFor self.old.sizes self.old.link (view.entries 0) →
+            self.new.last
+            ≡ choice (topology_of self.old) (net_view self.old view)
+            (Step.Land direction mask.now) }
+        ensures link { (entries : List LinkEntry) →
+            LinkStandsFor self.old.sizes self.old.link entries →
+            IsLinkAfter self.old self.new entries }
+        ensures parts { self.new
+            ≡ record (with_entry self.new.last self.old) { link = self.new.link } }
+        ensures idle { (cause : Cause) → cause_of self.new.last ≡ Some cause →
+            self.new.link ≡ self.old.link }
+    {
+        let landed = self.link.land(toward_of(direction), *mask);
+        note_landed(&mut self.last, direction, &landed);
+    }
+
+    // The receiver of a direction loses its framing.
+    pub(crate) fn unlock(&mut self, direction: u8)
+        requires there { direction < 2 }
+        requires ready { IsReady self.old }
+        ensures entry { (view : StepView) →
+            LinkStandsFor self.old.sizes self.old.link (view.entries 0) →
+            self.new.last
+            ≡ choice (topology_of self.old) (net_view self.old view) (Step.Unlock direction) }
+        ensures link { (entries : List LinkEntry) →
+            LinkStandsFor self.old.sizes self.old.link entries →
+            IsLinkAfter self.old self.new entries }
+        ensures parts { self.new
+            ≡ record (with_entry self.new.last self.old) { link = self.new.link } }
+        ensures idle { (cause : Cause) → cause_of self.new.last ≡ Some cause →
+            self.new.link ≡ self.old.link }
+    {
+        self.link.unlock(toward_of(direction));
+        self.last.unlocked(direction);
+    }
+}
+
+// The last entry becomes that of a send.
+fn note_sent(last: &mut LastEntry, direction: u8, sent: &LinkSent)
+    ensures { last.new ≡ sent_by direction sent.now }
+{
+    match sent {
+        LinkSent::Full => last.idle(&Step::Send(direction), Cause::Full),
+        LinkSent::Starved => last.idle(&Step::Send(direction), Cause::Starved),
+        LinkSent::Out { flit, what } => last.sent(direction, *what, flit),
+    }
+}
+
+// A flit is 16 bytes.
+fn flit_is_long(flit: &Flit)
+    ensures { length flit.now ≡ 16 }
+{
+    let _ = flit.len();
+}
+
+// The last entry becomes that of a landing.
+fn note_landed(last: &mut LastEntry, direction: u8, landed: &LinkLanded)
+    ensures entry { last.new ≡ landed_by direction landed.now }
+    ensures size { IsCameFlit landed.now }
+{
+    constant_flits();
+    match landed {
+        LinkLanded::Empty => last.idle(&Step::Land(direction, ZERO_FLIT), Cause::Empty),
+        LinkLanded::Passed(flit) => last.passed(direction, flit),
+        LinkLanded::Came { flit, outcome } => {
+            flit_is_long(flit);
+            last.landed(direction, flit, outcome_of(outcome));
         }
+    }
+}
+
+// The outcome of a landing, without its packet.
+fn outcome_of(landed: &Landed) -> Outcome
+    ensures { result ≡ outcome_of landed.now }
+{
+    match landed {
+        Landed::Quiet => Outcome::Quiet,
+        Landed::Trained => Outcome::Trained,
+        Landed::Gathered => Outcome::Gathered,
+        Landed::Accepted(_) => Outcome::Accepted,
+        Landed::Poisoned(_) => Outcome::Poisoned,
+        Landed::Repeat => Outcome::Repeat,
+        Landed::AbortedBad(bad) => Outcome::AbortedBad(*bad),
+        Landed::AbortedOrder => Outcome::AbortedOrder,
+        Landed::Ran(kind) => Outcome::Ran(*kind),
     }
 }

@@ -1,8 +1,8 @@
 //! The line of each entry.
 
 use hmc_codes::{Answer, Command, Flit, Lift, Memory, Payload, Request, Unit};
-use hmc_journal::{Cause, Entry, Goal, Outcome};
-use hmc_packet::What;
+use hmc_journal::{Cause, Entry, Goal};
+use hmc_packet::{Bad, Kind, Outcome, What};
 use hmc_schedule::Step;
 use std::alloc::Global;
 use std::test::Fail;
@@ -206,14 +206,47 @@ fn flits_sent(rt: HostRuntime) -> Result<(), Fail> {
 fn flits_landed(rt: HostRuntime) -> Result<(), Fail> {
     let entries = [
         landed(Outcome::Quiet),
+        landed(Outcome::Trained),
         landed(Outcome::Gathered),
         landed(Outcome::Accepted),
         landed(Outcome::Poisoned),
+        landed(Outcome::Repeat),
+        landed(Outcome::Ran(Kind::Start)),
+        landed(Outcome::Ran(Kind::Clear)),
     ];
     let lines = "landed 4 b000004000000000000204000d2ee099 quiet\n\
+        landed 4 b000004000000000000204000d2ee099 trained\n\
         landed 4 b000004000000000000204000d2ee099 gathered\n\
         landed 4 b000004000000000000204000d2ee099 accepted\n\
-        landed 4 b000004000000000000204000d2ee099 poisoned\n";
+        landed 4 b000004000000000000204000d2ee099 poisoned\n\
+        landed 4 b000004000000000000204000d2ee099 repeat\n\
+        landed 4 b000004000000000000204000d2ee099 ran start\n\
+        landed 4 b000004000000000000204000d2ee099 ran clear\n";
+    assert!(rt; are_lines(rt.alloc(), &entries, lines)?, "lines");
+    Ok(())
+}
+
+#[test]
+fn flits_that_abort(rt: HostRuntime) -> Result<(), Fail> {
+    let entries = [
+        landed(Outcome::AbortedBad(Bad::Length)),
+        landed(Outcome::AbortedBad(Bad::Command)),
+        landed(Outcome::AbortedBad(Bad::Reserved)),
+        landed(Outcome::AbortedBad(Bad::Crc)),
+        landed(Outcome::AbortedOrder),
+        Entry::Unlocked { direction: 17 },
+        Entry::Passed {
+            direction: 6,
+            flit: FLIT,
+        },
+    ];
+    let lines = "landed 4 b000004000000000000204000d2ee099 aborted length\n\
+        landed 4 b000004000000000000204000d2ee099 aborted command\n\
+        landed 4 b000004000000000000204000d2ee099 aborted reserved\n\
+        landed 4 b000004000000000000204000d2ee099 aborted crc\n\
+        landed 4 b000004000000000000204000d2ee099 aborted order\n\
+        unlocked 17\n\
+        passed 6 b000004000000000000204000d2ee099\n";
     assert!(rt; are_lines(rt.alloc(), &entries, lines)?, "lines");
     Ok(())
 }
@@ -229,6 +262,7 @@ fn idle_steps(rt: HostRuntime) -> Result<(), Fail> {
         idle(Step::Give(1), Cause::Fence),
         idle(Step::Give(7), Cause::Tags),
         idle(Step::Send(13), Cause::Full),
+        idle(Step::Send(8), Cause::Starved),
         idle(Step::Land(2, FLIT), Cause::Empty),
         idle(Step::Shift(1, 3), Cause::Full),
         idle(Step::Spread(2, 30), Cause::Empty),
@@ -245,6 +279,7 @@ fn idle_steps(rt: HostRuntime) -> Result<(), Fail> {
         idle give 1 fence\n\
         idle give 7 tags\n\
         idle send 13 full\n\
+        idle send 8 starved\n\
         idle land 2 empty\n\
         idle shift 1 3 full\n\
         idle spread 2 30 empty\n\

@@ -5,6 +5,7 @@ use Rattle.hmc_send.specs.LinkEntries.{other}
 use Rattle.hmc_link.specs.Held.{EndFields}
 use Rattle.hmc_link.specs.Landings.{stored}
 use Rattle.hmc_link.proofs.CrossLemmas.{empty-answer, empty-stands, lands-of, transit-few, passed-answer, came-answer, came-stands}
+use Rattle.hmc_link.proofs.Idle.{line-kept}
 use Rattle.hmc_link.proofs.crossing.cross.Goals as goal
 
 pub returns-in_default-clause-answer : goal.returns-in_default-clause-answer
@@ -41,3 +42,6 @@ returns-in-Some-land-clause-answer g c link d past both =
 pub returns-in-Some-land-clause-stands : goal.returns-in-Some-land-clause-stands
 returns-in-Some-land-clause-stands g c link d past both not_passed =
     came-stands link d past c.args.mask.now c.in-Some.sent c.under_mask-flit.result c.changes.result c.args.from.now c.args.to.now c.take_flit.new.self c.arrive.new.self c.land.new.self c.in-Some-land.outcome both c.in-Some.ensures.front c.under_mask-flit.ensures c.changes.ensures c.in-Some-land.ensures.answer c.in-Some-land.ensures.stands c.in-Some.ensures.left c.arrive.ensures
+
+pub returns-in_default-clause-from_idle : goal.returns-in_default-clause-from_idle
+returns-in_default-clause-from_idle g c none = line-kept c.args.from.now c.take_flit.new.self c.in_default.ensures.front c.in_default.ensures.left

@@ -10,4 +10,4 @@ lines-preserved g c = memory_more _ _ _ _ _ _ c.lines.block c.get16-bytes.ensure
 
 pub returns-in-Err : goal.returns-in-Err
 returns-in-Err g c =
-    memory_ended _ _ _ _ _ _ c.lines.block _ c.in-Err.failed (omega (arith, c.invariant.ensures.state.capacity, c.capacity-blocks.ensures)) c.get16-bytes.ensures c.lines.invariant c.in-Err.ensures
+    memory_ended _ _ _ _ _ _ c.lines.block _ (omega (arith, c.invariant.ensures.state.capacity, c.capacity-blocks.ensures)) c.get16-bytes.ensures c.lines.invariant c.in-Err.ensures

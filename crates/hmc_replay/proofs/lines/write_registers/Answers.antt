@@ -13,6 +13,6 @@ lines-preserved g c = registers_more _ _ _ _ _ _ c.lines.place
     c.lines.invariant c.in-Ok.ensures
 
 pub returns-in-Err : goal.returns-in-Err
-returns-in-Err g c = registers_ended _ _ _ _ _ _ c.lines.place _ c.in-Err.failed c.lines-test.true
+returns-in-Err g c = registers_ended _ _ _ _ _ _ c.lines.place _ c.lines-test.true
     (same_value _ _ _ (register_there _ c.lines.place _ c.invariant.ensures.state.are_registers.sixteen c.lines-test.true c.register.ensures) c.unwrap-value.ensures)
     c.lines.invariant c.in-Err.ensures

@@ -14,6 +14,7 @@ use Rattle.hmc_link.specs.Landings.{link_landed, removed}
 use Rattle.hmc_link.specs.StandsFor.{LinkStandsFor}
 use Rattle.hmc_link.proofs.Joins.{forth-both, back-both, step-forth, step-back, keep-forth, keep-back}
 use Rattle.hmc_link.proofs.LinkLandings.{ordered, land-steps, went}
+use Rattle.hmc_link.proofs.Idle.{landing-kept, landing-kept-back}
 use Rattle.hmc_link.proofs.link.Link.land.Goals as goal
 
 pub invariant_of-self : goal.invariant_of-self
@@ -81,3 +82,13 @@ returns-in-Back-clause-list g c link past s caught =
     (land-list Back c.args.mask c.cross-landed-in-Back.result c.self.inside.b c.self.inside.a c.cross-landed-in-Back.new.from c.cross-landed-in-Back.new.to
     (land-steps Back c.args.mask c.cross-landed-in-Back.result c.self.inside.b c.self.inside.a c.cross-landed-in-Back.new.from c.cross-landed-in-Back.new.to c.cross-landed-in-Back.ensures.stands caught)
     caught link past both (c.cross-landed-in-Back.ensures.answer link Back past both))
+
+pub returns-in-Forth-clause-idle : goal.returns-in-Forth-clause-idle
+returns-in-Forth-clause-idle g c none =
+    landing-kept (record { a = c.self.inside.a; b = c.self.inside.b; going = c.self.inside.going; forth = c.self.inside.forth; back = c.self.inside.back }) _ _ _ _ c.cross-landed.result none
+    (ap (λ (h : LinkHeld). h.going) c.self.view_is ∙ c.requires) (c.cross-landed.ensures.from_idle none) (c.cross-landed.ensures.to_idle none) c.has_passed.ensures c.without_landed-self-inside.ensures ∙ c.self.view_is
+
+pub returns-in-Back-clause-idle : goal.returns-in-Back-clause-idle
+returns-in-Back-clause-idle g c none =
+    landing-kept-back (record { a = c.self.inside.a; b = c.self.inside.b; going = c.self.inside.going; forth = c.self.inside.forth; back = c.self.inside.back }) _ _ _ _ c.cross-landed-in-Back.result none
+    (ap (λ (h : LinkHeld). h.going) c.self.view_is ∙ c.requires) (c.cross-landed-in-Back.ensures.to_idle none) (c.cross-landed-in-Back.ensures.from_idle none) c.has_passed-in-Back.ensures c.without_landed-self-inside-in-Back.ensures ∙ c.self.view_is

@@ -1,6 +1,6 @@
 use Rattle.std.proofs.Common.{refl}
 use Rattle.hmc_link.proofs.Numbers.{numbers-kept}
-use Rattle.std.proofs.Common.{◌≡◌, ◌∙◌, sym, subst}
+use Rattle.std.proofs.Common.{◌≡◌, ◌∙◌, sym, ap, subst}
 use Rattle.hmc_send.specs.IsSender.{IsFed}
 use Rattle.hmc_send.specs.Choice.{choice}
 use Rattle.hmc_send.specs.LinkCalls.{LinkCall, is_full, view_in}
@@ -49,3 +49,11 @@ returns-in-Back-clause-stands g c = step-back (λ (d : Toward). LinkCall.send d 
     (send-steps Back c.self.inside.b c.self.inside.a c.send-in-Back.new.self c.args.feed c.send-in-Back.result
     (subst (λ (e : EndFields). IsFed e.sender.under_way c.args.feed) (sends-back c.args.toward _ c.args.self.now c.in-Back.is c.self.view_is) c.requires.feed) c.feed_is_bytes.ensures c.send-in-Back.ensures.answer c.send-in-Back.ensures.stands)
     (numbers-kept (LinkCall.send Back c.args.feed) _ _ refl refl refl)
+
+pub returns-in-Forth-clause-idle : goal.returns-in-Forth-clause-idle
+returns-in-Forth-clause-idle g c none =
+    ap (λ (e : EndFields). record { a = e; b = c.self.inside.b; going = c.self.inside.going; forth = c.self.inside.forth; back = c.self.inside.back }) (c.send.ensures.idle none) ∙ c.self.view_is
+
+pub returns-in-Back-clause-idle : goal.returns-in-Back-clause-idle
+returns-in-Back-clause-idle g c none =
+    ap (λ (e : EndFields). record { a = c.self.inside.a; b = e; going = c.self.inside.going; forth = c.self.inside.forth; back = c.self.inside.back }) (c.send-in-Back.ensures.idle none) ∙ c.self.view_is

@@ -1,8 +1,6 @@
 -- New parts fit together.
-use Rattle.std.proofs.Common.{◌∙◌, ap}
-use Rattle.hmc_codes.specs.Link.{LinkFields}
+use Rattle.std.proofs.Common.{ap}
 use Rattle.hmc_host.specs.Host.{HostFields}
-use Rattle.hmc_net.specs.Wire.{DirectionState}
 use Rattle.hmc_net.proofs.Opening.{opened_shape}
 use Rattle.hmc_net.proofs.network.Network.opening.Goals as goal
 
@@ -14,8 +12,4 @@ invariant_of-result c =
       is_port = c.requires;
       shape = shaped.0;
       queue = shaped.1;
-      forth = ap (λ (w : DirectionState). w.sizes) c.in_ok-forth.ensures;
-      back = ap (λ (w : DirectionState). w.sizes) c.in_ok-back.ensures;
-      buffer_size = c.in_ok-port_buffer.ensures.size ∙ ap (λ (z : LinkFields). z.tokens) c.sizes.view_is;
-      host_buffer_size = c.in_ok-host_buffer.ensures.size ∙ ap (λ (z : LinkFields). z.tokens) c.sizes.view_is;
     }

@@ -1,33 +1,31 @@
--- What is sent is an entry.
-use Rattle.std.proofs.Common.{◌≡◌, ◌∙◌, ap, subst, arith}
-use Rattle.hmc_journal.specs.Next.{sent_entry}
+-- What is sent is the entry of the definition.
+use Rattle.std.proofs.Common.{◌∙◌, ap, sym, subst}
+use Rattle.hmc_link.specs.Held.{sending_end}
+use Rattle.hmc_packet.specs.declared.feed.Feed.TheVariants.{Waiting}
+use Rattle.hmc_send.specs.IsSender.{IsFed}
+use Rattle.hmc_link.specs.StandsFor.{LinkStandsFor}
+use Rattle.hmc_journal.specs.Event.{cause_of}
 use Rattle.hmc_net.specs.NetState.{NetState}
-use Rattle.hmc_net.specs.Wire.{wire_view, after_send}
-use Rattle.hmc_net.proofs.Choices.{forth_entry, back_entry, forth_held, back_held}
+use Rattle.hmc_net.proofs.Linking.{send_entry, linked_send, idle_sent}
 use Rattle.hmc_net.proofs.network.Network.send.Goals as goal
 
-pub returns-then-direction-eq0-clause-entry : goal.returns-then-direction-eq0-clause-entry
-returns-then-direction-eq0-clause-entry c =
-    forth_entry c.args.self.now c.args.direction c.accepted-return_pointer.result c.send.new.last c.if-direction-eq0.true (subst (λ (n : NetState). n.forth.sizes ≡ n.sizes) c.self.view_is c.self.invariant.forth)
-    (c.accepted-return_pointer.ensures.value ∙ ap (λ (n : NetState). n.back.accepted) c.self.view_is)
-    (c.send.ensures.entry ∙ ap (λ (n : NetState). sent_entry n.forth.sizes 0 (wire_view n.forth c.accepted-return_pointer.result) n.forth.output) c.self.view_is)
+pub send-sent-requires-clause-going : goal.send-sent-requires-clause-going
+send-sent-requires-clause-going c = ap (λ (n : NetState). n.link.going) c.self.view_is ∙ c.requires.ready.link.going
 
-pub returns-then-direction-eq0-clause-state : goal.returns-then-direction-eq0-clause-state
-returns-then-direction-eq0-clause-state c =
-    ap (λ (n : NetState). record n { forth = c.send.new.self; last = c.send.new.last }) c.self.view_is ∙
-    ap (λ (n : NetState). record n { last = c.send.new.last }) (forth_held c.args.self.now c.accepted-return_pointer.result c.send.new.self c.send.new.last
-    (c.send.ensures.entry ∙ ap (λ (n : NetState). sent_entry n.forth.sizes 0 (wire_view n.forth c.accepted-return_pointer.result) n.forth.output) c.self.view_is)
-    (c.send.ensures.state ∙ ap (λ (n : NetState). after_send c.send.new.last n.forth) c.self.view_is))
+pub send-sent-requires-clause-feed : goal.send-sent-requires-clause-feed
+send-sent-requires-clause-feed c = subst (λ (n : NetState). IsFed (sending_end c.toward_of.result n.link).sender.under_way Waiting) (sym c.self.view_is) (c.requires.ready.link.fed c.toward_of.result)
 
-pub returns-else-direction-eq0-clause-entry : goal.returns-else-direction-eq0-clause-entry
-returns-else-direction-eq0-clause-entry c =
-    back_entry c.args.self.now c.args.direction c.accepted-return_pointer-else-direction-eq0.result c.send-else-direction-eq0.new.last (omega arith) (subst (λ (n : NetState). n.back.sizes ≡ n.sizes) c.self.view_is c.self.invariant.back)
-    (c.accepted-return_pointer-else-direction-eq0.ensures.value ∙ ap (λ (n : NetState). n.forth.accepted) c.self.view_is)
-    (c.send-else-direction-eq0.ensures.entry ∙ ap (λ (n : NetState). sent_entry n.back.sizes 1 (wire_view n.back c.accepted-return_pointer-else-direction-eq0.result) n.back.output) c.self.view_is)
+pub returns-clause-entry : goal.returns-clause-entry
+returns-clause-entry c = λ view stands.
+    send_entry c.args.self.now view c.args.direction c.toward_of.result c.send-sent.result c.note_sent.new.last c.requires.there c.toward_of.ensures
+    (c.send-sent.ensures.answer c.args.self.now.sizes (view.entries 0) (subst (λ (n : NetState). LinkStandsFor c.args.self.now.sizes n.link (view.entries 0)) (sym c.self.view_is) stands)) c.note_sent.ensures
 
-pub returns-else-direction-eq0-clause-state : goal.returns-else-direction-eq0-clause-state
-returns-else-direction-eq0-clause-state c =
-    ap (λ (n : NetState). record n { back = c.send-else-direction-eq0.new.self; last = c.send-else-direction-eq0.new.last }) c.self.view_is ∙
-    ap (λ (n : NetState). record n { last = c.send-else-direction-eq0.new.last }) (back_held c.args.self.now c.accepted-return_pointer-else-direction-eq0.result c.send-else-direction-eq0.new.self c.send-else-direction-eq0.new.last
-    (c.send-else-direction-eq0.ensures.entry ∙ ap (λ (n : NetState). sent_entry n.back.sizes 1 (wire_view n.back c.accepted-return_pointer-else-direction-eq0.result) n.back.output) c.self.view_is)
-    (c.send-else-direction-eq0.ensures.state ∙ ap (λ (n : NetState). after_send c.send-else-direction-eq0.new.last n.back) c.self.view_is))
+pub returns-clause-link : goal.returns-clause-link
+returns-clause-link c = λ past stands.
+    let here = subst (λ (n : NetState). LinkStandsFor c.args.self.now.sizes n.link past) (sym c.self.view_is) stands in
+    linked_send c.args.self.now _ past c.args.direction c.toward_of.result c.send-sent.result c.toward_of.ensures (c.send-sent.ensures.answer c.args.self.now.sizes past here)
+    c.send-sent.ensures.going (c.send-sent.ensures.stands c.args.self.now.sizes past here) c.note_sent.ensures
+
+pub returns-clause-idle : goal.returns-clause-idle
+returns-clause-idle c = λ cause is.
+    c.send-sent.ensures.idle (idle_sent c.args.direction c.send-sent.result cause (sym (ap cause_of c.note_sent.ensures) ∙ is)) ∙ ap (λ (n : NetState). n.link) c.self.view_is

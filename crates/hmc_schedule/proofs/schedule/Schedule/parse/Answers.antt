@@ -1,22 +1,19 @@
-use Rattle.std.proofs.Common.{◌∙◌, refl, arith}
-use Rattle.std.proofs.lemmas.List.Elements.{All-nil}
+use Rattle.std.proofs.Common.{◌∙◌, sym, ap}
 use Rattle.hmc_text.proofs.InTurnLemmas.{next_good}
+use Rattle.hmc_schedule.proofs.NoiseLemmas.{round_lands}
 use Rattle.hmc_schedule.proofs.ParseLemmas.{schedule_of-ok, first_fault}
-use Rattle.hmc_schedule.specs.Plan.{IsWorking}
+use Rattle.hmc_schedule.specs.Plan.{PlanFields}
+use Rattle.hmc_schedule.specs.Noise.{lands_of}
 use Rattle.hmc_schedule.specs.Schedule.{after_line}
 use Rattle.hmc_schedule.proofs.schedule.Schedule.parse.Goals as goal
-
-pub lines-init : goal.lines-init
-lines-init c = rw (c.new-written.ensures.steps, c.of-left.ensures) record { round = c.new-written.ensures.round ∙ c.in_ok-round.ensures; rest = refl; few = omega arith; works = All-nil (IsWorking c.args.plan.now) }
 
 pub lines-preserved : goal.lines-preserved
 lines-preserved c =
     let next = next_good (after_line c.args.plan.now) c.lines.left c.next_line.new.self (c.in-Some.number, c.in-Some.line) _ _ c.in-Some.ensures c.in_default-read_line.ensures.value in
     record {
-      round = c.in_default-read_line.ensures.round ∙ c.lines.invariant.round;
+      round = rw c.in_default-read_line.ensures.kept c.lines.invariant.round;
       rest = next ∙ c.lines.invariant.rest;
-      few = c.in_default-read_line.ensures.few;
-      works = c.in_default-read_line.ensures.works c.lines.invariant.works;
+      read = c.in_default-read_line.ensures.read;
     }
 
 pub returns-in-Err-clause-exact : goal.returns-in-Err-clause-exact
@@ -28,7 +25,11 @@ returns-clause-exact c =
     rw c.of.ensures.steps (schedule_of-ok c.args.plan.now c.args.text.now c.lines.left _ c.in_default.ensures.0 c.lines.invariant.rest)
 
 pub returns-clause-within : goal.returns-clause-within
-returns-clause-within c = rw c.of.ensures.steps (λ k d small. (c.lines.invariant.works k d small).within)
+returns-clause-within c = rw c.of.ensures.steps (λ k d small. (c.lines.invariant.read.works k d small).within)
 
 pub returns-clause-built : goal.returns-clause-built
-returns-clause-built c = rw c.of.ensures.steps (λ k d small. (c.lines.invariant.works k d small).built)
+returns-clause-built c = rw c.of.ensures.steps (λ k d small. (c.lines.invariant.read.works k d small).built)
+
+pub keep-requires : goal.keep-requires
+keep-requires c =
+    rw (c.deref.ensures.value, c.in_ok-steps.ensures) (round_lands c.args.plan.now ∙ ap (λ (p : PlanFields). lands_of p.directions) (sym c.plan.view_is))

@@ -4,25 +4,29 @@ use Rattle.hmc_schedule.proofs.written.Written.step.Goals as goal
 
 pub begun_count-requires : goal.begun_count-requires
 begun_count-requires c =
-    rw (c.deref.ensures.value) (in_order c.self.inside.round.items c.self.inside.segments.items c.self.inside.len c.self.invariant)
+    rw (c.deref.ensures.value) (in_order c.self.inside.kept.items c.self.inside.segments.items c.self.inside.len c.self.invariant)
 
 pub overflow_sub-begun_count : goal.overflow_sub-begun_count
 overflow_sub-begun_count c =
-    some_begun c.self.inside.round.items c.self.inside.segments.items c.deref.result.now c.self.inside.len c.args.at c.begun_count.result c.args.self.now c.self.invariant c.self.view_is c.requires c.deref.ensures.value c.begun_count.ensures.bound c.begun_count.ensures.point
+    some_begun c.self.inside.kept.items c.self.inside.segments.items c.deref.result.now c.self.inside.len c.args.at c.begun_count.result c.args.self.now c.self.invariant c.self.view_is c.requires c.deref.ensures.value c.begun_count.ensures.bound c.begun_count.ensures.point
 
 pub index-segment-requires : goal.index-segment-requires
 index-segment-requires c =
-    let some = some_begun c.self.inside.round.items c.self.inside.segments.items c.deref.result.now c.self.inside.len c.args.at c.begun_count.result c.args.self.now c.self.invariant c.self.view_is c.requires c.deref.ensures.value c.begun_count.ensures.bound c.begun_count.ensures.point in
+    let some = some_begun c.self.inside.kept.items c.self.inside.segments.items c.deref.result.now c.self.inside.len c.args.at c.begun_count.result c.args.self.now c.self.invariant c.self.view_is c.requires c.deref.ensures.value c.begun_count.ensures.bound c.begun_count.ensures.point in
     search (rules, some)
 
 pub step_of-requires-clause-begun : goal.step_of-requires-clause-begun
 step_of-requires-clause-begun c =
-    (place_at c.self.inside.round.items c.deref-2.result.now c.self.inside.segments.items c.deref.result.now c.self.inside.len c.args.at c.begun_count.result c.args.self.now c.index-segment.result.now c.self.invariant c.self.view_is c.requires c.deref.ensures.value c.begun_count.ensures.bound c.begun_count.ensures.point c.index-segment.ensures c.deref-2.ensures.value).begun
+    (place_at c.self.inside.kept.items c.deref-2.result.now c.self.inside.segments.items c.deref.result.now c.self.inside.len c.args.at c.begun_count.result c.args.self.now c.index-segment.result.now c.self.invariant c.self.view_is c.requires c.deref.ensures.value c.begun_count.ensures.bound c.begun_count.ensures.point c.index-segment.ensures c.deref-2.ensures.value).begun
 
 pub step_of-requires-clause-inside : goal.step_of-requires-clause-inside
 step_of-requires-clause-inside c =
-    (place_at c.self.inside.round.items c.deref-2.result.now c.self.inside.segments.items c.deref.result.now c.self.inside.len c.args.at c.begun_count.result c.args.self.now c.index-segment.result.now c.self.invariant c.self.view_is c.requires c.deref.ensures.value c.begun_count.ensures.bound c.begun_count.ensures.point c.index-segment.ensures c.deref-2.ensures.value).inside
+    (place_at c.self.inside.kept.items c.deref-2.result.now c.self.inside.segments.items c.deref.result.now c.self.inside.len c.args.at c.begun_count.result c.args.self.now c.index-segment.result.now c.self.invariant c.self.view_is c.requires c.deref.ensures.value c.begun_count.ensures.bound c.begun_count.ensures.point c.index-segment.ensures c.deref-2.ensures.value).inside
 
 pub returns : goal.returns
 returns c =
-    (place_at c.self.inside.round.items c.deref-2.result.now c.self.inside.segments.items c.deref.result.now c.self.inside.len c.args.at c.begun_count.result c.args.self.now c.index-segment.result.now c.self.invariant c.self.view_is c.requires c.deref.ensures.value c.begun_count.ensures.bound c.begun_count.ensures.point c.index-segment.ensures c.deref-2.ensures.value).is c.step_of.result c.step_of.ensures
+    (place_at c.self.inside.kept.items c.deref-2.result.now c.self.inside.segments.items c.deref.result.now c.self.inside.len c.args.at c.begun_count.result c.args.self.now c.index-segment.result.now c.self.invariant c.self.view_is c.requires c.deref.ensures.value c.begun_count.ensures.bound c.begun_count.ensures.point c.index-segment.ensures c.deref-2.ensures.value).is c.step_of.result c.step_of.ensures
+
+pub step_of-requires-clause-stretch : goal.step_of-requires-clause-stretch
+step_of-requires-clause-stretch c =
+    (place_at c.self.inside.kept.items c.deref-2.result.now c.self.inside.segments.items c.deref.result.now c.self.inside.len c.args.at c.begun_count.result c.args.self.now c.index-segment.result.now c.self.invariant c.self.view_is c.requires c.deref.ensures.value c.begun_count.ensures.bound c.begun_count.ensures.point c.index-segment.ensures c.deref-2.ensures.value).stretch

@@ -1,0 +1,117 @@
+//! Reads the faulty inputs of the tables in `data/`, and compares the first fault of each with that
+//! of its row. Bad cases are replayed, and scripts and schedules are read. The faults of the tables
+//! were found by hand (docs/DECISIONS.md).
+#![tactic(auto)]
+
+mod faults;
+mod lines;
+
+use faults::changed;
+use hmc_outside::{MemorySink, MemorySource};
+use hmc_replay::replay;
+use lines::{Texts, rows_reported, small, wide};
+use std::alloc::Global;
+use std::rt::Files;
+use std::{fs, io};
+
+/// The status of a bad case.
+const BAD_CASE: u8 = 6;
+
+/// More bytes than the line of a fault has.
+const ROOM: usize = 64;
+
+// Whether the program refuses a case by this line.
+fn is_refused(alloc: Global, case: &str, line: &str) -> Result<bool, io::Error> {
+    let word = String::from_str(alloc, "run")?;
+    let words = vec![in alloc; word]?;
+    let Ok(mut source) = MemorySource::new(alloc, case.as_bytes(), &[]) else {
+        return Ok(false);
+    };
+    let Ok(mut sink) = MemorySink::new(alloc, ROOM, &[]) else {
+        return Ok(false);
+    };
+    let status = replay(alloc, &words, &mut source, &mut sink);
+    Ok(status == BAD_CASE && sink.as_slice() == line.as_bytes())
+}
+
+// Whether the base case with this change is reported as this fault.
+fn fault_is_reported(
+    alloc: Global,
+    base: &str,
+    change: &[&str],
+    fault: &str,
+) -> Result<bool, io::Error> {
+    let case = changed(alloc, base, change)?;
+    let line = format!(in alloc; "{fault}\n")?;
+    is_refused(alloc, case.as_str(), line.as_str())
+}
+
+// How many faults of the table are reported as it says, and which is the first that isn't.
+fn faults_reported<'a>(
+    alloc: Global,
+    base: &str,
+    table: &'a str,
+) -> Result<(u32, Option<&'a str>), io::Error> {
+    let mut change = Vec::new(alloc);
+    let mut count = 0_u32;
+    for line in table.lines() {
+        let Some(fault) = line.strip_prefix("= ") else {
+            change.push(line)?;
+            continue;
+        };
+        if !fault_is_reported(alloc, base, &change, fault)? {
+            return Ok((count, Some(fault)));
+        }
+        count = count.saturating_add(1);
+        change.clear();
+    }
+    Ok((count, None))
+}
+
+// Prints how many rows were reported as they say, and which is the first that wasn't.
+fn print_count(
+    rt: &impl Print,
+    name: &str,
+    reported: (u32, Option<&str>),
+) -> Result<(), io::Error> {
+    let (count, differs) = reported;
+    println!(rt; "{name}: {count} as reported")?;
+    if let Some(row) = differs {
+        println!(rt; "{name}: the next, {row}, differs")?;
+    }
+    Ok(())
+}
+
+// Replays each change of the base case, and prints how many faults are as the table says.
+fn print_cases(rt: &(impl Files + AllocGlobal + Print)) -> Result<(), io::Error> {
+    let base = fs::read_to_string(rt, "bad-cases-base.toml")?;
+    let table = fs::read_to_string(rt, "bad-cases.txt")?;
+    let reported = faults_reported(rt.alloc(), base.as_str(), table.as_str())?;
+    print_count(rt, "bad cases", reported)
+}
+
+// Reads each text of a table, and prints how many faults are as it says.
+fn print_texts(
+    rt: &(impl Files + AllocGlobal + Print),
+    name: &str,
+    table: &str,
+    texts: &Texts,
+) -> Result<(), io::Error> {
+    let table = fs::read_to_string(rt, table)?;
+    let reported = rows_reported(rt.alloc(), texts, table.as_str())?;
+    print_count(rt, name, reported)
+}
+
+fn main(rt: HostRuntime) -> Result<(), io::Error> {
+    print_cases(&rt)?;
+    let wide = Texts::Schedules(wide(rt.alloc())?);
+    let small = Texts::Schedules(small(rt.alloc())?);
+    print_texts(&rt, "script faults", "script-faults.txt", &Texts::Scripts)?;
+    print_texts(&rt, "schedule faults", "schedule-faults.txt", &wide)?;
+    print_texts(
+        &rt,
+        "schedule faults, small network",
+        "schedule-faults-small.txt",
+        &small,
+    )
+}

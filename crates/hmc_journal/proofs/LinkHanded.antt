@@ -1,0 +1,296 @@
+-- What a lawful link begins are the fronts of its output queue, in order.
+use Rattle.std.proofs.Common.{◌≡◌, ◌≤◌, ◌<◌, ◌∙◌, ◌+◌, ◌-◌, ◌==◌, ℕ, zero, suc, Bool, true, false, if◌then◌else◌, List, [], ◌∷◌, ◌++◌, Option, Some, None, length, take, drop, refl, sym, ap, subst, arith, append-nil, length-append}
+use Rattle.std.specs.Prelude.{slice_get, filter, map, is_none}
+use Rattle.std.proofs.lemmas.List.{map-append, take-append-le}
+use Rattle.std.proofs.lemmas.List.Elements.{filter-append}
+use Rattle.hmc_codes.specs.Link.{LinkFields}
+use Rattle.hmc_codes.specs.Table.{table_line}
+use Rattle.hmc_codes.specs.declared.profile.Profile.{Profile}
+use Rattle.hmc_packet.specs.declared.feed.Feed.{Feed}
+use Rattle.hmc_packet.specs.declared.kind.Kind.{Kind}
+use Rattle.hmc_packet.specs.declared.kind.Kind.TheVariants.{Start, Clear}
+use Rattle.hmc_packet.specs.declared.outcome.Outcome.{Outcome}
+use Rattle.hmc_packet.specs.declared.outcome.Outcome.TheVariants as outcomes
+use Rattle.hmc_packet.specs.declared.what.What.{What}
+use Rattle.hmc_packet.specs.declared.what.What.TheVariants as what
+use Rattle.hmc_packet.specs.Packet.{PacketFields}
+use Rattle.hmc_packet.specs.Parts.{lng_of}
+use Rattle.hmc_tokens.specs.Account.{code_for}
+use Rattle.hmc_send.specs.declared.toward.Toward.{Toward}
+use Rattle.hmc_send.specs.declared.toward.Toward.TheVariants.{Forth, Back}
+use Rattle.hmc_send.specs.declared.sent.Sent.{Sent}
+use Rattle.hmc_send.specs.declared.sent.Sent.TheVariants.{Out}
+use Rattle.hmc_send.specs.Choice.{SendView, view_after, choice, part_what, what_of}
+use Rattle.hmc_send.specs.Entries.{SenderEntry, Given, Part, UnderWay, or_null, part_with, part_after, unfinished, places, places_with, taken_fronts, last_begun, with_place}
+use Rattle.hmc_send.specs.LinkCalls.{view_in, IsLawful}
+use Rattle.hmc_send.specs.LinkEntries.{LinkEntry, other, handed_packets}
+use Rattle.hmc_send.specs.LinkLines.{StampedFlit}
+use Rattle.hmc_send.specs.LinkSenders.{sender_entries, given_in, given_after, run_entries, acknowledgement}
+use Rattle.hmc_send.specs.Places.{Place, is_token, packet_in, place_at, pointer_of, number_of, next_packet, tret_packet}
+use Rattle.hmc_send.proofs.Cases.{Case, case_of}
+use Rattle.hmc_send.proofs.Cases.Case.{trains, goes_on, starves, steers, repeats, begins, returns, points, idles}
+use Rattle.hmc_send.proofs.LinkLawful.{IsSend, lawful-sent}
+use Rattle.hmc_wire.specs.Conditions.{AreHanded}
+use Rattle.hmc_wire.specs.LinkLaws.{IsKept}
+use Rattle.hmc_wire.proofs.Agreements.{landed-fed, fed-turn}
+use Rattle.hmc_wire.proofs.SenderLists.{none-under}
+use Rattle.hmc_wire.proofs.Parts.{PartsFit, grown-left}
+use Rattle.hmc_wire.specs.EntryTurns.{left_of}
+use Rattle.hmc_wire.proofs.OpenPlaces.{AreKnown, last-fed_known}
+use Rattle.hmc_wire.proofs.Links.{fronts-good}
+use Rattle.hmc_wire.proofs.Turns.{own-joins}
+use Rattle.hmc_journal.specs.Delivered.{unnumbered}
+use Rattle.hmc_journal.proofs.LinkKept.{AreDirect, no-through, known-places}
+
+-- ---- a link's entries were kept to at every moment
+
+pub kept-before : (link : LinkFields) (entry : LinkEntry) (past : List LinkEntry) → IsKept link (entry ∷ past) → IsKept link past
+unfolding IsLawful AreHanded sender_entries
+kept-before link (LinkEntry.handed d packet) past is = record { retry = is.retry; lawful = is.lawful.1; met = record { handed = is.met.handed.1; forth = is.met.forth; back = is.met.back } }
+kept-before link (LinkEntry.taken d) past is = record { retry = is.retry; lawful = is.lawful.1; met = record { handed = is.met.handed; forth = is.met.forth; back = is.met.back } }
+kept-before link (LinkEntry.unlocked d) past is = record { retry = is.retry; lawful = is.lawful.1; met = record { handed = is.met.handed; forth = is.met.forth; back = is.met.back } }
+kept-before link (LinkEntry.sent Forth feed what flit) past is = record { retry = is.retry; lawful = is.lawful.1; met = record { handed = is.met.handed; forth = fed-turn link.profile _ _ is.met.forth; back = is.met.back } }
+kept-before link (LinkEntry.sent Back feed what flit) past is = record { retry = is.retry; lawful = is.lawful.1; met = record { handed = is.met.handed; forth = is.met.forth; back = fed-turn link.profile _ _ is.met.back } }
+kept-before link (LinkEntry.landed Forth mask flit outcome) past is =
+    record { retry = is.retry; lawful = is.lawful.1; met = record { handed = is.met.handed; forth = is.met.forth; back = landed-fed link.profile outcome _ _ _ is.met.back } }
+kept-before link (LinkEntry.landed Back mask flit outcome) past is =
+    record { retry = is.retry; lawful = is.lawful.1; met = record { handed = is.met.handed; forth = landed-fed link.profile outcome _ _ _ is.met.forth; back = is.met.back } }
+kept-before link (LinkEntry.through Forth head flits) past is = record { retry = is.retry; lawful = is.lawful.1; met = record { handed = is.met.handed; forth = fed-turn link.profile _ _ is.met.forth; back = is.met.back } }
+kept-before link (LinkEntry.through Back head flits) past is = record { retry = is.retry; lawful = is.lawful.1; met = record { handed = is.met.handed; forth = is.met.forth; back = fed-turn link.profile _ _ is.met.back } }
+
+-- ---- what a flit is sent as, by the packet under way
+
+-- a new packet begins with the front of the queue
+pub record HasNext (given : Given) : Type 0 where
+  pub front : PacketFields
+  pub is : given.front ≡ Some front
+
+abbrev pub IsSentAs : What → Option Part → Given → Type 0
+IsSentAs what.New None given = HasNext given
+IsSentAs what.New (Some part) given = part.again ≡ false
+IsSentAs what.Again (Some part) given = part.again ≡ true
+IsSentAs _ part given = Unit {0}
+
+part_begun : (place : Place) (u : Option Part) (begun : UnderWay) → with_place place u ≡ Some begun → u ≡ Some begun.part
+part_begun place None begun is = absurd cc
+part_begun place (Some part) begun is = let same : record { part = part; place = place } ≡ begun = cc in ap (λ (b : UnderWay). Some b.part) same
+
+goes_as : (again : Bool) (part : Part) (given : Given) → part.again ≡ again → IsSentAs (if again then what.Again else what.New) (Some part) given
+goes_as true part given is = is
+goes_as false part given is = is
+
+steers_as : (kind : Kind) (u : Option Part) (given : Given) → IsSentAs (what_of kind) u given
+steers_as Start None given = tt
+steers_as Start (Some part) given = tt
+steers_as Clear None given = tt
+steers_as Clear (Some part) given = tt
+
+abbrev OutAs : Sent → Option Part → Given → Type 0
+OutAs (Out flit as_what) u given = IsSentAs as_what u given
+OutAs Sent.Starved u given = Unit {0}
+
+as_case : (q : Profile) (s : SendView) (u : Option Part) (sent : Sent) → (s.under_way ≡ None → u ≡ None) → ((begun : UnderWay) → s.under_way ≡ Some begun → u ≡ Some begun.part) → Case q s sent → OutAs sent u s.given
+as_case q s None _ none some (trains train) = tt
+as_case q s (Some part) _ none some (trains train) = tt
+as_case q s u _ none some (goes_on train begun under flit next) = subst (λ (o : Option Part). IsSentAs (part_what begun.part) o s.given) (sym (some begun under)) (goes_as begun.part.again begun.part s.given refl)
+as_case q s u _ none some (starves train begun under next) = tt
+as_case q s u _ none some (steers train under kind due) = steers_as kind u s.given
+as_case q s u _ none some (repeats between place again) = subst (λ (o : Option Part). IsSentAs what.Again o s.given) (sym (none between.nothing)) tt
+as_case q s u _ none some (begins free can) = subst (λ (o : Option Part). IsSentAs what.New o s.given) (sym (none free.between.nothing)) (record { front = can.packet; is = can.front })
+as_case q s None _ none some (returns free opened may) = tt
+as_case q s (Some part) _ none some (returns free opened may) = tt
+as_case q s None _ none some (points free other) = tt
+as_case q s (Some part) _ none some (points free other) = tt
+as_case q s None _ none some (idles free same) = tt
+as_case q s (Some part) _ none some (idles free same) = tt
+
+pub sent_as : (link : LinkFields) (past : List LinkEntry) (d : Toward) (feed : Feed) (as_what : What) (flit : List ℕ) → IsSend link past d feed as_what flit
+    → IsSentAs as_what (unfinished (sender_entries link d past)) (given_in link d past feed)
+unfolding view_after
+sent_as link past d feed as_what flit sent =
+    let T = sender_entries link d past in
+    let s = view_in link d past feed in
+    let place = place_at (places link.profile T) (last_begun link.profile T) in
+    subst (λ (x : Sent). OutAs x (unfinished T) (given_in link d past feed)) sent.chosen
+    (as_case link.profile s (unfinished T) (choice link.profile s) (none-under place (unfinished T)) (part_begun place (unfinished T)) (case_of link.profile s))
+
+-- ---- the flits of a new packet that are left
+
+abbrev pub new_left_of : Part → ℕ
+new_left_of part = if part.again then 0 else part.flits - length part.sent
+
+abbrev pub new_left : Option Part → ℕ
+new_left None = 0
+new_left (Some part) = new_left_of part
+
+grown_again : (part : Part) (flit : List ℕ) (whole : Bool) → new_left (if whole then None else Some (record part { sent = part.sent ++ flit ∷ [] })) ≡ (if part.again then 0 else left_of (if whole then None else Some (record part { sent = part.sent ++ flit ∷ [] })))
+grown_again part flit true = by_again part.again
+  where
+    by_again : (again : Bool) → ◌≡◌ {A = ℕ} 0 (if again then 0 else 0)
+    by_again true = refl
+    by_again false = refl
+grown_again part flit false = refl
+
+pub new_grown : (part : Part) (flit : List ℕ) → part.again ≡ false → new_left (part_with part flit) ≡ part.flits - length part.sent - 1
+new_grown part flit new =
+    grown_again part flit (suc (length part.sent) == part.flits)
+    ∙ ap (λ (b : Bool). if b then 0 else left_of (part_with part flit)) new ∙ grown-left part flit
+
+pub again_grown : (part : Part) (flit : List ℕ) → part.again ≡ true → new_left (part_with part flit) ≡ 0
+again_grown part flit again = grown_again part flit (suc (length part.sent) == part.flits) ∙ ap (λ (b : Bool). if b then 0 else left_of (part_with part flit)) again
+
+pub parts-fit : (link : LinkFields) (d : Toward) (past : List LinkEntry) → IsKept link past → PartsFit link.profile (sender_entries link d past)
+parts-fit link Forth past is = let j = own-joins link past is in j.forth.parts
+parts-fit link Back past is = let j = own-joins link past is in j.back.parts
+
+-- a flit that is sent again leaves as many
+pub left-again : (u : Option Part) (given : Given) (flit : List ℕ) → IsSentAs what.Again u given → new_left (part_after true flit u) ≡ new_left u
+left-again None given flit is = again_grown (record { again = true; flits = lng_of flit; sent = [] }) flit refl
+left-again (Some part) given flit is = again_grown part flit is ∙ sym (ap (λ (b : Bool). if b then 0 else part.flits - length part.sent) is)
+
+-- ---- what was handed and what was begun
+
+-- the requests and answers that were begun, apart from their numbers
+abbrev pub begun_tokens : List Place → List PacketFields
+begun_tokens begun = map unnumbered (filter is_token (map packet_in begun))
+
+-- What was begun are the first of those that were handed.
+pub record Fronts (q : Profile) (sender : List SenderEntry) (handed : List PacketFields) : Type 0 where
+  pub within : taken_fronts sender ≤ length handed
+  pub are : begun_tokens (places q sender) ≡ map unnumbered (take (taken_fronts sender) handed)
+
+-- the front of a queue, if it has one
+front-inside : (n : ℕ) (list : List PacketFields) (front : PacketFields) → slice_get (drop n list) 0 ≡ Some front → n < length list
+front-inside zero [] front is = absurd cc
+front-inside zero (x ∷ list) front is = omega arith
+front-inside (suc n) [] front is = absurd cc
+front-inside (suc n) (x ∷ list) front is = let less = front-inside n list front is in omega arith
+
+take-front : (n : ℕ) (list : List PacketFields) (front : PacketFields) → slice_get (drop n list) 0 ≡ Some front → take (1 + n) list ≡ take n list ++ front ∷ []
+take-front zero [] front is = absurd cc
+take-front zero (x ∷ list) front is = let same : x ≡ front = cc in ap (λ (p : PacketFields). p ∷ []) same
+take-front (suc n) [] front is = absurd cc
+take-front (suc n) (x ∷ list) front is =
+    let more : 1 + suc n ≡ suc (1 + n) = omega arith in
+    ap (λ (k : ℕ). take k (x ∷ list)) more ∙ ap (λ l. x ∷ l) (take-front n list front is)
+
+begun_tokens-push : (begun : List Place) (packet : PacketFields) (token : Bool) → is_token packet ≡ token → begun_tokens (begun ++ Place.known packet ∷ []) ≡ begun_tokens begun ++ (if token then unnumbered packet ∷ [] else [])
+begun_tokens-push begun packet token is =
+    ap (λ l. map unnumbered (filter is_token l)) (map-append packet_in begun (Place.known packet ∷ []))
+    ∙ ap (map unnumbered) (filter-append is_token (map packet_in begun) (packet ∷ []))
+    ∙ map-append unnumbered (filter is_token (map packet_in begun)) (filter is_token (packet ∷ []))
+    ∙ ap (λ l. begun_tokens begun ++ l) (one token is)
+  where
+    one : (t : Bool) → is_token packet ≡ t → map unnumbered (filter is_token (packet ∷ [])) ≡ (if t then unnumbered packet ∷ [] else [])
+    one true e = rw e refl
+    one false e = rw e refl
+
+tret_is_no_token : (q : Profile) (pointer number rtc : ℕ) → is_token (next_packet q pointer number rtc tret_packet) ≡ false
+unfolding table_line
+tret_is_no_token q pointer number rtc = refl
+
+new-fronts : (q : Profile) (given : Given) (begun : List Place) (n : ℕ) (handed : List PacketFields) (u : Option Part) → IsSentAs what.New u given
+    → given.front ≡ slice_get (drop n handed) 0 → ((p : PacketFields) → slice_get (drop n handed) 0 ≡ Some p → is_token p ≡ true)
+    → AreKnown begun → n ≤ length handed → begun_tokens begun ≡ map unnumbered (take n handed)
+    → ((if is_none u then 1 else 0) + n ≤ length handed) × (begun_tokens (places_with q u given begun) ≡ map unnumbered (take ((if is_none u then 1 else 0) + n) handed))
+new-fronts q given l n handed None has front tokens known within are =
+    let at : slice_get (drop n handed) 0 ≡ Some has.front = sym front ∙ has.is in
+    let inside = front-inside n handed has.front at in
+    let x : PacketFields = next_packet q (pointer_of q l) (number_of l) (code_for given.due) (or_null given.front) in
+    let same : or_null given.front ≡ has.front = ap or_null has.is in
+    let token : is_token x ≡ true = ap is_token same ∙ tokens has.front at in
+    let more : unnumbered x ≡ unnumbered has.front = ap unnumbered same in (
+      omega arith,
+      begun_tokens-push l x true token ∙ ap (λ k. k ++ unnumbered x ∷ []) are ∙ ap (λ (p : PacketFields). map unnumbered (take n handed) ++ p ∷ []) more
+          ∙ sym (map-append unnumbered (take n handed) (has.front ∷ [])) ∙ ap (map unnumbered) (sym (take-front n handed has.front at)),
+    )
+new-fronts q given l n handed (Some part) has front tokens known within are =
+    let m : 0 + n ≡ n = omega arith in (
+      omega arith,
+      ap begun_tokens (last-fed_known q part.sent given.feed l known) ∙ are ∙ ap (λ (k : ℕ). map unnumbered (take k handed)) (sym m),
+    )
+
+fronts-sent : (q : Profile) (given : Given) (as_what : What) (flit : List ℕ) (sender : List SenderEntry) (handed : List PacketFields) → IsSentAs as_what (unfinished sender) given
+    → given.front ≡ slice_get (drop (taken_fronts sender) handed) 0 → ((p : PacketFields) → slice_get (drop (taken_fronts sender) handed) 0 ≡ Some p → is_token p ≡ true)
+    → AreKnown (places q sender) → Fronts q sender handed → Fronts q (SenderEntry.sent given as_what flit ∷ sender) handed
+unfolding places taken_fronts
+fronts-sent q given what.New flit sender handed has front tokens known is =
+    let f = new-fronts q given (places q sender) (taken_fronts sender) handed (unfinished sender) has front tokens known is.within is.are in
+    record { within = f.0; are = f.1 }
+fronts-sent q given what.Tret flit sender handed has front tokens known is = record {
+  within = is.within;
+  are = begun_tokens-push (places q sender) (next_packet q (pointer_of q (places q sender)) (number_of (places q sender)) (code_for given.due) tret_packet) false
+      (tret_is_no_token q (pointer_of q (places q sender)) (number_of (places q sender)) (code_for given.due)) ∙ append-nil (begun_tokens (places q sender)) ∙ is.are;
+}
+fronts-sent q given what.Train flit sender handed has front tokens known is = record { within = is.within; are = is.are }
+fronts-sent q given what.Clear flit sender handed has front tokens known is = record { within = is.within; are = is.are }
+fronts-sent q given what.Start flit sender handed has front tokens known is = record { within = is.within; are = is.are }
+fronts-sent q given what.Null flit sender handed has front tokens known is = record { within = is.within; are = is.are }
+fronts-sent q given what.Pret flit sender handed has front tokens known is = record { within = is.within; are = is.are }
+fronts-sent q given what.Again flit sender handed has front tokens known is = record { within = is.within; are = is.are }
+
+fronts-handed : (q : Profile) (sender : List SenderEntry) (handed : List PacketFields) (packet : PacketFields) → Fronts q sender handed → Fronts q sender (handed ++ packet ∷ [])
+fronts-handed q sender handed packet is =
+    let long = length-append handed (packet ∷ []) in
+    let w = is.within in record {
+      within = omega arith;
+      are = is.are ∙ ap (map unnumbered) (sym (take-append-le (taken_fronts sender) handed (packet ∷ []) is.within));
+    }
+
+-- a landing changes nothing of them
+rrp-same : {X : Type 0} (f : List SenderEntry → X) (rrp : Option ℕ) (front : Option StampedFlit) (past : List SenderEntry) → ((n : ℕ) → f (SenderEntry.acknowledged n ∷ past) ≡ f past) → f (acknowledgement rrp front ++ past) ≡ f past
+rrp-same f (Some rrp) (Some front) past same = same front.stamp
+rrp-same f (Some rrp) None past same = refl
+rrp-same f None front past same = refl
+
+pub landing-same : {X : Type 0} (f : List SenderEntry → X) (outcome : Outcome) (rrp : Option ℕ) (front : Option StampedFlit) (past : List SenderEntry) → ((l : List SenderEntry) (n : ℕ) → f (SenderEntry.acknowledged n ∷ l) ≡ f l)
+    → ((l : List SenderEntry) → f (SenderEntry.ran ∷ l) ≡ f l) → f ((run_entries outcome ++ acknowledgement rrp front) ++ past) ≡ f past
+landing-same f (outcomes.Ran Start) rrp front past same ran = ran (acknowledgement rrp front ++ past) ∙ rrp-same f rrp front past (same past)
+landing-same f (outcomes.Ran Clear) rrp front past same ran = rrp-same f rrp front past (same past)
+landing-same f _ rrp front past same ran = rrp-same f rrp front past (same past)
+
+fronts-landed : (q : Profile) (outcome : Outcome) (rrp : Option ℕ) (front : Option StampedFlit) (sender : List SenderEntry) (handed : List PacketFields) → Fronts q sender handed → Fronts q ((run_entries outcome ++ acknowledgement rrp front) ++ sender) handed
+unfolding places taken_fronts
+fronts-landed q outcome rrp front sender handed is =
+    let taken = landing-same taken_fronts outcome rrp front sender (λ l n. refl) (λ l. refl) in
+    let begun = landing-same (places q) outcome rrp front sender (λ l n. refl) (λ l. refl) in
+    let w = is.within in record {
+      within = omega arith;
+      are = ap begun_tokens begun ∙ is.are ∙ ap (λ (k : ℕ). map unnumbered (take k handed)) (sym taken);
+    }
+
+-- every packet that is handed takes tokens
+tokens-at : (link : LinkFields) (d : Toward) (past : List LinkEntry) (n : ℕ) → IsKept link past → (p : PacketFields) → slice_get (drop n (handed_packets d past)) 0 ≡ Some p → is_token p ≡ true
+tokens-at link Forth past n is p at = let j = own-joins link past is in let good = fronts-good link.profile (handed_packets Forth past) n j.forth.handed p at in good.token
+tokens-at link Back past n is p at = let j = own-joins link past is in let good = fronts-good link.profile (handed_packets Back past) n j.back.handed p at in good.token
+
+send-fronts : (link : LinkFields) (d : Toward) (feed : Feed) (as_what : What) (flit : List ℕ) (past : List LinkEntry) → IsKept link (LinkEntry.sent d feed as_what flit ∷ past) → AreDirect past
+    → Fronts link.profile (sender_entries link d past) (handed_packets d past) → Fronts link.profile (SenderEntry.sent (given_in link d past feed) as_what flit ∷ sender_entries link d past) (handed_packets d past)
+unfolding given_after
+send-fronts link d feed as_what flit past is direct fronts =
+    let T = sender_entries link d past in
+    fronts-sent link.profile (given_in link d past feed) as_what flit T (handed_packets d past) (sent_as link past d feed as_what flit (lawful-sent link past d feed as_what flit is.lawful)) refl
+    (λ p. tokens-at link d past (taken_fronts T) (kept-before link (LinkEntry.sent d feed as_what flit) past is) p) (known-places link.profile T (no-through link d past direct)) fronts
+
+pub fronts : (link : LinkFields) (d : Toward) (past : List LinkEntry) → IsKept link past → AreDirect past → Fronts link.profile (sender_entries link d past) (handed_packets d past)
+unfolding sender_entries handed_packets places taken_fronts
+fronts link d [] is direct = record { within = omega arith; are = refl }
+fronts link Forth (LinkEntry.handed Forth packet ∷ past) is direct = fronts-handed link.profile _ _ packet (fronts link Forth past (kept-before link (LinkEntry.handed Forth packet) past is) direct)
+fronts link Forth (LinkEntry.handed Back packet ∷ past) is direct = fronts link Forth past (kept-before link (LinkEntry.handed Back packet) past is) direct
+fronts link Back (LinkEntry.handed Forth packet ∷ past) is direct = fronts link Back past (kept-before link (LinkEntry.handed Forth packet) past is) direct
+fronts link Back (LinkEntry.handed Back packet ∷ past) is direct = fronts-handed link.profile _ _ packet (fronts link Back past (kept-before link (LinkEntry.handed Back packet) past is) direct)
+fronts link d (LinkEntry.taken way ∷ past) is direct = fronts link d past (kept-before link (LinkEntry.taken way) past is) direct
+fronts link d (LinkEntry.unlocked way ∷ past) is direct = fronts link d past (kept-before link (LinkEntry.unlocked way) past is) direct
+fronts link Forth (LinkEntry.sent Forth feed as_what flit ∷ past) is direct =
+    send-fronts link Forth feed as_what flit past is direct (fronts link Forth past (kept-before link (LinkEntry.sent Forth feed as_what flit) past is) direct)
+fronts link Forth (LinkEntry.sent Back feed as_what flit ∷ past) is direct = fronts link Forth past (kept-before link (LinkEntry.sent Back feed as_what flit) past is) direct
+fronts link Back (LinkEntry.sent Forth feed as_what flit ∷ past) is direct = fronts link Back past (kept-before link (LinkEntry.sent Forth feed as_what flit) past is) direct
+fronts link Back (LinkEntry.sent Back feed as_what flit ∷ past) is direct =
+    send-fronts link Back feed as_what flit past is direct (fronts link Back past (kept-before link (LinkEntry.sent Back feed as_what flit) past is) direct)
+fronts link Forth (LinkEntry.landed Forth mask flit outcome ∷ past) is direct = fronts link Forth past (kept-before link (LinkEntry.landed Forth mask flit outcome) past is) direct
+fronts link Forth (LinkEntry.landed Back mask flit outcome ∷ past) is direct =
+    fronts-landed link.profile outcome _ _ _ _ (fronts link Forth past (kept-before link (LinkEntry.landed Back mask flit outcome) past is) direct)
+fronts link Back (LinkEntry.landed Forth mask flit outcome ∷ past) is direct =
+    fronts-landed link.profile outcome _ _ _ _ (fronts link Back past (kept-before link (LinkEntry.landed Forth mask flit outcome) past is) direct)
+fronts link Back (LinkEntry.landed Back mask flit outcome ∷ past) is direct = fronts link Back past (kept-before link (LinkEntry.landed Back mask flit outcome) past is) direct
+fronts link d (LinkEntry.through way head flits ∷ past) is direct = absurd direct

@@ -1,0 +1,94 @@
+-- What no entry changes of a sender but a send on its direction.
+use Rattle.std.proofs.Common.{◌≡◌, ◌∙◌, ◌/◌, ◌==◌, ◌&&◌, ℕ, Bool, true, false, List, ◌∷◌, Some, refl, sym, ap, eq-eqb}
+use Rattle.hmc_codes.specs.Link.{LinkFields}
+use Rattle.hmc_codes.specs.declared.place.Place.TheVariants as places
+use Rattle.hmc_packet.specs.declared.feed.Feed.TheVariants.{Waiting}
+use Rattle.hmc_packet.specs.declared.outcome.Outcome.{Outcome}
+use Rattle.hmc_packet.specs.declared.what.What.{What}
+use Rattle.hmc_packet.specs.Packet.{PacketFields}
+use Rattle.hmc_send.specs.declared.toward.Toward.{Toward}
+use Rattle.hmc_send.specs.declared.toward.Toward.TheVariants.{Forth, Back}
+use Rattle.hmc_send.specs.Entries.{SenderEntry}
+use Rattle.hmc_send.specs.LinkEntries.{LinkEntry, same_way, put_if}
+use Rattle.hmc_send.specs.LinkSenders.{sender_entries}
+use Rattle.hmc_journal.specs.declared.outcome.Goal.{Goal}
+use Rattle.hmc_journal.specs.declared.outcome.Goal.TheVariants as goals
+use Rattle.hmc_journal.specs.declared.entry.Entry.{Entry}
+use Rattle.hmc_journal.specs.declared.entry.Entry.TheVariants.{Gave, Sent, Landed, Shifted, Dropped, Spread, Executed, Lifted, Took, Discarded, Unlocked, Passed, Idle}
+use Rattle.hmc_journal.specs.Setup.{Topology}
+use Rattle.hmc_journal.specs.Queues.{front_of, contents}
+use Rattle.hmc_journal.specs.Queues.QueueId.{Port}
+use Rattle.hmc_journal.specs.Links.{toward, taken_at, handed_on, landing_mask, link_sizes, link_entries, sizes_on, entries_on}
+use Rattle.hmc_journal.proofs.LinkHanded.{landing-same}
+use Rattle.hmc_journal.proofs.Projections.{same_direction, put_on-same}
+
+-- an acknowledgement and a run of Starts change nothing of it
+pub record IsOfSends {X : Type 0} (f : List SenderEntry → X) : Type 0 where
+  pub acknowledged : (past : List SenderEntry) (n : ℕ) → f (SenderEntry.acknowledged n ∷ past) ≡ f past
+  pub ran : (past : List SenderEntry) → f (SenderEntry.ran ∷ past) ≡ f past
+
+landed-same : {X : Type 0} (f : List SenderEntry → X) → IsOfSends f → (sizes : LinkFields) (d way : Toward) (mask flit : List ℕ) (outcome : Outcome) (past : List LinkEntry) →
+    f (sender_entries sizes d (LinkEntry.landed way mask flit outcome ∷ past)) ≡ f (sender_entries sizes d past)
+unfolding sender_entries
+landed-same f is sizes Forth Forth mask flit outcome past = refl
+landed-same f is sizes Forth Back mask flit outcome past = landing-same f outcome _ _ _ is.acknowledged is.ran
+landed-same f is sizes Back Forth mask flit outcome past = landing-same f outcome _ _ _ is.acknowledged is.ran
+landed-same f is sizes Back Back mask flit outcome past = refl
+
+on-same : {X : Type 0} (g : List LinkEntry → X) (topology : Topology) (link cube : ℕ) (goal : Goal) (packet : PacketFields) (past : List LinkEntry) → ((d : Toward) → g (LinkEntry.handed d packet ∷ past) ≡ g past) → g (handed_on topology link cube goal packet past) ≡ g past
+on-same g topology link cube (goals.Port port) packet past same = put_on-same g link _ (λ d. LinkEntry.handed d packet) past same
+on-same g topology link cube (goals.Vault vault) packet past same = refl
+on-same g topology link cube goals.Registers packet past same = refl
+
+-- not a send
+abbrev pub IsNoSend : Entry → Type 0
+IsNoSend (Sent direction what flit) = ⊥
+IsNoSend _ = Unit {0}
+
+abbrev pub of_sends : {X : Type 0} → (List SenderEntry → X) → Topology → ℕ → List LinkEntry → X
+of_sends f topology d past = f (sender_entries (sizes_on topology d) (toward d) past)
+
+pub no-send : {X : Type 0} (f : List SenderEntry → X) → IsOfSends f → (topology : Topology) (d : ℕ) (entry : Entry) (past : List Entry) → IsNoSend entry
+    → of_sends f topology d (entries_on topology d (entry ∷ past)) ≡ of_sends f topology d (entries_on topology d past)
+unfolding link_entries sender_entries
+no-send f is topology d (Sent direction what flit) past quiet = absurd quiet
+no-send f is topology d (Landed direction flit outcome) past quiet =
+    put_on-same (of_sends f topology d) (d / 2) (Some direction) (λ way. LinkEntry.landed way (landing_mask (link_sizes topology (d / 2)) way (entries_on topology d past) flit) flit outcome) (entries_on topology d past)
+    (λ way. landed-same f is (sizes_on topology d) (toward d) way (landing_mask (link_sizes topology (d / 2)) way (entries_on topology d past) flit) flit outcome (entries_on topology d past))
+no-send f is topology d (Gave host tag poisoned request) past quiet = put_on-same (of_sends f topology d) (d / 2) _ (λ way. LinkEntry.handed way _) (entries_on topology d past) (λ e. refl)
+no-send f is topology d (Lifted cube from port) past quiet = put_on-same (of_sends f topology d) (d / 2) _ (λ way. LinkEntry.handed way _) (entries_on topology d past) (λ e. refl)
+no-send f is topology d (Shifted cube port goal) past quiet =
+    on-same (of_sends f topology d) topology (d / 2) cube goal (front_of (contents topology past (Port cube port))) (taken_at topology (d / 2) (places.Port cube port) (entries_on topology d past)) (λ e. refl)
+    ∙ put_on-same (of_sends f topology d) (d / 2) _ LinkEntry.taken (entries_on topology d past) (λ e. refl)
+no-send f is topology d (Unlocked direction) past quiet = put_on-same (of_sends f topology d) (d / 2) (Some direction) LinkEntry.unlocked (entries_on topology d past) (λ e. refl)
+no-send f is topology d (Dropped cube port) past quiet = put_on-same (of_sends f topology d) (d / 2) _ LinkEntry.taken (entries_on topology d past) (λ e. refl)
+no-send f is topology d (Took host tag answer) past quiet = put_on-same (of_sends f topology d) (d / 2) _ LinkEntry.taken (entries_on topology d past) (λ e. refl)
+no-send f is topology d (Discarded host) past quiet = put_on-same (of_sends f topology d) (d / 2) _ LinkEntry.taken (entries_on topology d past) (λ e. refl)
+no-send f is topology d (Executed unit host tag request answer) past quiet = refl
+no-send f is topology d (Spread cube vault bank) past quiet = refl
+no-send f is topology d (Passed direction flit) past quiet = refl
+no-send f is topology d (Idle step cause) past quiet = refl
+
+-- a send on another direction
+other-way : {X : Type 0} (f : List SenderEntry → X) (sizes : LinkFields) (d e : Toward) (as_what : What) (flit : List ℕ) (past : List LinkEntry) → same_way d e ≡ false
+    → f (sender_entries sizes d (LinkEntry.sent e Waiting as_what flit ∷ past)) ≡ f (sender_entries sizes d past)
+unfolding sender_entries
+other-way f sizes Forth Back as_what flit past is = refl
+other-way f sizes Back Forth as_what flit past is = refl
+other-way f sizes Forth Forth as_what flit past is = absurd (let clash : true ≡ false = is in cc)
+other-way f sizes Back Back as_what flit past is = absurd (let clash : true ≡ false = is in cc)
+
+pub sent-elsewhere : {X : Type 0} (f : List SenderEntry → X) (topology : Topology) (d direction : ℕ) (as_what : What) (flit : List ℕ) (past : List Entry) → (direction == d) ≡ false
+    → of_sends f topology d (entries_on topology d (Sent direction as_what flit ∷ past)) ≡ of_sends f topology d (entries_on topology d past)
+unfolding link_entries
+sent-elsewhere f topology d direction as_what flit past off = by_here (direction / 2 == d / 2) (sym (same_direction d direction) ∙ off)
+  where
+    by_here : (here : Bool) → (here && same_way (toward d) (toward direction)) ≡ false
+        → of_sends f topology d (put_if here (LinkEntry.sent (toward direction) Waiting as_what flit) (entries_on topology d past)) ≡ of_sends f topology d (entries_on topology d past)
+    by_here false quiet = refl
+    by_here true quiet = other-way f (sizes_on topology d) (toward d) (toward direction) as_what flit (entries_on topology d past) quiet
+
+-- a send on this one
+pub sent-here : (topology : Topology) (d : ℕ) (as_what : What) (flit : List ℕ) (past : List Entry) → entries_on topology d (Sent d as_what flit ∷ past) ≡ LinkEntry.sent (toward d) Waiting as_what flit ∷ entries_on topology d past
+unfolding link_entries
+sent-here topology d as_what flit past = ap (λ (b : Bool). put_if b (LinkEntry.sent (toward d) Waiting as_what flit) (entries_on topology d past)) (eq-eqb (d / 2) (d / 2) refl)

@@ -1,0 +1,27 @@
+-- What the network does in a step, with its entry in the journal.
+use Rattle.std.proofs.Common.{◌≡◌, ◌≤◌, ◌∷◌, ◌∙◌, ap, sym, subst, length}
+use Rattle.hmc_journal.specs.Next.{next}
+use Rattle.hmc_net.specs.Journaled.{JournaledNet, IsNetNext}
+use Rattle.hmc_net.specs.Stands.{StandsFor, IsNext}
+use Rattle.hmc_net.specs.Went.{went_of}
+use Rattle.hmc_net.proofs.net.Net.step.Goals as goal
+
+pub returns-clause-stands : goal.returns-clause-stands
+returns-clause-stands c = λ setup is.
+    let here = subst (λ (n : JournaledNet). IsNetNext n setup c.args.step.now) (sym c.self.view_is) is in
+    let past = c.self.inside.journal.past in
+    let due : IsNext c.self.inside.network setup past c.args.step.now = record { stands = here.stands.stands; goes_on = here.goes_on; step_is = here.step_is } in
+    let entry : c.entry.result ≡ next setup past c.args.step.now = c.entry.ensures ∙ c.last.ensures ∙ c.step-went.ensures.last setup past due in
+    record {
+      stands = subst (λ now. StandsFor c.step-went.new.self setup now) (sym (c.note.ensures.past ∙ ap (λ e. e ∷ past) entry)) (c.step-went.ensures.stands setup past due);
+      most = subst (λ most. length setup.schedule ≤ most) (sym c.note.ensures.most) here.stands.most;
+    }
+
+pub returns-clause-went : goal.returns-clause-went
+returns-clause-went c = λ setup is.
+    let here = subst (λ (n : JournaledNet). IsNetNext n setup c.args.step.now) (sym c.self.view_is) is in
+    let due : IsNext c.self.inside.network setup c.self.inside.journal.past c.args.step.now = record { stands = here.stands.stands; goes_on = here.goes_on; step_is = here.step_is } in
+    c.step-went.ensures.went setup c.self.inside.journal.past due ∙ ap (λ (n : JournaledNet). went_of (next setup n.journal.past c.args.step.now)) c.self.view_is
+
+pub returns-clause-idle : goal.returns-clause-idle
+returns-clause-idle c = λ cause is. c.step-went.ensures.idle cause is ∙ ap (λ (n : JournaledNet). record n.network { last = c.step-went.new.self.last }) c.self.view_is
