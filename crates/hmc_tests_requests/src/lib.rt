@@ -19,3 +19,5 @@ mod registers;
 mod request;
 #[cfg(test)]
 mod serial;
+#[cfg(test)]
+mod units;

@@ -1,0 +1,11 @@
+pub mod Packets
+pub mod Map
+pub mod Queues
+pub mod Moves
+pub mod Flows
+pub mod Delivered
+pub mod Tags
+pub mod Order
+pub mod CutThrough
+pub mod OnWay
+pub mod GraphMap

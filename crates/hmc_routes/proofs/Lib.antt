@@ -1,0 +1,13 @@
+pub mod Agree
+pub mod Certificate
+pub mod DirectionLemmas
+pub mod DistanceLemmas
+pub mod Finds
+pub mod Firsts
+pub mod Joined
+pub mod PartedLemmas
+pub mod RouteLemmas
+pub mod Shortest
+pub mod TableLemmas
+pub mod Walks
+pub mod Worked

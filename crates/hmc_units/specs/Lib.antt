@@ -1,0 +1,5 @@
+pub mod Unit
+pub mod Bench
+pub mod Slot
+pub mod Slots
+pub mod Shipped
