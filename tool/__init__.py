@@ -11,7 +11,7 @@ cli has the words of the command line. Below it are
 - gate: what .ci/run needs; sample_cases: cases for docs/many-cases.md; counts: those of
   docs/PROOFS.md
 
-What cases may have today is in few places: CUBES, LINKS, A_IS_A_HOST and PROFILES of case, STEPS
-of schedule, and LINES of report. The gate compares this reader with the program and with the tables
+What cases may have is in few places: the ranges at the top of case, STEPS of schedule, and LINES of
+report. The gate compares this reader with the program and with the tables
 of hmc_faults, so a limit that moves in one of them shows there.
 """

@@ -16,12 +16,12 @@ from tool.texts import CubeParts, Plan
 TOP_KEYS = {"profile": int, "cubes": list, "links": list, "script": str, "schedule": str}
 CUBE_RANGES = {"vault_bits": (0, 5), "bank_bits": (0, 4), "rows": (1, 1024), "queue": (1, 64)}
 LINK_RANGES = {"line": (1, 64), "tokens": (17, 1024), "retry": (17, 256), "output": (1, 64)}
-LINK_KEYS = {"a": str, "b": str, **dict.fromkeys(LINK_RANGES, int)}
-PROFILES = (1, 1)
-# What cases may have today.
-CUBES = (1, 1)
-LINKS = (1, 1)
-A_IS_A_HOST = True
+PROFILES = (1, 2)
+CUBES = (1, 8)
+LINKS = (1, 32)
+# What profile 2 has beside: a block of each cube, and a profile of each link.
+BLOCKS = (32, 64, 128, 256)
+RETRY_OF_TWO = (17, 1024)
 
 ENDPOINT = re.compile(r"h([0-7])|c([0-7])\.([0-3])")
 INTEGERS = range(-(1 << 63), 1 << 63)
@@ -150,10 +150,30 @@ def top_fault(document: dict) -> Fault | None:
     return fault
 
 
+def cube_keys(document: dict) -> dict[str, type]:
+    """The keys of a cube, in order."""
+    return dict.fromkeys([*CUBE_RANGES, *(["block"] if document["profile"] == 2 else [])], int)
+
+
+def link_ranges(document: dict) -> dict[str, tuple[int, int]]:
+    """The numbers of a link and their ranges, in order."""
+    if document["profile"] == 1:
+        return LINK_RANGES
+    return {**LINK_RANGES, "retry": RETRY_OF_TWO, "profile": PROFILES}
+
+
+def link_keys(document: dict) -> dict[str, type]:
+    """The keys of a link, in order."""
+    return {"a": str, "b": str, **dict.fromkeys(link_ranges(document), int)}
+
+
 def cubes_fault(document: dict) -> Fault | None:
     """The first fault of the tables of cubes."""
     for number, table in enumerate(document["cubes"]):
-        fault = table_fault(table, dict.fromkeys(CUBE_RANGES, int), CUBE_RANGES, ("cubes", number))
+        path = ("cubes", number)
+        fault = table_fault(table, cube_keys(document), CUBE_RANGES, path)
+        if not fault and table.get("block", BLOCKS[-1]) not in BLOCKS:
+            fault = Fault("cube", number, "range", (*path, "block"))
         if fault:
             return fault
     return None
@@ -174,7 +194,8 @@ def table_fault(table, keys: dict, ranges: dict, path: Path) -> Fault | None:
 
 def bytes_of(cube: dict) -> int:
     """The bytes of a cube."""
-    return texts.BLOCK_BYTES * cube["rows"] << (cube["vault_bits"] + cube["bank_bits"])
+    block = cube.get("block", BLOCKS[-1])
+    return block * cube["rows"] << (cube["vault_bits"] + cube["bank_bits"])
 
 
 def capacity_fault(document: dict) -> Fault | None:
@@ -188,13 +209,21 @@ def links_fault(document: dict) -> Fault | None:
     taken: set[Endpoint] = set()
     for number, table in enumerate(document["links"]):
         path = ("links", number)
-        fault = table_fault(table, LINK_KEYS, LINK_RANGES, path)
+        fault = table_fault(table, link_keys(document), link_ranges(document), path)
+        fault = fault or retry_fault(table, path)
         fault = fault or end_fault(table, "a", document, path)
         fault = fault or end_fault(table, "b", document, path)
         fault = fault or pair_fault(*ends_of(table), taken, path)
         if fault:
             return fault
         taken.update(ends_of(table))
+    return None
+
+
+def retry_fault(table: dict, path: Path) -> Fault | None:
+    """`range` of a retry buffer that is too large for a link of profile One."""
+    if table.get("profile", 1) == 1 and table["retry"] > LINK_RANGES["retry"][1]:
+        return Fault("link", path[1], "range", (*path, "retry"))
     return None
 
 
@@ -206,7 +235,7 @@ def ends_of(link: dict) -> list[Endpoint]:
 def end_fault(table: dict, key: str, document: dict, path: Path) -> Fault | None:
     """`endpoint` or `nocube` of one end."""
     end = endpoint_of(table[key])
-    if end is None or (A_IS_A_HOST and key == "a" and end.host is None):
+    if end is None:
         return Fault("link", path[1], "endpoint", (*path, key))
     if end.host is None and end.cube >= len(document["cubes"]):
         return Fault("link", path[1], "nocube", (*path, key))

@@ -21,12 +21,14 @@ MEANINGS = {
         "missing": "one of the keys profile, cubes, links, script and schedule is missing",
         "kind": "a key's value has another type: profile is an integer, cubes and links are "
         "arrays of tables, script and schedule are strings",
-        "range": "the profile is not 1, or there are too few or too many cubes or links",
+        "range": "the profile is neither 1 nor 2, or there are too few or too many cubes or links",
     },
     "cube": {
         "kind": "the cube is not a table, or a key's value is not an integer",
-        "unknown": "a key is not one of vault_bits, bank_bits, rows and queue",
-        "missing": "one of the keys vault_bits, bank_bits, rows and queue is missing",
+        "unknown": "a key is not one of vault_bits, bank_bits, rows and queue, nor block in "
+        "profile 2",
+        "missing": "one of the keys vault_bits, bank_bits, rows and queue is missing, or block "
+        "in profile 2",
         "range": "a number is not within its limits",
     },
     "net": {
@@ -36,11 +38,12 @@ MEANINGS = {
     },
     "link": {
         "kind": "the link is not a table, or a key's value has another type",
-        "unknown": "a key is not one of a, b, line, tokens, retry and output",
-        "missing": "one of the keys a, b, line, tokens, retry and output is missing",
+        "unknown": "a key is not one of a, b, line, tokens, retry and output, nor profile in "
+        "profile 2",
+        "missing": "one of the keys a, b, line, tokens, retry and output is missing, or profile "
+        "in profile 2",
         "range": "a number is not within its limits",
-        "endpoint": "an end is neither a host, h0 to h7, nor a port, c0.0 to c7.3; "
-        "today end a is a host",
+        "endpoint": "an end is neither a host, h0 to h7, nor a port, c0.0 to c7.3",
         "nocube": "an end is at a cube that the case does not have",
         "hosts": "both ends are hosts",
         "self": "both ends are ports of one cube",
@@ -191,15 +194,29 @@ def advice(fault: Fault, document: dict) -> str:
         return f"`{key}` is missing"
     if fault.kind == "unknown":
         return f"`{key}` is not a key of a case here"
-    ranges = {**case.CUBE_RANGES, **case.LINK_RANGES, "profile": case.PROFILES}
-    if fault.kind == "range" and key in ranges:
-        least, most = ranges[key]
-        return f"`{key}` is {least:,} to {most:,}" if least < most else f"`{key}` is {least}"
     if fault.kind == "range":
-        return f"there are {len(document[key])} {key}, and today there has to be one"
+        return range_of_key(fault, document)
     if fault.kind == "kind":
         return kind_advice(fault)
     return MEANINGS[fault.section][fault.kind]
+
+
+def range_of_key(fault: Fault, document: dict) -> str:
+    """What is allowed as the value of the key at fault."""
+    key = fault.path[-1]
+    if key == "block":
+        return f"`block` is {', '.join(map(str, case.BLOCKS[:-1]))} or {case.BLOCKS[-1]}"
+    if key in ("cubes", "links"):
+        least, most = case.CUBES if key == "cubes" else case.LINKS
+        return f"there are {len(document[key])} {key}, and there may be {least} to {most}"
+    if key == "profile":
+        return f"`profile` is {case.PROFILES[0]} or {case.PROFILES[1]}"
+    ranges = {**case.CUBE_RANGES, **case.link_ranges(document)}
+    least, most = ranges[key]
+    if key == "retry" and least <= document["links"][fault.line]["retry"] <= most:
+        least, most = case.LINK_RANGES["retry"]
+        return f"`retry` is {least:,} to {most:,} on a link of profile 1"
+    return f"`{key}` is {least:,} to {most:,}"
 
 
 def kind_advice(fault: Fault) -> str:
@@ -207,6 +224,7 @@ def kind_advice(fault: Fault) -> str:
     key = fault.path[-1]
     if isinstance(key, int):
         return f"{fault.path[0].removesuffix('s')} {key} is not a table"
-    kinds = {**dict.fromkeys(case.CUBE_RANGES, int), **case.LINK_KEYS, **case.TOP_KEYS}
+    numbers = [*case.CUBE_RANGES, "block", *case.LINK_RANGES]
+    kinds = {"a": str, "b": str, **dict.fromkeys(numbers, int), **case.TOP_KEYS}
     names = {int: "an integer", str: "a string", list: "an array of tables"}
     return f"`{key}` is {names[kinds[key]]}"

@@ -5,13 +5,16 @@ from __future__ import annotations
 from tool import texts
 from tool.case import Endpoint, bytes_of, ends_of
 
+SIZES = ("line", "tokens", "retry", "output", "profile")
+
 
 def parts_of(cube: dict) -> str:
     """The parts of a cube in words."""
     vaults, banks = 1 << cube["vault_bits"], 1 << cube["bank_bits"]
     counts = ((vaults, "vault"), (banks, "bank"), (cube["rows"], "row"))
     parts = " of ".join(counted(number, word) for number, word in counts)
-    return f"{parts}, {bytes_of(cube):,} bytes, queues of {cube['queue']}"
+    blocks = f", blocks of {cube['block']}" if "block" in cube else ""
+    return f"{parts}, {bytes_of(cube):,} bytes, queues of {cube['queue']}{blocks}"
 
 
 def counted(number: int, word: str) -> str:
@@ -20,8 +23,8 @@ def counted(number: int, word: str) -> str:
 
 
 def sizes_of(link: dict) -> str:
-    """The four numbers of a link."""
-    return ", ".join(f"{key} {link[key]}" for key in ("line", "tokens", "retry", "output"))
+    """The numbers of a link: four, and in profile 2 its profile."""
+    return ", ".join(f"{key} {link[key]}" for key in SIZES if key in link)
 
 
 def link_at(document: dict, here: Endpoint) -> tuple[int, Endpoint, int] | None:

@@ -87,7 +87,7 @@ class Docs(unittest.TestCase):
             if not words.startswith("run "):
                 self.assertEqual(self.written(words), text, words)
                 tried.append(words.split(" ")[0])
-        self.assertEqual(tried, ["explain", "explain", "json", "diff", "show"])
+        self.assertEqual(tried, ["explain", "explain", "json", "diff", "show", "show"])
 
     def written(self, words: str) -> str:
         """What a command writes where the files that the page names are."""

@@ -5,7 +5,7 @@ import unittest
 from pathlib import Path
 
 from tool import case, explain_fault, schedule, script
-from tool.tests.shared import CASES, bad_cases, output_of, text_rows, tool
+from tool.tests.shared import CASES, EXAMPLES, bad_cases, output_of, text_rows, tool
 from tool.texts import CubeParts, Plan
 
 TWO = Plan(2, 6, [CubeParts(2, 2, (0, 2)), CubeParts(1, 4, (1,))])
@@ -15,7 +15,7 @@ ONE = Plan(1, 2, [CubeParts(1, 1, (0,))])
 class Tables(unittest.TestCase):
     def test_bad_cases(self):
         rows = bad_cases()
-        self.assertGreaterEqual(len(rows), 84)
+        self.assertGreaterEqual(len(rows), 193)
         for _, text, wanted in rows:
             with self.subTest(wanted=wanted, case=text):
                 self.assertEqual(str(case.read(text.encode())[1]), wanted)
@@ -84,6 +84,31 @@ class Explain(unittest.TestCase):
         self.assertEqual(lines[0], f"case.toml:{number}:3")
         self.assertEqual(lines[1:3], ["    0 rd17 0 0x40", "      ^^^^"])
 
+    def advice_on(self, name: str, old: str, new: str) -> str:
+        """What is said of the fault that a change makes of an example."""
+        text = (EXAMPLES / name).read_text(encoding="utf-8").replace(old, new, 1)
+        return self.lines_of(str(case.read(text.encode())[1]), text)[-1]
+
+    def test_what_profile_two_allows(self):
+        def said(old: str, new: str) -> str:
+            return self.advice_on("two-profiles.toml", old, new)
+
+        self.assertEqual(said("block = 256", "block = 48"), "`block` is 32, 64, 128 or 256")
+        self.assertEqual(said("block = 256\n", ""), "`block` is missing")
+        self.assertEqual(said("retry = 64", "retry = 1025"), "`retry` is 17 to 1,024")
+        of_one = "`retry` is 17 to 256 on a link of profile 1"
+        self.assertEqual(said("retry = 64", "retry = 300"), of_one)
+        self.assertEqual(said("profile = 1", "profile = 3"), "`profile` is 1 or 2")
+
+    def test_what_profile_one_allows(self):
+        def said(old: str, new: str) -> str:
+            return self.advice_on("chain-of-three.toml", old, new)
+
+        self.assertEqual(said("retry = 64", "retry = 300"), "`retry` is 17 to 256")
+        self.assertIn("leads to some other cube", said('b = "c1.0"', 'b = "h1"'))
+        self.assertIn("ports of one cube", said('b = "c1.0"', 'b = "c0.2"'))
+        self.assertIn("an earlier link", said('a = "c0.1"', 'a = "c0.0"'))
+
     def test_another_fault(self):
         text = CASES[-1].read_text(encoding="utf-8").replace("tokens = 34", "tokens = 16")
         self.assertIn("another one: bad link 0 range", self.lines_of("bad net 0 hosts", text)[0])
@@ -99,7 +124,7 @@ class Explain(unittest.TestCase):
             quoted = output_of("explain", "bad top 0 range", str(path))
             spread = output_of("explain", "bad", "top", "0", "range", str(path))
         self.assertEqual(quoted, spread)
-        self.assertIn("`profile` is 1\n", quoted)
+        self.assertIn("`profile` is 1 or 2\n", quoted)
 
     def test_a_line_that_the_program_does_not_write(self):
         self.assertEqual(tool("explain", "bad link 0 colour").returncode, 65)

@@ -11,6 +11,24 @@ from tool import build
 from tool.tests.shared import require_program
 
 
+CUBE = """
+[[cubes]]
+vault_bits = 0
+bank_bits = 0
+rows = 4
+queue = 4
+"""
+LINK = """
+[[links]]
+a = "{a}"
+b = "{b}"
+line = 8
+tokens = 34
+retry = 64
+output = 4
+"""
+
+
 def case_of(script: list[str], schedule: str, cube: str = "0 0 4", link: str = "34 64 4") -> bytes:
     """A case of one cube (vault_bits, bank_bits, queue) and one link (tokens, retry, output)."""
     vault_bits, bank_bits, queue = cube.split()
@@ -58,6 +76,21 @@ def pointers_wrap() -> bytes:
     return case_of(script, "round 850\n")
 
 
+def chain_of_eight() -> bytes:
+    """Two hosts at the ends of eight cubes write and read all of them, while flits are changed."""
+    script = []
+    for number in range(200):
+        place = f"{number % 8} 0x{16 * (number // 8):x}"
+        writer, reader = number % 2, 1 - number % 2
+        script += [f"{writer} wr16 {place} {number:032x}", f"{reader} rd16 {place}"]
+    ends = ["h0", *(f"c{cube}.{port}" for cube in range(8) for port in (0, 1)), "h1"]
+    links = "".join(LINK.format(a=a, b=b) for a, b in zip(ends[::2], ends[1::2], strict=True))
+    noise = "noise 701 00000000000000000000000000000001\nround 1200\nnoise off\nround 300"
+    lines = "\n".join(script)
+    head = f"profile = 1\nscript = '''\n{lines}\n'''\nschedule = '''\n{noise}\n'''\n"
+    return (head + CUBE * 8 + links).encode()
+
+
 class Long(unittest.TestCase):
     @classmethod
     def setUpClass(cls):
@@ -83,6 +116,15 @@ class Long(unittest.TestCase):
         self.check(
             pointers_wrap(), "2e9f9612c3f258ea30ab86cdc66a3e18b9381ba766686fe492ddd5c94fad8af1"
         )
+
+    def test_a_chain_of_eight_cubes(self):
+        lines = self.check(
+            chain_of_eight(), "a8fb01ccab5c45ffc5766f39c5bb9b2b7790e53b1e262ba22ede911cf0cd337a"
+        )
+        self.assertEqual(lines[-11:-9], ["host 0 200 200 0", "host 1 200 200 0"])
+        self.assertEqual(lines[-1], "state drained")
+        changed = [changed_flits(lines, str(direction)) for direction in range(18)]
+        self.assertEqual((min(changed), max(changed)), (1, 2))
 
 
 def flits(lines: list[str], word: str, direction: str) -> list[str]:

@@ -220,7 +220,8 @@ class Wave(unittest.TestCase):
         """By docs/report.md: a packet or an error in Good alone, the end of training in Train, and
         a training flit is sent exactly where the receiver at that end is in Train."""
         for path in CASES:
-            modes = [wave.FIRST_MODE, wave.FIRST_MODE]
+            document, _ = case.read(path.read_bytes())
+            modes = [wave.FIRST_MODE] * (2 * len(document["links"]))
             for entry in report.read_report(lines_of(path.stem)):
                 if entry["line"] == "sent":
                     trains = modes[entry["direction"] ^ 1] == "train"

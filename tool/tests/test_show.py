@@ -7,7 +7,7 @@ from tool.tests.shared import EXAMPLES, FAULTS, output_of, tool
 
 CUBE = {"vault_bits": 1, "bank_bits": 2, "rows": 16, "queue": 4}
 LINK = {"line": 8, "tokens": 34, "retry": 64, "output": 4}
-# Two cubes and two hosts: the reader of cases does not take them yet, the picture does.
+# Two cubes and two hosts.
 NETWORK = {
     "cubes": [CUBE, {**CUBE, "rows": 1}],
     "links": [
@@ -33,6 +33,19 @@ class Show(unittest.TestCase):
         # 256 bytes a row, 2 vaults, 4 banks, 16 rows or 1 row.
         self.assertIn("32,768 bytes", text)
         self.assertIn("2,048 bytes", text)
+
+    def test_what_profile_two_has(self):
+        text = output_of("show", str(EXAMPLES / "two-profiles.toml"))
+        self.assertIn("1,024 bytes, queues of 4, blocks of 256", text)
+        self.assertIn("link 1: direction 2 from c0.1 to c1.0, line 8, tokens 34, retry 300", text)
+        self.assertIn("output 4, profile 2", text)
+        blocks = output_of("show", str(EXAMPLES / "profile-two.toml"))
+        self.assertIn("1 vault of 1 bank of 4 rows, 256 bytes, queues of 4, blocks of 64", blocks)
+
+    def test_a_ring(self):
+        text = output_of("show", str(EXAMPLES / "ring-of-eight.toml"))
+        self.assertIn("port 0 ===== link 8 ===== port 1 of cube 7   (out: direction 17", text)
+        self.assertEqual(text.count("+-- cube"), 8)
 
     def test_the_box_is_even(self):
         lines = [line for line in show.text_lines(NETWORK)[:6]]

@@ -4,7 +4,7 @@ use Rattle.std.specs.List.{All}
 use Rattle.hmc_schedule.specs.Plan.{IsStepOf, IsBuilt}
 use Rattle.hmc_schedule.specs.Schedule.{schedule_of}
 use Rattle.hmc_schedule.specs.declared.step.Step.{Step}
-use Rattle.hmc_script.specs.Items.{ItemFields, IsWithin}
+use Rattle.hmc_script.specs.Items.{ItemFields, IsWithin, IsScript}
 use Rattle.hmc_script.specs.Script.{script_of}
 use Rattle.hmc_text.specs.Reading.{◌>>=◌}
 use Rattle.hmc_case.specs.Net.{NetFields, IsNet, net_of}
@@ -34,15 +34,16 @@ unfoldable pub case_of : List ℕ → Result CaseFields Fault
 case_of bytes = do
   table ← in_section Toml 0 (table_in bytes)
   parts ← in_section Top 0 (parts_of table)
-  net ← net_of parts.cubes parts.links
+  net ← net_of parts.profile parts.cubes parts.links
   script ← in_text Script kinds.Script (script_of net.hosts (length net.cubes) parts.script)
   schedule ← in_text Schedule kinds.Schedule (schedule_of (plan_of net) parts.schedule)
   Ok (record { net = net; script = script; schedule = schedule })
 
--- what every case keeps: each request is of one of its hosts to one of its cubes, each step names
--- its parts and is built so far, and each mask has 16 bytes
+-- what every case keeps: each request is good, and of one of its hosts to one of its cubes; each
+-- step names its parts and is built so far, and each mask has 16 bytes
 pub record IsCase (case : CaseFields) : Type 0 where
   pub net : IsNet case.net
+  pub requests : IsScript case.script
   pub script : All (IsWithin case.net.hosts (length case.net.cubes)) case.script
   pub schedule : All (IsStepOf (plan_of case.net)) case.schedule
   pub built : All IsBuilt case.schedule

@@ -7,7 +7,7 @@ pub mod Cubes
 pub mod Places
 pub mod Links
 pub mod Together
-pub mod Walks
+pub mod Graph
 pub mod Net
 pub mod Plan
 pub mod Case

@@ -4,8 +4,9 @@ use Rattle.std.specs.Str.{is_utf8}
 use Rattle.toml.specs.Data.{Items, Members}
 use Rattle.toml.specs.Parse.{parse_document}
 use Rattle.hmc_codes.specs.Limits.{most_cubes, most_links}
+use Rattle.hmc_codes.specs.declared.profile.Profile.{Profile}
 use Rattle.hmc_text.specs.Reading.{◌>>=◌, or_fault}
-use Rattle.hmc_case.specs.Keys.{known_keys, number_at, items_at, text_at}
+use Rattle.hmc_case.specs.Keys.{known_keys, profile_at, items_at, text_at}
 use Rattle.hmc_case.specs.declared.fault.CaseKind.{CaseKind}
 use Rattle.hmc_case.specs.declared.fault.CaseKind.TheVariants.{Syntax}
 use Rattle.hmc_case.specs.declared.keys.Part.TheVariants.{Top}
@@ -20,18 +21,25 @@ table_in bytes = or_fault Syntax (document_of bytes)
 
 -- the values at the keys of a case
 pub record PartsFields : Type 0 where
+  pub profile : Profile
   pub cubes : Items
   pub links : Items
   pub script : List ℕ
   pub schedule : List ℕ
 
--- the keys of a case; until there are two profiles, the profile is 1
+-- the keys of a case
 unfoldable pub parts_of : Members → Result PartsFields CaseKind
 parts_of table = do
   known ← known_keys Top table
-  profile ← number_at (codes "profile") 1 1 table
+  profile ← profile_at table
   cubes ← items_at (codes "cubes") most_cubes table
   links ← items_at (codes "links") most_links table
   script ← text_at (codes "script") table
   schedule ← text_at (codes "schedule") table
-  Ok (record { cubes = cubes; links = links; script = script; schedule = schedule })
+  Ok (record {
+    profile = profile;
+    cubes = cubes;
+    links = links;
+    script = script;
+    schedule = schedule;
+  })

@@ -1,11 +1,12 @@
 -- Where links end.
-use Rattle.std.specs.Prelude.{ℕ, ◌+◌, ◌-◌, ◌<◌, ◌≡◌, ◌==◌, ◌&&◌, ◌||◌, not, nat_le, nat_lt, Bool, true, false, List, [], ◌∷◌, Option, Some, None, option_map, Result, Ok, if◌then◌else◌}
+use Rattle.std.specs.Prelude.{ℕ, ◌+◌, ◌-◌, ◌≡◌, ◌==◌, ◌&&◌, ◌||◌, not, nat_le, nat_lt, Bool, true, false, List, [], ◌∷◌, Option, Some, None, option_map, Result, Ok, if◌then◌else◌}
 use Rattle.std.specs.List.{list_any}
 use Rattle.hmc_codes.specs.Limits.{most_hosts, most_cubes, ports}
 use Rattle.hmc_codes.specs.Places.{is_host, same_place}
 use Rattle.hmc_codes.specs.declared.place.Join.{Join}
 use Rattle.hmc_codes.specs.declared.place.Place.{Place}
 use Rattle.hmc_codes.specs.declared.place.Place.TheVariants.{Host, Port}
+use Rattle.hmc_routes.specs.WellFormed.{is_there, may_be_joined}
 use Rattle.hmc_text.specs.Reading.{◌>>=◌, or_fault}
 use Rattle.hmc_case.specs.Reading.{or_refuse}
 use Rattle.hmc_case.specs.declared.fault.CaseKind.{CaseKind}
@@ -30,16 +31,6 @@ place_of (letter ∷ cube ∷ dot ∷ port ∷ []) =
     then port_of_digits (digit_of most_cubes cube) (digit_of ports port) else None
 place_of _ = None
 
--- the place is a host, or a port of one of this many cubes
-abbrev pub is_there : ℕ → Place → Bool
-is_there cubes (Host host) = true
-is_there cubes (Port cube port) = nat_lt cube cubes
-
--- one of this many hosts, or a port of one of this many cubes
-abbrev pub IsPlaceOf : ℕ → ℕ → Place → Type 0
-IsPlaceOf hosts cubes (Host host) = host < hosts
-IsPlaceOf hosts cubes (Port cube port) = (cube < cubes) × (port < ports)
-
 -- both are ports of one cube
 abbrev pub is_same_cube : Place → Place → Bool
 is_same_cube (Port cube port) (Port other other_port) = cube == other
@@ -50,11 +41,10 @@ abbrev pub is_taken : List LinkRow → Place → Bool
 is_taken links place =
     list_any (λ link. same_place link.join.a place || same_place link.join.b place) links
 
--- Of a link's ends a comes before b. Until there are networks, a is a host.
-unfoldable pub ends_of : ℕ → List ℕ → List ℕ → Result Join CaseKind
+-- of a link's ends a comes before b, each whole: its name, and that its cube exists
+unfoldable pub ends_of : (cubes : ℕ) → List ℕ → List ℕ → Result Join CaseKind
 ends_of cubes a b = do
   first ← or_fault kinds.Endpoint (place_of a)
-  host ← or_refuse kinds.Endpoint (is_host first)
   there ← or_refuse kinds.NoCube (is_there cubes first)
   second ← or_fault kinds.Endpoint (place_of b)
   there ← or_refuse kinds.NoCube (is_there cubes second)
@@ -67,10 +57,10 @@ may_join links join = do
   itself ← or_refuse kinds.SelfJoined (not (is_same_cube join.a join.b))
   or_refuse kinds.Taken (not (is_taken links join.a || is_taken links join.b))
 
--- Both ends are places of a case with this many hosts and cubes. Until there are networks, a is a
--- host and b a port.
-pub record IsJoinOf (hosts cubes : ℕ) (join : Join) : Type 0 where
-  pub a : IsPlaceOf hosts cubes join.a
-  pub b : IsPlaceOf hosts cubes join.b
-  pub host : is_host join.a ≡ true
-  pub port : is_host join.b ≡ false
+-- what a further link of a case keeps: its ends exist, may be joined, and end no link before it
+pub record IsNewJoin (cubes : ℕ) (links : List LinkRow) (join : Join) : Type 0 where
+  pub a : is_there cubes join.a ≡ true
+  pub b : is_there cubes join.b ≡ true
+  pub apart : may_be_joined join.a join.b ≡ true
+  pub a_free : is_taken links join.a ≡ false
+  pub b_free : is_taken links join.b ≡ false

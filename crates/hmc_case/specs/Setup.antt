@@ -1,18 +1,11 @@
--- What a case states of a cube, and what it doesn't state yet.
+-- What a case states of a cube.
 use Rattle.std.specs.Prelude.{ℕ, ◌≤◌}
 use Rattle.hmc_codes.specs.Limits.{most_queue}
 use Rattle.hmc_codes.specs.Shape.{ShapeFields, IsShape}
-use Rattle.hmc_codes.specs.declared.profile.Profile.{Profile}
-use Rattle.hmc_codes.specs.declared.profile.Profile.TheVariants.{One}
 
--- Until cases have a key for the profile of a link and one for the block of a cube, each link has
--- this profile and each cube this block.
-
-abbrev pub only_profile : Profile
-only_profile = One
-
-abbrev pub only_block : ℕ
-only_block = 256
+-- the bytes of the largest block, which each cube has in a case of profile 1
+abbrev pub most_block : ℕ
+most_block = 256
 
 -- a cube of a case: its shape, and the packets that each of its queues holds
 pub record CubeSetupFields : Type 0 where

@@ -1,10 +1,16 @@
 //! Cases.
 
-ghost use Rattle.std.specs.Prelude.{◌≡◌, IfOk};
+ghost use Rattle.std.specs.Prelude.{◌≡◌, length, IfOk};
+ghost use Rattle.std.specs.List.{All};
+ghost use Rattle.hmc_schedule.specs.Plan.{IsStepOf, IsBuilt};
+ghost use Rattle.hmc_script.specs.Items.{IsWithin};
+ghost use Rattle.hmc_case.specs.Net.{IsNet, net_with};
+ghost use Rattle.hmc_case.specs.Plan.{plan_of};
+ghost use Rattle.hmc_case.specs.Together.{host_count};
 ghost use Rattle.hmc_case.specs.Reading.{Answers};
 ghost use Rattle.hmc_case.specs.Case.{case_of, IsCase};
 
-use crate::net::{Net, net_of};
+use crate::net::{Net, net_of, net_with};
 use crate::parts::{parts_in, table_in};
 use crate::texts::{schedule_of, script_of};
 use crate::{CaseFault, CubeSetup, LinkRow};
@@ -52,7 +58,7 @@ impl Case {
     {
         let table = table_in(alloc, bytes)?;
         let parts = parts_in(&table)?;
-        let net = net_of(alloc, parts.cubes, parts.links)?;
+        let net = net_of(alloc, parts.profile, parts.cubes, parts.links)?;
         let cubes = net.cubes.len() as u8;
         let script = script_of(alloc, net.hosts, cubes, parts.script)?;
         let schedule = schedule_of(alloc, &net, parts.schedule)?;
@@ -61,6 +67,33 @@ impl Case {
             script,
             schedule,
         })
+    }
+
+    /// The case of these cubes and links, this script and this schedule. The cubes and links are
+    /// such as a case may have, and the script and the schedule name only parts of them. It takes
+    /// no memory.
+    pub fn of(
+        cubes: Vec<CubeSetup>,
+        links: Vec<LinkRow>,
+        script: Script,
+        schedule: Schedule,
+    ) -> Case
+        requires net { IsNet (net_with cubes.items links.items) }
+        requires script { All (IsWithin (host_count links.items) (length cubes.items)) script }
+        requires schedule { All (IsStepOf (plan_of (net_with cubes.items links.items))) schedule }
+        requires built { All IsBuilt schedule }
+        ensures { result ≡ record {
+          net = net_with cubes.items links.items;
+          script = script;
+          schedule = schedule;
+        } }
+    {
+        script.invariant();
+        Case {
+            net: net_with(cubes, links),
+            script,
+            schedule,
+        }
     }
 
     /// Nothing is done: what every case keeps is the contract.

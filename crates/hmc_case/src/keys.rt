@@ -5,18 +5,19 @@ ghost use Rattle.std.specs.BTreeMap.{keys};
 ghost use Rattle.std.specs.List.{list_all};
 ghost use Rattle.toml.specs.View.{view, table_view, array_view};
 ghost use Rattle.hmc_text.specs.Reading.{Gives};
-ghost use Rattle.hmc_case.specs.Keys.{is_key, known_keys, table_of, among, value_at, number_at, text_at, count_of, items_at};
+ghost use Rattle.hmc_case.specs.Keys.{is_cube_key, is_link_key, is_key, known_keys, table_of, among, value_at, number_at, text_at, count_of, items_at, profile_numbered, profile_at};
 
 use crate::CaseKind;
+use hmc_codes::Profile;
 use toml::value::Array;
 use toml::{Table, Value};
 
-/// A table of a case.
+/// A table of a case. That of a cube or of a link has further keys in a case of profile 2.
 #[derive(Clone, Copy)]
 pub enum Part {
     Top,
-    Cube,
-    Link,
+    Cube(Profile),
+    Link(Profile),
 }
 
 // The number, if it is least to most.
@@ -77,16 +78,27 @@ fn is_top_key(key: &str) -> bool
     matches!(key, "profile" | "cubes" | "links" | "script" | "schedule")
 }
 
-fn is_cube_key(key: &str) -> bool
-    ensures { result ≡ is_key Part.Cube key.now }
+fn is_cube_key(profile: Profile, key: &str) -> bool
+    ensures { result ≡ is_cube_key profile key.now }
 {
-    matches!(key, "vault_bits" | "bank_bits" | "rows" | "queue")
+    match profile {
+        Profile::One => matches!(key, "vault_bits" | "bank_bits" | "rows" | "queue"),
+        Profile::Two => matches!(key, "vault_bits" | "bank_bits" | "rows" | "queue" | "block"),
+    }
 }
 
-fn is_link_key(key: &str) -> bool
-    ensures { result ≡ is_key Part.Link key.now }
+fn is_link_key(profile: Profile, key: &str) -> bool
+    ensures { result ≡ is_link_key profile key.now }
 {
-    matches!(key, "a" | "b" | "line" | "tokens" | "retry" | "output")
+    match profile {
+        Profile::One => matches!(key, "a" | "b" | "line" | "tokens" | "retry" | "output"),
+        Profile::Two => {
+            matches!(
+                key,
+                "a" | "b" | "line" | "tokens" | "retry" | "output" | "profile"
+            )
+        }
+    }
 }
 
 // Whether the table of this part may have the key.
@@ -95,8 +107,8 @@ fn is_key(part: Part, key: &str) -> bool
 {
     match part {
         Part::Top => is_top_key(key),
-        Part::Cube => is_cube_key(key),
-        Part::Link => is_link_key(key),
+        Part::Cube(profile) => is_cube_key(profile, key),
+        Part::Link(profile) => is_link_key(profile, key),
     }
 }
 
@@ -143,7 +155,8 @@ fn count_of(items: &Array) -> usize
 pub fn items_at<'a>(key: &str, most: usize, table: &'a Table) -> Result<&'a Array, CaseKind>
     ensures value { Gives (λ items. array_view items.now) result
         (items_at key.now most (table_view table.now)) }
-    ensures one { IfOk result (λ items. vec_len items.now ≡ 1) }
+    ensures some { IfOk result (λ items. 1 ≤ vec_len items.now) }
+    ensures few { IfOk result (λ items. vec_len items.now ≤ most) }
 {
     let value = value_at(key, table)?;
     let Some(items) = value.as_array() else {
@@ -153,8 +166,25 @@ pub fn items_at<'a>(key: &str, most: usize, table: &'a Table) -> Result<&'a Arra
     if count < 1 || most < count {
         return Err(CaseKind::Range);
     }
-    if 1 < count {
-        return Err(CaseKind::Range);
-    }
     Ok(items)
+}
+
+// The profile with this number: 1 or 2.
+fn profile_numbered(number: u16) -> Profile
+    ensures { result ≡ profile_numbered number }
+{
+    if number == 2 {
+        Profile::Two
+    } else {
+        Profile::One
+    }
+}
+
+/// The profile at the key.
+#[tactic(auto, unfolding(crate::specs::Keys::profile_at))]
+pub fn profile_at(table: &Table) -> Result<Profile, CaseKind>
+    ensures { result ≡ profile_at (table_view table.now) }
+{
+    let number = number_at("profile", 1, 2, table)?;
+    Ok(profile_numbered(number))
 }

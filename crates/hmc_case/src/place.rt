@@ -1,9 +1,9 @@
 //! Where links end.
 
 ghost use Rattle.std.specs.Prelude.{◌≡◌, ◌<◌, [], ◌∷◌, true, false, IsTrue, IfSome, IfOk, OnOk};
-ghost use Rattle.hmc_codes.specs.Limits.{most_hosts, most_cubes};
 ghost use Rattle.hmc_codes.specs.Places.{is_host, same_place};
-ghost use Rattle.hmc_case.specs.Places.{digit_of, place_of, IsPlaceOf, is_there, is_same_cube, is_taken, ends_of, may_join};
+ghost use Rattle.hmc_routes.specs.WellFormed.{is_there, may_be_joined};
+ghost use Rattle.hmc_case.specs.Places.{digit_of, place_of, is_same_cube, is_taken, ends_of, may_join};
 
 use crate::fault::refuse_unless;
 use crate::{CaseKind, LinkRow};
@@ -23,8 +23,7 @@ fn digit_of(limit: u8, byte: u8) -> Option<u8>
 }
 
 fn host_of_digit(letter: u8, host: u8) -> Option<Place>
-    ensures value { result ≡ place_of (letter ∷ host ∷ []) }
-    ensures within { IfSome result (IsPlaceOf most_hosts most_cubes) }
+    ensures { result ≡ place_of (letter ∷ host ∷ []) }
 {
     if letter != b'h' {
         return None;
@@ -34,8 +33,7 @@ fn host_of_digit(letter: u8, host: u8) -> Option<Place>
 }
 
 fn port_of_digits(letter: u8, cube: u8, dot: u8, port: u8) -> Option<Place>
-    ensures value { result ≡ place_of (letter ∷ cube ∷ dot ∷ port ∷ []) }
-    ensures within { IfSome result (IsPlaceOf most_hosts most_cubes) }
+    ensures { result ≡ place_of (letter ∷ cube ∷ dot ∷ port ∷ []) }
 {
     if letter != b'c' || dot != b'.' {
         return None;
@@ -47,8 +45,7 @@ fn port_of_digits(letter: u8, cube: u8, dot: u8, port: u8) -> Option<Place>
 
 // The host or the port with this name.
 fn place_of(text: &str) -> Option<Place>
-    ensures value { result ≡ place_of text.now }
-    ensures within { IfSome result (IsPlaceOf most_hosts most_cubes) }
+    ensures { result ≡ place_of text.now }
 {
     match text.as_bytes() {
         [letter, host] => host_of_digit(*letter, *host),
@@ -63,15 +60,13 @@ fn is_host(place: Place) -> bool
     matches!(place, Place::Host(_))
 }
 
-// Whether the place is a host, or a port of one of this many cubes.
+// Whether there is such a host, or such a port of one of this many cubes.
 fn is_there(cubes: u8, place: Place) -> bool
-    ensures value { result ≡ is_there cubes place }
-    ensures within { IsTrue result → IsPlaceOf most_hosts most_cubes place
-        → IsPlaceOf most_hosts cubes place }
+    ensures { result ≡ is_there cubes place }
 {
     match place {
-        Place::Host(_) => true,
-        Place::Port { cube, .. } => cube < cubes,
+        Place::Host(host) => host < MOST_HOSTS,
+        Place::Port { cube, port } => cube < cubes && port < PORTS,
     }
 }
 
@@ -113,14 +108,12 @@ pub fn is_taken(links: &[LinkRow], place: Place) -> bool
 #[tactic(auto, unfolding(crate::specs::Places::ends_of))]
 pub fn ends_of(cubes: u8, a: &str, b: &str) -> Result<Join, CaseKind>
     ensures value { result ≡ ends_of cubes a.now b.now }
-    ensures a { IfOk result (λ join. IsPlaceOf most_hosts cubes join.a) }
-    ensures b { IfOk result (λ join. IsPlaceOf most_hosts cubes join.b) }
-    ensures host { IfOk result (λ join. is_host join.a ≡ true) }
+    ensures a { IfOk result (λ join. is_there cubes join.a ≡ true) }
+    ensures b { IfOk result (λ join. is_there cubes join.b ≡ true) }
 {
     let Some(first) = place_of(a) else {
         return Err(CaseKind::Endpoint);
     };
-    refuse_unless(is_host(first), CaseKind::Endpoint)?;
     refuse_unless(is_there(cubes, first), CaseKind::NoCube)?;
     let Some(second) = place_of(b) else {
         return Err(CaseKind::Endpoint);
@@ -136,7 +129,9 @@ pub fn ends_of(cubes: u8, a: &str, b: &str) -> Result<Join, CaseKind>
 #[tactic(auto, unfolding(crate::specs::Places::may_join))]
 pub fn may_join(links: &[LinkRow], join: Join) -> Result<(), CaseKind>
     ensures value { result ≡ may_join links.now join }
-    ensures port { is_host join.a ≡ true → OnOk result (is_host join.b ≡ false) }
+    ensures apart { OnOk result (may_be_joined join.a join.b ≡ true) }
+    ensures a_free { OnOk result (is_taken links.now join.a ≡ false) }
+    ensures b_free { OnOk result (is_taken links.now join.b ≡ false) }
 {
     let hosts = is_host(join.a) && is_host(join.b);
     refuse_unless(!hosts, CaseKind::Hosts)?;

@@ -1,15 +1,12 @@
-//! What a case states of a cube and of a link, and what it doesn't state yet.
+//! What a case states of a cube and of a link.
 
 ghost use Rattle.hmc_case.specs.Setup.{IsCubeSetup};
 
-use hmc_codes::{Join, LinkSetup, Profile, Shape};
+use hmc_codes::{Join, LinkSetup, Shape};
 use std::marker::Model;
 
-// Until cases have a key for the profile of a link and one for the block of a cube, each link has
-// this profile and each cube this block.
-pub(crate) const ONLY_PROFILE: Profile = Profile::One;
-
-pub(crate) const ONLY_BLOCK: u16 = 256;
+// The bytes of the largest block, which each cube has in a case of profile 1.
+pub(crate) const MOST_BLOCK: u16 = 256;
 
 /// A cube of a case.
 #[derive(Clone, Copy, Debug, PartialEq, Eq)]

@@ -1,6 +1,6 @@
 //! The cubes and links of a case together.
 
-ghost use Rattle.std.specs.Prelude.{◌≡◌, ◌≤◌, ◌<◌, ◌==◌, true, nat_le, nat_lt, length, IsTrue, IfOk, OnOk};
+ghost use Rattle.std.specs.Prelude.{ℕ, ◌≡◌, ◌≤◌, ◌<◌, ◌==◌, nat_le, nat_lt, length, IsTrue, IfOk, OnOk};
 ghost use Rattle.std.specs.List.{All, list_any, list_all};
 ghost use Rattle.hmc_codes.specs.Limits.{most_hosts, most_memory};
 ghost use Rattle.hmc_case.specs.Reading.{Answers, in_section};
@@ -85,8 +85,8 @@ fn have_all_below(numbers: &[u8], limit: usize) -> bool
 // Whether the numbers are 0 to one less than their count.
 fn are_from_zero(numbers: &[u8]) -> bool
     ensures value { result ≡ are_from_zero numbers.now }
-    ensures below { IsTrue result
-        → list_all (λ number. nat_lt number (length numbers.now)) numbers.now ≡ true }
+    ensures exact { IsTrue result → (number : ℕ) →
+        list_any (λ other. other == number) numbers.now ≡ nat_lt number (length numbers.now) }
     ensures few { IsTrue result → All (λ number. number < most_hosts) numbers.now
         → length numbers.now ≤ most_hosts }
 {
@@ -101,8 +101,8 @@ fn count_from_zero(numbers: &[u8]) -> Result<u8, CaseKind>
     ensures value { result ≡ count_from_zero numbers.now }
     ensures some { IfOk result (λ count. 1 ≤ count) }
     ensures few { IfOk result (λ count. count ≤ most_hosts) }
-    ensures below { IfOk result (λ count.
-        list_all (λ number. nat_lt number count) numbers.now ≡ true) }
+    ensures exact { IfOk result (λ count. (number : ℕ) →
+        list_any (λ other. other == number) numbers.now ≡ nat_lt number count) }
     ensures all { IfOk result (λ count. count ≡ length numbers.now) }
 {
     let count = numbers.len();
@@ -111,15 +111,22 @@ fn count_from_zero(numbers: &[u8]) -> Result<u8, CaseKind>
     Ok(count as u8)
 }
 
+/// The number of hosts that the links join.
+pub fn host_count(links: &[LinkRow]) -> usize
+    ensures { result ≡ host_count links.now }
+{
+    links.iter().filter_map(|link| host_at(link)).count()
+}
+
 /// The number of hosts that the links join: one at least, numbered from 0 without a gap.
-pub fn host_count(alloc: Global, links: &[LinkRow]) -> Result<u8, CaseFault>
+pub fn hosts_from_zero(alloc: Global, links: &[LinkRow]) -> Result<u8, CaseFault>
     requires { All (λ host. host < most_hosts) (hosts_of links.now) }
     ensures value { Answers (λ count. count) result
         (in_section sections.Net 0 (count_from_zero (hosts_of links.now))) }
     ensures some { IfOk result (λ count. 1 ≤ count) }
     ensures few { IfOk result (λ count. count ≤ most_hosts) }
-    ensures below { IfOk result
-        (λ count. list_all (λ host. nat_lt host count) (hosts_of links.now) ≡ true) }
+    ensures exact { IfOk result (λ count. (host : ℕ) →
+        list_any (λ other. other == host) (hosts_of links.now) ≡ nat_lt host count) }
     ensures all { IfOk result (λ count. count ≡ host_count links.now) }
 {
     let hosts = hosts_of(alloc, links)?;

@@ -9,7 +9,7 @@ use std::rt::Files;
 use std::{fs, io};
 
 /// The cases of this folder whose run ends, `NAME.toml` each, with their reports, `NAME.report`.
-const NAMES: [&str; 34] = [
+const NAMES: [&str; 50] = [
     "write-then-read",
     "six-errors",
     "posted-increments",
@@ -44,6 +44,22 @@ const NAMES: [&str; 34] = [
     "two-posted-increments",
     "errors-and-rounds",
     "poisoned-alone",
+    "chain-of-three",
+    "row-of-eight",
+    "ring-of-eight",
+    "star",
+    "two-joins",
+    "two-hosts-one-cube",
+    "two-hosts-two-cubes",
+    "equal-tags",
+    "flood",
+    "masks-on-two-hops",
+    "masks-on-every-link",
+    "poisoned-at-first-hop",
+    "unlock-on-middle-link",
+    "two-profiles",
+    "profile-two",
+    "eight-largest",
 ];
 
 /// The cases whose run ends at a landing that passed.

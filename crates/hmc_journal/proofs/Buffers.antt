@@ -1,4 +1,4 @@
--- What an entry changes of the buffers at the ends of the one link.
+-- What an entry changes of the buffers at the ends of directions.
 use Rattle.std.proofs.Common.{◌≡◌, ◌≤◌, ◌+◌, ◌∙◌, ◌==◌, ℕ, Bool, true, false, Option, Some, None, List, [], ◌∷◌, ◌++◌, length, refl, sym, ap, ap₂, arith, append-nil, zero-add, eq-eqb}
 use Rattle.std.specs.Prelude.{option_map, filter}
 use Rattle.std.proofs.lemmas.List.Elements.{filter-append}
@@ -10,7 +10,7 @@ use Rattle.hmc_packet.specs.declared.outcome.Outcome.{Outcome}
 use Rattle.hmc_packet.specs.declared.outcome.Outcome.TheVariants as outcomes
 use Rattle.hmc_packet.specs.declared.seen.Seen.{Seen}
 use Rattle.hmc_packet.specs.declared.what.What.TheVariants.{New}
-use Rattle.hmc_packet.specs.Landings.{ReceiverEntry, pending, packets_in, accepted_by}
+use Rattle.hmc_packet.specs.Landings.{ReceiverEntry, pending, packets_in}
 use Rattle.hmc_packet.specs.Landings as landings
 use Rattle.hmc_packet.specs.Packet.{PacketFields}
 use Rattle.hmc_packet.specs.Reading.{read_of}
@@ -146,6 +146,10 @@ tokens-few (p ∷ []) few = by_token (is_token p) refl
     by_token true is = rw is (omega arith)
     by_token false is = rw is (omega arith)
 tokens-few (p ∷ q ∷ packets) few = absurd (omega arith)
+
+-- the requests and answers that a landing accepts
+abbrev pub tokens_landed : Topology → (direction : ℕ) → (flit : List ℕ) → Outcome → List Entry → List PacketFields
+tokens_landed topology d flit outcome past = filter is_token (landed_packets topology d flit outcome past)
 
 -- a landing on this direction puts what it accepts into the buffer, except a TRET
 pub landed-here : (topology : Topology) (d : ℕ) (flit : List ℕ) (outcome : Outcome) (past : List Entry) → same_queue (landing_buffer topology d) (landing_buffer topology d) ≡ true

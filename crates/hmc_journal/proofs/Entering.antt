@@ -1,5 +1,5 @@
 -- What enters a room stands there.
-use Rattle.std.proofs.Common.{◌≡◌, ◌≤◌, ◌<◌, ◌^◌, ◌∙◌, ◌==◌, ◌⊎◌, inl, inr, ℕ, zero, suc, Bool, true, false, not, nat_le, if◌then◌else◌, Option, Some, None, List, [], ◌∷◌, ◌++◌, All, drop, length, refl, sym, ap, subst, arith, eqb-true, leb-true, leb-false}
+use Rattle.std.proofs.Common.{◌/◌, ◌≡◌, ◌≤◌, ◌<◌, ◌^◌, ◌∙◌, ◌==◌, ◌⊎◌, inl, inr, ℕ, zero, suc, Bool, true, false, not, nat_le, if◌then◌else◌, Option, Some, None, List, [], ◌∷◌, ◌++◌, All, drop, length, refl, sym, ap, subst, arith, eqb-true, leb-true, leb-false}
 use Rattle.std.specs.Prelude.{option_map, filter, slice_get}
 use Rattle.std.proofs.lemmas.List.Elements.{All-drop, All-head, All-filter, filter_passes, filter-append, All-same}
 use Rattle.std.proofs.lemmas.List.Quantifiers.{position-Some}
@@ -8,6 +8,7 @@ use Rattle.hmc_codes.specs.Request.{RequestFields, IsRequest}
 use Rattle.hmc_codes.specs.Shape.{vault_of}
 use Rattle.hmc_codes.specs.declared.answer.Answer.{Answer}
 use Rattle.hmc_codes.specs.declared.lift.Lift.{Lift}
+use Rattle.hmc_codes.specs.declared.place.Place.{Place}
 use Rattle.hmc_codes.specs.declared.place.Place.TheVariants as places
 use Rattle.hmc_codes.specs.declared.unit.Unit.{Unit as RequestUnit}
 use Rattle.hmc_codes.specs.declared.unit.Unit.TheVariants as units
@@ -17,20 +18,17 @@ use Rattle.hmc_packet.specs.Transactions.{request_packet, reply_packet, request_
 use Rattle.hmc_host.specs.Tags.{lowest_free}
 use Rattle.hmc_host.specs.Give.{wants_tag, next_item}
 use Rattle.hmc_script.specs.Items.{ItemFields}
-use Rattle.hmc_serial.specs.Cube.{IsCube}
-use Rattle.hmc_serial.specs.Machine.{State, cube_state_at, answer_to}
+use Rattle.hmc_serial.specs.Machine.{cube_state_at, answer_to}
 use Rattle.hmc_serial.proofs.AnswerLemmas.{performed_is_carried}
 use Rattle.hmc_journal.specs.declared.outcome.Goal.{Goal}
 use Rattle.hmc_journal.specs.declared.outcome.Goal.TheVariants as goals
 use Rattle.hmc_packet.specs.declared.outcome.Outcome.{Outcome}
 use Rattle.hmc_packet.specs.Landings.{ReceiverEntry, pending, accepted_by}
 use Rattle.hmc_send.specs.declared.toward.Toward.{Toward}
-use Rattle.hmc_send.specs.declared.toward.Toward.TheVariants.{Forth, Back}
 use Rattle.hmc_send.specs.LinkEntries.{LinkEntry, receiver_entries, accepted_packets, handed_packets, takes}
 use Rattle.hmc_send.specs.LinkLines.{StampedFlit, line}
 use Rattle.hmc_send.specs.LinkLines as links
 use Rattle.hmc_send.specs.Places.{is_token}
-use Rattle.hmc_send.proofs.LinkLawful.{IsLanding}
 use Rattle.hmc_send.proofs.LinkProjections.{receiver-landed}
 use Rattle.hmc_codes.specs.declared.profile.Profile.{Profile}
 use Rattle.hmc_packet.specs.Landings as landings
@@ -38,77 +36,98 @@ use Rattle.hmc_wire.specs.LinkLaws.{IsKept}
 use Rattle.hmc_journal.specs.declared.entry.Entry.{Entry}
 use Rattle.hmc_journal.specs.declared.entry.Entry.TheVariants.{Gave, Landed, Shifted, Spread, Executed, Lifted}
 use Rattle.hmc_serial.specs.Unit.{is_for_registers}
-use Rattle.hmc_journal.specs.Setup.{Setup, Topology, shape_of, port_towards}
-use Rattle.hmc_journal.specs.Directions.{sent_flits, receiver_of, landed_packets, accepted}
-use Rattle.hmc_journal.specs.Links.{toward, landing_mask, link_sizes, sizes_on, entries_on}
-use Rattle.hmc_journal.specs.Queues.{QueueId, landing_buffer, enters, left, entered, contents, goal_queue, output_from, queue_of, answers_of, unless_posted, tag_number, Arrival, arrival_in, arrival_of, front_of}
-use Rattle.hmc_journal.specs.Queues.QueueId.{Output, Port, Vault, Bank, Answers, Registers}
+use Rattle.hmc_journal.specs.Setup.{Setup, Topology, shape_of, graph_of, cubes_in, hosts_in, directions_in, end_of, direction_from, unit_cube}
+use Rattle.hmc_journal.specs.Network.{IsNetwork, IsItemOf}
+use Rattle.hmc_journal.specs.Next.{lacks_room, goal_at}
+use Rattle.hmc_crossbar.specs.To.{into_cube, out_of_cube, request_to, unpoisoned_to}
+use Rattle.hmc_codes.specs.declared.family.Family.{Family}
+use Rattle.hmc_routes.specs.Ports.{port_to_cube, port_to_host}
+use Rattle.hmc_journal.proofs.Machine.{HasCubes, cube_there}
+use Rattle.hmc_journal.proofs.Wired.{Wired, not_hosts, EndsAtCube, towards_cube, towards_host}
+use Rattle.hmc_journal.specs.Directions.{sent_flits, landed_packets, accepted}
+use Rattle.hmc_journal.specs.Links.{toward, landing_mask, link_sizes, link_entries, sizes_on, entries_on}
+use Rattle.hmc_journal.specs.Queues.{QueueId, buffer_at, landing_buffer, enters, left, entered, contents, goal_queue, output_from, queue_of, answers_of, unless_posted, tag_number, Arrival, arrival_in, arrival_of, front_of}
+use Rattle.hmc_journal.specs.Queues.QueueId.{Output, Port, Vault, Bank, Answers}
 use Rattle.hmc_journal.specs.Hosts.{host_of, tags_out}
-use Rattle.hmc_journal.proofs.OneCube.{OneCube, IsOwnItem}
 use Rattle.hmc_journal.specs.Next.{tag_of}
-use Rattle.hmc_journal.specs.StepView.{state_of}
-use Rattle.hmc_journal.proofs.EntryRule.{EntryRule, HasFront, IsTagged, HasGiven, HasLanded, HasShifted, HasSpread, HasExecuted, HasLifted, goal_of}
+use Rattle.hmc_journal.specs.StepView.{StepView, state_of, view_of}
+use Rattle.hmc_journal.proofs.EntryRule.{EntryRule, HasFront, IsTagged, HasGiven, HasLanded, HasShifted, HasExecuted, HasLifted, goal_by, goal_of}
 use Rattle.hmc_journal.proofs.Moves.{front_is, arrives}
-use Rattle.hmc_journal.proofs.Standing.{IsAsking, IsReplying, IsSmallError, Stands, Stands-alike, request_of_packet, IsAsking-request_packet, IsReplying-reply_packet, All-back, all_get}
+use Rattle.hmc_journal.proofs.Standing.{IsAsking, IsReplying, IsMoving, IsLeaving, GoesTo, IsSmallError, Stands, Stands-alike, request_of_packet, IsAsking-request_packet, IsReplying-reply_packet, replied_cube, All-back, all_get}
+use Rattle.hmc_journal.proofs.Standing.IsMoving.{ToCube, ToHost}
 use Rattle.hmc_journal.proofs.SmallErrors.{performed_small}
-use Rattle.hmc_journal.proofs.OneLink.{one_link}
 use Rattle.hmc_journal.proofs.LinkKept.{AreDirect, kept-landed}
 use Rattle.hmc_journal.proofs.AcceptedTokens.{tokens_alike}
 use Rattle.hmc_journal.proofs.Projections.{flits_of_line, received, handed_are, are_direct, sent_are}
-use Rattle.hmc_journal.proofs.OneEntry.{number, of_number, entries, entries-landed}
 
--- the cube of a machine
-pub record HasCube (state : State) : Type 0 where
-  pub some : 1 ≤ length state.cubes
-  pub cube : IsCube (cube_state_at state 0)
-
--- of each direction of the link: what left the buffer at its end was taken, and what entered it was
--- accepted
-pub record EndKept (topology : Topology) (past : List Entry) (d : Toward) : Type 0 where
-  pub taken : left past (landing_buffer topology (number d)) ≡ takes d (entries topology past)
-  pub buffered : entered topology past (landing_buffer topology (number d)) ≡ filter is_token (accepted topology (number d) past)
+-- of each direction: what left the buffer at its end was taken, and what entered it was accepted
+pub record EndKept (topology : Topology) (past : List Entry) (d : ℕ) : Type 0 where
+  pub taken : left past (landing_buffer topology d) ≡ takes (toward d) (entries_on topology d past)
+  pub buffered : entered topology past (landing_buffer topology d) ≡ filter is_token (accepted topology d past)
 
 abbrev pub AreWithin : Setup → List Entry → Type 0
 AreWithin setup past = (room : QueueId) → left past room ≤ length (entered setup.topology past room)
 
 -- what each entry keeps
-pub record Kept (setup : Setup) (port : ℕ) (past : List Entry) : Type 0 where
+pub record Kept (setup : Setup) (past : List Entry) : Type 0 where
   pub within : AreWithin setup past
-  pub stands : (room : QueueId) → All (Stands setup.topology port room) (entered setup.topology past room)
-  pub link : IsKept (link_sizes setup.topology 0) (entries setup.topology past)
-  pub ends : (d : Toward) → EndKept setup.topology past d
+  pub stands : (room : QueueId) → All (Stands setup.topology room) (entered setup.topology past room)
+  -- every link, also one that isn't there
+  pub links : (link : ℕ) → IsKept (link_sizes setup.topology link) (link_entries setup.topology link past)
+  pub ends : (d : ℕ) → d < directions_in setup.topology → EndKept setup.topology past d
   -- nothing was sent on a direction that isn't there
-  pub none : (d : ℕ) → 2 ≤ d → sent_flits d past ≡ []
-  pub state : HasCube (state_of setup.topology past)
+  pub none : (d : ℕ) → directions_in setup.topology ≤ d → sent_flits d past ≡ []
+  pub state : HasCubes setup.topology (state_of setup.topology past)
   pub tags : (host : ℕ) → length (tags_out host past) ≡ 2048
 
-pub contents_stand : (setup : Setup) (port : ℕ) (past : List Entry) (room : QueueId) → Kept setup port past → All (Stands setup.topology port room) (contents setup.topology past room)
+pub contents_stand : (setup : Setup) (past : List Entry) (room : QueueId) → Kept setup past → All (Stands setup.topology room) (contents setup.topology past room)
 unfolding contents
-contents_stand setup port past room kept = All-drop (Stands setup.topology port room) (left past room) (entered setup.topology past room) (kept.stands room)
+contents_stand setup past room kept = All-drop (Stands setup.topology room) (left past room) (entered setup.topology past room) (kept.stands room)
 
-pub front_stands : (setup : Setup) (port : ℕ) (past : List Entry) (room : QueueId) → Kept setup port past → (at : HasFront setup past room) → Stands setup.topology port room at.front
-front_stands setup port past room kept at =
-    All-head (Stands setup.topology port room) at.front at.rest (All-same (Stands setup.topology port room) _ _ (sym at.is) (contents_stand setup port past room kept))
+pub front_stands : (setup : Setup) (past : List Entry) (room : QueueId) → Kept setup past → (at : HasFront setup past room) → Stands setup.topology room at.front
+front_stands setup past room kept at =
+    All-head (Stands setup.topology room) at.front at.rest (All-same (Stands setup.topology room) _ _ (sym at.is) (contents_stand setup past room kept))
 
 -- the packet stands in the room that it enters, if it enters one
-abbrev pub EntersRight : Topology → (port : ℕ) → Option QueueId → PacketFields → Type 0
-EntersRight topology port None packet = Unit {0}
-EntersRight topology port (Some room) packet = Stands topology port room packet
+abbrev pub EntersRight : Topology → Option QueueId → PacketFields → Type 0
+EntersRight topology None packet = Unit {0}
+EntersRight topology (Some room) packet = Stands topology room packet
 
-abbrev pub ArrivesRight : Topology → (port : ℕ) → Option Arrival → Type 0
-ArrivesRight topology port None = Unit {0}
-ArrivesRight topology port (Some arrival) = Stands topology port arrival.queue (arrival.packet tt)
+abbrev pub ArrivesRight : Topology → Option Arrival → Type 0
+ArrivesRight topology None = Unit {0}
+ArrivesRight topology (Some arrival) = Stands topology arrival.queue (arrival.packet tt)
 
-arrives_right : (topology : Topology) (port : ℕ) (there : Option QueueId) (coming : Unit {0} → PacketFields) (packet : PacketFields) → coming tt ≡ packet → EntersRight topology port there packet → ArrivesRight topology port (arrival_in there coming)
-arrives_right topology port None coming packet is right = tt
-arrives_right topology port (Some queue) coming packet is right = subst (Stands topology port queue) (sym is) right
+arrives_right : (topology : Topology) (there : Option QueueId) (coming : Unit {0} → PacketFields) (packet : PacketFields) → coming tt ≡ packet → EntersRight topology there packet → ArrivesRight topology (arrival_in there coming)
+arrives_right topology None coming packet is right = tt
+arrives_right topology (Some queue) coming packet is right = subst (Stands topology queue) (sym is) right
+
+-- where a step doesn't lack room there is a direction
+room_by : (topology : Topology) (view : StepView) (found : Option ℕ) → lacks_room topology view (option_map Output found) ≡ false → (d : ℕ) × (found ≡ Some d)
+room_by topology view None lacks = absurd (cc)
+room_by topology view (Some d) lacks = (d, refl)
+
+pub has_direction : (topology : Topology) (view : StepView) (place : Place) → lacks_room topology view (output_from topology place) ≡ false → (d : ℕ) × (direction_from topology place ≡ Some d)
+has_direction topology view place lacks = room_by topology view (direction_from topology place) lacks
+
+-- into the output queue of a direction
+pub goes_out : (topology : Topology) (place : Place) (d : ℕ) (packet : PacketFields) → Wired topology → direction_from topology place ≡ Some d → GoesTo topology (end_of topology d) packet → EntersRight topology (output_from topology place) packet
+goes_out topology place d packet wires starts goes =
+    subst (λ (found : Option ℕ). EntersRight topology (option_map Output found) packet) (sym starts) (record { inside = wires.inside place d starts; goes = goes })
+
+-- what isn't for a host goes to a cube
+moves_to : (topology : Topology) (place : Place) (packet : PacketFields) → ((host : ℕ) → place ≡ places.Host host → ⊥) → IsMoving topology packet → GoesTo topology place packet
+moves_to topology (places.Host host) packet apart moving = absurd (apart host refl)
+moves_to topology (places.Port cube port) packet apart moving = moving
+
+at_cube : (topology : Topology) (d : ℕ) (packet : PacketFields) → EndsAtCube topology d → IsMoving topology packet → GoesTo topology (end_of topology d) packet
+at_cube topology d packet is moving = subst (λ (p : Place). GoesTo topology p packet) (sym is.is) moving
 
 -- give
-pub own_item : (setup : Setup) (past : List Entry) (host : ℕ) (item : ItemFields) → OneCube setup → next_item (host_of setup past host) ≡ Some item → (item.host ≡ host) × IsOwnItem item
+pub own_item : (setup : Setup) (past : List Entry) (host : ℕ) (item : ItemFields) → IsNetwork setup → next_item (host_of setup past host) ≡ Some item → (item.host ≡ host) × IsItemOf (hosts_in setup.topology) (cubes_in setup.topology) item
 unfolding host_of
-own_item setup past host item one is = (
+own_item setup past host item network is = (
   eqb-true item.host host (all_get (λ (i : ItemFields). (i.host == host) ≡ true) _ _ item (filter_passes (λ (i : ItemFields). i.host == host) setup.script) is),
-  all_get IsOwnItem _ _ item (All-filter (λ (i : ItemFields). i.host == host) IsOwnItem setup.script one.items) is,
+  all_get (IsItemOf (hosts_in setup.topology) (cubes_in setup.topology)) _ _ item (All-filter (λ (i : ItemFields). i.host == host) (IsItemOf (hosts_in setup.topology) (cubes_in setup.topology)) setup.script network.items) is,
 )
 
 pub tag_small : (awaited : Bool) (tags : List Bool) (tag : Option ℕ) → length tags ≡ 2048 → IsTagged awaited (lowest_free tags) tag → tag_number tag < 2 ^ 11
@@ -117,18 +136,28 @@ tag_small true tags tag long is =
     let same : tag_number tag ≡ is.0 = ap tag_number is.2 in omega (arith, found.0)
 tag_small false tags tag long is = let same : tag_number tag ≡ 0 = ap tag_number is in omega arith
 
-given_enters : (setup : Setup) (one : OneCube setup) (past : List Entry) (host : ℕ) (tag : Option ℕ) (poisoned : Bool) (request : RequestFields) → HasGiven setup past host tag poisoned request → Kept setup one.port past
-    → EntersRight setup.topology one.port (output_from setup.topology (places.Host host)) (request_packet request (tag_number tag) host poisoned)
+pub given_asks : (setup : Setup) (past : List Entry) (host : ℕ) (tag : Option ℕ) (poisoned : Bool) (request : RequestFields) → IsNetwork setup → HasGiven setup past host tag poisoned request → Kept setup past
+    → IsAsking setup.topology (request_packet request (tag_number tag) host poisoned)
 unfolding host_of
-given_enters setup one past host tag poisoned request has kept =
-    let own = own_item setup past host has.item one has.is_next in
+given_asks setup past host tag poisoned request network has kept =
+    let own = own_item setup past host has.item network has.is_next in
     let small = tag_small (wants_tag has.item) (tags_out host past) tag (kept.tags host) has.is_tagged in
-    let zeroth : host ≡ 0 = sym own.0 ∙ own.1.host in
-    let asking = IsAsking-request_packet request (tag_number tag) host poisoned (subst IsRequest (sym has.is_request) own.1.request) (ap (λ (r : RequestFields). r.cube) has.is_request ∙ own.1.cube) small zeroth in
-    let room : output_from setup.topology (places.Host host) ≡ Some (Output 0) = ap (λ (h : ℕ). output_from setup.topology (places.Host h)) zeroth ∙ ap (option_map Output) (one_link setup one).from_host in
-    subst (λ (r : Option QueueId). EntersRight setup.topology one.port r (request_packet request (tag_number tag) host poisoned)) (sym room) asking
+    let there : host < hosts_in setup.topology = subst (λ (h : ℕ). h < hosts_in setup.topology) own.0 own.1.within.host in
+    IsAsking-request_packet setup.topology request (tag_number tag) host poisoned (subst IsRequest (sym has.is_request) own.1.request)
+    (subst (λ (r : RequestFields). r.cube < cubes_in setup.topology) (sym has.is_request) own.1.within.cube) small there network.few_hosts
 
--- land
+given_enters : (setup : Setup) (past : List Entry) (host : ℕ) (tag : Option ℕ) (poisoned : Bool) (request : RequestFields) → IsNetwork setup → Wired setup.topology → HasGiven setup past host tag poisoned request → Kept setup past
+    → EntersRight setup.topology (output_from setup.topology (places.Host host)) (request_packet request (tag_number tag) host poisoned)
+given_enters setup past host tag poisoned request network wires has kept =
+    let asking = given_asks setup past host tag poisoned request network has kept in
+    let away = has_direction setup.topology (view_of setup past) (places.Host host) has.room in
+    let inside = wires.inside (places.Host host) away.0 away.1 in
+    let starts = wires.starts (places.Host host) away.0 away.1 in
+    goes_out setup.topology (places.Host host) away.0 (request_packet request (tag_number tag) host poisoned) wires away.1
+    (moves_to setup.topology (end_of setup.topology away.0) (request_packet request (tag_number tag) host poisoned)
+    (λ far is. not_hosts setup.topology wires away.0 host far inside starts is) (ToCube asking))
+
+-- send and land
 no_flits : (sent : List StampedFlit) → flits_of_line sent ≡ [] → sent ≡ []
 no_flits [] is = refl
 no_flits (x ∷ sent) is = absurd cc
@@ -138,58 +167,39 @@ nothing_lands zero [] front empty is = cc
 nothing_lands (suc n) [] front empty is = cc
 nothing_lands n (x ∷ sent) front empty is = cc
 
-real-by : (setup : Setup) (port : ℕ) (past : List Entry) (direction : ℕ) (flit : List ℕ) (outcome : Outcome) (two : Bool) → nat_le 2 direction ≡ two → HasLanded setup past direction flit outcome → Kept setup port past
-    → (direction ≡ 0) ⊎ (direction ≡ 1)
+real-by : (setup : Setup) (past : List Entry) (direction : ℕ) (flit : List ℕ) (outcome : Outcome) (far : Bool) → nat_le (directions_in setup.topology) direction ≡ far → HasLanded setup past direction flit outcome → Kept setup past
+    → direction < directions_in setup.topology
 unfolding line
-real-by setup port past direction flit outcome true big has kept =
-    let none : sent_flits direction past ≡ [] = kept.none direction (leb-true 2 direction big) in
+real-by setup past direction flit outcome true big has kept =
+    let none : sent_flits direction past ≡ [] = kept.none direction (leb-true (directions_in setup.topology) direction big) in
     let empty : links.sent_flits (sizes_on setup.topology direction).profile (toward direction) (entries_on setup.topology direction past) ≡ [] = no_flits _ (sym (sent_are setup.topology direction past) ∙ none) in
     absurd (nothing_lands (links.landings (toward direction) (entries_on setup.topology direction past)) _ has.landing.front empty has.landing.is_front)
-real-by setup port past direction flit outcome false small has kept = low direction (leb-false 2 direction small)
-  where
-    low : (n : ℕ) → n < 2 → (n ≡ 0) ⊎ (n ≡ 1)
-    low zero less = inl refl
-    low (suc zero) less = inr refl
-    low (suc (suc n)) less = absurd (omega arith)
+real-by setup past direction flit outcome false small has kept = leb-false (directions_in setup.topology) direction small
 
 -- a flit lands on a direction that is there
-pub landed-real : (setup : Setup) (port : ℕ) (past : List Entry) (direction : ℕ) (flit : List ℕ) (outcome : Outcome) → HasLanded setup past direction flit outcome → Kept setup port past → (direction ≡ 0) ⊎ (direction ≡ 1)
-landed-real setup port past direction flit outcome has kept = real-by setup port past direction flit outcome (nat_le 2 direction) refl has kept
-
--- the packets handed to the link in a direction
-pub handed_on_link : (topology : Topology) (d : Toward) (past : List Entry) → entered topology past (Output (number d)) ≡ handed_packets d (entries topology past)
-handed_on_link topology Forth past = handed_are topology 0 past
-handed_on_link topology Back past = handed_are topology 1 past
-
-pub received_on_link : (topology : Topology) (d : Toward) (past : List Entry) → receiver_of (number d) past ≡ receiver_entries d (entries topology past)
-received_on_link topology Forth past = received topology 0 past
-received_on_link topology Back past = received topology 1 past
-
-pub handed_stand : (setup : Setup) (port : ℕ) (past : List Entry) (d : Toward) → Kept setup port past → All (Stands setup.topology port (Output (number d))) (handed_packets d (entries setup.topology past))
-handed_stand setup port past d kept = All-same (Stands setup.topology port (Output (number d))) _ _ (sym (handed_on_link setup.topology d past)) (kept.stands (Output (number d)))
+pub landed-real : (setup : Setup) (past : List Entry) (direction : ℕ) (flit : List ℕ) (outcome : Outcome) → HasLanded setup past direction flit outcome → Kept setup past → direction < directions_in setup.topology
+landed-real setup past direction flit outcome has kept = real-by setup past direction flit outcome (nat_le (directions_in setup.topology) direction) refl has kept
 
 -- the requests and answers that were accepted stand
-pub accepted_stand : (setup : Setup) (port : ℕ) (d : Toward) (past : List LinkEntry) → IsKept (link_sizes setup.topology 0) past → AreDirect past → All (Stands setup.topology port (Output (number d))) (handed_packets d past)
-    → All (Stands setup.topology port (Output (number d))) (filter is_token (accepted_packets (link_sizes setup.topology 0).profile d past))
-accepted_stand setup port d past kept direct all = tokens_alike (Stands setup.topology port (Output (number d))) (Stands-alike setup.topology port (number d)) (link_sizes setup.topology 0) d past kept direct all
+pub accepted_stand : (setup : Setup) (d : ℕ) (past : List LinkEntry) → IsKept (sizes_on setup.topology d) past → AreDirect past → All (Stands setup.topology (Output d)) (handed_packets (toward d) past)
+    → All (Stands setup.topology (Output d)) (filter is_token (accepted_packets (sizes_on setup.topology d).profile (toward d) past))
+accepted_stand setup d past kept direct all = tokens_alike (Stands setup.topology (Output d)) (Stands-alike setup.topology d) (sizes_on setup.topology d) (toward d) past kept direct all
 
--- the landing in a direction of the link
-pub landing_on_link : (setup : Setup) (d : Toward) (past : List Entry) (flit : List ℕ) (outcome : Outcome) → (has : HasLanded setup past (number d) flit outcome) → IsLanding (link_sizes setup.topology 0) (entries setup.topology past) d has.mask flit outcome
-landing_on_link setup Forth past flit outcome has = has.landing
-landing_on_link setup Back past flit outcome has = has.landing
+-- the packets accepted on a direction, by the link's entries
+pub accepted_are : (topology : Topology) (d : ℕ) (past : List Entry) → accepted topology d past ≡ accepted_packets (sizes_on topology d).profile (toward d) (entries_on topology d past)
+unfolding accepted
+accepted_are topology d past = ap (landings.accepted (sizes_on topology d).profile) (received topology d past)
 
-pub kept_landing : (setup : Setup) (port : ℕ) (d : Toward) (past : List Entry) (flit : List ℕ) (outcome : Outcome) → HasLanded setup past (number d) flit outcome → Kept setup port past
-    → IsKept (link_sizes setup.topology 0) (entries setup.topology (Landed (number d) flit outcome ∷ past))
-kept_landing setup port d past flit outcome has kept =
-    subst (IsKept (link_sizes setup.topology 0)) (sym (entries-landed setup.topology d flit outcome past))
-    (kept-landed (link_sizes setup.topology 0) (entries setup.topology past) d has.mask flit outcome kept.link (landing_on_link setup d past flit outcome has))
+pub kept_landing : (setup : Setup) (d : ℕ) (past : List Entry) (flit : List ℕ) (outcome : Outcome) → HasLanded setup past d flit outcome → Kept setup past
+    → IsKept (sizes_on setup.topology d) (LinkEntry.landed (toward d) (landing_mask (sizes_on setup.topology d) (toward d) (entries_on setup.topology d past) flit) flit outcome ∷ entries_on setup.topology d past)
+kept_landing setup d past flit outcome has kept =
+    kept-landed (sizes_on setup.topology d) (entries_on setup.topology d past) (toward d) has.mask flit outcome (kept.links (d / 2)) has.landing
 
 -- what a landing accepts, by the link's entries
-pub landed_on_link : (topology : Topology) (d : Toward) (past : List Entry) (flit : List ℕ) (outcome : Outcome)
-    → landed_packets topology (number d) flit outcome past ≡ accepted_by (link_sizes topology 0).profile (pending (receiver_entries d (entries topology past))) (ReceiverEntry.Land flit outcome)
+pub landed_on_link : (topology : Topology) (d : ℕ) (past : List Entry) (flit : List ℕ) (outcome : Outcome)
+    → landed_packets topology d flit outcome past ≡ accepted_by (sizes_on topology d).profile (pending (receiver_entries (toward d) (entries_on topology d past))) (ReceiverEntry.Land flit outcome)
 unfolding landed_packets
-landed_on_link topology Forth past flit outcome = ap (λ r. accepted_by (link_sizes topology 0).profile (pending r) (ReceiverEntry.Land flit outcome)) (received_on_link topology Forth past)
-landed_on_link topology Back past flit outcome = ap (λ r. accepted_by (link_sizes topology 0).profile (pending r) (ReceiverEntry.Land flit outcome)) (received_on_link topology Back past)
+landed_on_link topology d past flit outcome = ap (λ r. accepted_by (sizes_on topology d).profile (pending r) (ReceiverEntry.Land flit outcome)) (received topology d past)
 
 accepted-landed : (q : Profile) (d : Toward) (mask flit : List ℕ) (outcome : Outcome) (past : List LinkEntry)
     → accepted_packets q d (LinkEntry.landed d mask flit outcome ∷ past) ≡ accepted_packets q d past ++ accepted_by q (pending (receiver_entries d past)) (ReceiverEntry.Land flit outcome)
@@ -200,79 +210,148 @@ handed-landed : (d way : Toward) (mask flit : List ℕ) (outcome : Outcome) (pas
 unfolding handed_packets
 handed-landed d way mask flit outcome past = refl
 
-pub landed_stands : (setup : Setup) (port : ℕ) (d : Toward) (past : List Entry) (flit : List ℕ) (outcome : Outcome) → HasLanded setup past (number d) flit outcome → Kept setup port past
-    → All (Stands setup.topology port (Output (number d))) (filter is_token (landed_packets setup.topology (number d) flit outcome past))
-landed_stands setup port d past flit outcome has kept =
-    let P = Stands setup.topology port (Output (number d)) in
-    let sizes = link_sizes setup.topology 0 in
-    let before = entries setup.topology past in
-    let mask = landing_mask sizes d before flit in
-    let now : List LinkEntry = LinkEntry.landed d mask flit outcome ∷ before in
-    let is : IsKept sizes now = subst (IsKept sizes) (entries-landed setup.topology d flit outcome past) (kept_landing setup port d past flit outcome has kept) in
-    let handed : All P (handed_packets d now) = All-same P _ _ (handed-landed d d mask flit outcome before) (handed_stand setup port past d kept) in
-    let all : All P (filter is_token (accepted_packets sizes.profile d now)) = accepted_stand setup port d now is (are_direct setup.topology 0 past) handed in
-    let parts : filter is_token (accepted_packets sizes.profile d now) ≡ filter is_token (accepted_packets sizes.profile d before) ++ filter is_token (landed_packets setup.topology (number d) flit outcome past) =
-    ap (filter is_token) (accepted-landed sizes.profile d mask flit outcome before) ∙ filter-append is_token (accepted_packets sizes.profile d before) _
-    ∙ ap (λ l. filter is_token (accepted_packets sizes.profile d before) ++ filter is_token l) (sym (landed_on_link setup.topology d past flit outcome)) in
-    All-back P (filter is_token (accepted_packets sizes.profile d before)) (filter is_token (landed_packets setup.topology (number d) flit outcome past)) (All-same P _ _ (sym parts) all)
+pub landed_stands : (setup : Setup) (d : ℕ) (past : List Entry) (flit : List ℕ) (outcome : Outcome) → HasLanded setup past d flit outcome → Kept setup past
+    → All (Stands setup.topology (Output d)) (filter is_token (landed_packets setup.topology d flit outcome past))
+landed_stands setup d past flit outcome has kept =
+    let P = Stands setup.topology (Output d) in
+    let sizes = sizes_on setup.topology d in
+    let way = toward d in
+    let before = entries_on setup.topology d past in
+    let mask = landing_mask sizes way before flit in
+    let now : List LinkEntry = LinkEntry.landed way mask flit outcome ∷ before in
+    let is : IsKept sizes now = kept_landing setup d past flit outcome has kept in
+    let there : All P (handed_packets way before) = All-same P _ _ (sym (handed_are setup.topology d past)) (kept.stands (Output d)) in
+    let handed : All P (handed_packets way now) = All-same P _ _ (handed-landed way way mask flit outcome before) there in
+    let all : All P (filter is_token (accepted_packets sizes.profile way now)) = accepted_stand setup d now is (are_direct setup.topology (d / 2) past) handed in
+    let parts : filter is_token (accepted_packets sizes.profile way now) ≡ filter is_token (accepted_packets sizes.profile way before) ++ filter is_token (landed_packets setup.topology d flit outcome past) =
+    ap (filter is_token) (accepted-landed sizes.profile way mask flit outcome before) ∙ filter-append is_token (accepted_packets sizes.profile way before) _
+    ∙ ap (λ l. filter is_token (accepted_packets sizes.profile way before) ++ filter is_token l) (sym (landed_on_link setup.topology d past flit outcome)) in
+    All-back P (filter is_token (accepted_packets sizes.profile way before)) (filter is_token (landed_packets setup.topology d flit outcome past)) (All-same P _ _ (sym parts) all)
 
-lands_at : (setup : Setup) (one : OneCube setup) (d : Toward) (packet : PacketFields) → Stands setup.topology one.port (Output (number d)) packet → Stands setup.topology one.port (landing_buffer setup.topology (number d)) packet
-lands_at setup one Forth packet is =
-    subst (λ (r : QueueId). Stands setup.topology one.port r packet) (sym (one_link setup one).arrival_there) (record { asking = is; is_port = refl })
-lands_at setup one Back packet is = subst (λ (r : QueueId). Stands setup.topology one.port r packet) (sym (one_link setup one).arrival_back) is
+in_buffer : (topology : Topology) (d : ℕ) (place : Place) (packet : PacketFields) → d < directions_in topology → end_of topology d ≡ place → GoesTo topology place packet → Stands topology (buffer_at place) packet
+in_buffer topology d (places.Host host) packet inside ends goes = record { direction = d; inside = inside; ends = ends; goes = goes }
+in_buffer topology d (places.Port cube port) packet inside ends goes = record { direction = d; inside = inside; ends = ends; goes = goes }
 
-landed_first : (setup : Setup) (one : OneCube setup) (d : Toward) (packets : List PacketFields) → All (Stands setup.topology one.port (Output (number d))) packets
-    → ArrivesRight setup.topology one.port (arrival_of (landing_buffer setup.topology (number d)) packets)
-landed_first setup one d [] all = tt
-landed_first setup one d (packet ∷ packets) all = lands_at setup one d packet (All-head (Stands setup.topology one.port (Output (number d))) packet packets all)
+landed_first : (setup : Setup) (d : ℕ) (packets : List PacketFields) → d < directions_in setup.topology → All (Stands setup.topology (Output d)) packets → ArrivesRight setup.topology (arrival_of (landing_buffer setup.topology d) packets)
+landed_first setup d [] inside all = tt
+landed_first setup d (packet ∷ packets) inside all = in_buffer setup.topology d (end_of setup.topology d) packet inside refl (All-head (Stands setup.topology (Output d)) packet packets all).goes
 
-landed_enters : (setup : Setup) (one : OneCube setup) (past : List Entry) (direction : ℕ) (flit : List ℕ) (outcome : Outcome) → HasLanded setup past direction flit outcome → Kept setup one.port past
-    → ArrivesRight setup.topology one.port (arrival_of (landing_buffer setup.topology direction) (filter is_token (landed_packets setup.topology direction flit outcome past)))
-landed_enters setup one past direction flit outcome has kept =
-    let at = of_number direction (landed-real setup one.port past direction flit outcome has kept) in
-    let here : HasLanded setup past (number at.0) flit outcome = subst (λ (e : ℕ). HasLanded setup past e flit outcome) at.1 has in
-    subst (λ (e : ℕ). ArrivesRight setup.topology one.port (arrival_of (landing_buffer setup.topology e) (filter is_token (landed_packets setup.topology e flit outcome past)))) (sym at.1)
-    (landed_first setup one at.0 (filter is_token (landed_packets setup.topology (number at.0) flit outcome past)) (landed_stands setup one.port at.0 past flit outcome here kept))
+landed_enters : (setup : Setup) (past : List Entry) (d : ℕ) (flit : List ℕ) (outcome : Outcome) → HasLanded setup past d flit outcome → Kept setup past
+    → ArrivesRight setup.topology (arrival_of (landing_buffer setup.topology d) (filter is_token (landed_packets setup.topology d flit outcome past)))
+landed_enters setup past d flit outcome has kept =
+    landed_first setup d (filter is_token (landed_packets setup.topology d flit outcome past)) (landed-real setup past d flit outcome has kept) (landed_stands setup d past flit outcome has kept)
 
 -- shift
+pub no_vault : (out : Option ℕ) (vault : ℕ) → goal_at (out_of_cube out) ≡ Some (goals.Vault vault) → ⊥
+no_vault None vault is = cc
+no_vault (Some port) vault is = cc
+
+pub no_registers : (out : Option ℕ) → goal_at (out_of_cube out) ≡ Some goals.Registers → ⊥
+no_registers None is = cc
+no_registers (Some port) is = cc
+
+pub out_port : (out : Option ℕ) (port : ℕ) → goal_at (out_of_cube out) ≡ Some (goals.Port port) → out ≡ Some port
+out_port None port is = absurd (cc)
+out_port (Some p) port is = let same : p ≡ port = cc in ap Some same
+
+pub inside_goal : (registers : Bool) (vault : ℕ) (goal : Goal) → goal_at (into_cube registers vault) ≡ Some goal → (if registers then goals.Registers else goals.Vault vault) ≡ goal
+inside_goal true vault goal is = cc
+inside_goal false vault goal is = cc
+
 pub no_port : (registers : Bool) (vault port : ℕ) → (if registers then goals.Registers else goals.Vault vault) ≡ goals.Port port → ⊥
 no_port true vault port is = cc
 no_port false vault port is = cc
 
-pub goal_there : (topology : Topology) (cube : ℕ) (goal : Goal) (registers : Bool) (vault : ℕ) → goal ≡ (if registers then goals.Registers else goals.Vault vault) → (to : QueueId) × (goal_queue topology cube goal ≡ Some to)
-goal_there topology cube (goals.Vault v) registers vault is = (Vault cube v, refl)
-goal_there topology cube goals.Registers registers vault is = (Registers cube, refl)
-goal_there topology cube (goals.Port port) registers vault is = absurd (no_port registers vault port (sym is))
+-- where a packet of a family goes
+abbrev goal_for : Topology → (cube : ℕ) → PacketFields → Family → Option Goal
+goal_for topology cube packet family = goal_at (unpoisoned_to (graph_of topology) (shape_of topology cube) cube packet family)
 
-goes_to : (topology : Topology) (port : ℕ) (goal : Goal) (packet : PacketFields) → IsAsking packet → packet.poisoned ≡ false → goal_of topology 0 packet ≡ goal → EntersRight topology port (goal_queue topology 0 goal) packet
-goes_to topology port (goals.Vault vault) packet asking clean is = record { asking = asking; unpoisoned = clean; is_goal = is }
-goes_to topology port goals.Registers packet asking clean is = record { asking = asking; unpoisoned = clean; is_goal = is }
-goes_to topology port (goals.Port out) packet asking clean is = absurd (no_port (is_for_registers packet.command) (vault_of (shape_of topology 0) packet.address) out is)
+pub asking_goal : (topology : Topology) (cube : ℕ) (packet : PacketFields) (goal : Goal) → IsAsking topology packet → goal_of topology cube packet ≡ Some goal
+    → goal_at (request_to (graph_of topology) (shape_of topology cube) cube packet (packet.cube == cube)) ≡ Some goal
+asking_goal topology cube packet goal asking is = sym (ap (goal_for topology cube packet) asking.asks) ∙ is
 
-shifted_enters : (setup : Setup) (port past_port : ℕ) (past : List Entry) (cube : ℕ) (goal : Goal) → (has : HasShifted setup past cube past_port goal) → Stands setup.topology port (Port cube past_port) has.at.front
-    → EntersRight setup.topology port (goal_queue setup.topology cube goal) has.at.front
-shifted_enters setup port here past zero goal has stands = goes_to setup.topology port goal has.at.front stands.asking has.unpoisoned (sym has.is_goal)
-shifted_enters setup port here past (suc cube) goal has stands = absurd stands
+pub replying_goal : (topology : Topology) (cube : ℕ) (packet : PacketFields) (goal : Goal) → IsReplying topology packet → goal_of topology cube packet ≡ Some goal → goal_at (out_of_cube (port_to_host (graph_of topology) packet.slid cube)) ≡ Some goal
+replying_goal topology cube packet goal replying is = sym (ap (goal_for topology cube packet) replying.replies) ∙ is
 
--- spread
-spread_enters : (setup : Setup) (port : ℕ) (past : List Entry) (cube vault bank : ℕ) → (has : HasSpread setup past cube vault bank) → Stands setup.topology port (Vault cube vault) has.at.front
-    → Stands setup.topology port (Bank cube vault bank) has.at.front
-spread_enters setup port past zero vault bank has stands = record { bound = stands; is_bank = sym has.is_bank }
-spread_enters setup port past (suc cube) vault bank has stands = absurd stands
+-- a request that is in its cube
+pub record IsHere (topology : Topology) (cube : ℕ) (goal : Goal) (packet : PacketFields) : Type 0 where
+  pub asking : IsAsking topology packet
+  pub own : packet.cube ≡ cube
+  pub is_goal : goal_by (shape_of topology cube) packet ≡ goal
+
+here_by : (topology : Topology) (cube : ℕ) (goal : Goal) (packet : PacketFields) (here : Bool) → (packet.cube == cube) ≡ here → IsAsking topology packet
+    → goal_at (request_to (graph_of topology) (shape_of topology cube) cube packet here) ≡ Some goal → ((out : Option ℕ) → goal_at (out_of_cube out) ≡ Some goal → ⊥) → IsHere topology cube goal packet
+here_by topology cube goal packet true at asking is inside =
+    record { asking = asking; own = eqb-true packet.cube cube at; is_goal = inside_goal (is_for_registers packet.command) (vault_of (shape_of topology cube) packet.address) goal is }
+here_by topology cube goal packet false at asking is inside = absurd (inside (port_to_cube (graph_of topology) packet.cube cube) is)
+
+pub is_here : (topology : Topology) (cube : ℕ) (goal : Goal) (packet : PacketFields) → IsMoving topology packet → goal_of topology cube packet ≡ Some goal → ((out : Option ℕ) → goal_at (out_of_cube out) ≡ Some goal → ⊥) → IsHere topology cube goal packet
+is_here topology cube goal packet (ToCube asking) is inside = here_by topology cube goal packet (packet.cube == cube) refl asking (asking_goal topology cube packet goal asking is) inside
+is_here topology cube goal packet (ToHost replying) is inside = absurd (inside (port_to_host (graph_of topology) packet.slid cube) (replying_goal topology cube packet goal replying is))
+
+-- one that goes on
+onwards_by : (topology : Topology) (cube port d : ℕ) (packet : PacketFields) (here : Bool) → Wired topology → IsAsking topology packet → goal_at (request_to (graph_of topology) (shape_of topology cube) cube packet here) ≡ Some (goals.Port port)
+    → direction_from topology (places.Port cube port) ≡ Some d → GoesTo topology (end_of topology d) packet
+onwards_by topology cube port d packet true wires asking is starts = absurd (no_port (is_for_registers packet.command) (vault_of (shape_of topology cube) packet.address) port (inside_goal (is_for_registers packet.command) (vault_of (shape_of topology cube) packet.address) (goals.Port port) is))
+onwards_by topology cube port d packet false wires asking is starts =
+    at_cube topology d packet (towards_cube topology wires packet.cube cube port d (out_port (port_to_cube (graph_of topology) packet.cube cube) port is) starts) (ToCube asking)
+
+-- an answer goes on, or to its host
+pub answer_goes : (topology : Topology) (cube port d : ℕ) (packet : PacketFields) → Wired topology → IsReplying topology packet → port_to_host (graph_of topology) packet.slid cube ≡ Some port → direction_from topology (places.Port cube port) ≡ Some d
+    → GoesTo topology (end_of topology d) packet
+answer_goes topology cube port d packet wires replying towards starts = by_end (towards_host topology wires packet.slid cube port d towards starts)
+  where
+    by_end : (end_of topology d ≡ places.Host packet.slid) ⊎ EndsAtCube topology d → GoesTo topology (end_of topology d) packet
+    by_end (inl is) = subst (λ (p : Place). GoesTo topology p packet) (sym is) (record { replying = replying; slid = refl })
+    by_end (inr is) = at_cube topology d packet is (ToHost replying)
+
+pub goes_onwards : (topology : Topology) (cube port d : ℕ) (packet : PacketFields) → Wired topology → IsMoving topology packet → goal_of topology cube packet ≡ Some (goals.Port port) → direction_from topology (places.Port cube port) ≡ Some d
+    → GoesTo topology (end_of topology d) packet
+goes_onwards topology cube port d packet wires (ToCube asking) is starts = onwards_by topology cube port d packet (packet.cube == cube) wires asking (asking_goal topology cube packet (goals.Port port) asking is) starts
+goes_onwards topology cube port d packet wires (ToHost replying) is starts =
+    answer_goes topology cube port d packet wires replying (out_port (port_to_host (graph_of topology) packet.slid cube) port (replying_goal topology cube packet (goals.Port port) replying is)) starts
+
+shifted_by : (setup : Setup) (past : List Entry) (cube port : ℕ) (goal : Goal) → Wired setup.topology → (has : HasShifted setup past cube port goal) → IsMoving setup.topology has.at.front
+    → EntersRight setup.topology (goal_queue setup.topology cube goal) has.at.front
+shifted_by setup past cube port (goals.Vault vault) wires has moving =
+    let here = is_here setup.topology cube (goals.Vault vault) has.at.front moving has.is_goal (λ out is. no_vault out vault is) in
+    record { asking = here.asking; own = here.own; unpoisoned = has.unpoisoned; is_goal = here.is_goal }
+shifted_by setup past cube port goals.Registers wires has moving =
+    let here = is_here setup.topology cube goals.Registers has.at.front moving has.is_goal (λ out is. no_registers out is) in
+    record { asking = here.asking; own = here.own; unpoisoned = has.unpoisoned; is_goal = here.is_goal }
+shifted_by setup past cube port (goals.Port out) wires has moving =
+    let to = has_direction setup.topology (view_of setup past) (places.Port cube out) has.room in
+    goes_out setup.topology (places.Port cube out) to.0 has.at.front wires to.1 (goes_onwards setup.topology cube out to.0 has.at.front wires moving has.is_goal to.1)
 
 -- execute
-pub asking_at : (setup : Setup) (port : ℕ) (unit : RequestUnit) (packet : PacketFields) → Stands setup.topology port (queue_of unit) packet → IsAsking packet
-asking_at setup port (units.Bank zero vault bank) packet is = is.bound.asking
-asking_at setup port (units.Bank (suc cube) vault bank) packet is = absurd is
-asking_at setup port (units.Registers zero) packet is = is.asking
-asking_at setup port (units.Registers (suc cube)) packet is = absurd is
+pub asking_at : (topology : Topology) (unit : RequestUnit) (packet : PacketFields) → Stands topology (queue_of unit) packet → IsAsking topology packet × (packet.cube ≡ unit_cube unit)
+asking_at topology (units.Bank cube vault bank) packet is = (is.bound.asking, is.bound.own)
+asking_at topology (units.Registers cube) packet is = (is.asking, is.own)
 
-pub same_request : (packet : PacketFields) (request : RequestFields) (is : IsAsking packet) → request_in packet ≡ Some request → request ≡ is.request
-same_request packet request is found = let other = is.found in cc
+pub same_request : (topology : Topology) (packet : PacketFields) (request : RequestFields) (is : IsAsking topology packet) → request_in packet ≡ Some request → request ≡ is.request
+same_request topology packet request is found = let other = is.found in cc
 
 pub reply_tag : (posted : Bool) (tag : Option ℕ) (number : ℕ) → posted ≡ false → tag ≡ tag_of posted number → tag_number tag ≡ number
 reply_tag true tag number is tagged = cc
 reply_tag false tag number is tagged = ap tag_number tagged
+
+-- a request that is executed, in its cube
+pub record IsRun (topology : Topology) (unit : RequestUnit) (front : PacketFields) (request : RequestFields) : Type 0 where
+  pub asking : IsAsking topology front
+  pub is : IsRequest request
+  pub own : request.cube ≡ unit_cube unit
+  pub there : request.cube < cubes_in topology
+
+pub runs_request : (setup : Setup) (past : List Entry) (unit : RequestUnit) (host : ℕ) (tag : Option ℕ) (request : RequestFields) (answer : Answer) → (has : HasExecuted setup past unit host tag request answer) → Kept setup past
+    → IsRun setup.topology unit has.at.front request
+runs_request setup past unit host tag request answer has kept =
+    let at = asking_at setup.topology unit has.at.front (front_stands setup past (queue_of unit) kept has.at) in
+    let cube = (request_of_packet has.at.front request has.is_request).cube in record {
+      asking = at.0;
+      is = subst IsRequest (sym (same_request setup.topology has.at.front request at.0 has.is_request)) at.0.is_request;
+      own = cube ∙ at.1;
+      there = subst (λ (n : ℕ). n < cubes_in setup.topology) (sym cube) at.0.cube;
+    }
 
 -- the answer to an executed request can be sent
 pub record IsSent (answer : Answer) : Type 0 where
@@ -280,73 +359,62 @@ pub record IsSent (answer : Answer) : Type 0 where
   pub fits : IsAnswer answer
   pub small : IsSmallError answer
 
-pub sends : (setup : Setup) (port : ℕ) (past : List Entry) (unit : RequestUnit) (host : ℕ) (tag : Option ℕ) (request : RequestFields) (answer : Answer) → HasExecuted setup past unit host tag request answer → Kept setup port past
+pub sends : (setup : Setup) (past : List Entry) (unit : RequestUnit) (host : ℕ) (tag : Option ℕ) (request : RequestFields) (answer : Answer) → HasExecuted setup past unit host tag request answer → Kept setup past
     → is_posted request.command ≡ false → IsSent answer
 unfolding answer_to
-sends setup port past unit host tag request answer has kept answered =
-    let asking = asking_at setup port unit has.at.front (front_stands setup port past (queue_of unit) kept has.at) in
-    let request_is : IsRequest request = subst IsRequest (sym (same_request has.at.front request asking has.is_request)) asking.is_request in
-    let own : request.cube ≡ 0 = (request_of_packet has.at.front request has.is_request).cube ∙ asking.cube in
-    let cube : IsCube (cube_state_at (state_of setup.topology past) request.cube) = subst (λ (n : ℕ). IsCube (cube_state_at (state_of setup.topology past) n)) (sym own) kept.state.cube in
-    let carried = performed_is_carried (cube_state_at (state_of setup.topology past) request.cube) request cube request_is in
-    record { carried = subst CanReply (sym has.is_answer) (carried.carried answered); fits = subst IsAnswer (sym has.is_answer) carried.fits; small = subst IsSmallError (sym has.is_answer) (performed_small (cube_state_at (state_of setup.topology past) request.cube) request) }
+sends setup past unit host tag request answer has kept answered =
+    let run = runs_request setup past unit host tag request answer has kept in
+    let before = cube_state_at (state_of setup.topology past) request.cube in
+    let carried = performed_is_carried before request (cube_there setup.topology (state_of setup.topology past) request.cube kept.state run.there) run.is in record {
+      carried = subst CanReply (sym has.is_answer) (carried.carried answered);
+      fits = subst IsAnswer (sym has.is_answer) carried.fits;
+      small = subst IsSmallError (sym has.is_answer) (performed_small before request);
+    }
 
-pub replying : (setup : Setup) (port : ℕ) (past : List Entry) (unit : RequestUnit) (host : ℕ) (tag : Option ℕ) (request : RequestFields) (answer : Answer) → HasExecuted setup past unit host tag request answer → Kept setup port past
-    → is_posted request.command ≡ false → IsReplying (reply_packet answer (tag_number tag) host request.cube)
-replying setup port past unit host tag request answer has kept answered =
-    let asking = asking_at setup port unit has.at.front (front_stands setup port past (queue_of unit) kept has.at) in
-    let own : request.cube ≡ 0 = (request_of_packet has.at.front request has.is_request).cube ∙ asking.cube in
-    let sent = sends setup port past unit host tag request answer has kept answered in
-    let tag_is : tag_number tag ≡ has.at.front.tag = reply_tag (is_posted request.command) tag has.at.front.tag answered has.is_tag in
-    IsReplying-reply_packet answer (tag_number tag) host request.cube sent.carried sent.fits sent.small
-    (subst (λ (n : ℕ). n < 2 ^ 11) (sym tag_is) asking.counted.is_packet.ranges.tag) (has.is_host ∙ asking.slid) own
+pub executed_reply : (setup : Setup) (past : List Entry) (unit : RequestUnit) (host : ℕ) (tag : Option ℕ) (request : RequestFields) (answer : Answer) → IsNetwork setup → HasExecuted setup past unit host tag request answer → Kept setup past
+    → is_posted request.command ≡ false → IsLeaving setup.topology (unit_cube unit) (reply_packet answer (tag_number tag) host request.cube)
+executed_reply setup past unit host tag request answer network has kept answered =
+    let run = runs_request setup past unit host tag request answer has kept in
+    let sent = sends setup past unit host tag request answer has kept answered in
+    let tag_is : tag_number tag ≡ has.at.front.tag = reply_tag (is_posted request.command) tag has.at.front.tag answered has.is_tag in record {
+      replying = IsReplying-reply_packet setup.topology answer (tag_number tag) host request.cube sent.carried sent.fits sent.small
+          (subst (λ (n : ℕ). n < 2 ^ 11) (sym tag_is) run.asking.counted.is_packet.ranges.tag) (subst (λ (n : ℕ). n < hosts_in setup.topology) (sym has.is_host) run.asking.slid) network.few_hosts run.there network.graph.few_cubes;
+      own = replied_cube answer (tag_number tag) host request.cube sent.carried ∙ run.own;
+    }
 
-answers_at : (setup : Setup) (port : ℕ) (unit : RequestUnit) (front packet : PacketFields) → Stands setup.topology port (queue_of unit) front → IsReplying packet → Stands setup.topology port (answers_of unit) packet
-answers_at setup port (units.Bank zero vault bank) front packet is replies = replies
-answers_at setup port (units.Bank (suc cube) vault bank) front packet is replies = absurd is
-answers_at setup port (units.Registers zero) front packet is replies = replies
-answers_at setup port (units.Registers (suc cube)) front packet is replies = absurd is
+answers_at : (topology : Topology) (unit : RequestUnit) (packet : PacketFields) → IsLeaving topology (unit_cube unit) packet → Stands topology (answers_of unit) packet
+answers_at topology (units.Bank cube vault bank) packet is = is
+answers_at topology (units.Registers cube) packet is = is
 
-executed_enters : (setup : Setup) (port : ℕ) (past : List Entry) (unit : RequestUnit) (host : ℕ) (tag : Option ℕ) (request : RequestFields) (answer : Answer) (posted : Bool) → HasExecuted setup past unit host tag request answer
-    → Kept setup port past → is_posted request.command ≡ posted → EntersRight setup.topology port (unless_posted posted (answers_of unit)) (reply_packet answer (tag_number tag) host request.cube)
-executed_enters setup port past unit host tag request answer true has kept is = tt
-executed_enters setup port past unit host tag request answer false has kept is =
-    answers_at setup port unit has.at.front _ (front_stands setup port past (queue_of unit) kept has.at) (replying setup port past unit host tag request answer has kept is)
+executed_enters : (setup : Setup) (past : List Entry) (unit : RequestUnit) (host : ℕ) (tag : Option ℕ) (request : RequestFields) (answer : Answer) (posted : Bool) → IsNetwork setup → HasExecuted setup past unit host tag request answer
+    → Kept setup past → is_posted request.command ≡ posted → EntersRight setup.topology (unless_posted posted (answers_of unit)) (reply_packet answer (tag_number tag) host request.cube)
+executed_enters setup past unit host tag request answer true network has kept is = tt
+executed_enters setup past unit host tag request answer false network has kept is = answers_at setup.topology unit _ (executed_reply setup past unit host tag request answer network has kept is)
 
 -- lift
-pub port_known : (setup : Setup) (one : OneCube setup) (past : List Entry) (from : Lift) (port : ℕ) → (has : HasLifted setup past 0 from port) → IsReplying has.at.front → port ≡ one.port
-port_known setup one past from port has replying =
-    let found : Some port ≡ Some one.port = sym has.is_port ∙ ap (port_towards setup.topology 0) replying.slid ∙ (one_link setup one).towards in cc
-
--- it goes to the output queue of direction 1
-pub lifted_into : (setup : Setup) (one : OneCube setup) (past : List Entry) (cube : ℕ) (from : Lift) (port : ℕ) → (has : HasLifted setup past cube from port) → Stands setup.topology one.port (Answers cube from) has.at.front
-    → output_from setup.topology (places.Port cube port) ≡ Some (Output 1)
-lifted_into setup one past zero from port has stands =
-    ap (λ (p : ℕ). output_from setup.topology (places.Port 0 p)) (port_known setup one past from port has stands) ∙ ap (option_map Output) (one_link setup one).from_cube
-lifted_into setup one past (suc cube) from port has stands = absurd stands
-
-lifted_enters : (setup : Setup) (one : OneCube setup) (past : List Entry) (cube : ℕ) (from : Lift) (port : ℕ) → (has : HasLifted setup past cube from port) → Stands setup.topology one.port (Answers cube from) has.at.front
-    → EntersRight setup.topology one.port (output_from setup.topology (places.Port cube port)) has.at.front
-lifted_enters setup one past zero from port has stands =
-    subst (λ (r : Option QueueId). EntersRight setup.topology one.port r has.at.front) (sym (lifted_into setup one past 0 from port has stands)) stands
-lifted_enters setup one past (suc cube) from port has stands = absurd stands
+pub lifted_into : (setup : Setup) (past : List Entry) (cube : ℕ) (from : Lift) (port : ℕ) → Wired setup.topology → (has : HasLifted setup past cube from port) → IsReplying setup.topology has.at.front
+    → (d : ℕ) × (direction_from setup.topology (places.Port cube port) ≡ Some d) × GoesTo setup.topology (end_of setup.topology d) has.at.front
+lifted_into setup past cube from port wires has reply =
+    let to = has_direction setup.topology (view_of setup past) (places.Port cube port) has.room in
+    (to.0, to.1, answer_goes setup.topology cube port to.0 has.at.front wires reply has.is_port to.1)
 
 -- every entry
-pub enters_right : (setup : Setup) (one : OneCube setup) (past : List Entry) (entry : Entry) → EntryRule setup past entry → Kept setup one.port past
-    → ArrivesRight setup.topology one.port (arrives setup.topology past entry)
+pub enters_right : (setup : Setup) (past : List Entry) (entry : Entry) → IsNetwork setup → Wired setup.topology → EntryRule setup past entry → Kept setup past
+    → ArrivesRight setup.topology (arrives setup.topology past entry)
 unfolding enters
-enters_right setup one past (Gave host tag poisoned request) right kept =
-    arrives_right setup.topology one.port (output_from setup.topology (places.Host host)) _ _ refl (given_enters setup one past host tag poisoned request right kept)
-enters_right setup one past (Landed d flit outcome) right kept = landed_enters setup one past d flit outcome right kept
-enters_right setup one past (Shifted cube port goal) right kept =
-    arrives_right setup.topology one.port (goal_queue setup.topology cube goal) _ _ (front_is setup past (Port cube port) right.at)
-    (shifted_enters setup one.port port past cube goal right (front_stands setup one.port past (Port cube port) kept right.at))
-enters_right setup one past (Spread cube vault bank) right kept =
-    arrives_right setup.topology one.port (Some (Bank cube vault bank)) (λ _. front_of (contents setup.topology past (Vault cube vault))) right.at.front (front_is setup past (Vault cube vault) right.at)
-    (spread_enters setup one.port past cube vault bank right (front_stands setup one.port past (Vault cube vault) kept right.at))
-enters_right setup one past (Executed unit host tag request answer) right kept =
-    arrives_right setup.topology one.port (unless_posted (is_posted request.command) (answers_of unit)) _ _ refl (executed_enters setup one.port past unit host tag request answer (is_posted request.command) right kept refl)
-enters_right setup one past (Lifted cube from port) right kept =
-    arrives_right setup.topology one.port (output_from setup.topology (places.Port cube port)) _ _ (front_is setup past (Answers cube from) right.at)
-    (lifted_enters setup one past cube from port right (front_stands setup one.port past (Answers cube from) kept right.at))
-enters_right setup one past _ right kept = tt
+enters_right setup past (Gave host tag poisoned request) network wires right kept =
+    arrives_right setup.topology (output_from setup.topology (places.Host host)) _ _ refl (given_enters setup past host tag poisoned request network wires right kept)
+enters_right setup past (Landed d flit outcome) network wires right kept = landed_enters setup past d flit outcome right kept
+enters_right setup past (Shifted cube port goal) network wires right kept =
+    arrives_right setup.topology (goal_queue setup.topology cube goal) _ _ (front_is setup past (Port cube port) right.at)
+    (shifted_by setup past cube port goal wires right (front_stands setup past (Port cube port) kept right.at).goes)
+enters_right setup past (Spread cube vault bank) network wires right kept =
+    arrives_right setup.topology (Some (Bank cube vault bank)) (λ _. front_of (contents setup.topology past (Vault cube vault))) right.at.front (front_is setup past (Vault cube vault) right.at)
+    (record { bound = front_stands setup past (Vault cube vault) kept right.at; is_bank = sym right.is_bank })
+enters_right setup past (Executed unit host tag request answer) network wires right kept =
+    arrives_right setup.topology (unless_posted (is_posted request.command) (answers_of unit)) _ _ refl (executed_enters setup past unit host tag request answer (is_posted request.command) network right kept refl)
+enters_right setup past (Lifted cube from port) network wires right kept =
+    let into = lifted_into setup past cube from port wires right (front_stands setup past (Answers cube from) kept right.at).replying in
+    arrives_right setup.topology (output_from setup.topology (places.Port cube port)) _ _ (front_is setup past (Answers cube from) right.at)
+    (goes_out setup.topology (places.Port cube port) into.0 right.at.front wires into.1 into.2)
+enters_right setup past _ network wires right kept = tt

@@ -1,6 +1,6 @@
 -- What an entry is that follows: by its variant, what its step saw.
-use Rattle.std.proofs.Common.{◌≡◌, ◌&&◌, ◌⊎◌, inl, inr, ℕ, Bool, true, false, not, if◌then◌else◌, Option, Some, None, is_none, List, [], ◌∷◌, length, slice_get, refl, sym, subst, ap, ◌∙◌}
-use Rattle.hmc_codes.specs.Commands.{is_posted}
+use Rattle.std.proofs.Common.{◌≡◌, ◌&&◌, ◌⊎◌, inl, inr, ℕ, Bool, true, false, not, if◌then◌else◌, Option, Some, None, is_none, List, [], ◌∷◌, length, slice_get, refl, sym, subst}
+use Rattle.hmc_codes.specs.Commands.{is_posted, family_of}
 use Rattle.hmc_codes.specs.Request.{RequestFields}
 use Rattle.hmc_codes.specs.Shape.{ShapeFields, vault_of, bank_of}
 use Rattle.hmc_codes.specs.declared.answer.Answer.{Answer}
@@ -20,7 +20,7 @@ use Rattle.hmc_serial.specs.Machine.{cube_state_at, answer_to}
 use Rattle.hmc_serial.specs.Perform.{perform_on}
 use Rattle.hmc_serial.specs.Unit.{is_for_registers}
 use Rattle.hmc_crossbar.specs.declared.to.To.TheVariants as tos
-use Rattle.hmc_crossbar.specs.To.{where_to, unpoisoned_to}
+use Rattle.hmc_crossbar.specs.To.{unpoisoned_to}
 use Rattle.hmc_vault.specs.declared.execute.Executed.TheVariants as executions
 use Rattle.hmc_vault.specs.Execute.{must_wait}
 use Rattle.hmc_host.specs.declared.given.Given.TheVariants as givens
@@ -40,8 +40,9 @@ use Rattle.hmc_send.specs.LinkCalls.{is_full, view_in}
 use Rattle.hmc_send.specs.LinkEntries.{receiver_entries}
 use Rattle.hmc_send.specs.LinkLines.{StampedFlit, line, under_mask, passes}
 use Rattle.hmc_send.proofs.LinkLawful.{IsSend, IsLanding}
-use Rattle.hmc_journal.specs.Setup.{Setup, Topology, shape_of, port_towards}
-use Rattle.hmc_journal.specs.Queues.{QueueId, contents, queue_of, output_from}
+use Rattle.hmc_journal.specs.Setup.{Setup, Topology, shape_of, graph_of}
+use Rattle.hmc_journal.specs.Routes.{port_towards}
+use Rattle.hmc_journal.specs.Queues.{QueueId, contents, queue_of, output_from, goal_queue}
 use Rattle.hmc_journal.specs.Queues.QueueId.{Port, Host, Vault, Answers}
 use Rattle.hmc_journal.specs.Hosts.{host_of}
 use Rattle.hmc_journal.specs.StepView.{state_of, view_of}
@@ -88,21 +89,23 @@ pub record HasPassed (setup : Setup) (past : List Entry) (direction : ℕ) (flit
   pub is_front : slice_get (line (sizes_on setup.topology direction).profile (toward direction) (entries_on setup.topology direction past)) 0 ≡ Some front
   pub flit_is : flit ≡ under_mask mask front.flit
 
--- where an unpoisoned packet goes in a cube of this shape
+-- where an unpoisoned request goes in its cube, of this shape
 abbrev pub goal_by : ShapeFields → PacketFields → Goal
 goal_by shape packet = if is_for_registers packet.command then goals.Registers else goals.Vault (vault_of shape packet.address)
 
-abbrev pub goal_of : Topology → (cube : ℕ) → PacketFields → Goal
-goal_of topology cube packet = goal_by (shape_of topology cube) packet
+-- where an unpoisoned packet goes, if it goes anywhere
+abbrev pub goal_of : Topology → (cube : ℕ) → PacketFields → Option Goal
+goal_of topology cube packet = goal_at (unpoisoned_to (graph_of topology) (shape_of topology cube) cube packet (family_of packet.command))
 
 pub record HasShifted (setup : Setup) (past : List Entry) (cube port : ℕ) (goal : Goal) : Type 0 where
   pub at : HasFront setup past (Port cube port)
   pub unpoisoned : at.front.poisoned ≡ false
-  pub is_goal : goal ≡ goal_of setup.topology cube at.front
+  pub is_goal : goal_of setup.topology cube at.front ≡ Some goal
+  pub room : lacks_room setup.topology (view_of setup past) (goal_queue setup.topology cube goal) ≡ false
 
 pub record HasDropped (setup : Setup) (past : List Entry) (cube port : ℕ) : Type 0 where
   pub at : HasFront setup past (Port cube port)
-  pub is_poisoned : at.front.poisoned ≡ true
+  pub is_lost : (at.front.poisoned ≡ true) ⊎ (goal_of setup.topology cube at.front ≡ None)
 
 pub record HasSpread (setup : Setup) (past : List Entry) (cube vault bank : ℕ) : Type 0 where
   pub at : HasFront setup past (Vault cube vault)
@@ -206,27 +209,20 @@ land setup past direction mask None step is = tt
 land setup past direction mask (Some front) step is = land_flit setup past direction mask front _ step is refl
 
 -- in a cube
-unpoisoned_goal : (registers : Bool) (vault : ℕ) → goal_at (unpoisoned_to registers vault) ≡ Some (if registers then goals.Registers else goals.Vault vault)
-unpoisoned_goal true vault = refl
-unpoisoned_goal false vault = refl
+shift_room : (setup : Setup) (past : List Entry) (cube port : ℕ) (at : HasFront setup past (Port cube port)) (goal : Goal) (lacks : Bool) → at.front.poisoned ≡ false → goal_of setup.topology cube at.front ≡ Some goal
+    → lacks_room setup.topology (view_of setup past) (goal_queue setup.topology cube goal) ≡ lacks → EntryRule setup past (unless_full (steps.Shift cube port) lacks (Shifted cube port goal))
+shift_room setup past cube port at goal true clean is none = tt
+shift_room setup past cube port at goal false clean is none = record { at = at; unpoisoned = clean; is_goal = is; room = none }
 
-pub where_goal : (shape : ShapeFields) (packet : PacketFields) (poisoned : Bool) → packet.poisoned ≡ poisoned → goal_at (where_to shape packet) ≡ (if poisoned then None else Some (goal_by shape packet))
-where_goal shape packet true is = ap (λ (b : Bool). goal_at (if b then tos.Nowhere else unpoisoned_to (is_for_registers packet.command) (vault_of shape packet.address))) is
-where_goal shape packet false is =
-    ap (λ (b : Bool). goal_at (if b then tos.Nowhere else unpoisoned_to (is_for_registers packet.command) (vault_of shape packet.address))) is
-    ∙ unpoisoned_goal (is_for_registers packet.command) (vault_of shape packet.address)
+shift_goal : (setup : Setup) (past : List Entry) (cube port : ℕ) (at : HasFront setup past (Port cube port)) (goal : Option Goal) → at.front.poisoned ≡ false → goal_of setup.topology cube at.front ≡ goal
+    → EntryRule setup past (shifted_entry setup.topology (view_of setup past) cube port goal)
+shift_goal setup past cube port at None clean is = record { at = at; is_lost = inr is }
+shift_goal setup past cube port at (Some goal) clean is = shift_room setup past cube port at goal _ clean is refl
 
 shift_by : (setup : Setup) (past : List Entry) (cube port : ℕ) (at : HasFront setup past (Port cube port)) (poisoned : Bool) → at.front.poisoned ≡ poisoned
-    → EntryRule setup past (shifted_entry setup.topology (view_of setup past) cube port (if poisoned then None else Some (goal_of setup.topology cube at.front)))
-shift_by setup past cube port at true is = record { at = at; is_poisoned = is }
-shift_by setup past cube port at false is =
-    unless setup past (steps.Shift cube port) _ (Shifted cube port (goal_of setup.topology cube at.front)) (record { at = at; unpoisoned = is; is_goal = refl })
-
-shift : (setup : Setup) (past : List Entry) (cube port : ℕ) (at : HasFront setup past (Port cube port))
-    → EntryRule setup past (shifted_entry setup.topology (view_of setup past) cube port (goal_at (where_to (shape_of setup.topology cube) at.front)))
-shift setup past cube port at =
-    subst (λ (g : Option Goal). EntryRule setup past (shifted_entry setup.topology (view_of setup past) cube port g)) (sym (where_goal (shape_of setup.topology cube) at.front at.front.poisoned refl))
-    (shift_by setup past cube port at at.front.poisoned refl)
+    → EntryRule setup past (shifted_entry setup.topology (view_of setup past) cube port (goal_at (if poisoned then tos.Nowhere else unpoisoned_to (graph_of setup.topology) (shape_of setup.topology cube) cube at.front (family_of at.front.command))))
+shift_by setup past cube port at true is = record { at = at; is_lost = inl is }
+shift_by setup past cube port at false is = shift_goal setup past cube port at _ is refl
 
 run : (setup : Setup) (past : List Entry) (unit : RequestUnit) (step : Step) (at : HasFront setup past (queue_of unit)) (request : RequestFields) (waits : Bool) → request_in at.front ≡ Some request
     → EntryRule setup past (ran_entry unit step (if waits then executions.Full else executions.Ran at.front.slid at.front.tag request (perform_on (cube_state_at (state_of setup.topology past) request.cube) request).answer))
@@ -275,7 +271,7 @@ next_rule setup past (steps.Send direction) there = send setup past direction _ 
 next_rule setup past (steps.Land direction mask) there = land setup past direction mask _ there refl
 next_rule setup past (steps.Shift cube port) there =
     fronted setup past (steps.Shift cube port) (Port cube port) _ _ refl
-    (λ at. shift setup past cube port at)
+    (λ at. shift_by setup past cube port at at.front.poisoned refl)
 next_rule setup past (steps.Spread cube vault) there =
     fronted setup past (steps.Spread cube vault) (Vault cube vault) _ _ refl
     (λ at. unless setup past (steps.Spread cube vault) _ (Spread cube vault (bank_of (shape_of setup.topology cube) at.front.address)) (record { at = at; is_bank = refl }))

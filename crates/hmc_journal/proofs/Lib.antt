@@ -3,6 +3,8 @@ pub mod EntryRule
 pub mod OneJournal
 pub mod Whole
 pub mod Serial
+pub mod Joins
+pub mod Wired
 pub mod LinkKept
 pub mod LinkHanded
 pub mod Projections
@@ -14,36 +16,45 @@ pub mod AcceptedTokens
 pub mod Order
 pub mod Moves
 pub mod Standing
-pub mod OneCube
-pub mod OneLink
-pub mod OneEntry
 pub mod SmallErrors
 pub mod Buffers
-pub mod Entering
 pub mod Machine
+pub mod Entering
 pub mod Sound
-pub mod FarLinks
+pub mod Underway
 pub mod LinkLaws
+pub mod LinksKept
 pub mod LinkInvariant
-pub mod Phases
-pub mod Arrived
-pub mod Transit
-pub mod Stretches
-pub mod TagWork
-pub mod TagStep
-pub mod Tags
 pub mod QueueInvariant
+pub mod Transit
 pub mod Views
-pub mod QueueToQueue
-pub mod Units
-pub mod Ends
-pub mod OtherHosts
-pub mod Returning
-pub mod Delivering
 pub mod DrainedTest
+pub mod Seen
+pub mod Agreeing
+pub mod Hopping
+pub mod Hopped
+pub mod MayMove
+pub mod TagsOut
+pub mod Awaiting
+pub mod Flowing
+pub mod Collecting
+pub mod Executing
+pub mod Carrying
+pub mod Mapped
+pub mod Answering
+pub mod Tagging
+pub mod Awaited
+pub mod Ends
+pub mod EveryFlow
+pub mod Draining
+pub mod Delivering
 pub mod Guaranteeing
+pub mod Waiting
+pub mod Keeping
+pub mod Networks
 mod ZeroDigits
 mod WorkedLines
 mod WorkedRow
 mod Worked
 mod Edges
+mod WorkedHops

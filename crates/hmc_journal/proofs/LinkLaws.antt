@@ -1,13 +1,12 @@
 -- What the law of one wire says of each direction of a lawful journal.
-use Rattle.std.proofs.Common.{◌≡◌, ◌≢◌, ◌∙◌, ℕ, List, [], ◌∷◌, ◌++◌, All, map, take, drop, refl, sym, ap, take-append-drop}
+use Rattle.std.proofs.Common.{◌/◌, ◌≢◌, ◌∙◌, ℕ, List, [], ◌∷◌, ◌++◌, All, map, take, drop, refl, sym, ap, take-append-drop}
 use Rattle.std.specs.Prelude.{filter}
 use Rattle.std.proofs.lemmas.List.{map-append}
 use Rattle.std.proofs.lemmas.List.Elements.{All-nil, All-cons}
 use Rattle.hmc_packet.specs.declared.outcome.Outcome.{Outcome}
 use Rattle.hmc_packet.specs.declared.outcome.Outcome.TheVariants as outcomes
-use Rattle.hmc_packet.specs.Landings as landings
 use Rattle.hmc_send.specs.Entries.{taken_fronts}
-use Rattle.hmc_send.specs.LinkEntries.{accepted_packets, handed_packets}
+use Rattle.hmc_send.specs.LinkEntries.{handed_packets}
 use Rattle.hmc_send.specs.LinkSenders.{sender_entries}
 use Rattle.hmc_send.specs.Places.{is_token}
 use Rattle.hmc_wire.specs.LinkLaws.{TokenLaws}
@@ -15,8 +14,9 @@ use Rattle.hmc_wire.proofs.LawsHold.{direction-laws}
 use Rattle.hmc_wire.proofs.TokenFacts.{token-laws}
 use Rattle.hmc_journal.specs.declared.entry.Entry.{Entry}
 use Rattle.hmc_journal.specs.declared.entry.Entry.TheVariants.{Gave, Sent, Landed, Shifted, Dropped, Spread, Executed, Lifted, Took, Discarded, Unlocked, Passed, Idle}
-use Rattle.hmc_journal.specs.Setup.{Topology, Setup}
-use Rattle.hmc_journal.specs.Delivered.{IsPrefix, begun_on, unnumbered, IsInOrder}
+use Rattle.hmc_journal.specs.Setup.{Setup}
+use Rattle.hmc_journal.specs.Carried.{begun_on}
+use Rattle.hmc_journal.specs.Delivered.{IsPrefix, unnumbered, IsInOrder}
 use Rattle.hmc_journal.specs.Directions.{accepted}
 use Rattle.hmc_journal.specs.Queues.{entered}
 use Rattle.hmc_journal.specs.Queues.QueueId.{Output}
@@ -26,28 +26,24 @@ use Rattle.hmc_journal.proofs.EntryRule.{EntryRule, entry_rule, lawful_past}
 use Rattle.hmc_journal.proofs.LinkKept.{kept-landed}
 use Rattle.hmc_journal.proofs.LinkHanded.{fronts}
 use Rattle.hmc_journal.proofs.AcceptedTokens.{are_first}
-use Rattle.hmc_journal.proofs.Projections.{received, handed_are, are_direct}
-use Rattle.hmc_journal.proofs.OneCube.{OneCube}
-use Rattle.hmc_journal.proofs.FarLinks.{link_is_kept}
-
--- the packets accepted on a direction, by the link's entries
-pub accepted_are : (topology : Topology) (d : ℕ) (past : List Entry) → accepted topology d past ≡ accepted_packets (sizes_on topology d).profile (toward d) (entries_on topology d past)
-unfolding accepted
-accepted_are topology d past = ap (landings.accepted (sizes_on topology d).profile) (received topology d past)
+use Rattle.hmc_journal.proofs.Projections.{handed_are, are_direct}
+use Rattle.hmc_journal.specs.Network.{IsNetwork}
+use Rattle.hmc_journal.proofs.Entering.{accepted_are}
+use Rattle.hmc_journal.proofs.Sound.{kept}
 
 -- they are a prefix of those begun
-pub accepted_prefix : (setup : Setup) (one : OneCube setup) (d : ℕ) (past : List Entry) → Lawful setup past → IsPrefix (accepted setup.topology d past) (begun_on setup.topology d past)
-accepted_prefix setup one d past lawful =
-    let first = are_first (sizes_on setup.topology d) (toward d) (entries_on setup.topology d past) (link_is_kept setup one d past lawful) (are_direct setup.topology _ past) in
+pub accepted_prefix : (setup : Setup) (network : IsNetwork setup) (d : ℕ) (past : List Entry) → Lawful setup past → IsPrefix (accepted setup.topology d past) (begun_on setup.topology d past)
+accepted_prefix setup network d past lawful =
+    let first = are_first (sizes_on setup.topology d) (toward d) (entries_on setup.topology d past) ((kept setup past network lawful).links (d / 2)) (are_direct setup.topology _ past) in
     (first.others, first.are ∙ ap (λ l. l ++ first.others) (sym (accepted_are setup.topology d past)))
 
 -- and those begun, without TRETs and numbers, of those that entered the output queue
-pub begun_prefix : (setup : Setup) (one : OneCube setup) (d : ℕ) (past : List Entry) → Lawful setup past
+pub begun_prefix : (setup : Setup) (network : IsNetwork setup) (d : ℕ) (past : List Entry) → Lawful setup past
     → IsPrefix (map unnumbered (filter is_token (begun_on setup.topology d past))) (map unnumbered (entered setup.topology past (Output d)))
-begun_prefix setup one d past lawful =
+begun_prefix setup network d past lawful =
     let sizes = sizes_on setup.topology d in
     let before = entries_on setup.topology d past in
-    let begun = fronts sizes (toward d) before (link_is_kept setup one d past lawful) (are_direct setup.topology _ past) in
+    let begun = fronts sizes (toward d) before ((kept setup past network lawful).links (d / 2)) (are_direct setup.topology _ past) in
     let n = taken_fronts (sender_entries sizes (toward d) before) in
     let handed = handed_packets (toward d) before in (
       map unnumbered (drop n handed),
@@ -56,37 +52,37 @@ begun_prefix setup one d past lawful =
     )
 
 -- the tokens of each direction add up
-pub tokens_hold : (setup : Setup) (one : OneCube setup) (d : ℕ) (past : List Entry) → Lawful setup past → TokenLaws (sizes_on setup.topology d) (toward d) (entries_on setup.topology d past)
-tokens_hold setup one d past lawful = token-laws (sizes_on setup.topology d) (toward d) (entries_on setup.topology d past) (link_is_kept setup one d past lawful)
+pub tokens_hold : (setup : Setup) (network : IsNetwork setup) (d : ℕ) (past : List Entry) → Lawful setup past → TokenLaws (sizes_on setup.topology d) (toward d) (entries_on setup.topology d past)
+tokens_hold setup network d past lawful = token-laws (sizes_on setup.topology d) (toward d) (entries_on setup.topology d past) ((kept setup past network lawful).links (d / 2))
 
 -- no packet lands out of order
 ordered_by : (d : ℕ) (flit : List ℕ) (outcome : Outcome) → outcome ≢ outcomes.AbortedOrder → IsInOrder (Landed d flit outcome)
 ordered_by d flit outcomes.AbortedOrder quiet = absurd (quiet refl)
 ordered_by d flit _ quiet = tt
 
-ordered_entry : (setup : Setup) (one : OneCube setup) (entry : Entry) (past : List Entry) → EntryRule setup past entry → Lawful setup past → IsInOrder entry
-ordered_entry setup one (Landed d flit outcome) past right lawful =
+ordered_entry : (setup : Setup) (network : IsNetwork setup) (entry : Entry) (past : List Entry) → EntryRule setup past entry → Lawful setup past → IsInOrder entry
+ordered_entry setup network (Landed d flit outcome) past right lawful =
     let sizes = sizes_on setup.topology d in
     let before = entries_on setup.topology d past in
-    let kept = link_is_kept setup one d past lawful in
-    let now = kept-landed sizes before (toward d) right.mask flit outcome kept right.landing in
-    let laws = direction-laws sizes (toward d) before kept in
+    let keeps = (kept setup past network lawful).links (d / 2) in
+    let now = kept-landed sizes before (toward d) right.mask flit outcome keeps right.landing in
+    let laws = direction-laws sizes (toward d) before keeps in
     ordered_by d flit outcome (laws.ordered (landing_mask sizes (toward d) before flit) flit outcome now.lawful)
-ordered_entry setup one (Gave host tag poisoned request) past right lawful = tt
-ordered_entry setup one (Sent direction what flit) past right lawful = tt
-ordered_entry setup one (Shifted cube port goal) past right lawful = tt
-ordered_entry setup one (Dropped cube port) past right lawful = tt
-ordered_entry setup one (Spread cube vault bank) past right lawful = tt
-ordered_entry setup one (Executed unit host tag request answer) past right lawful = tt
-ordered_entry setup one (Lifted cube from port) past right lawful = tt
-ordered_entry setup one (Took host tag answer) past right lawful = tt
-ordered_entry setup one (Discarded host) past right lawful = tt
-ordered_entry setup one (Unlocked direction) past right lawful = tt
-ordered_entry setup one (Passed direction flit) past right lawful = tt
-ordered_entry setup one (Idle step cause) past right lawful = tt
+ordered_entry setup network (Gave host tag poisoned request) past right lawful = tt
+ordered_entry setup network (Sent direction what flit) past right lawful = tt
+ordered_entry setup network (Shifted cube port goal) past right lawful = tt
+ordered_entry setup network (Dropped cube port) past right lawful = tt
+ordered_entry setup network (Spread cube vault bank) past right lawful = tt
+ordered_entry setup network (Executed unit host tag request answer) past right lawful = tt
+ordered_entry setup network (Lifted cube from port) past right lawful = tt
+ordered_entry setup network (Took host tag answer) past right lawful = tt
+ordered_entry setup network (Discarded host) past right lawful = tt
+ordered_entry setup network (Unlocked direction) past right lawful = tt
+ordered_entry setup network (Passed direction flit) past right lawful = tt
+ordered_entry setup network (Idle step cause) past right lawful = tt
 
-pub all_in_order : (setup : Setup) (one : OneCube setup) (past : List Entry) → Lawful setup past → All IsInOrder past
-all_in_order setup one [] lawful = All-nil IsInOrder
-all_in_order setup one (entry ∷ past) lawful =
+pub all_in_order : (setup : Setup) (network : IsNetwork setup) (past : List Entry) → Lawful setup past → All IsInOrder past
+all_in_order setup network [] lawful = All-nil IsInOrder
+all_in_order setup network (entry ∷ past) lawful =
     let before = lawful_past setup entry past lawful in
-    All-cons IsInOrder entry past (ordered_entry setup one entry past (entry_rule setup entry past lawful) before) (all_in_order setup one past before)
+    All-cons IsInOrder entry past (ordered_entry setup network entry past (entry_rule setup entry past lawful) before) (all_in_order setup network past before)

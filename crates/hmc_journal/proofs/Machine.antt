@@ -1,29 +1,55 @@
--- The one cube of a machine stays a cube.
-use Rattle.std.proofs.Common.{◌≡◌, ℕ, [], ◌∷◌, sym, ap, subst, arith, lit<}
-use Rattle.std.specs.Prelude.{slice_set}
-use Rattle.std.proofs.lemmas.List.{length-set, get_or-set_same}
+-- The cubes of a machine stay cubes.
+use Rattle.std.proofs.Common.{◌≡◌, ◌≤◌, ◌<◌, ◌+◌, ◌∙◌, ℕ, suc, List, [], ◌∷◌, All, length, refl, ap, arith}
+use Rattle.std.specs.Prelude.{map}
+use Rattle.std.proofs.lemmas.List.{length-set, length-map}
+use Rattle.std.proofs.lemmas.List.Elements.{All-set, All-nil, All-cons, All-head, All-tail}
+use Rattle.hmc_case.specs.Setup.{CubeSetupFields, IsCubeSetup}
 use Rattle.hmc_codes.specs.Request.{RequestFields, IsRequest}
 use Rattle.hmc_codes.specs.Shape.{ShapeFields, IsShape}
-use Rattle.hmc_serial.specs.Cube.{IsCube}
+use Rattle.hmc_serial.specs.Cube.{IsCube, opening}
 use Rattle.hmc_serial.specs.Perform.{perform_on}
-use Rattle.hmc_serial.specs.Machine.{State, cube_state_at, apply, no_cube_state, opening_state}
+use Rattle.hmc_serial.specs.Machine.{State, cube_state_at, apply, no_cube_state, openings_from, opening_state}
 use Rattle.hmc_serial.proofs.CubeLemmas.{IsCube-performed, IsCube-opening}
-use Rattle.hmc_journal.proofs.Entering.{HasCube}
+use Rattle.hmc_journal.specs.Setup.{Topology, Setup, shapes_of, cubes_in}
+use Rattle.hmc_journal.specs.Network.{IsNetwork}
 
-pub HasCube-apply : (state : State) (request : RequestFields) → HasCube state → IsRequest request → request.cube ≡ 0 → HasCube (apply state request)
+-- a machine of the cubes of a topology
+pub record HasCubes (topology : Topology) (state : State) : Type 0 where
+  pub count : length state.cubes ≡ cubes_in topology
+  pub cubes : All IsCube state.cubes
+
+pub cube_there : (topology : Topology) (state : State) (cube : ℕ) → HasCubes topology state → cube < cubes_in topology → IsCube (cube_state_at state cube)
+cube_there topology state cube has less = let many = has.count in has.cubes cube no_cube_state (omega arith)
+
+pub HasCubes-apply : (topology : Topology) (state : State) (request : RequestFields) → HasCubes topology state → IsRequest request → request.cube < cubes_in topology → HasCubes topology (apply state request)
 unfolding apply
-HasCube-apply state request has is own =
-    let new = (perform_on (cube_state_at state 0) request).cube in
-    let cubes = state.cubes in
-    let after : State = record { cubes = slice_set cubes 0 new } in
-    let changed : apply state request ≡ after =
-    ap (λ (n : ℕ). record { cubes = slice_set cubes n (perform_on (cube_state_at state n) request).cube }) own in
-    let there : cube_state_at after 0 ≡ new = get_or-set_same cubes 0 new no_cube_state has.some in
-    subst HasCube (sym changed) (record {
-      some = omega (arith, has.some, length-set cubes 0 new);
-      cube = subst IsCube (sym there) (IsCube-performed (cube_state_at state 0) request has.cube is);
-    })
+HasCubes-apply topology state request has is less =
+    let new = (perform_on (cube_state_at state request.cube) request).cube in record {
+      count = length-set state.cubes request.cube new ∙ has.count;
+      cubes = All-set IsCube state.cubes request.cube new (IsCube-performed (cube_state_at state request.cube) request (cube_there topology state request.cube has less) is) has.cubes;
+    }
 
-pub HasCube-opening : (shape : ShapeFields) → IsShape shape → HasCube (opening_state (shape ∷ []))
+opened : (number : ℕ) (shapes : List ShapeFields) → All IsShape shapes → number + length shapes ≤ 8 → All IsCube (openings_from number shapes)
+opened number [] all few = All-nil IsCube
+opened number (shape ∷ shapes) all few =
+    All-cons IsCube (opening shape number) (openings_from (number + 1) shapes) (IsCube-opening shape number (All-head IsShape shape shapes all) (omega arith))
+    (opened (number + 1) shapes (All-tail IsShape shape shapes all) (omega arith))
+
+opened_count : (number : ℕ) (shapes : List ShapeFields) → length (openings_from number shapes) ≡ length shapes
+opened_count number [] = refl
+opened_count number (shape ∷ shapes) = ap suc (opened_count (number + 1) shapes)
+
+are_shapes : (cubes : List CubeSetupFields) → All IsCubeSetup cubes → All IsShape (map (λ (cube : CubeSetupFields). cube.shape) cubes)
+are_shapes [] all = All-nil IsShape
+are_shapes (cube ∷ cubes) all =
+    All-cons IsShape cube.shape (map (λ (c : CubeSetupFields). c.shape) cubes) (All-head IsCubeSetup cube cubes all).shape (are_shapes cubes (All-tail IsCubeSetup cube cubes all))
+
+pub HasCubes-opening : (setup : Setup) → IsNetwork setup → HasCubes setup.topology (opening_state (shapes_of setup.topology))
 unfolding opening_state
-HasCube-opening shape is = record { some = omega arith; cube = IsCube-opening shape 0 is (lit< tt) }
+HasCubes-opening setup network =
+    let cubes = setup.topology.cubes in
+    let count = length-map cubes (λ (cube : CubeSetupFields). cube.shape) in
+    let few = network.graph.few_cubes in record {
+      count = opened_count 0 (shapes_of setup.topology) ∙ count;
+      cubes = opened 0 (shapes_of setup.topology) (are_shapes cubes network.cubes) (omega arith);
+    }

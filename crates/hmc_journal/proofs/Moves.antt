@@ -132,7 +132,7 @@ abbrev pub HasBegun : Setup → List Entry → Entry → Type 0
 HasBegun setup past (Sent direction New flit) = HasLeaving setup past (begins (unsent direction past) direction)
 HasBegun setup past _ = Unit {0}
 
-has_leaving : (setup : Setup) (past : List Entry) (entry : Entry) → EntryRule setup past entry → HasBegun setup past entry → HasLeaving setup past (leaves past entry)
+pub has_leaving : (setup : Setup) (past : List Entry) (entry : Entry) → EntryRule setup past entry → HasBegun setup past entry → HasLeaving setup past (leaves past entry)
 unfolding leaves
 has_leaving setup past (Sent direction New flit) right begun = begun
 has_leaving setup past (Shifted cube port goal) right begun = right.at
@@ -150,7 +150,7 @@ front_inside setup past room at =
     let long : length (drop (left past room) (entered setup.topology past room)) ≡ suc (length at.rest) = ap length at.is in
     omega (arith, length-drop (left past room) (entered setup.topology past room))
 
-leaving_inside : (setup : Setup) (past : List Entry) (room : QueueId) (from : Option QueueId) → HasLeaving setup past from → is_at from room ≡ true → left past room < length (entered setup.topology past room)
+pub leaving_inside : (setup : Setup) (past : List Entry) (room : QueueId) (from : Option QueueId) → HasLeaving setup past from → is_at from room ≡ true → left past room < length (entered setup.topology past room)
 leaving_inside setup past room None has is = cc
 leaving_inside setup past room (Some here) has is = front_inside setup past room (subst (HasFront setup past) (same_queue_is here room is) has)
 

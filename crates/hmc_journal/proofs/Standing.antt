@@ -1,8 +1,8 @@
 -- Which packets stand in which room.
-use Rattle.std.proofs.Common.{◌≡◌, ◌<◌, ◌^◌, ◌∙◌, ℕ, zero, suc, Bool, true, false, if◌then◌else◌, Some, None, is_some, List, ◌++◌, All, length, slice_get, refl, sym, ap, subst, arith}
-use Rattle.hmc_journal.proofs.EntryRule.{goal_of}
-use Rattle.std.proofs.lemmas.List.{take_at, drop_at}
-use Rattle.std.proofs.lemmas.List.Elements.{All-take, All-drop, All-same}
+use Rattle.std.proofs.Common.{◌≡◌, ◌≤◌, ◌<◌, ◌^◌, ◌∙◌, ℕ, Bool, true, false, if◌then◌else◌, Some, None, is_some, List, ◌++◌, All, length, slice_get, refl, sym, ap, subst, arith}
+use Rattle.hmc_journal.proofs.EntryRule.{goal_by}
+use Rattle.std.proofs.lemmas.List.{drop_at}
+use Rattle.std.proofs.lemmas.List.Elements.{All-drop, All-same}
 use Rattle.std.proofs.lemmas.Option.{slice_get_within, get_or_from_slice_get}
 use Rattle.hmc_codes.specs.Commands.{layout_of, family_of, family_of_layout, is_ask, is_flow}
 use Rattle.hmc_codes.specs.Request.{RequestFields, IsRequest}
@@ -20,7 +20,9 @@ use Rattle.hmc_packet.specs.Transactions.{request_packet, reply_packet, request_
 use Rattle.hmc_packet.proofs.TransactionLemmas.{asks-layout, IsPacket-request_packet, request_in-request_packet, IsPacket-reply_packet, answer_in-reply_packet, answer_in-replies}
 use Rattle.hmc_journal.specs.declared.outcome.Goal.{Goal}
 use Rattle.hmc_journal.specs.declared.outcome.Goal.TheVariants as goals
-use Rattle.hmc_journal.specs.Setup.{Topology, shape_of}
+use Rattle.hmc_journal.specs.Setup.{Topology, shape_of, end_of, cubes_in, hosts_in, directions_in}
+use Rattle.hmc_codes.specs.declared.place.Place.{Place}
+use Rattle.hmc_codes.specs.declared.place.Place.TheVariants as places
 use Rattle.hmc_journal.specs.Queues.{QueueId}
 use Rattle.hmc_journal.specs.Queues.QueueId.{Output, Port, Host, Vault, Bank, Registers, Answers}
 use Rattle.hmc_journal.specs.Delivered.{unnumbered}
@@ -31,51 +33,78 @@ pub record IsCounted (packet : PacketFields) : Type 0 where
   pub layout : is_flow (layout_of packet.command) ≡ false
   pub errstat : packet.errstat < 8
 
--- a request of host 0 to cube 0
-pub record IsAsking (packet : PacketFields) : Type 0 where
+-- a request of a host that is there to a cube that is there
+pub record IsAsking (topology : Topology) (packet : PacketFields) : Type 0 where
   pub counted : IsCounted packet
   pub asks : family_of packet.command ≡ families.Ask
-  pub cube : packet.cube ≡ 0
-  pub slid : packet.slid ≡ 0
+  pub cube : packet.cube < cubes_in topology
+  pub slid : packet.slid < hosts_in topology
   pub request : RequestFields
   pub is_request : IsRequest request
   pub found : request_in packet ≡ Some request
 
--- an answer
-pub record IsReplying (packet : PacketFields) : Type 0 where
+-- an answer of such a cube to such a host
+pub record IsReplying (topology : Topology) (packet : PacketFields) : Type 0 where
   pub counted : IsCounted packet
   pub replies : family_of packet.command ≡ families.Reply
-  pub cube : packet.cube ≡ 0
-  pub slid : packet.slid ≡ 0
+  pub cube : packet.cube < cubes_in topology
+  pub slid : packet.slid < hosts_in topology
   pub unpoisoned : packet.poisoned ≡ false
   pub answer : Answer
   pub found : answer_in packet ≡ Some answer
 
--- a request on its way to a unit
-pub record IsBound (topology : Topology) (goal : Goal) (packet : PacketFields) : Type 0 where
-  pub asking : IsAsking packet
+-- either
+pub data IsMoving (topology : Topology) (packet : PacketFields) : Type 0 where
+  ToCube : IsAsking topology packet → IsMoving topology packet
+  ToHost : IsReplying topology packet → IsMoving topology packet
+
+-- a request in its cube, on its way to a unit
+pub record IsBound (topology : Topology) (cube : ℕ) (goal : Goal) (packet : PacketFields) : Type 0 where
+  pub asking : IsAsking topology packet
+  pub own : packet.cube ≡ cube
   pub unpoisoned : packet.poisoned ≡ false
-  pub is_goal : goal_of topology 0 packet ≡ goal
+  pub is_goal : goal_by (shape_of topology cube) packet ≡ goal
 
-pub record IsBoundIn (topology : Topology) (bank : ℕ) (goal : Goal) (packet : PacketFields) : Type 0 where
-  pub bound : IsBound topology goal packet
-  pub is_bank : bank_of (shape_of topology 0) packet.address ≡ bank
+pub record IsBoundIn (topology : Topology) (cube bank : ℕ) (goal : Goal) (packet : PacketFields) : Type 0 where
+  pub bound : IsBound topology cube goal packet
+  pub is_bank : bank_of (shape_of topology cube) packet.address ≡ bank
 
-pub record IsAtPort (port here : ℕ) (packet : PacketFields) : Type 0 where
-  pub asking : IsAsking packet
-  pub is_port : here ≡ port
+-- an answer in its cube
+pub record IsLeaving (topology : Topology) (cube : ℕ) (packet : PacketFields) : Type 0 where
+  pub replying : IsReplying topology packet
+  pub own : packet.cube ≡ cube
+
+-- an answer to this host
+pub record IsFor (topology : Topology) (host : ℕ) (packet : PacketFields) : Type 0 where
+  pub replying : IsReplying topology packet
+  pub slid : packet.slid ≡ host
+
+-- what goes to a place: a host gets its answers alone
+abbrev pub GoesTo : Topology → Place → PacketFields → Type 0
+GoesTo topology (places.Host host) packet = IsFor topology host packet
+GoesTo topology (places.Port cube port) packet = IsMoving topology packet
+
+-- it goes by a direction that is there
+pub record IsOut (topology : Topology) (direction : ℕ) (packet : PacketFields) : Type 0 where
+  pub inside : direction < directions_in topology
+  pub goes : GoesTo topology (end_of topology direction) packet
+
+-- it came by a direction that is there
+pub record IsAtEnd (topology : Topology) (place : Place) (packet : PacketFields) : Type 0 where
+  pub direction : ℕ
+  pub inside : direction < directions_in topology
+  pub ends : end_of topology direction ≡ place
+  pub goes : GoesTo topology place packet
 
 -- what stands in a room
-abbrev pub Stands : Topology → (port : ℕ) → QueueId → PacketFields → Type 0
-Stands topology port (Output zero) packet = IsAsking packet
-Stands topology port (Output (suc zero)) packet = IsReplying packet
-Stands topology port (Port zero here) packet = IsAtPort port here packet
-Stands topology port (Vault zero vault) packet = IsBound topology (goals.Vault vault) packet
-Stands topology port (Bank zero vault bank) packet = IsBoundIn topology bank (goals.Vault vault) packet
-Stands topology port (Registers zero) packet = IsBound topology goals.Registers packet
-Stands topology port (Answers zero from) packet = IsReplying packet
-Stands topology port (Host zero) packet = IsReplying packet
-Stands topology port _ packet = ⊥
+abbrev pub Stands : Topology → QueueId → PacketFields → Type 0
+Stands topology (Output direction) packet = IsOut topology direction packet
+Stands topology (Port cube port) packet = IsAtEnd topology (places.Port cube port) packet
+Stands topology (Vault cube vault) packet = IsBound topology cube (goals.Vault vault) packet
+Stands topology (Bank cube vault bank) packet = IsBoundIn topology cube bank (goals.Vault vault) packet
+Stands topology (Registers cube) packet = IsBound topology cube goals.Registers packet
+Stands topology (Answers cube from) packet = IsLeaving topology cube packet
+Stands topology (Host host) packet = IsAtEnd topology (places.Host host) packet
 
 -- numbers on the way change nothing of it
 answer_unnumbered : (command : Command) (packet : PacketFields) → answer_by command (unnumbered packet) ≡ answer_by command packet
@@ -106,43 +135,49 @@ IsCounted-alike packet other same fits is = record {
   errstat = subst (λ (n : ℕ). n < 8) (sym (alike (λ p. p.errstat) (λ p. refl) packet other same)) is.errstat;
 }
 
-IsAsking-alike : (packet other : PacketFields) → unnumbered packet ≡ unnumbered other → IsPacket packet → IsAsking other → IsAsking packet
-IsAsking-alike packet other same fits is = record {
+IsAsking-alike : (topology : Topology) (packet other : PacketFields) → unnumbered packet ≡ unnumbered other → IsPacket packet → IsAsking topology other → IsAsking topology packet
+IsAsking-alike topology packet other same fits is = record {
   counted = IsCounted-alike packet other same fits is.counted;
   asks = alike (λ p. family_of p.command) (λ p. refl) packet other same ∙ is.asks;
-  cube = alike (λ p. p.cube) (λ p. refl) packet other same ∙ is.cube;
-  slid = alike (λ p. p.slid) (λ p. refl) packet other same ∙ is.slid;
+  cube = subst (λ (n : ℕ). n < cubes_in topology) (sym (alike (λ p. p.cube) (λ p. refl) packet other same)) is.cube;
+  slid = subst (λ (n : ℕ). n < hosts_in topology) (sym (alike (λ p. p.slid) (λ p. refl) packet other same)) is.slid;
   request = is.request;
   is_request = is.is_request;
   found = alike request_in request_in-unnumbered packet other same ∙ is.found;
 }
 
-IsReplying-alike : (packet other : PacketFields) → unnumbered packet ≡ unnumbered other → IsPacket packet → IsReplying other → IsReplying packet
-IsReplying-alike packet other same fits is = record {
+IsReplying-alike : (topology : Topology) (packet other : PacketFields) → unnumbered packet ≡ unnumbered other → IsPacket packet → IsReplying topology other → IsReplying topology packet
+IsReplying-alike topology packet other same fits is = record {
   counted = IsCounted-alike packet other same fits is.counted;
   replies = alike (λ p. family_of p.command) (λ p. refl) packet other same ∙ is.replies;
-  cube = alike (λ p. p.cube) (λ p. refl) packet other same ∙ is.cube;
-  slid = alike (λ p. p.slid) (λ p. refl) packet other same ∙ is.slid;
+  cube = subst (λ (n : ℕ). n < cubes_in topology) (sym (alike (λ p. p.cube) (λ p. refl) packet other same)) is.cube;
+  slid = subst (λ (n : ℕ). n < hosts_in topology) (sym (alike (λ p. p.slid) (λ p. refl) packet other same)) is.slid;
   unpoisoned = alike (λ p. p.poisoned) (λ p. refl) packet other same ∙ is.unpoisoned;
   answer = is.answer;
   found = alike answer_in answer_in-unnumbered packet other same ∙ is.found;
 }
 
--- the packets of both directions count
-pub IsCounted-output : (topology : Topology) (port direction : ℕ) (packet : PacketFields) → Stands topology port (Output direction) packet → IsCounted packet
-IsCounted-output topology port zero packet is = is.counted
-IsCounted-output topology port (suc zero) packet is = is.counted
-IsCounted-output topology port (suc (suc direction)) packet is = absurd is
+-- what moves counts
+pub IsCounted-moving : (topology : Topology) (packet : PacketFields) → IsMoving topology packet → IsCounted packet
+IsCounted-moving topology packet (ToCube is) = is.counted
+IsCounted-moving topology packet (ToHost is) = is.counted
+
+pub IsCounted-to : (topology : Topology) (place : Place) (packet : PacketFields) → GoesTo topology place packet → IsCounted packet
+IsCounted-to topology (places.Host host) packet is = is.replying.counted
+IsCounted-to topology (places.Port cube port) packet is = IsCounted-moving topology packet is
+
+IsMoving-alike : (topology : Topology) (packet other : PacketFields) → unnumbered packet ≡ unnumbered other → IsPacket packet → IsMoving topology other → IsMoving topology packet
+IsMoving-alike topology packet other same fits (ToCube is) = ToCube (IsAsking-alike topology packet other same fits is)
+IsMoving-alike topology packet other same fits (ToHost is) = ToHost (IsReplying-alike topology packet other same fits is)
+
+GoesTo-alike : (topology : Topology) (place : Place) (packet other : PacketFields) → unnumbered packet ≡ unnumbered other → IsPacket packet → GoesTo topology place other → GoesTo topology place packet
+GoesTo-alike topology (places.Host host) packet other same fits is =
+    record { replying = IsReplying-alike topology packet other same fits is.replying; slid = alike (λ p. p.slid) (λ p. refl) packet other same ∙ is.slid }
+GoesTo-alike topology (places.Port cube port) packet other same fits is = IsMoving-alike topology packet other same fits is
 
 -- a packet stands with other numbers too
-pub Stands-alike : (topology : Topology) (port direction : ℕ) (packet other : PacketFields) → unnumbered packet ≡ unnumbered other → IsPacket packet → Stands topology port (Output direction) other → Stands topology port (Output direction) packet
-Stands-alike topology port zero packet other same fits is = IsAsking-alike packet other same fits is
-Stands-alike topology port (suc zero) packet other same fits is = IsReplying-alike packet other same fits is
-Stands-alike topology port (suc (suc direction)) packet other same fits is = absurd is
-
--- the packets of parts of a list
-pub All-front : {X : Type 0} (P : X → Type 0) (xs ys : List X) → All P (xs ++ ys) → All P xs
-All-front P xs ys all = All-same P _ _ (sym (take_at xs ys (length xs) refl)) (All-take P (length xs) (xs ++ ys) all)
+pub Stands-alike : (topology : Topology) (direction : ℕ) (packet other : PacketFields) → unnumbered packet ≡ unnumbered other → IsPacket packet → Stands topology (Output direction) other → Stands topology (Output direction) packet
+Stands-alike topology direction packet other same fits is = record { inside = is.inside; goes = GoesTo-alike topology (end_of topology direction) packet other same fits is.goes }
 
 pub All-back : {X : Type 0} (P : X → Type 0) (xs ys : List X) → All P (xs ++ ys) → All P ys
 All-back P xs ys all = All-same P _ _ (sym (drop_at xs ys (length xs) refl)) (All-drop P (length xs) (xs ++ ys) all)
@@ -174,13 +209,14 @@ request_of_packet packet request is = request_by (is_ask (layout_of packet.comma
 flow_of : (layout : Layout) → layout ≡ layouts.Ask → is_flow layout ≡ false
 flow_of layout is = ap is_flow is
 
-pub IsAsking-request_packet : (request : RequestFields) (tag host : ℕ) (poisoned : Bool) → IsRequest request → request.cube ≡ 0 → tag < 2 ^ 11 → host ≡ 0 → IsAsking (request_packet request tag host poisoned)
+pub IsAsking-request_packet : (topology : Topology) (request : RequestFields) (tag host : ℕ) (poisoned : Bool) → IsRequest request → request.cube < cubes_in topology → tag < 2 ^ 11 → host < hosts_in topology → hosts_in topology ≤ 8
+    → IsAsking topology (request_packet request tag host poisoned)
 unfolding request_packet
-IsAsking-request_packet request tag host poisoned is cube few none = record {
+IsAsking-request_packet topology request tag host poisoned is cube few there most = record {
   counted = record { is_packet = IsPacket-request_packet request tag host poisoned is few (omega arith); layout = flow_of (layout_of request.command) (asks-layout (layout_of request.command) is.asks); errstat = omega arith };
   asks = is.asks;
   cube = cube;
-  slid = none;
+  slid = there;
   request = request;
   is_request = is;
   found = request_in-request_packet request tag host poisoned is;
@@ -192,7 +228,7 @@ reply_layout layouts.Reply is = refl
 reply_layout layouts.Ask is = refl
 reply_layout _ is = absurd (cc)
 
-clean_reply : (answer : Answer) (tag host cube : ℕ) → (reply_packet answer tag host cube).poisoned ≡ false
+pub clean_reply : (answer : Answer) (tag host cube : ℕ) → (reply_packet answer tag host cube).poisoned ≡ false
 unfolding reply_packet
 clean_reply Silent tag host cube = refl
 clean_reply (Done flag) tag host cube = refl
@@ -201,7 +237,7 @@ clean_reply (Register value) tag host cube = refl
 clean_reply Stored tag host cube = refl
 clean_reply (Refused errstat) tag host cube = refl
 
-replied_slid : (answer : Answer) (tag host cube : ℕ) → CanReply answer → (reply_packet answer tag host cube).slid ≡ host
+pub replied_slid : (answer : Answer) (tag host cube : ℕ) → CanReply answer → (reply_packet answer tag host cube).slid ≡ host
 unfolding reply_packet
 replied_slid Silent tag host cube can = absurd can
 replied_slid (Done flag) tag host cube can = refl
@@ -210,7 +246,7 @@ replied_slid (Register value) tag host cube can = refl
 replied_slid Stored tag host cube can = refl
 replied_slid (Refused errstat) tag host cube can = refl
 
-replied_cube : (answer : Answer) (tag host cube : ℕ) → CanReply answer → (reply_packet answer tag host cube).cube ≡ cube
+pub replied_cube : (answer : Answer) (tag host cube : ℕ) → CanReply answer → (reply_packet answer tag host cube).cube ≡ cube
 unfolding reply_packet
 replied_cube Silent tag host cube can = absurd can
 replied_cube (Done flag) tag host cube can = refl
@@ -242,14 +278,15 @@ small_error (Register value) tag host cube can small = omega arith
 small_error Stored tag host cube can small = omega arith
 small_error (Refused errstat) tag host cube can small = small
 
-pub IsReplying-reply_packet : (answer : Answer) (tag host cube : ℕ) → CanReply answer → IsAnswer answer → IsSmallError answer → tag < 2 ^ 11 → host ≡ 0 → cube ≡ 0 → IsReplying (reply_packet answer tag host cube)
-IsReplying-reply_packet answer tag host cube can fits small few none own =
+pub IsReplying-reply_packet : (topology : Topology) (answer : Answer) (tag host cube : ℕ) → CanReply answer → IsAnswer answer → IsSmallError answer → tag < 2 ^ 11 → host < hosts_in topology → hosts_in topology ≤ 8 → cube < cubes_in topology → cubes_in topology ≤ 8
+    → IsReplying topology (reply_packet answer tag host cube)
+IsReplying-reply_packet topology answer tag host cube can fits small few there most own all =
     let found = answer_in-reply_packet answer tag host cube can fits in
     let replies = (answer_in-replies (reply_packet answer tag host cube)).0 (ap is_some found) in record {
       counted = record { is_packet = IsPacket-reply_packet answer tag host cube can fits few (omega arith) (omega arith); layout = reply_layout _ replies; errstat = small_error answer tag host cube can small };
       replies = replies;
-      cube = replied_cube answer tag host cube can ∙ own;
-      slid = replied_slid answer tag host cube can ∙ none;
+      cube = subst (λ (n : ℕ). n < cubes_in topology) (sym (replied_cube answer tag host cube can)) own;
+      slid = subst (λ (n : ℕ). n < hosts_in topology) (sym (replied_slid answer tag host cube can)) there;
       unpoisoned = clean_reply answer tag host cube;
       answer = answer;
       found = found;

@@ -19,7 +19,7 @@ use Rattle.hmc_journal.specs.declared.outcome.Goal.{Goal}
 use Rattle.hmc_journal.specs.declared.outcome.Goal.TheVariants as goals
 use Rattle.hmc_journal.specs.declared.entry.Entry.{Entry}
 use Rattle.hmc_journal.specs.declared.entry.Entry.TheVariants.{Shifted, Dropped, Spread, Lifted, Idle}
-use Rattle.hmc_journal.specs.Setup.{Topology, shape_of}
+use Rattle.hmc_journal.specs.Setup.{Topology, shape_of, graph_of}
 use Rattle.hmc_journal.specs.Queues.{output_from, queue_of, answers_of, goal_queue}
 use Rattle.hmc_journal.specs.Queues.QueueId.{Bank}
 use Rattle.hmc_journal.specs.StepView.{StepView}
@@ -41,7 +41,8 @@ shifted_entry topology view cube port (Some goal) =
 
 abbrev pub shift_entry : Topology → StepView → (cube port : ℕ) → PacketFields → Entry
 shift_entry topology view cube port front =
-    shifted_entry topology view cube port (goal_at (where_to (shape_of topology cube) front))
+    shifted_entry topology view cube port
+    (goal_at (where_to (graph_of topology) (shape_of topology cube) cube front))
 
 -- spread: the front of a vault's queue goes, where there is room, to the bank of its address
 abbrev pub spread_to_bank : Topology → StepView → (cube vault bank : ℕ) → Entry

@@ -1,10 +1,10 @@
 -- A journal after which no packet is on its way.
-use Rattle.std.specs.Prelude.{◌≡◌, ℕ, ◌*◌, ◌^◌, Bool, ◌==◌, ◌&&◌, List, [], ◌∷◌, ◌++◌, length, map, flat_map}
+use Rattle.std.specs.Prelude.{◌≡◌, ℕ, ◌^◌, Bool, ◌==◌, ◌&&◌, List, [], ◌∷◌, ◌++◌, length, map, flat_map}
 use Rattle.std.specs.List.{list_all}
 use Rattle.hmc_codes.specs.Numbers.{upto}
 use Rattle.hmc_codes.specs.declared.lift.Lift.TheVariants as lifts
 use Rattle.hmc_journal.specs.declared.entry.Entry.{Entry}
-use Rattle.hmc_journal.specs.Setup.{Topology, shape_of}
+use Rattle.hmc_journal.specs.Setup.{Topology, shape_of, cubes_in, directions_in}
 use Rattle.hmc_journal.specs.Counts.{token_counts}
 use Rattle.hmc_journal.specs.Queues.{QueueId, landing_buffer, contents}
 use Rattle.hmc_journal.specs.Queues.QueueId.{Output, Vault, Bank, Registers, Answers}
@@ -32,15 +32,15 @@ cube_queues topology cube =
 abbrev pub direction_queues : Topology → (direction : ℕ) → List QueueId
 direction_queues topology direction = Output direction ∷ landing_buffer topology direction ∷ []
 
--- two for each link
+-- all directions
 abbrev pub directions_of : Topology → List ℕ
-directions_of topology = upto (2 * length topology.links)
+directions_of topology = upto (directions_in topology)
 
 -- all queues that there are
 abbrev pub queues_of : Topology → List QueueId
 queues_of topology =
     flat_map (direction_queues topology) (directions_of topology)
-    ++ flat_map (cube_queues topology) (upto (length topology.cubes))
+    ++ flat_map (cube_queues topology) (upto (cubes_in topology))
 
 -- the same as a test of the queues and the directions that there are
 unfoldable pub is_drained : Topology → List Entry → Bool

@@ -7,6 +7,7 @@ use Rattle.hmc_codes.specs.Request.{RequestFields}
 use Rattle.hmc_codes.specs.declared.answer.Answer.{Answer}
 use Rattle.hmc_codes.specs.declared.unit.Unit.{Unit as RequestUnit}
 use Rattle.hmc_codes.specs.declared.unit.Unit.TheVariants as units
+pub use Rattle.hmc_hops.specs.Flows.{TaggedRequest, TaggedAnswer}
 use Rattle.hmc_journal.specs.declared.entry.Entry.{Entry}
 use Rattle.hmc_journal.specs.declared.entry.Entry.TheVariants.{Gave, Executed, Took}
 use Rattle.hmc_journal.specs.Setup.{Topology, unit_in}
@@ -17,19 +18,9 @@ pub record ScriptRequest : Type 0 where
   pub poisoned : Bool
   pub request : RequestFields
 
--- a request with its tag, which it has where it is answered
-pub record TaggedRequest : Type 0 where
-  pub tag : Option ℕ
-  pub request : RequestFields
-
 -- a request with its answer
 pub record Completion : Type 0 where
   pub request : RequestFields
-  pub answer : Answer
-
--- an answer with the tag that it was taken under
-pub record TaggedAnswer : Type 0 where
-  pub tag : ℕ
   pub answer : Answer
 
 -- the same bank, or the registers of the same cube

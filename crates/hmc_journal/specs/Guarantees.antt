@@ -2,7 +2,7 @@
 use Rattle.std.specs.Prelude.{◌≡◌, ◌++◌, true, List}
 use Rattle.hmc_serial.specs.Machine.{opening_state}
 use Rattle.hmc_journal.specs.declared.entry.Entry.{Entry}
-use Rattle.hmc_journal.specs.Delivered.{IsScripted, DeliveredInOrder, AllServed}
+use Rattle.hmc_journal.specs.Delivered.{IsScripted, LinksInOrder, DeliveredInOrder, AllServed}
 use Rattle.hmc_journal.specs.Drained.{is_drained}
 use Rattle.hmc_journal.specs.Lawful.{IsWhole}
 use Rattle.hmc_journal.specs.Serial.{IsSerial}
@@ -17,6 +17,8 @@ pub record Guarantees (setup : Setup) (journal : List Entry) : Type 0 where
   pub scripted : IsScripted setup.script journal
   -- the executions, run in order on a plain machine, give every answer
   pub serial : IsSerial (opening_state (shapes_of setup.topology)) journal
+  -- at every moment: each direction is a list, first in and first out
+  pub links : (later past : List Entry) → journal ≡ later ++ past → LinksInOrder setup past
   -- at every moment: what was executed was carried there, and what was answered was carried back,
   -- in order and under its tag
   pub delivered : (later past : List Entry) → journal ≡ later ++ past →

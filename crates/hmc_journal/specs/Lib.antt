@@ -1,5 +1,6 @@
 pub mod Lines
 pub mod Setup
+pub mod Routes
 pub mod Choice
 pub mod Directions
 pub mod Basics
@@ -18,6 +19,7 @@ pub mod Network
 pub mod QueueInvariant
 pub mod Filters
 pub mod Drained
+pub mod Carried
 pub mod Delivered
 pub mod Guarantees
 pub mod Counts

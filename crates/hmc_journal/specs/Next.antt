@@ -11,7 +11,8 @@ use Rattle.hmc_host.specs.Settle.{settle_says}
 use Rattle.hmc_journal.specs.declared.outcome.Cause.TheVariants as causes
 use Rattle.hmc_journal.specs.declared.entry.Entry.{Entry}
 use Rattle.hmc_journal.specs.declared.entry.Entry.TheVariants.{Idle, Unlocked}
-use Rattle.hmc_journal.specs.Setup.{Topology, Setup, shape_of, port_towards}
+use Rattle.hmc_journal.specs.Setup.{Topology, Setup, shape_of}
+use Rattle.hmc_journal.specs.Routes.{port_towards}
 use Rattle.hmc_journal.specs.Queues.{output_from}
 use Rattle.hmc_journal.specs.Queues.QueueId.{Port, Host, Vault, Answers}
 use Rattle.hmc_journal.specs.Links.{sizes_on}

@@ -1,9 +1,10 @@
--- What the queues hold after a lawful journal of one cube and one link.
+-- What the queues hold after a lawful journal.
 use Rattle.std.specs.Prelude.{◌≡◌, ◌<◌, ℕ, false, List, All, filter, drop}
 use Rattle.hmc_codes.specs.Commands.{family_of}
 use Rattle.hmc_codes.specs.declared.family.Family.TheVariants as families
 use Rattle.hmc_codes.specs.declared.lift.Lift.{Lift}
 use Rattle.hmc_packet.specs.Packet.{PacketFields}
+use Rattle.hmc_crossbar.specs.To.{HasGoal}
 use Rattle.hmc_host.specs.Host.{HostFields}
 use Rattle.hmc_host.specs.Settle.{IsAwaited}
 use Rattle.hmc_journal.specs.declared.entry.Entry.{Entry}
@@ -11,22 +12,28 @@ use Rattle.hmc_send.specs.LinkEntries.{receiver_entries, takes}
 use Rattle.hmc_send.specs.LinkSenders.{queue_in}
 use Rattle.hmc_send.specs.Places.{is_token}
 use Rattle.hmc_wire.specs.LinkLaws.{IsKept}
-use Rattle.hmc_journal.specs.Setup.{Topology, Setup}
+use Rattle.hmc_journal.specs.Setup.{Topology, Setup, hosts_in, directions_in, graph_of}
 use Rattle.hmc_journal.specs.Directions.{receiver_of, accepted}
 use Rattle.hmc_journal.specs.Links.{toward, entries_on, sizes_on}
 use Rattle.hmc_journal.specs.Queues.{landing_buffer, contents}
 use Rattle.hmc_journal.specs.Queues.QueueId.{Output, Port, Host, Vault, Bank, Registers, Answers}
 use Rattle.hmc_journal.specs.Hosts.{host_of}
 
--- a request to cube 0
-pub record IsCubeRequest (packet : PacketFields) : Type 0 where
+-- a request that is in its cube
+pub record IsCubeRequest (here : ℕ) (packet : PacketFields) : Type 0 where
   pub asks : family_of packet.command ≡ families.Ask
-  pub cube : packet.cube ≡ 0
+  pub cube : packet.cube ≡ here
 
--- an answer to host 0
-pub record IsHostAnswer (packet : PacketFields) : Type 0 where
+-- a packet on its way to a cube or a host that is there; either profile has room for its ERRSTAT
+pub record IsOnItsWay (topology : Topology) (packet : PacketFields) : Type 0 where
+  pub goal : HasGoal (graph_of topology) packet (family_of packet.command)
+  pub errstat : packet.errstat < 8
+
+-- an answer to a host that is there, with such an ERRSTAT
+pub record IsHostAnswer (topology : Topology) (packet : PacketFields) : Type 0 where
   pub replies : family_of packet.command ≡ families.Reply
-  pub host : packet.slid ≡ 0
+  pub host : packet.slid < hosts_in topology
+  pub errstat : packet.errstat < 8
 
 -- an unpoisoned answer that a host awaits
 pub record IsAnswerFor (host : HostFields) (packet : PacketFields) : Type 0 where
@@ -47,13 +54,23 @@ pub record LinkInvariant (topology : Topology) (past : List Entry) (direction : 
       ≡ drop (takes (toward direction) (entries_on topology direction past))
       (filter is_token (accepted topology direction past))
 
--- Requests wait on their way to a unit, and answers on their way to the host, whose tags are out.
+-- Packets wait at ports on their way to a cube or a host that is there, requests in their cube, and
+-- answers to a host that is there.
 pub record QueueInvariant (setup : Setup) (past : List Entry) : Type 0 where
-  pub ports : (port : ℕ) → All IsCubeRequest (contents setup.topology past (Port 0 port))
-  pub vaults : (vault : ℕ) → All IsCubeRequest (contents setup.topology past (Vault 0 vault))
-  pub banks : (vault bank : ℕ) →
-      All IsCubeRequest (contents setup.topology past (Bank 0 vault bank))
-  pub registers : All IsCubeRequest (contents setup.topology past (Registers 0))
-  pub answers : (from : Lift) → All IsHostAnswer (contents setup.topology past (Answers 0 from))
-  pub hosts : All (IsAnswerFor (host_of setup past 0)) (contents setup.topology past (Host 0))
-  pub links : (direction : ℕ) → direction < 2 → LinkInvariant setup.topology past direction
+  pub ports : (cube port : ℕ) →
+      All (IsOnItsWay setup.topology) (contents setup.topology past (Port cube port))
+  pub vaults : (cube vault : ℕ) →
+      All (IsCubeRequest cube) (contents setup.topology past (Vault cube vault))
+  pub banks : (cube vault bank : ℕ) →
+      All (IsCubeRequest cube) (contents setup.topology past (Bank cube vault bank))
+  pub registers : (cube : ℕ) →
+      All (IsCubeRequest cube) (contents setup.topology past (Registers cube))
+  pub answers : (cube : ℕ) (from : Lift) →
+      All (IsHostAnswer setup.topology) (contents setup.topology past (Answers cube from))
+  pub links : (direction : ℕ) → direction < directions_in setup.topology →
+      LinkInvariant setup.topology past direction
+
+-- The answers that wait at a host are those that it awaits: their tags are out.
+pub record AnswersAwaited (setup : Setup) (past : List Entry) : Type 0 where
+  pub hosts : (host : ℕ) →
+      All (IsAnswerFor (host_of setup past host)) (contents setup.topology past (Host host))

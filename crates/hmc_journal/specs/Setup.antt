@@ -1,18 +1,20 @@
 -- The case that a journal is of.
-use Rattle.std.specs.Prelude.{ℕ, ◌+◌, ◌-◌, ◌/◌, ◌%◌, ◌==◌, if◌then◌else◌, List, [], ◌∷◌, map, slice_index_or, Option, Some, None, option_and_then}
+use Rattle.std.specs.Prelude.{ℕ, ◌*◌, ◌/◌, List, length, map, slice_index_or, Option}
+use Rattle.hmc_codes.specs.Graph.{GraphFields}
 use Rattle.hmc_codes.specs.Shape.{ShapeFields}
 use Rattle.hmc_codes.specs.Request.{RequestFields}
 use Rattle.hmc_codes.specs.declared.profile.Profile.TheVariants.{One}
+use Rattle.hmc_codes.specs.declared.place.Join.{Join}
 use Rattle.hmc_codes.specs.declared.place.Place.{Place}
-use Rattle.hmc_codes.specs.declared.place.Place.TheVariants as places
 use Rattle.hmc_codes.specs.declared.unit.Unit.{Unit as RequestUnit}
 use Rattle.hmc_codes.specs.declared.unit.Unit.TheVariants as units
-use Rattle.hmc_codes.specs.Limits.{most_cubes}
-use Rattle.hmc_codes.specs.Places.{same_place}
 use Rattle.hmc_serial.specs.Unit.{unit_of}
 use Rattle.hmc_script.specs.Items.{ItemFields}
 use Rattle.hmc_schedule.specs.declared.step.Step.{Step}
+use Rattle.hmc_routes.specs.Directions as directions
+pub use Rattle.hmc_routes.specs.Directions.{other}
 use Rattle.hmc_case.specs.Case.{CaseFields}
+use Rattle.hmc_case.specs.Together.{host_count}
 use Rattle.hmc_case.specs.Setup.{CubeSetupFields}
 use Rattle.hmc_case.specs.declared.setup.LinkRow.{LinkRow}
 
@@ -21,7 +23,7 @@ pub record Topology : Type 0 where
   pub cubes : List CubeSetupFields
   pub links : List LinkRow
 
--- the topology, what hosts ask, and the steps
+-- the topology, what the hosts ask, and the steps
 pub record Setup : Type 0 where
   pub topology : Topology
   pub script : List ItemFields
@@ -45,7 +47,7 @@ no_cube = record {
 -- in place of a link that isn't there: one of no size between two ports of a cube that no case has
 abbrev pub no_link : LinkRow
 no_link = record {
-  join = record { a = places.Port most_cubes 0; b = places.Port most_cubes 1 };
+  join = directions.no_join;
   setup = record { line = 0; tokens = 0; retry = 0; output = 0; profile = One };
 }
 
@@ -61,47 +63,41 @@ shape_of topology cube = (cube_setup topology cube).shape
 abbrev pub shapes_of : Topology → List ShapeFields
 shapes_of topology = map (λ cube. cube.shape) topology.cubes
 
--- the other direction of the same link
-abbrev pub other : ℕ → ℕ
-other direction = if direction % 2 == 0 then direction + 1 else direction - 1
+-- how many cubes there are
+abbrev pub cubes_in : Topology → ℕ
+cubes_in topology = length topology.cubes
+
+-- how many hosts there are
+abbrev pub hosts_in : Topology → ℕ
+hosts_in topology = host_count topology.links
+
+-- how many directions there are: two for each link
+abbrev pub directions_in : Topology → ℕ
+directions_in topology = 2 * length topology.links
+
+-- what the links join
+abbrev pub joins_of : Topology → List Join
+joins_of topology = map (λ link. link.join) topology.links
+
+-- the graph that packets find their routes in
+abbrev pub graph_of : Topology → GraphFields
+graph_of topology = record { cubes = cubes_in topology; joins = joins_of topology }
 
 -- the link of a direction
 abbrev pub link_of : Topology → ℕ → LinkRow
 link_of topology direction = slice_index_or topology.links (direction / 2) no_link
 
--- where a direction starts: that with the even number goes from a to b
+-- where a direction starts
 abbrev pub start_of : Topology → ℕ → Place
-start_of topology direction =
-    if direction % 2 == 0 then (link_of topology direction).join.a else
-    (link_of topology direction).join.b
+start_of topology direction = directions.start_of (joins_of topology) direction
 
 -- where a direction ends
 abbrev pub end_of : Topology → ℕ → Place
-end_of topology direction = start_of topology (other direction)
-
--- the first direction from this number on that starts at a place, if one does
-unfoldable pub direction_among : ℕ → List LinkRow → Place → Option ℕ
-direction_among direction [] place = None
-direction_among direction (link ∷ links) place =
-    if same_place link.join.a place then Some direction else
-    if same_place link.join.b place then Some (direction + 1)
-    else direction_among (direction + 2) links place
+end_of topology direction = directions.end_of (joins_of topology) direction
 
 -- the direction that starts at a place, if it has a link
-unfoldable pub direction_from : Topology → Place → Option ℕ
-direction_from topology place = direction_among 0 topology.links place
-
--- the port of this cube that a place is, if it is one
-abbrev pub port_in : (cube : ℕ) → Place → Option ℕ
-port_in cube (places.Port other port) = if cube == other then Some port else None
-port_in cube (places.Host host) = None
-
--- the port by which answers leave a cube towards a host: the one that the host's link is joined to,
--- if it is a port of this cube
-unfoldable pub port_towards : Topology → (cube host : ℕ) → Option ℕ
-port_towards topology cube host =
-    option_and_then (λ direction. port_in cube (end_of topology direction))
-    (direction_from topology (places.Host host))
+abbrev pub direction_from : Topology → Place → Option ℕ
+direction_from topology place = directions.direction_from (joins_of topology) place
 
 -- the unit that executes a request, by the shape of its cube
 abbrev pub unit_in : Topology → RequestFields → RequestUnit

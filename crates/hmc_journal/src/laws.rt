@@ -1,18 +1,18 @@
 //! Laws of journals. Each is the contract of a function that does nothing.
 
-ghost use Rattle.std.specs.Prelude.{◌≡◌, ◌++◌, List, length, reverse, map};
+ghost use Rattle.std.specs.Prelude.{◌≡◌, ◌++◌, true, List, length, reverse, map};
 ghost use Rattle.hmc_serial.specs.Machine.{opening_state};
 ghost use Rattle.hmc_journal.specs.declared.entry.Entry.{Entry};
-ghost use Rattle.hmc_journal.specs.Delivered.{IsScripted, DeliveredInOrder, AllServed};
-ghost use Rattle.hmc_journal.specs.Drained.{IsDrained};
-ghost use Rattle.hmc_journal.specs.Network.{IsOneCube};
-ghost use Rattle.hmc_journal.specs.QueueInvariant.{QueueInvariant};
+ghost use Rattle.hmc_journal.specs.Delivered.{IsScripted, LinksInOrder, DeliveredInOrder, AllServed};
+ghost use Rattle.hmc_journal.specs.Drained.{IsDrained, is_drained};
+ghost use Rattle.hmc_journal.specs.Guarantees.{Guarantees};
+ghost use Rattle.hmc_journal.specs.Network.{IsNetwork};
+ghost use Rattle.hmc_journal.specs.QueueInvariant.{QueueInvariant, AnswersAwaited};
 ghost use Rattle.hmc_journal.specs.Lawful.{Lawful, IsWhole, journal_of};
 ghost use Rattle.hmc_journal.specs.Lines.{line_of};
 ghost use Rattle.hmc_journal.specs.Serial.{IsSerial};
 ghost use Rattle.hmc_journal.specs.Setup.{Setup, shapes_of};
 ghost use Rattle.hmc_journal.specs.Text.{lines_of};
-ghost use Rattle.hmc_journal.specs.Guarantees.{Guarantees};
 
 /// Two lawful journals of one case and of one length are equal. A whole one, which has an entry
 /// for each step or ends at a landing that passed, is `journal_of` the case. A lawful journal was
@@ -39,27 +39,45 @@ pub fn lawful_is_serial()
         IsSerial (opening_state (shapes_of setup.topology)) past }
 {}
 
-/// After a lawful journal of one cube and one link the queues hold requests on their way to a unit
-/// and answers on their way to their host. Of each direction of the link the entries are such as
-/// its users keep to, and its output queue and its buffer hold what these entries say.
+/// After a lawful journal the queues hold packets on their way to a cube or a host that is there. Of
+/// each direction of a link the entries are such as its users keep to, and its output queue and its
+/// buffer hold what these entries say.
 pub fn lawful_keeps_queues()
-    ensures { (setup : Setup) (past : List Entry) → IsOneCube setup → Lawful setup past →
+    ensures { (setup : Setup) (past : List Entry) → IsNetwork setup → Lawful setup past →
         QueueInvariant setup past }
 {}
 
-/// A lawful journal of one cube and one link delivers requests and answers in order, and all of
-/// them once no packet is on its way.
+/// After a lawful journal the answers that wait at a host are those that it awaits: their tags are
+/// out.
+pub fn lawful_awaits_answers()
+    ensures { (setup : Setup) (past : List Entry) → IsNetwork setup → Lawful setup past →
+        AnswersAwaited setup past }
+{}
+
+/// In a lawful journal each direction is a list, first in and first out.
+pub fn lawful_keeps_links_in_order()
+    ensures { (setup : Setup) (past : List Entry) → IsNetwork setup → Lawful setup past →
+        LinksInOrder setup past }
+{}
+
+/// Where the test of a lawful journal's queues says so, no packet is on its way.
+pub fn lawful_is_drained()
+    ensures { (setup : Setup) (past : List Entry) → IsNetwork setup → Lawful setup past →
+        is_drained setup.topology past ≡ true → IsDrained setup.topology past }
+{}
+
+/// A lawful journal delivers requests and answers in order, over every hop, and all of them once no
+/// packet is on its way.
 pub fn lawful_delivers()
-    ensures delivered { (setup : Setup) (past : List Entry) → IsOneCube setup → Lawful setup past →
-        DeliveredInOrder setup past }
-    ensures served { (setup : Setup) (past : List Entry) → IsOneCube setup → Lawful setup past →
+    ensures delivered { (setup : Setup) (past : List Entry) → IsNetwork setup →
+        Lawful setup past → DeliveredInOrder setup past }
+    ensures served { (setup : Setup) (past : List Entry) → IsNetwork setup → Lawful setup past →
         IsDrained setup.topology past → AllServed setup.topology past }
 {}
 
-/// The guarantees of the journal of a case of one cube and one link. They hold whether it is run or
-/// not.
+/// The guarantees of the journal of a network's case. They hold whether it is run or not.
 pub fn journal_guarantees()
-    ensures { (setup : Setup) → IsOneCube setup → Guarantees setup (journal_of setup) }
+    ensures { (setup : Setup) → IsNetwork setup → Guarantees setup (journal_of setup) }
 {}
 
 /// The lines of a journal are those of its entries, in the order in which they came.

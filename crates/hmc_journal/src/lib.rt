@@ -18,7 +18,8 @@ pub use event::Event;
 pub use journal::Journal;
 pub use last_entry::LastEntry;
 pub use laws::{
-    journal_guarantees, lawful_delivers, lawful_is_scripted, lawful_is_serial, lawful_keeps_queues,
+    journal_guarantees, lawful_awaits_answers, lawful_delivers, lawful_is_drained,
+    lawful_is_scripted, lawful_is_serial, lawful_keeps_links_in_order, lawful_keeps_queues,
     lines_are_in_order, one_journal,
 };
 pub use outcome::{Cause, Goal};

@@ -1,153 +1,216 @@
 -- A network that stands for a journal stands for it with one more entry.
-use Rattle.std.proofs.Common.{◌≡◌, ◌≤◌, ◌+◌, ◌∙◌, ℕ, zero, suc, false, not, Option, List, [], ◌∷◌, length, drop, refl, sym, ap, subst, arith}
-use Rattle.hmc_journal.proofs.Moves.{arrives}
-use Rattle.std.specs.Prelude.{slice_set, filter}
+use Rattle.std.proofs.Common.{◌≡◌, ◌≤◌, ◌<◌, ◌==◌, ◌∙◌, ℕ, Bool, true, false, if◌then◌else◌, Option, Some, None, List, [], ◌∷◌, length, map, refl, sym, ap, subst, arith, eqb-true}
+use Rattle.std.specs.Prelude.{slice_set, slice_index_or}
+use Rattle.std.proofs.lemmas.List.{map-set, length-set}
+use Rattle.std.proofs.Math.Seq.{map-set_same}
+use Rattle.std.proofs.Math.ListN.{get_or-map}
 use Rattle.hmc_codes.specs.Request.{RequestFields}
 use Rattle.hmc_codes.specs.declared.lift.Lift.TheVariants as lifts
+use Rattle.hmc_codes.specs.declared.unit.Unit.{Unit as RequestUnit}
 use Rattle.hmc_codes.specs.declared.unit.Unit.TheVariants as units
-use Rattle.hmc_packet.specs.Landings as receivers
-use Rattle.hmc_packet.specs.Landings.{ReceiverEntry}
-use Rattle.hmc_host.specs.Host.{HostFields}
+use Rattle.hmc_packet.specs.Packet.{PacketFields}
+use Rattle.hmc_packet.specs.Transactions.{request_in}
+use Rattle.std.specs.List.{All}
+use Rattle.std.proofs.lemmas.List.Elements.{All-head}
+use Rattle.hmc_codes.specs.Commands.{layout_of, is_ask}
+use Rattle.hmc_codes.specs.declared.answer.Answer.{Answer}
+use Rattle.hmc_script.specs.Items.{ItemFields}
 use Rattle.hmc_host.specs.Tags.{with_out}
-use Rattle.hmc_link.specs.Held.{LinkHeld}
-use Rattle.hmc_link.specs.StandsFor.{LinkStandsFor}
+use Rattle.hmc_host.specs.Settle.{after_settle}
+use Rattle.hmc_host.specs.declared.settled.Settled.TheVariants as settles
 use Rattle.hmc_serial.specs.Cube.{CubeState}
-use Rattle.hmc_serial.specs.Machine.{State, apply, cube_state_at}
+use Rattle.hmc_serial.specs.Machine.{State, apply, cube_state_at, no_cube_state}
 use Rattle.hmc_serial.specs.Perform.{perform_on}
+use Rattle.hmc_crossbar.specs.declared.to.To.TheVariants as tos
+use Rattle.hmc_vault.specs.declared.execute.Executed.TheVariants.{Ran}
+use Rattle.hmc_vault.specs.declared.spread.Spread.TheVariants.{Moved}
+use Rattle.hmc_cube.specs.Cube.{CubeFields}
+use Rattle.hmc_cube.specs.After.{after_enter, after_spread, after_execute, after_registers, after_lift}
+use Rattle.hmc_host.specs.Host.{HostFields, items_of}
 use Rattle.hmc_schedule.specs.declared.step.Step.{Step}
-use Rattle.hmc_send.specs.declared.toward.Toward.TheVariants.{Forth, Back}
-use Rattle.hmc_send.specs.LinkEntries.{takes}
-use Rattle.hmc_send.specs.Places.{is_token}
+use Rattle.hmc_send.specs.LinkEntries.{LinkEntry}
+use Rattle.hmc_journal.specs.Choice.{choose}
 use Rattle.hmc_journal.specs.declared.outcome.Goal.TheVariants as goals
 use Rattle.hmc_journal.specs.declared.entry.Entry.{Entry}
-use Rattle.hmc_journal.specs.declared.entry.Entry.TheVariants.{Gave, Shifted, Executed, Lifted, Took, Idle}
-use Rattle.hmc_journal.specs.Directions.{accepted}
+use Rattle.hmc_journal.specs.declared.entry.Entry.TheVariants.{Gave, Sent, Landed, Shifted, Dropped, Spread, Executed, Lifted, Took, Discarded, Unlocked, Passed, Idle}
 use Rattle.hmc_journal.specs.Event.{is_passed}
-use Rattle.hmc_journal.specs.Hosts.{host_of, given_count, tags_out}
+use Rattle.hmc_journal.specs.Hosts.{host_of, given_count, tags_out, count_if}
 use Rattle.hmc_journal.specs.Lawful.{Follows, has_passed, Lawful}
 use Rattle.hmc_journal.specs.Links.{link_entries}
 use Rattle.hmc_journal.specs.Next.{next}
-use Rattle.hmc_journal.specs.QueueInvariant.{LinkInvariant, QueueInvariant}
-use Rattle.hmc_journal.specs.Queues.{QueueId, leaves, left, entered, contents}
+use Rattle.hmc_journal.specs.QueueInvariant.{IsCubeRequest}
+use Rattle.hmc_journal.specs.Queues.{QueueId, left, entered, contents, front_of, tag_number}
+use Rattle.hmc_journal.specs.Queues.QueueId.{Port, Bank, Registers}
 use Rattle.hmc_journal.specs.Serial.{state_after}
-use Rattle.hmc_journal.specs.Setup.{Topology, Setup}
-use Rattle.hmc_journal.specs.StepView.{state_of}
-use Rattle.hmc_net.specs.NetState.{NetState, topology_of, packets_at, queues_in, inside, machine_of}
-use Rattle.hmc_net.specs.Apply.{after, with_entry, entries_after}
-use Rattle.hmc_net.specs.Stands.{IsCubeQueue, StandsFor, IsNext}
-use Rattle.hmc_net.proofs.Moves.{IsLeft, IsThere, without, within_step, queues_step, IsGoing, with_arrival}
-use Rattle.hmc_net.proofs.Fits.{IsEntryOf}
-use Rattle.hmc_net.proofs.Queues.{AreTold, IsMove, part_same}
-use Rattle.hmc_net.proofs.CubeQueues.{moves_of}
-use Rattle.hmc_net.proofs.LinkAfter.{link_after}
+use Rattle.hmc_journal.specs.Setup.{Topology, Setup, unit_cube}
+use Rattle.hmc_journal.specs.StepView.{StepView, state_of, view_of}
+use Rattle.hmc_journal.proofs.EntryRule.{EntryRule, next_rule}
+use Rattle.hmc_net.specs.Apply.{cubes_after, hosts_after, entries_after, IsAfter, DoesStep, IsEntryIn, IsHostIn, gave_one, with_cube, with_host}
+use Rattle.hmc_net.specs.LinkList.{LinksStandFor}
+use Rattle.hmc_net.specs.NetState.{NetState, cube_in, no_cube, host_in, no_host, inside, machine_of}
+use Rattle.hmc_net.specs.Sees.{IsCubeQueue}
+use Rattle.hmc_net.specs.Stands.{StandsFor, IsNext}
+use Rattle.hmc_net.proofs.CubeMoves.{moves_of}
+use Rattle.hmc_net.proofs.Elements.{changed_at}
+use Rattle.hmc_net.proofs.LinkCalls.{same_entries}
+use Rattle.hmc_net.proofs.Moves.{left_by_rule, queues_step, within_step}
+use Rattle.hmc_net.proofs.Seeing.{IsLawBound, sees_of, choice_seen}
 
--- the queues and buffers of the link hold what the journal says
-link_told : (net : NetState) (past : List Entry) (setup : Setup) → StandsFor net setup past → QueueInvariant setup past → (direction : ℕ) → direction ≤ 1 → LinkInvariant (topology_of net) past direction
-link_told net past setup stands housed direction there = subst (λ t. LinkInvariant t past direction) stands.topology (housed.links direction (omega arith))
+-- ---- the plain machine
 
-pub told_of : (net : NetState) (past : List Entry) (setup : Setup) → StandsFor net setup past → has_passed past ≡ false → QueueInvariant setup past → AreTold net past
-unfolding accepted
-told_of net past setup stands on housed =
-    let entries = link_entries (topology_of net) 0 past in
-    let link : LinkStandsFor net.sizes net.link entries = stands.link on in
-    let forth = link_told net past setup stands housed 0 (omega arith) in
-    let back = link_told net past setup stands housed 1 (omega arith) in
-    record {
-      cube = stands.queues;
-      forth = link.a.queue ∙ sym forth.output;
-      back = link.b.queue ∙ sym back.output;
-      port = link.b.buffer ∙ ap (λ (r : List ReceiverEntry). drop (takes Forth entries) (filter is_token (receivers.accepted net.sizes.profile r))) (sym forth.receiver) ∙ sym forth.buffer;
-      host = link.a.buffer ∙ ap (λ (r : List ReceiverEntry). drop (takes Back entries) (filter is_token (receivers.accepted net.sizes.profile r))) (sym back.receiver) ∙ sym back.buffer;
-    }
+-- a change of a cube that leaves its state
+state_same : (cubes : List CubeFields) (c : ℕ) (f : CubeFields → CubeFields) → (f (cube_in cubes c)).state ≡ (cube_in cubes c).state → machine_of (with_cube c f cubes) ≡ machine_of cubes
+state_same cubes c f same = ap {B = State} (λ (l : List CubeState). record { cubes = l }) (map-set_same (λ (x : CubeFields). x.state) cubes c (f (cube_in cubes c)) no_cube same)
 
--- an entry changes no setup
-topology_after : (net : NetState) (entry : Entry) → topology_of (after entry net) ≡ topology_of net
-topology_after net (Idle step cause) = refl
-topology_after net _ = refl
-
-sizes_after : (net : NetState) (entry : Entry) → (after entry net).sizes ≡ net.sizes
-sizes_after net (Idle step cause) = refl
-sizes_after net _ = refl
-
--- the host gives the next request under its tag, and takes an answer
-host_after : (net : NetState) (setup : Setup) (past : List Entry) (entry : Entry) → IsEntryOf net entry → net.host ≡ host_of setup past 0 → (after entry net).host ≡ host_of setup (entry ∷ past) 0
-unfolding host_of given_count tags_out
-host_after net setup past (Gave zero tag poisoned request) is same = ap (λ (h : HostFields). record h { given = h.given + 1; tags = with_out tag h.tags }) same
-host_after net setup past (Gave (suc host) tag poisoned request) is same = absurd (omega arith)
-host_after net setup past (Took zero tag answer) is same = ap (λ (h : HostFields). record h { tags = slice_set h.tags tag false }) same
-host_after net setup past (Took (suc host) tag answer) is same = absurd (omega (arith, is.0))
-host_after net setup past _ is same = same
+pub state_at : (cubes : List CubeFields) (c : ℕ) → cube_state_at (machine_of cubes) c ≡ (cube_in cubes c).state
+state_at cubes c = get_or-map (λ (x : CubeFields). x.state) cubes c no_cube
 
 -- an execution leaves of the machine what it leaves of its cube
-executed_state : (state : State) (cube : CubeState) (request : RequestFields) (number : ℕ) → ◌≡◌ {A = State} (record { cubes = cube ∷ [] }) state → number ≡ 0
-    → ◌≡◌ {A = State} (record { cubes = (perform_on cube request).cube ∷ [] }) (record { cubes = slice_set state.cubes number (perform_on (cube_state_at state number) request).cube })
-executed_state state cube request number is zero_is =
-    ap {B = State} (λ (s : State). record { cubes = slice_set s.cubes 0 (perform_on (cube_state_at s 0) request).cube }) is
-    ∙ ap {B = State} (λ (n : ℕ). record { cubes = slice_set state.cubes n (perform_on (cube_state_at state n) request).cube }) (sym zero_is)
+state_run : (cubes : List CubeFields) (c : ℕ) (f : CubeFields → CubeFields) (request : RequestFields) → request.cube ≡ c → (f (cube_in cubes c)).state ≡ (perform_on (cube_in cubes c).state request).cube → machine_of (with_cube c f cubes) ≡ apply (machine_of cubes) request
+unfolding apply
+state_run cubes c f request own run =
+    ap {B = State} (λ (l : List CubeState). record { cubes = l }) (map-set (λ (x : CubeFields). x.state) cubes c (f (cube_in cubes c)))
+    ∙ ap {B = State} (λ (s : CubeState). record { cubes = slice_set (map (λ (x : CubeFields). x.state) cubes) c s }) (run ∙ ap (λ (s : CubeState). (perform_on s request).cube) (sym (state_at cubes c)))
+    ∙ ap {B = State} (λ (n : ℕ). record { cubes = slice_set (map (λ (x : CubeFields). x.state) cubes) n (perform_on (cube_state_at (machine_of cubes) n) request).cube }) (sym own)
 
-state_then : (net : NetState) (topology : Topology) (past : List Entry) (entry : Entry) → IsEntryOf net entry → machine_of net ≡ state_of topology past → machine_of (after entry net) ≡ state_of topology (entry ∷ past)
-unfolding state_of state_after apply
-state_then net topology past (Executed (units.Bank cube vault bank) host tag request answer) is same = executed_state _ net.cube.state request request.cube same is.2
-state_then net topology past (Executed (units.Registers cube) host tag request answer) is same = executed_state _ net.cube.state request request.cube same is.2
-state_then net topology past (Shifted cube port (goals.Vault vault)) is same = same
-state_then net topology past (Shifted cube port goals.Registers) is same = same
-state_then net topology past (Shifted cube port (goals.Port other)) is same = same
-state_then net topology past (Lifted cube (lifts.Vault vault) port) is same = same
-state_then net topology past (Lifted cube lifts.Registers port) is same = same
-state_then net topology past _ is same = same
+-- an executed request is one of the unit's cube
+abbrev pub IsOwn : Entry → Type 0
+IsOwn (Executed unit host tag request answer) = request.cube ≡ unit_cube unit
+IsOwn _ = Unit {0}
+
+state_then : (view : StepView) (topology : Topology) (past : List Entry) (entry : Entry) (cubes : List CubeFields) → IsOwn entry → machine_of cubes ≡ state_of topology past → machine_of (cubes_after view entry cubes) ≡ state_of topology (entry ∷ past)
+unfolding state_of state_after
+state_then view topology past (Executed (units.Bank cube vault bank) host tag request answer) cubes own same = state_run cubes cube (after_execute vault bank (Ran host (tag_number tag) request answer)) request own refl ∙ ap (λ (s : State). apply s request) same
+state_then view topology past (Executed (units.Registers cube) host tag request answer) cubes own same = state_run cubes cube (after_registers (Ran host (tag_number tag) request answer)) request own refl ∙ ap (λ (s : State). apply s request) same
+state_then view topology past (Shifted cube port (goals.Vault vault)) cubes own same = state_same cubes cube (after_enter (tos.Vault vault) (front_of (view.inside (Port cube port)))) refl ∙ same
+state_then view topology past (Shifted cube port goals.Registers) cubes own same = state_same cubes cube (after_enter tos.Registers (front_of (view.inside (Port cube port)))) refl ∙ same
+state_then view topology past (Shifted cube port (goals.Port out)) cubes own same = same
+state_then view topology past (Spread cube vault bank) cubes own same = state_same cubes cube (after_spread vault (Moved bank)) refl ∙ same
+state_then view topology past (Lifted cube (lifts.Vault vault) port) cubes own same = state_same cubes cube (after_lift (lifts.Vault vault)) refl ∙ same
+state_then view topology past (Lifted cube lifts.Registers port) cubes own same = state_same cubes cube (after_lift lifts.Registers) refl ∙ same
+state_then view topology past (Gave host tag poisoned request) cubes own same = same
+state_then view topology past (Sent direction what flit) cubes own same = same
+state_then view topology past (Landed direction flit outcome) cubes own same = same
+state_then view topology past (Dropped cube port) cubes own same = same
+state_then view topology past (Took host tag answer) cubes own same = same
+state_then view topology past (Discarded host) cubes own same = same
+state_then view topology past (Unlocked direction) cubes own same = same
+state_then view topology past (Passed direction flit) cubes own same = same
+state_then view topology past (Idle step cause) cubes own same = same
+
+-- a front of a unit's queue that is executed is a request to its cube
+asked_of : (ask : Bool) (request found : RequestFields) → (if ask then Some found else None) ≡ Some request → found ≡ request
+asked_of true request found is = cc
+asked_of false request found is = cc
+
+pub own_cube : (packet : PacketFields) (request : RequestFields) (own : ℕ) → request_in packet ≡ Some request → packet.cube ≡ own → request.cube ≡ own
+unfolding request_in
+own_cube packet request own is here = sym (ap (λ (r : RequestFields). r.cube) (asked_of (is_ask (layout_of packet.command)) request _ is)) ∙ here
+
+front_asks : (packets rest : List PacketFields) (front : PacketFields) (own : ℕ) → packets ≡ front ∷ rest → All (IsCubeRequest own) packets → front.cube ≡ own
+front_asks packets rest front own is asks = (All-head (IsCubeRequest own) front rest (subst (All (IsCubeRequest own)) is asks)).cube
+
+own_of : (setup : Setup) (past : List Entry) (entry : Entry) → IsLawBound setup past → EntryRule setup past entry → IsOwn entry
+own_of setup past (Executed (units.Bank cube vault bank) host tag request answer) law rule =
+    own_cube rule.at.front request cube rule.is_request (front_asks (contents setup.topology past (Bank cube vault bank)) rule.at.rest rule.at.front cube rule.at.is (law.queues.banks cube vault bank))
+own_of setup past (Executed (units.Registers cube) host tag request answer) law rule =
+    own_cube rule.at.front request cube rule.is_request (front_asks (contents setup.topology past (Registers cube)) rule.at.rest rule.at.front cube rule.at.is (law.queues.registers cube))
+own_of setup past _ law rule = tt
+
+-- ---- hosts
+
+-- one host is changed by an entry
+host_changed : (hosts : List HostFields) (h host : ℕ) (f : HostFields → HostFields) (before after : ℕ → HostFields) (test : Bool) → (h == host) ≡ test → h < length hosts → ((k : ℕ) → k < length hosts → host_in hosts k ≡ before k)
+    → after host ≡ choose test (f (before host)) (before host) → host < length hosts → host_in (with_host h f hosts) host ≡ after host
+host_changed hosts h host f before after true is inside same next there =
+    let here : h ≡ host = eqb-true h host is in
+    changed_at hosts h host (f (host_in hosts h)) no_host true is inside ∙ ap f (ap (host_in hosts) here ∙ same host there) ∙ sym next
+host_changed hosts h host f before after false is inside same next there =
+    changed_at hosts h host (f (host_in hosts h)) no_host false is inside ∙ same host there ∙ sym next
+
+gave_by : (test : Bool) (n : ℕ) (items : List ItemFields) (given : ℕ) (tags : List Bool) (tag : Option ℕ)
+    → ◌≡◌ {A = HostFields} (record { number = n; items = items; given = count_if test given; tags = choose test (with_out tag tags) tags })
+    (choose test (gave_one tag (record { number = n; items = items; given = given; tags = tags })) (record { number = n; items = items; given = given; tags = tags }))
+gave_by true n items given tags tag = refl
+gave_by false n items given tags tag = refl
+
+gave_host : (setup : Setup) (past : List Entry) (h host : ℕ) (tag : Option ℕ) (poisoned : Bool) (request : RequestFields)
+    → host_of setup (Gave h tag poisoned request ∷ past) host ≡ choose (h == host) (gave_one tag (host_of setup past host)) (host_of setup past host)
+unfolding host_of given_count tags_out
+gave_host setup past h host tag poisoned request = gave_by (h == host) host (items_of host setup.script) (given_count host past) (tags_out host past) tag
+
+took_by : (test : Bool) (n : ℕ) (items : List ItemFields) (given : ℕ) (tags : List Bool) (tag : ℕ) (answer : Answer)
+    → ◌≡◌ {A = HostFields} (record { number = n; items = items; given = given; tags = choose test (slice_set tags tag false) tags })
+    (choose test (after_settle (settles.Took tag answer) (record { number = n; items = items; given = given; tags = tags })) (record { number = n; items = items; given = given; tags = tags }))
+took_by true n items given tags tag answer = refl
+took_by false n items given tags tag answer = refl
+
+took_host : (setup : Setup) (past : List Entry) (h host tag : ℕ) (answer : Answer)
+    → host_of setup (Took h tag answer ∷ past) host ≡ choose (h == host) (after_settle (settles.Took tag answer) (host_of setup past host)) (host_of setup past host)
+unfolding host_of given_count tags_out
+took_host setup past h host tag answer = took_by (h == host) host (items_of host setup.script) (given_count host past) (tags_out host past) tag answer
+
+hosts_then : (setup : Setup) (past : List Entry) (entry : Entry) (hosts : List HostFields) → IsHostIn hosts entry → ((k : ℕ) → k < length hosts → host_in hosts k ≡ host_of setup past k)
+    → (host : ℕ) → host < length (hosts_after entry hosts) → host_in (hosts_after entry hosts) host ≡ host_of setup (entry ∷ past) host
+unfolding host_of given_count tags_out
+hosts_then setup past (Gave h tag poisoned request) hosts is same host there =
+    host_changed hosts h host (gave_one tag) (host_of setup past) (host_of setup (Gave h tag poisoned request ∷ past)) (h == host) refl is same (gave_host setup past h host tag poisoned request) (omega (arith, length-set hosts h (gave_one tag (host_in hosts h))))
+hosts_then setup past (Took h tag answer) hosts is same host there =
+    host_changed hosts h host (after_settle (settles.Took tag answer)) (host_of setup past) (host_of setup (Took h tag answer ∷ past)) (h == host) refl is same (took_host setup past h host tag answer) (omega (arith, length-set hosts h (after_settle (settles.Took tag answer) (host_in hosts h))))
+hosts_then setup past _ hosts is same host there = same host there
+
+-- ---- links
+
+entries_then : (setup : Setup) (past : List Entry) (entry : Entry) (link : ℕ) → entries_after setup.topology (view_of setup past) entry link ≡ link_entries setup.topology link (entry ∷ past)
+unfolding link_entries view_of
+entries_then setup past (Gave host tag poisoned request) link = refl
+entries_then setup past (Sent direction what flit) link = refl
+entries_then setup past (Landed direction flit outcome) link = refl
+entries_then setup past (Shifted cube port goal) link = refl
+entries_then setup past (Dropped cube port) link = refl
+entries_then setup past (Lifted cube from port) link = refl
+entries_then setup past (Took host tag answer) link = refl
+entries_then setup past (Discarded host) link = refl
+entries_then setup past (Unlocked direction) link = refl
+entries_then setup past _ link = refl
+
+-- ---- the journal
 
 lawful_then : (net : NetState) (past : List Entry) (setup : Setup) (step : Step) (entry : Entry) → IsNext net setup past step → entry ≡ next setup past step → Lawful setup (entry ∷ past)
 unfolding Lawful
 lawful_then net past setup step entry is next_is = (is.goes_on, subst (λ s. Follows setup past s entry) (sym is.step_is) next_is, is.stands.lawful)
 
-left_here : (net : NetState) (past : List Entry) (entry : Entry) (leaving : Option QueueId) → IsMove net past entry leaving → IsLeft (topology_of net) past (leaves past entry)
-left_here net past entry leaving move = subst (IsLeft (topology_of net) past) (sym move.leaves_is) move.left_is
+pub chosen_next : (net now : NetState) (past : List Entry) (setup : Setup) (step : Step) → IsNext net setup past step → IsLawBound setup past → DoesStep net now step → now.last ≡ next setup past step
+chosen_next net now past setup step is law does =
+    does.entry (view_of setup past) (sees_of net past setup is.stands is.goes_on law) ∙ choice_seen net past setup step is.stands
 
-queues_then : (net : NetState) (past : List Entry) (entry : Entry) (leaving : Option QueueId) → AreTold net past → ((queue : QueueId) → IsCubeQueue queue → left past queue ≤ length (entered (topology_of net) past queue)) → IsMove net past entry leaving
-    → (queue : QueueId) → IsCubeQueue queue → inside (after entry net) queue ≡ contents (topology_of net) (entry ∷ past) queue
-queues_then net past entry leaving told within move queue cube =
-    let here = left_here net past entry leaving move in
-    let there : IsThere (queues_in net) (leaves past entry) = subst (IsThere (queues_in net)) (sym move.leaves_is) move.leaves_there in
-    let into : IsGoing (without (queues_in net) (leaves past entry)) (arrives (topology_of net) past entry) =
-    subst (λ o. IsGoing (without (queues_in net) o) (arrives (topology_of net) past entry)) (sym move.leaves_is) move.enters_there in
-    part_same (queues_in (after entry net)) (with_arrival (without (queues_in net) leaving) (arrives (topology_of net) past entry)) queue cube move.holding
-    ∙ ap (λ o. packets_at (with_arrival (without (queues_in net) o) (arrives (topology_of net) past entry)) queue) (sym move.leaves_is)
-    ∙ queues_step (topology_of net) past entry (queues_in net) here there into queue cube (within queue cube) (told.cube queue cube)
-
--- what a step leaves of a network: what its entry leaves, and a link
-abbrev pub with_link : LinkHeld → NetState → NetState
-with_link link net = record net { link = link }
-
--- the link after a step
-pub record IsLinked (net : NetState) (past : List Entry) (entry : Entry) (link : LinkHeld) : Type 0 where
-  pub going : link.going ≡ not (is_passed entry)
-  pub stands : is_passed entry ≡ false → LinkStandsFor net.sizes link (entries_after net (link_entries (topology_of net) 0 past) entry)
-
-linked_then : (net : NetState) (past : List Entry) (entry : Entry) (link : LinkHeld) → AreTold net past → IsEntryOf net entry → IsLinked net past entry link → is_passed entry ≡ false
-    → LinkStandsFor (after entry net).sizes link (link_entries (topology_of (after entry net)) 0 (entry ∷ past))
-linked_then net past entry link told parts linked on =
-    subst (λ z. LinkStandsFor z link (link_entries (topology_of (after entry net)) 0 (entry ∷ past))) (sym (sizes_after net entry))
-    (subst (λ t. LinkStandsFor net.sizes link (link_entries t 0 (entry ∷ past))) (sym (topology_after net entry))
-    (subst (LinkStandsFor net.sizes link) (sym (link_after net past entry told parts)) (linked.stands on)))
-
-pub stands_after : (net : NetState) (past : List Entry) (setup : Setup) (step : Step) (entry : Entry) (link : LinkHeld) → IsNext net setup past step → QueueInvariant setup past → entry ≡ next setup past step → IsEntryOf net entry → IsLinked net past entry link
-    → StandsFor (with_link link (with_entry entry net)) setup (entry ∷ past)
-stands_after net past setup step entry link is housed next_is parts linked =
+stands_by : (net now : NetState) (past : List Entry) (setup : Setup) (step : Step) (entry : Entry) → entry ≡ now.last → IsNext net setup past step → IsLawBound setup past → entry ≡ next setup past step → EntryRule setup past entry → DoesStep net now step
+    → StandsFor now setup (entry ∷ past)
+stands_by net now past setup step entry last is law next_is rule does =
     let stands = is.stands in
-    let told : AreTold net past = told_of net past setup stands is.goes_on housed in
-    let moves = moves_of net past entry told parts in
-    let here : IsLeft (topology_of net) past (leaves past entry) = left_here net past entry moves.0 moves.1 in
-    let same : topology_of net ≡ topology_of (after entry net) = sym (topology_after net entry) in
+    let view = view_of setup past in
+    let after : IsAfter view net now = does.parts view (sees_of net past setup stands is.goes_on law) in
+    let there : IsEntryIn net.cubes entry = subst (IsEntryIn net.cubes) (sym last) does.there in
+    let cubes : now.cubes ≡ cubes_after view entry net.cubes = after.cubes ∙ ap (λ (e : Entry). cubes_after view e net.cubes) (sym last) in
+    let hosts : now.hosts ≡ hosts_after entry net.hosts = after.hosts ∙ ap (λ (e : Entry). hosts_after e net.hosts) (sym last) in
+    let moved = moves_of setup past entry net.cubes rule stands.queues there in
+    let left_is = left_by_rule setup past entry rule in
     record {
-      one_cube = stands.one_cube;
+      network = stands.network;
       steps = stands.steps;
-      topology = stands.topology ∙ same;
+      topology = after.topology ∙ stands.topology;
+      sized = does.sized;
       lawful = lawful_then net past setup step entry is next_is;
-      queues = λ queue cube. part_same (queues_in (with_link link (with_entry entry net))) (queues_in (after entry net)) queue cube refl
-          ∙ queues_then net past entry moves.0 told stands.moves moves.1 queue cube ∙ ap (λ t. contents t (entry ∷ past) queue) same;
-      moves = λ queue cube. subst (λ t. left (entry ∷ past) queue ≤ length (entered t (entry ∷ past) queue)) same (within_step (topology_of net) past entry queue cube here (stands.moves queue cube));
-      going = linked.going;
-      link = linked_then net past entry link told parts linked;
-      host = host_after net setup past entry parts stands.host;
-      state = state_then net (topology_of net) past entry parts stands.state ∙ ap (λ t. state_of t (entry ∷ past)) same;
+      queues = λ queue cube. ap (λ (l : List CubeFields). inside l queue) cubes ∙ moved.same queue ∙ queues_step setup.topology past entry net.cubes left_is moved.there moved.going queue cube (stands.moves queue cube) (stands.queues queue cube);
+      moves = λ queue cube. within_step setup.topology past entry queue cube left_is (stands.moves queue cube);
+      state = ap machine_of cubes ∙ state_then view setup.topology past entry net.cubes (own_of setup past entry law rule) stands.state;
+      hosts = subst (λ (l : List HostFields). (host : ℕ) → host < length l → host_in l host ≡ host_of setup (entry ∷ past) host) (sym hosts) (hosts_then setup past entry net.hosts (subst (IsHostIn net.hosts) (sym last) does.host) stands.hosts);
+      links = λ on. same_entries setup.topology.links now.links (entries_after setup.topology view entry) (λ link. link_entries setup.topology link (entry ∷ past))
+          (subst (λ (t : Topology). LinksStandFor t.links now.links (entries_after t view entry)) stands.topology
+          (subst (λ (e : Entry). LinksStandFor net.topology.links now.links (entries_after net.topology view e)) (sym last) (after.links (ap is_passed (sym last) ∙ on)))) (entries_then setup past entry);
     }
+
+-- the network stands for the journal with the entry of the step
+pub stands_stepped : (net now : NetState) (past : List Entry) (setup : Setup) (step : Step) → IsNext net setup past step → IsLawBound setup past → DoesStep net now step → StandsFor now setup (next setup past step ∷ past)
+stands_stepped net now past setup step is law does =
+    stands_by net now past setup step (next setup past step) (sym (chosen_next net now past setup step is law does)) is law refl (next_rule setup past step is.step_is) does

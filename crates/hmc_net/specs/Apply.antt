@@ -1,31 +1,38 @@
--- What an entry leaves of the network.
-use Rattle.std.specs.Prelude.{◌≡◌, ◌+◌, false, not, List, ◌∷◌}
+-- What an entry leaves of the parts of a network.
+use Rattle.std.specs.Prelude.{◌≡◌, ◌+◌, ◌<◌, ◌^◌, ℕ, false, List, length, slice_set, Option, None, Some}
+use Rattle.hmc_codes.specs.declared.lift.Lift.{Lift}
+use Rattle.hmc_codes.specs.declared.place.Place.TheVariants as places
 use Rattle.hmc_codes.specs.declared.unit.Unit.{Unit as RequestUnit}
 use Rattle.hmc_codes.specs.declared.unit.Unit.TheVariants as units
 use Rattle.hmc_packet.specs.declared.feed.Feed.TheVariants.{Waiting}
 use Rattle.hmc_packet.specs.Transactions.{request_packet}
 use Rattle.hmc_crossbar.specs.declared.to.To.{To}
 use Rattle.hmc_crossbar.specs.declared.to.To.TheVariants as tos
-use Rattle.hmc_vault.specs.declared.execute.Executed.{Executed as Execution}
 use Rattle.hmc_vault.specs.declared.execute.Executed.TheVariants.{Ran}
 use Rattle.hmc_vault.specs.declared.spread.Spread.TheVariants.{Moved}
 use Rattle.hmc_cube.specs.Cube.{CubeFields}
 use Rattle.hmc_cube.specs.After.{after_enter, after_spread, after_execute, after_registers, after_lift}
-use Rattle.hmc_cube.specs.Places.{answers_at}
+use Rattle.hmc_host.specs.Host.{HostFields}
 use Rattle.hmc_host.specs.Tags.{with_out}
 use Rattle.hmc_host.specs.declared.settled.Settled.TheVariants as settles
 use Rattle.hmc_host.specs.Settle.{after_settle}
-use Rattle.hmc_link.specs.StandsFor.{LinkStandsFor}
-use Rattle.hmc_send.specs.declared.toward.Toward.TheVariants.{Forth, Back}
 use Rattle.hmc_send.specs.LinkEntries.{LinkEntry}
+use Rattle.hmc_schedule.specs.declared.step.Step.{Step}
+use Rattle.hmc_journal.specs.declared.outcome.Cause.{Cause}
 use Rattle.hmc_journal.specs.declared.outcome.Goal.{Goal}
 use Rattle.hmc_journal.specs.declared.outcome.Goal.TheVariants as goals
 use Rattle.hmc_journal.specs.declared.entry.Entry.{Entry}
 use Rattle.hmc_journal.specs.declared.entry.Entry.TheVariants.{Gave, Sent, Landed, Shifted, Dropped, Spread, Executed, Lifted, Took, Discarded, Unlocked}
-use Rattle.hmc_journal.specs.Event.{is_passed}
-use Rattle.hmc_journal.specs.Links.{toward, landing_mask}
-use Rattle.hmc_journal.specs.Queues.{front_of, tag_number}
-use Rattle.hmc_net.specs.NetState.{NetState}
+use Rattle.hmc_journal.specs.Event.{is_passed, cause_of}
+use Rattle.hmc_journal.specs.Links.{link_sizes, landing_mask, put_on, handed_at, taken_at, handed_on}
+use Rattle.hmc_journal.specs.Next.{choice}
+use Rattle.hmc_journal.specs.Queues.{front_of, tag_number, queue_of}
+use Rattle.hmc_journal.specs.Queues.QueueId.{Port, Vault, Bank, Registers, Answers}
+use Rattle.hmc_journal.specs.Setup.{Topology}
+use Rattle.hmc_journal.specs.StepView.{StepView}
+use Rattle.hmc_net.specs.LinkList.{LinksStandFor}
+use Rattle.hmc_net.specs.NetState.{NetState, cube_in, host_in, IsQueueOf}
+use Rattle.hmc_net.specs.Sees.{Sees, IsSized}
 
 -- the place in a cube that a goal is
 abbrev pub to_of : Goal → To
@@ -33,51 +40,104 @@ to_of (goals.Vault vault) = tos.Vault vault
 to_of goals.Registers = tos.Registers
 to_of (goals.Port port) = tos.Port port
 
+-- one of the cubes is changed, by its number
+abbrev pub with_cube : ℕ → (CubeFields → CubeFields) → List CubeFields → List CubeFields
+with_cube cube changed cubes = slice_set cubes cube (changed (cube_in cubes cube))
+
+-- one of the hosts is changed
+abbrev pub with_host : ℕ → (HostFields → HostFields) → List HostFields → List HostFields
+with_host host changed hosts = slice_set hosts host (changed (host_in hosts host))
+
 -- a unit executed the front of its queue
-abbrev pub after_unit : RequestUnit → Execution → CubeFields → CubeFields
-after_unit (units.Bank cube vault bank) execution fields = after_execute vault bank execution fields
-after_unit (units.Registers cube) execution fields = after_registers execution fields
+abbrev pub after_unit : RequestUnit → Entry → List CubeFields → List CubeFields
+after_unit (units.Bank cube vault bank) (Executed unit host tag request answer) cubes =
+    with_cube cube (after_execute vault bank (Ran host (tag_number tag) request answer)) cubes
+after_unit (units.Registers cube) (Executed unit host tag request answer) cubes =
+    with_cube cube (after_registers (Ran host (tag_number tag) request answer)) cubes
+after_unit unit entry cubes = cubes
 
--- what an entry leaves of the cube and of the host
-abbrev pub after : Entry → NetState → NetState
-after (Gave host tag poisoned request) net = record net {
-  host = record net.host { given = net.host.given + 1; tags = with_out tag net.host.tags };
-}
-after (Shifted cube port goal) net =
-    record net { cube = after_enter (to_of goal) (front_of net.link.b.buffer) net.cube }
-after (Spread cube vault bank) net = record net { cube = after_spread vault (Moved bank) net.cube }
-after (Executed unit host tag request answer) net =
-    record net { cube = after_unit unit (Ran host (tag_number tag) request answer) net.cube }
-after (Lifted cube from port) net = record net { cube = after_lift from net.cube }
-after (Took host tag answer) net =
-    record net { host = after_settle (settles.Took tag answer) net.host }
-after _ net = net
+-- the cubes after an entry, by what its step saw
+abbrev pub cubes_after : StepView → Entry → List CubeFields → List CubeFields
+cubes_after view (Shifted cube port (goals.Port out)) cubes = cubes
+cubes_after view (Shifted cube port goal) cubes =
+    with_cube cube (after_enter (to_of goal) (front_of (view.inside (Port cube port)))) cubes
+cubes_after view (Spread cube vault bank) cubes =
+    with_cube cube (after_spread vault (Moved bank)) cubes
+cubes_after view (Executed unit host tag request answer) cubes =
+    after_unit unit (Executed unit host tag request answer) cubes
+cubes_after view (Lifted cube from port) cubes = with_cube cube (after_lift from) cubes
+cubes_after view _ cubes = cubes
 
--- what a step leaves, except of the link: what its entry leaves, and the entry itself
-abbrev pub with_entry : Entry → NetState → NetState
-with_entry entry net = record (after entry net) { last = entry }
+-- the cube and the queue that an entry changes in a cube are there
+abbrev pub IsEntryIn : List CubeFields → Entry → Type 0
+IsEntryIn cubes (Shifted cube port goals.Registers) = IsQueueOf cubes (Registers cube)
+IsEntryIn cubes (Shifted cube port (goals.Vault vault)) = IsQueueOf cubes (Vault cube vault)
+IsEntryIn cubes (Spread cube vault bank) = IsQueueOf cubes (Bank cube vault bank)
+IsEntryIn cubes (Executed unit host tag request answer) = IsQueueOf cubes (queue_of unit)
+IsEntryIn cubes (Lifted cube from port) = IsQueueOf cubes (Answers cube from)
+IsEntryIn cubes _ = Unit {0}
 
--- the entries of the link after an entry of the network
-abbrev pub entries_after : NetState → List LinkEntry → Entry → List LinkEntry
-entries_after net past (Gave host tag poisoned request) =
-    LinkEntry.handed Forth (request_packet request (tag_number tag) 0 poisoned) ∷ past
-entries_after net past (Sent direction what flit) =
-    LinkEntry.sent (toward direction) Waiting what flit ∷ past
-entries_after net past (Landed direction flit outcome) =
-    LinkEntry.landed (toward direction)
-    (landing_mask net.sizes (toward direction) past flit) flit outcome ∷ past
-entries_after net past (Shifted cube port goal) = LinkEntry.taken Forth ∷ past
-entries_after net past (Dropped cube port) = LinkEntry.taken Forth ∷ past
-entries_after net past (Lifted cube from port) =
-    LinkEntry.handed Back (front_of (answers_at net.cube from)) ∷ past
-entries_after net past (Took host tag answer) = LinkEntry.taken Back ∷ past
-entries_after net past (Discarded host) = LinkEntry.taken Back ∷ past
-entries_after net past (Unlocked direction) = LinkEntry.unlocked (toward direction) ∷ past
-entries_after net past _ = past
+-- the host of an entry is there
+abbrev pub IsHostIn : List HostFields → Entry → Type 0
+IsHostIn hosts (Gave host tag poisoned request) = host < length hosts
+IsHostIn hosts (Took host tag answer) = host < length hosts
+IsHostIn hosts _ = Unit {0}
 
--- What a step leaves of the link, by the entry of the step: it goes on unless a landing passed, and
--- then it stands for its entries with that of the step.
-pub record IsLinkAfter (old new : NetState) (past : List LinkEntry) : Type 0 where
-  pub going : new.link.going ≡ not (is_passed new.last)
-  pub stands : is_passed new.last ≡ false →
-      LinkStandsFor old.sizes new.link (entries_after old past new.last)
+-- a request goes out under its tag
+abbrev pub gave_one : (tag : Option ℕ) → HostFields → HostFields
+gave_one tag host = record host { given = host.given + 1; tags = with_out tag host.tags }
+
+-- the hosts
+abbrev pub hosts_after : Entry → List HostFields → List HostFields
+hosts_after (Gave host tag poisoned request) hosts = with_host host (gave_one tag) hosts
+hosts_after (Took host tag answer) hosts =
+    with_host host (after_settle (settles.Took tag answer)) hosts
+hosts_after _ hosts = hosts
+
+-- the entries of a link
+abbrev pub entries_after : Topology → StepView → Entry → (link : ℕ) → List LinkEntry
+entries_after topology view (Gave host tag poisoned request) link =
+    handed_at topology link (places.Host host)
+    (request_packet request (tag_number tag) host poisoned) (view.entries link)
+entries_after topology view (Sent direction what flit) link =
+    put_on link (Some direction) (λ d. LinkEntry.sent d Waiting what flit) (view.entries link)
+entries_after topology view (Landed direction flit outcome) link =
+    put_on link (Some direction)
+    (λ d. LinkEntry.landed d
+    (landing_mask (link_sizes topology link) d (view.entries link) flit) flit outcome)
+    (view.entries link)
+entries_after topology view (Shifted cube port goal) link =
+    handed_on topology link cube goal (front_of (view.inside (Port cube port)))
+    (taken_at topology link (places.Port cube port) (view.entries link))
+entries_after topology view (Dropped cube port) link =
+    taken_at topology link (places.Port cube port) (view.entries link)
+entries_after topology view (Lifted cube from port) link =
+    handed_at topology link (places.Port cube port)
+    (front_of (view.inside (Answers cube from))) (view.entries link)
+entries_after topology view (Took host tag answer) link =
+    taken_at topology link (places.Host host) (view.entries link)
+entries_after topology view (Discarded host) link =
+    taken_at topology link (places.Host host) (view.entries link)
+entries_after topology view (Unlocked direction) link =
+    put_on link (Some direction) LinkEntry.unlocked (view.entries link)
+entries_after topology view _ link = view.entries link
+
+-- What a step leaves, by its entry and by what it saw: of the links only unless a landing passed.
+pub record IsAfter (view : StepView) (old new : NetState) : Type 0 where
+  pub topology : new.topology ≡ old.topology
+  pub cubes : new.cubes ≡ cubes_after view new.last old.cubes
+  pub hosts : new.hosts ≡ hosts_after new.last old.hosts
+  pub links : is_passed new.last ≡ false →
+      LinksStandFor old.topology.links new.links (entries_after old.topology view new.last)
+
+-- What a step does: by what it sees, the last entry is the one that the journal's definition gives,
+-- and each part is left as this entry says. The entry is of parts that are there, and the sizes of
+-- parts stay. An idle step changes nothing but the last entry.
+pub record DoesStep (old new : NetState) (step : Step) : Type 0 where
+  pub entry : (view : StepView) → Sees old view → new.last ≡ choice old.topology view step
+  pub parts : (view : StepView) → Sees old view → IsAfter view old new
+  pub there : IsEntryIn old.cubes new.last
+  pub host : IsHostIn old.hosts new.last
+  pub sized : IsSized new
+  pub idle : (cause : Cause) → cause_of new.last ≡ Some cause →
+      new ≡ record old { last = new.last }

@@ -1,15 +1,21 @@
--- What a give hands to the link.
-use Rattle.std.specs.Prelude.{◌≡◌, true, Bool, List, ◌∷◌}
-use Rattle.hmc_packet.specs.Transactions.{request_packet}
+-- What a give hands to a link.
+use Rattle.std.specs.Prelude.{◌≡◌, ◌/◌, ℕ, Bool, true, List, Option}
+use Rattle.hmc_codes.specs.Request.{RequestFields, IsRequest}
+use Rattle.hmc_packet.specs.Packet.{PacketFields}
+use Rattle.hmc_case.specs.declared.setup.LinkRow.{LinkRow}
 use Rattle.hmc_host.specs.declared.given.Given.{Given}
 use Rattle.hmc_host.specs.declared.given.Given.TheVariants.{Gave}
 use Rattle.hmc_host.specs.declared.given.Hindrance.{Hindrance}
 use Rattle.hmc_host.specs.declared.given.Hindrance.TheVariants as hindrances
-use Rattle.hmc_send.specs.declared.toward.Toward.TheVariants.{Forth}
+use Rattle.hmc_link.specs.Held.{LinkHeld}
+use Rattle.hmc_packet.specs.Transactions.{request_packet}
+use Rattle.hmc_send.specs.LinkCalls.{LinkCall, has_room}
 use Rattle.hmc_send.specs.LinkEntries.{LinkEntry}
 use Rattle.hmc_journal.specs.declared.outcome.Cause.{Cause}
 use Rattle.hmc_journal.specs.declared.outcome.Cause.TheVariants as causes
+use Rattle.hmc_journal.specs.Links.{toward}
 use Rattle.hmc_journal.specs.Queues.{tag_number}
+use Rattle.hmc_net.specs.LinkList.{sizes_by, LinksStandFor, called}
 
 -- the cause that a host gives nothing
 abbrev pub cause_by : Hindrance → Cause
@@ -18,13 +24,30 @@ cause_by hindrances.Fence = causes.Fence
 cause_by hindrances.Tags = causes.Tags
 cause_by hindrances.Full = causes.Full
 
--- the entries of the link after a give: a packet is handed to it where one is given
-abbrev pub given_to : Given → List LinkEntry → List LinkEntry
-given_to (Gave packet request tag poisoned) entries = LinkEntry.handed Forth packet ∷ entries
-given_to _ entries = entries
+-- the entries of the links after a give: a packet is handed to a direction where one is given
+abbrev pub given_to : List LinkRow → (direction : ℕ) → Given → (ℕ → List LinkEntry) →
+    ℕ → List LinkEntry
+given_to rows direction (Gave packet request tag poisoned) entries =
+    called rows direction (λ d. LinkCall.hand d packet) entries
+given_to rows direction _ entries = entries
 
--- what is given has room, and is the packet of its request
-abbrev pub IsGiven : Given → (room : Bool) → Type 0
-IsGiven (Gave packet request tag poisoned) room =
-    (room ≡ true) × (packet ≡ request_packet request (tag_number tag) 0 poisoned)
-IsGiven _ room = Unit {0}
+-- the direction has room, and this is the packet of the request that is given
+pub record IsPacketOf (links : List LinkHeld) (direction : ℕ) (packet : PacketFields)
+    (request : RequestFields) (tag : Option ℕ) (poisoned : Bool) : Type 0 where
+  pub rows : List LinkRow
+  pub entries : ℕ → List LinkEntry
+  pub stand : LinksStandFor rows links entries
+  pub room : has_room (sizes_by rows direction) (toward direction) (entries (direction / 2)) ≡ true
+  pub host : ℕ
+  pub same : packet ≡ request_packet request (tag_number tag) host poisoned
+
+-- the same where a request is given
+abbrev pub IsGiven : List LinkHeld → (direction : ℕ) → Given → Type 0
+IsGiven links direction (Gave packet request tag poisoned) =
+    IsPacketOf links direction packet request tag poisoned
+IsGiven links direction _ = Unit {0}
+
+-- a request that is given is one
+abbrev pub IsRequested : Given → Type 0
+IsRequested (Gave packet request tag poisoned) = IsRequest request
+IsRequested _ = Unit {0}

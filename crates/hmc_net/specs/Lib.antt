@@ -1,6 +1,10 @@
 pub mod NetState
+pub mod LinkList
+pub mod Wiring
+pub mod Sees
 pub mod Apply
 pub mod Ready
+pub mod Ports
 pub mod Stands
 pub mod Journaled
 pub mod Opening

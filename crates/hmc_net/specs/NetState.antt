@@ -1,139 +1,82 @@
--- A network of one cube and one link, as the contracts see it, and the packets in its queues.
-use Rattle.std.specs.Prelude.{ℕ, zero, suc, Bool, true, false, ◌==◌, ◌&&◌, List, [], ◌∷◌, slice_index_or}
-use Rattle.hmc_codes.specs.Link.{LinkFields}
-use Rattle.hmc_codes.specs.declared.lift.Lift.{Lift}
+-- A network, as the contracts see it, and the packets in the queues of its cubes.
+use Rattle.std.specs.Prelude.{◌<◌, ℕ, List, [], length, map, slice_index_or}
 use Rattle.hmc_codes.specs.declared.lift.Lift.TheVariants as lifts
-use Rattle.hmc_codes.specs.declared.place.Place.TheVariants as places
 use Rattle.hmc_packet.specs.Packet.{PacketFields}
-use Rattle.hmc_serial.specs.Machine.{State}
-use Rattle.hmc_vault.specs.Vault.{VaultFields, bank_at}
-use Rattle.hmc_cube.specs.Cube.{CubeFields, no_vault}
+use Rattle.hmc_serial.specs.Machine.{State, no_cube_state}
+use Rattle.hmc_vault.specs.Vault.{bank_at}
+use Rattle.hmc_cube.specs.Cube.{CubeFields, vault_at}
+use Rattle.hmc_cube.specs.Places.{answers_at}
 use Rattle.hmc_host.specs.Host.{HostFields}
 use Rattle.hmc_link.specs.Held.{LinkHeld}
-use Rattle.hmc_case.specs.declared.setup.CubeSetup.{CubeSetup}
-use Rattle.hmc_journal.specs.Choice.{choose}
 use Rattle.hmc_journal.specs.declared.entry.Entry.{Entry}
 use Rattle.hmc_journal.specs.Queues.{QueueId}
 use Rattle.hmc_journal.specs.Queues.QueueId.{Output, Port, Host, Vault, Bank, Registers, Answers}
 use Rattle.hmc_journal.specs.Setup.{Topology}
-use Rattle.hmc_journal.specs.StepView.{StepView}
 
--- The link joins host 0, at its end a, to this port of cube 0, at its end b. The cube has what the
--- setup says. The last entry is that of the latest step.
+-- its cubes, hosts and links, each by its number, and the entry of the latest step
 pub record NetState : Type 0 where
-  pub setup : CubeSetup
-  pub sizes : LinkFields
-  pub port : ℕ
-  pub cube : CubeFields
-  pub host : HostFields
-  pub link : LinkHeld
+  pub topology : Topology
+  pub cubes : List CubeFields
+  pub hosts : List HostFields
+  pub links : List LinkHeld
   pub last : Entry
 
--- its topology
-abbrev pub topology_of : NetState → Topology
-topology_of net = record {
-  cubes = net.setup ∷ [];
-  links = record {
-    join = record { a = places.Host 0; b = places.Port 0 net.port };
-    setup = net.sizes;
-  } ∷ [];
+-- in place of a cube that isn't there: one without vaults
+abbrev pub no_cube : CubeFields
+no_cube = record {
+  state = no_cube_state;
+  vaults = [];
+  register_queue = [];
+  answers = [];
+  size = 0;
 }
 
--- the packets in all queues
-pub record NetQueues : Type 0 where
-  pub forth : List PacketFields
-  pub back : List PacketFields
-  pub port : ℕ
-  pub port_buffer : List PacketFields
-  pub host : List PacketFields
-  pub vaults : List VaultFields
-  pub register_queue : List PacketFields
-  pub answers : List PacketFields
+-- the cube with a number
+abbrev pub cube_in : List CubeFields → ℕ → CubeFields
+cube_in cubes cube = slice_index_or cubes cube no_cube
 
--- what a network holds
-abbrev pub queues_in : NetState → NetQueues
-queues_in net = record {
-  forth = net.link.a.queue;
-  back = net.link.b.queue;
-  port = net.port;
-  port_buffer = net.link.b.buffer;
-  host = net.link.a.buffer;
-  vaults = net.cube.vaults;
-  register_queue = net.cube.register_queue;
-  answers = net.cube.answers;
-}
+-- in place of a host that isn't there: one without requests
+abbrev pub no_host : HostFields
+no_host = record { number = 0; items = []; given = 0; tags = [] }
 
--- the vault with a number
-abbrev pub vault_in : List VaultFields → ℕ → VaultFields
-vault_in vaults vault = slice_index_or vaults vault no_vault
+-- the host with a number
+abbrev pub host_in : List HostFields → ℕ → HostFields
+host_in hosts host = slice_index_or hosts host no_host
 
--- the packets of a place; none where it isn't there
-abbrev pub packets_if : Bool → List PacketFields → List PacketFields
-packets_if true packets = packets
-packets_if false packets = []
+-- the packets that a cube has in a queue; none in the queues of links, which the links hold
+abbrev pub packets_in : CubeFields → QueueId → List PacketFields
+packets_in cube (Vault c vault) = (vault_at cube vault).vault_queue
+packets_in cube (Bank c vault bank) = bank_at (vault_at cube vault) bank
+packets_in cube (Registers c) = cube.register_queue
+packets_in cube (Answers c from) = answers_at cube from
+packets_in cube _ = []
 
--- of the first two, by number
-abbrev pub first_or_second : ℕ → (first second : List PacketFields) → List PacketFields
-first_or_second zero first second = first
-first_or_second (suc zero) first second = second
-first_or_second (suc (suc number)) first second = []
+-- the cube of a queue
+abbrev pub queue_cube : QueueId → ℕ
+queue_cube (Vault cube vault) = cube
+queue_cube (Bank cube vault bank) = cube
+queue_cube (Registers cube) = cube
+queue_cube (Answers cube from) = cube
+queue_cube _ = 0
 
--- of the only one, by number
-abbrev pub only : ℕ → List PacketFields → List PacketFields
-only zero packets = packets
-only (suc number) packets = []
+-- the packets in a queue of the cubes
+abbrev pub inside : List CubeFields → QueueId → List PacketFields
+inside cubes queue = packets_in (cube_in cubes (queue_cube queue)) queue
 
--- the answers of a vault, or of the registers
-abbrev pub answers_in : List VaultFields → (registers : List PacketFields) → Lift →
-    List PacketFields
-answers_in vaults registers (lifts.Vault vault) = (vault_in vaults vault).answers
-answers_in vaults registers lifts.Registers = registers
+-- a queue that a cube has
+abbrev pub IsIn : CubeFields → QueueId → Type 0
+IsIn x (Vault c v) = v < length x.vaults
+IsIn x (Bank c v b) = (v < length x.vaults) × (b < length (vault_at x v).banks)
+IsIn x (Answers c (lifts.Vault v)) = v < length x.vaults
+IsIn x _ = Unit {0}
 
--- the packets in a queue; none where it isn't there
-abbrev pub packets_at : NetQueues → QueueId → List PacketFields
-packets_at holding (Output direction) = first_or_second direction holding.forth holding.back
-packets_at holding (Port cube port) =
-    packets_if ((0 == cube) && (holding.port == port)) holding.port_buffer
-packets_at holding (Host host) = only host holding.host
-packets_at holding (Vault cube vault) = only cube (vault_in holding.vaults vault).vault_queue
-packets_at holding (Bank cube vault bank) = only cube (bank_at (vault_in holding.vaults vault) bank)
-packets_at holding (Registers cube) = only cube holding.register_queue
-packets_at holding (Answers cube from) = only cube (answers_in holding.vaults holding.answers from)
+-- a queue of a cube that is there, or a queue of a link
+abbrev pub IsQueueOf : List CubeFields → QueueId → Type 0
+IsQueueOf cubes (Output d) = Unit {0}
+IsQueueOf cubes (Port c p) = Unit {0}
+IsQueueOf cubes (Host h) = Unit {0}
+IsQueueOf cubes r = (queue_cube r < length cubes) × IsIn (cube_in cubes (queue_cube r)) r
 
--- the packets that a network has in a queue
-abbrev pub inside : NetState → QueueId → List PacketFields
-inside net queue = packets_at (queues_in net) queue
-
--- a queue that is there
-abbrev pub is_there : NetState → QueueId → Bool
-is_there net (Output zero) = true
-is_there net (Output (suc zero)) = true
-is_there net (Port cube port) = (0 == cube) && (net.port == port)
-is_there net (Host zero) = true
-is_there net (Vault zero vault) = true
-is_there net (Bank zero vault bank) = true
-is_there net (Registers zero) = true
-is_there net (Answers zero from) = true
-is_there net _ = false
-
--- the packets in a queue that is there, and in another one those of a view
-abbrev pub inside_or : NetState → (QueueId → List PacketFields) → QueueId → List PacketFields
-inside_or net others queue = choose (is_there net queue) (inside net queue) (others queue)
-
--- the host that is there, and the others by a view
-abbrev pub host_or : NetState → (ℕ → HostFields) → ℕ → HostFields
-host_or net others zero = net.host
-host_or net others (suc host) = others (suc host)
-
--- the plain machine of one cube
-abbrev pub machine_of : NetState → State
-machine_of net = record { cubes = net.cube.state ∷ [] }
-
--- What a step sees: the parts that are there, and of the entries of links and of parts that aren't
--- there what a view says.
-abbrev pub net_view : NetState → StepView → StepView
-net_view net view = record view {
-  inside = inside_or net view.inside;
-  state = machine_of net;
-  host = host_or net view.host;
-}
+-- the plain machine of the cubes
+abbrev pub machine_of : List CubeFields → State
+machine_of cubes = record { cubes = map (λ cube. cube.state) cubes }

@@ -1,23 +1,31 @@
 -- The network of a case at first.
-use Rattle.std.specs.Prelude.{ℕ, List}
-use Rattle.hmc_codes.specs.Link.{LinkFields}
+use Rattle.std.specs.Prelude.{◌≡◌, ◌<◌, ℕ, List, [], length, slice_index_or}
 use Rattle.hmc_script.specs.Items.{ItemFields}
-use Rattle.hmc_cube.specs.Cube.{opening_cube}
-use Rattle.hmc_host.specs.Host.{opening_host}
-use Rattle.hmc_link.specs.Held.{LinkHeld}
-use Rattle.hmc_case.specs.declared.setup.CubeSetup.{CubeSetup}
-use Rattle.hmc_journal.specs.declared.entry.Entry.{Entry}
+use Rattle.hmc_case.specs.Setup.{CubeSetupFields}
+use Rattle.hmc_cube.specs.Cube.{CubeFields, opening_cube}
+use Rattle.hmc_host.specs.Host.{HostFields, opening_host}
+use Rattle.hmc_journal.specs.Setup.{Topology, hosts_in}
+use Rattle.hmc_net.specs.LinkList.{LinksStandFor}
 use Rattle.hmc_net.specs.NetState.{NetState}
 
--- Nothing happened: the cube and the host are empty. The link and the last entry are any.
-abbrev pub opening_net : CubeSetup → LinkFields → (port : ℕ) → (script : List ItemFields) →
-    LinkHeld → (last : Entry) → NetState
-opening_net setup sizes port script link last = record {
-  setup = setup;
-  sizes = sizes;
-  port = port;
-  cube = opening_cube 0 setup.shape setup.queue;
-  host = opening_host 0 script;
-  link = link;
-  last = last;
-}
+-- empty cubes with these setups, numbered from 0
+pub record AreNewCubes (setups : List CubeSetupFields) (cubes : List CubeFields) : Type 0 where
+  pub counted : length cubes ≡ length setups
+  pub each : (cube : ℕ) (d : CubeSetupFields) (e : CubeFields) → cube < length setups →
+      slice_index_or cubes cube e
+      ≡ opening_cube cube (slice_index_or setups cube d).shape (slice_index_or setups cube d).queue
+
+-- so many hosts that have given none of their requests of a script
+pub record AreNewHosts (count : ℕ) (script : List ItemFields) (hosts : List HostFields)
+    : Type 0 where
+  pub counted : length hosts ≡ count
+  pub each : (host : ℕ) (d : HostFields) → host < count →
+      slice_index_or hosts host d ≡ opening_host host script
+
+-- Nothing happened: the cubes and the hosts are new, and the links stand for no entries.
+pub record IsOpening (net : NetState) (topology : Topology) (script : List ItemFields)
+    : Type 0 where
+  pub same_topology : net.topology ≡ topology
+  pub cubes : AreNewCubes topology.cubes net.cubes
+  pub hosts : AreNewHosts (hosts_in topology) script net.hosts
+  pub links : LinksStandFor topology.links net.links (λ link. [])

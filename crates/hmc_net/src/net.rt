@@ -1,6 +1,6 @@
 //! The network and its journal.
 
-ghost use Rattle.std.specs.Prelude.{◌≡◌, ◌<◌, ◌^◌, [], ◌∷◌, IfOk, false, length, reverse};
+ghost use Rattle.std.specs.Prelude.{◌≡◌, ◌<◌, ◌*◌, ◌^◌, [], ◌∷◌, IfOk, false, length, reverse};
 ghost use Rattle.hmc_host.specs.Tags.{number_out};
 ghost use Rattle.hmc_journal.specs.Counts.{token_counts};
 ghost use Rattle.hmc_journal.specs.Drained.{is_drained};
@@ -8,6 +8,7 @@ ghost use Rattle.hmc_journal.specs.Lawful.{has_passed};
 ghost use Rattle.hmc_journal.specs.Next.{next};
 ghost use Rattle.hmc_journal.specs.Setup.{Setup, setup_of};
 ghost use Rattle.hmc_net.specs.Journaled.{NetStandsFor, IsNetNext};
+ghost use Rattle.hmc_net.specs.NetState.{cube_in, host_in};
 ghost use Rattle.hmc_net.specs.Went.{went_of};
 
 use crate::{Network, Went};
@@ -82,10 +83,10 @@ impl Net {
         self.network.drained()
     }
 
-    /// The five numbers of the tokens of a direction, 0 or 1. After a landing that passed they say
-    /// nothing.
+    /// The five numbers of the tokens of a direction: link i has the directions 2i and 2i + 1. After
+    /// a landing that passed they say nothing.
     pub fn tokens(&self, direction: u8) -> TokenRow
-        requires { direction < 2 }
+        requires { direction < 2 * length self.now.network.links }
         ensures { (setup : Setup) → NetStandsFor self.now setup →
             has_passed self.now.journal.past ≡ false →
             result ≡ token_counts setup.topology self.now.journal.past direction }
@@ -101,18 +102,18 @@ impl Net {
         self.journal.entries()
     }
 
-    /// The cube with this number, 0.
+    /// The cube with this number, from 0.
     pub fn cube(&self, number: u8) -> &Cube
-        requires { number < 1 }
-        ensures { result.now ≡ self.now.network.cube }
+        requires { number < length self.now.network.cubes }
+        ensures { result.now ≡ cube_in self.now.network.cubes number }
     {
         self.network.cube(number)
     }
 
-    /// How many tags of the host with this number, 0, are out. The final line of a host has it.
+    /// How many tags of the host with this number, from 0, are out. The final line of a host has it.
     pub fn tags_out(&self, number: u8) -> u16
-        requires { number < 1 }
-        ensures { result ≡ number_out self.now.network.host.tags }
+        requires { number < length self.now.network.hosts }
+        ensures { result ≡ number_out (host_in self.now.network.hosts number).tags }
     {
         self.network.tags_out(number)
     }

@@ -1,10 +1,12 @@
 pub mod Writing
+pub mod ByLines
 pub mod CaseAnswers
 pub mod CubeLines
 pub mod Counting
 pub mod EntryLines
 pub mod FailedReports
-pub mod Finals
+pub mod FinalLines
+pub mod ByNumber
 pub mod Passes
 pub mod Reading
 pub mod Refusals

@@ -13,7 +13,7 @@ use Rattle.hmc_net.specs.Stands.{StandsFor, IsNext}
 use Rattle.hmc_outside.specs.Lines.{WritesLines, BreaksOff}
 use Rattle.hmc_outside.specs.Views.{SinkView}
 use Rattle.hmc_outside.proofs.LinesLemmas.{WritesLines-none, WritesLines-after, BreaksOff-after, BreaksOff-more}
-use Rattle.hmc_replay.specs.Counting.{counts_of, IsWithin}
+use Rattle.hmc_replay.specs.Counting.{counts_of, AreWithin}
 use Rattle.hmc_replay.specs.declared.counts.StepCounts.{StepCounts}
 
 -- so many steps were taken, and the line of each was written
@@ -22,10 +22,10 @@ pub record IsSoFar (setup : Setup) (past : List Entry) (net : NetState) (a b : S
   pub done : length past ≡ at
   pub written : WritesLines a b (lines_of past)
   pub counted : counts ≡ counts_of past
-  pub within : IsWithin at counts
+  pub within : AreWithin at counts
 
 -- before the first step
-pub so_far-none : (setup : Setup) (net : NetState) (a : SinkView) (counts : StepCounts) → StandsFor net setup [] → counts ≡ counts_of [] → IsWithin 0 counts → IsSoFar setup [] net a a counts 0
+pub so_far-none : (setup : Setup) (net : NetState) (a : SinkView) (counts : StepCounts) → StandsFor net setup [] → counts ≡ counts_of [] → AreWithin 0 counts → IsSoFar setup [] net a a counts 0
 unfolding lines_of
 so_far-none setup net a counts stands counted within = record { stands = stands; done = refl; written = WritesLines-none a; counted = counted; within = within }
 
@@ -41,7 +41,7 @@ lines-next entry past = refl
 
 -- and one more step
 pub so_far-more : (setup : Setup) (past : List Entry) (net net' : NetState) (a b c : SinkView) (counts counts' : StepCounts) (at : ℕ) (entry shown : Entry) → IsSoFar setup past net a b counts at → StandsFor net' setup (entry ∷ past) → shown ≡ entry
-    → counts' ≡ counts_of (entry ∷ past) → IsWithin (at + 1) counts' → WritesLines b c (line_of shown ∷ []) → IsSoFar setup (entry ∷ past) net' a c counts' (at + 1)
+    → counts' ≡ counts_of (entry ∷ past) → AreWithin (at + 1) counts' → WritesLines b c (line_of shown ∷ []) → IsSoFar setup (entry ∷ past) net' a c counts' (at + 1)
 so_far-more setup past net net' a b c counts counts' at entry shown so_far stands is counted within line = record {
   stands = stands;
   done = ap (λ n. suc n) so_far.done ∙ sym (add-one at);

@@ -13,7 +13,10 @@ use Rattle.hmc_journal.specs.Counts.{taken_count, executed_count, dropped_count,
 use Rattle.hmc_journal.specs.Hosts.{given_count}
 use Rattle.hmc_journal.specs.declared.entry.Entry.{Entry}
 use Rattle.hmc_journal.specs.declared.entry.Entry.TheVariants.{Gave, Executed, Took, Dropped, Discarded}
-use Rattle.hmc_replay.specs.Counting.{host_counted}
+use Rattle.hmc_journal.specs.declared.event.Event.TheVariants as events
+use Rattle.hmc_report.specs.Lines.{cube_line}
+use Rattle.hmc_replay.specs.Counting.{host_counted, counts_of, hosts_after}
+use Rattle.hmc_replay.specs.Report.{cube_lines}
 use Rattle.hmc_replay.specs.Top.{is_run, bad_line}
 
 is_run-words : map is_run ([] ∷ (codes "run" ∷ []) ∷ (codes "run" ∷ codes "run" ∷ []) ∷ (codes "Run" ∷ []) ∷ (codes "ru" ∷ []) ∷ []) ≡
@@ -32,8 +35,8 @@ bad_line-toml = refl
 abbrev write : RequestFields
 write = record { command = Mdwr; cube = 0; address = 4; payload = replicate 16 0 }
 
--- two requests were given, of which one was poisoned and dropped; the other was executed, and its answer taken. What another host and
--- another cube did isn't counted, and neither is a poisoned packet that the host discarded
+-- host 0 gave two requests, of which one was poisoned and dropped at cube 0; the other was executed there, and its answer taken. What
+-- host 1 and cube 1 did is counted under their numbers. A poisoned packet that a host discarded isn't counted
 abbrev some_entries : List Entry
 some_entries =
     Dropped 1 0 ∷ Dropped 0 0 ∷ Discarded 0 ∷ Took 1 0 Stored ∷ Took 0 0 Stored ∷ Executed (units.Bank 1 0 0) 0 None write Stored ∷
@@ -46,3 +49,22 @@ host_counted-some = refl
 cube_counts-some : cube_counts some_entries 1 ≡ record { executed = 1; dropped = 1 }
 unfolding cube_counts executed_count dropped_count
 cube_counts-some = refl
+
+-- the counts of all hosts and all cubes, each at its number
+counts_of-some : counts_of some_entries ≡ record {
+  hosts = record { given = 2; taken = 1; out = 0 } ∷ record { given = 1; taken = 1; out = 0 } ∷ replicate 6 (record { given = 0; taken = 0; out = 0 });
+  cubes = record { executed = 1; dropped = 1 } ∷ record { executed = 1; dropped = 1 } ∷ replicate 6 (record { executed = 0; dropped = 0 });
+}
+unfolding given_count taken_count cube_counts executed_count dropped_count
+counts_of-some = refl
+
+-- one request more of host 1, and one of a host that isn't there
+hosts_after-one : hosts_after (events.Gave 1) (replicate 2 (record { given = 3; taken = 2; out = 0 })) ≡ record { given = 3; taken = 2; out = 0 } ∷ record { given = 4; taken = 2; out = 0 } ∷ []
+hosts_after-one = refl
+
+hosts_after-none : hosts_after (events.Gave 2) (replicate 2 (record { given = 3; taken = 2; out = 0 })) ≡ replicate 2 (record { given = 3; taken = 2; out = 0 })
+hosts_after-none = refl
+
+-- the lines of two cubes, by their numbers
+cube_lines-two : cube_lines (record { executed = 5; dropped = 0 } ∷ record { executed = 0; dropped = 7 } ∷ []) 2 ≡ cube_line 0 (record { executed = 5; dropped = 0 }) ∷ cube_line 1 (record { executed = 0; dropped = 7 }) ∷ []
+cube_lines-two = refl

@@ -1,5 +1,8 @@
 -- Counting the steps of a journal one after another.
-use Rattle.std.specs.Prelude.{◌≤◌, ℕ, ◌==◌, List}
+use Rattle.std.specs.Prelude.{◌≤◌, ◌+◌, ℕ, List, map, slice_set, slice_index_or}
+use Rattle.std.specs.List.{All}
+use Rattle.hmc_codes.specs.Limits.{most_hosts, most_cubes}
+use Rattle.hmc_codes.specs.Numbers.{upto}
 use Rattle.hmc_codes.specs.declared.counts.HostCounts.{HostCounts}
 use Rattle.hmc_codes.specs.declared.counts.CubeCounts.{CubeCounts}
 use Rattle.hmc_journal.specs.declared.entry.Entry.{Entry}
@@ -7,7 +10,7 @@ use Rattle.hmc_journal.specs.declared.event.Event.{Event}
 use Rattle.hmc_journal.specs.declared.event.Event.TheVariants.{Gave, Executed, Took, Dropped}
 use Rattle.hmc_journal.specs.Counts.{taken_count, cube_counts}
 use Rattle.hmc_journal.specs.Setup.{unit_cube}
-use Rattle.hmc_journal.specs.Hosts.{given_count, count_if}
+use Rattle.hmc_journal.specs.Hosts.{given_count}
 use Rattle.hmc_replay.specs.declared.counts.StepCounts.{StepCounts}
 
 -- the counts of a host, of whose tags so many are out
@@ -15,25 +18,49 @@ abbrev pub host_counted : (host out : ℕ) → List Entry → HostCounts
 host_counted host out past =
     record { given = given_count host past; taken = taken_count host past; out = out }
 
--- and with one more step, which is counted as this
-abbrev pub host_after : (host : ℕ) → Event → HostCounts → HostCounts
-host_after h (Gave host) counts =
-    record counts { given = count_if (host == h) counts.given }
-host_after h (Took host) counts =
-    record counts { taken = count_if (host == h) counts.taken }
-host_after h _ counts = counts
-
--- the counts of a cube with one more step
-abbrev pub cube_after : (cube : ℕ) → Event → CubeCounts → CubeCounts
-cube_after c (Executed unit) counts =
-    record counts { executed = count_if (unit_cube unit == c) counts.executed }
-cube_after c (Dropped cube) counts =
-    record counts { dropped = count_if (cube == c) counts.dropped }
-cube_after c _ counts = counts
-
--- the counts of host 0, without its tags, and of cube 0
+-- the counts of all hosts, without their tags, and of all cubes
 abbrev pub counts_of : List Entry → StepCounts
-counts_of past = record { host = host_counted 0 0 past; cube = cube_counts past 0 }
+counts_of past = record {
+  hosts = map (λ host. host_counted host 0 past) (upto most_hosts);
+  cubes = map (cube_counts past) (upto most_cubes);
+}
+
+-- the counts of a host and of a cube, by its number; 0 where it isn't there
+abbrev pub host_at : List HostCounts → (host : ℕ) → HostCounts
+host_at counts host =
+    slice_index_or counts host (record { given = 0; taken = 0; out = 0 })
+
+abbrev pub cube_at : List CubeCounts → (cube : ℕ) → CubeCounts
+cube_at counts cube = slice_index_or counts cube (record { executed = 0; dropped = 0 })
+
+-- a host gave one more request, or took one more answer
+abbrev pub gave_one : (host : ℕ) → List HostCounts → List HostCounts
+gave_one host counts = slice_set counts host
+    (record (host_at counts host) { given = (host_at counts host).given + 1 })
+
+abbrev pub took_one : (host : ℕ) → List HostCounts → List HostCounts
+took_one host counts = slice_set counts host
+    (record (host_at counts host) { taken = (host_at counts host).taken + 1 })
+
+-- a cube executed one more request, or dropped one more packet
+abbrev pub executed_one : (cube : ℕ) → List CubeCounts → List CubeCounts
+executed_one cube counts = slice_set counts cube
+    (record (cube_at counts cube) { executed = (cube_at counts cube).executed + 1 })
+
+abbrev pub dropped_one : (cube : ℕ) → List CubeCounts → List CubeCounts
+dropped_one cube counts = slice_set counts cube
+    (record (cube_at counts cube) { dropped = (cube_at counts cube).dropped + 1 })
+
+-- the counts of hosts and of cubes with one more step
+abbrev pub hosts_after : Event → List HostCounts → List HostCounts
+hosts_after (Gave host) counts = gave_one host counts
+hosts_after (Took host) counts = took_one host counts
+hosts_after _ counts = counts
+
+abbrev pub cubes_after : Event → List CubeCounts → List CubeCounts
+cubes_after (Executed unit) counts = executed_one (unit_cube unit) counts
+cubes_after (Dropped cube) counts = dropped_one cube counts
+cubes_after _ counts = counts
 
 -- no count is above this number
 pub record HostIsWithin (most : ℕ) (counts : HostCounts) : Type 0 where
@@ -44,6 +71,6 @@ pub record CubeIsWithin (most : ℕ) (counts : CubeCounts) : Type 0 where
   pub executed : counts.executed ≤ most
   pub dropped : counts.dropped ≤ most
 
-pub record IsWithin (most : ℕ) (counts : StepCounts) : Type 0 where
-  pub host : HostIsWithin most counts.host
-  pub cube : CubeIsWithin most counts.cube
+pub record AreWithin (most : ℕ) (counts : StepCounts) : Type 0 where
+  pub hosts : All (HostIsWithin most) counts.hosts
+  pub cubes : All (CubeIsWithin most) counts.cubes

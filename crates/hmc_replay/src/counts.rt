@@ -1,14 +1,18 @@
 //! What is counted of the steps.
 
-ghost use Rattle.std.specs.Prelude.{◌≡◌, ◌<◌, ◌+◌, ◌^◌, ℕ, ◌==◌, List, [], ◌∷◌};
+ghost use Rattle.std.specs.Prelude.{◌≡◌, ◌<◌, ◌+◌, ◌^◌, ℕ, List, [], ◌∷◌};
+ghost use Rattle.std.specs.List.{All};
 ghost use Rattle.hmc_journal.specs.Event.{event_of};
 ghost use Rattle.hmc_journal.specs.Setup.{unit_cube};
-ghost use Rattle.hmc_journal.specs.Hosts.{count_if};
 ghost use Rattle.hmc_journal.specs.declared.entry.Entry.{Entry};
-ghost use Rattle.hmc_replay.specs.Counting.{counts_of, host_after, cube_after, HostIsWithin, CubeIsWithin, IsWithin};
+ghost use Rattle.hmc_replay.specs.Counting.{counts_of, hosts_after, cubes_after, executed_one, HostIsWithin, CubeIsWithin, AreWithin};
 
-use hmc_codes::{CubeCounts, HostCounts, Unit};
+use hmc_codes::{CubeCounts, HostCounts, MOST_CUBES, MOST_HOSTS, Unit};
 use hmc_journal::Event;
+
+const HOSTS: usize = MOST_HOSTS as usize;
+
+const CUBES: usize = MOST_CUBES as usize;
 
 fn unit_cube(unit: Unit) -> u8
     ensures { result ≡ unit_cube unit }
@@ -19,78 +23,83 @@ fn unit_cube(unit: Unit) -> u8
     }
 }
 
-// One more, where the number is the one that is counted.
-fn one_more(number: u8, counted: u8, count: u32) -> u32
-    requires { count + 1 < 2 ^ 32 }
-    ensures { result ≡ count_if (number == counted) count }
-{
-    if number == counted { count + 1 } else { count }
-}
-
 // Counts one more step.
-fn add_to_host(counts: &mut HostCounts, number: u8, event: Event)
-    requires { (most : ℕ) × (most + 1 < 2 ^ 32) × HostIsWithin most counts.old }
-    ensures counted { counts.new ≡ host_after number event counts.old }
-    ensures within { (most : ℕ) → HostIsWithin most counts.old →
-        HostIsWithin (most + 1) counts.new }
+fn add_to_hosts(counts: &mut [HostCounts; HOSTS], event: Event)
+    requires { (most : ℕ) × (most + 1 < 2 ^ 32) × All (HostIsWithin most) counts.old }
+    ensures counted { counts.new ≡ hosts_after event counts.old }
+    ensures within { (most : ℕ) → All (HostIsWithin most) counts.old →
+        All (HostIsWithin (most + 1)) counts.new }
 {
     match event {
-        Event::Gave { host } => counts.given = one_more(host, number, counts.given),
-        Event::Took { host } => counts.taken = one_more(host, number, counts.taken),
+        Event::Gave { host } if host < MOST_HOSTS => counts[usize::from(host)].given += 1,
+        Event::Took { host } if host < MOST_HOSTS => counts[usize::from(host)].taken += 1,
         _ => {}
     }
 }
 
+// A cube executed one more request.
+fn add_executed(counts: &mut [CubeCounts; CUBES], cube: u8)
+    requires { (most : ℕ) × (most + 1 < 2 ^ 32) × All (CubeIsWithin most) counts.old }
+    ensures counted { counts.new ≡ executed_one cube counts.old }
+    ensures within { (most : ℕ) → All (CubeIsWithin most) counts.old →
+        All (CubeIsWithin (most + 1)) counts.new }
+{
+    if cube < MOST_CUBES {
+        counts[usize::from(cube)].executed += 1;
+    }
+}
+
 // Counts one more step.
-fn add_to_cube(counts: &mut CubeCounts, number: u8, event: Event)
-    requires { (most : ℕ) × (most + 1 < 2 ^ 32) × CubeIsWithin most counts.old }
-    ensures counted { counts.new ≡ cube_after number event counts.old }
-    ensures within { (most : ℕ) → CubeIsWithin most counts.old →
-        CubeIsWithin (most + 1) counts.new }
+fn add_to_cubes(counts: &mut [CubeCounts; CUBES], event: Event)
+    requires { (most : ℕ) × (most + 1 < 2 ^ 32) × All (CubeIsWithin most) counts.old }
+    ensures counted { counts.new ≡ cubes_after event counts.old }
+    ensures within { (most : ℕ) → All (CubeIsWithin most) counts.old →
+        All (CubeIsWithin (most + 1)) counts.new }
 {
     match event {
-        Event::Executed { unit } => {
-            counts.executed = one_more(unit_cube(unit), number, counts.executed);
-        }
-        Event::Dropped { cube } => counts.dropped = one_more(cube, number, counts.dropped),
+        Event::Executed { unit } => add_executed(counts, unit_cube(unit)),
+        Event::Dropped { cube } if cube < MOST_CUBES => counts[usize::from(cube)].dropped += 1,
         _ => {}
     }
 }
 
-/// The counts of host 0 and of cube 0. How many tags are out the host itself counts.
+/// The counts of all hosts and of all cubes, by their numbers. How many tags are out each host
+/// itself counts.
 #[derive(Clone, Copy)]
 pub struct StepCounts {
-    pub host: HostCounts,
-    pub cube: CubeCounts,
+    pub hosts: [HostCounts; HOSTS],
+    pub cubes: [CubeCounts; CUBES],
 }
 
 impl StepCounts {
     /// Before the first step.
     pub fn new() -> Self
         ensures counted { result ≡ counts_of [] }
-        ensures within { IsWithin 0 result }
+        ensures within { AreWithin 0 result }
     {
+        let host = HostCounts {
+            given: 0,
+            taken: 0,
+            out: 0,
+        };
+        let cube = CubeCounts {
+            executed: 0,
+            dropped: 0,
+        };
         StepCounts {
-            host: HostCounts {
-                given: 0,
-                taken: 0,
-                out: 0,
-            },
-            cube: CubeCounts {
-                executed: 0,
-                dropped: 0,
-            },
+            hosts: [host; HOSTS],
+            cubes: [cube; CUBES],
         }
     }
 
     /// Counts one more step.
     pub fn add(&mut self, event: Event)
-        requires { (most : ℕ) × (most + 1 < 2 ^ 32) × IsWithin most self.old }
+        requires { (most : ℕ) × (most + 1 < 2 ^ 32) × AreWithin most self.old }
         ensures counted { (entry : Entry) (past : List Entry) → event ≡ event_of entry →
             self.old ≡ counts_of past → self.new ≡ counts_of (entry ∷ past) }
-        ensures within { (most : ℕ) → IsWithin most self.old → IsWithin (most + 1) self.new }
+        ensures within { (most : ℕ) → AreWithin most self.old → AreWithin (most + 1) self.new }
     {
-        add_to_host(&mut self.host, 0, event);
-        add_to_cube(&mut self.cube, 0, event);
+        add_to_hosts(&mut self.hosts, event);
+        add_to_cubes(&mut self.cubes, event);
     }
 }

@@ -6,6 +6,7 @@
 #![tactic(auto)]
 
 mod counts;
+mod finals;
 mod input;
 mod lines;
 mod output;

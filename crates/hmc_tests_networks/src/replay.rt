@@ -6,7 +6,7 @@ use hmc_replay::replay;
 use std::alloc::Global;
 use std::test::Fail;
 
-/// More than any of these reports has.
+/// More than most of these reports have.
 const ROOM: usize = 32_768;
 
 /// One cube of 1,024 bytes, with a host at its port 0.
@@ -49,6 +49,7 @@ struct Run<'a> {
     input: &'a [u8],
     reads: &'a [u32],
     writes: &'a [(u32, usize)],
+    room: usize,
 }
 
 impl<'a> Run<'a> {
@@ -59,6 +60,7 @@ impl<'a> Run<'a> {
             input,
             reads: &[],
             writes: &[],
+            room: ROOM,
         }
     }
 
@@ -66,7 +68,7 @@ impl<'a> Run<'a> {
     fn gives(&self, alloc: Global) -> Result<(u8, String), Fail> {
         let words = words_of(alloc, self.words)?;
         let mut source = MemorySource::new(alloc, self.input, self.reads)?;
-        let mut sink = MemorySink::new(alloc, ROOM, self.writes)?;
+        let mut sink = MemorySink::new(alloc, self.room, self.writes)?;
         let status = replay(alloc, &words, &mut source, &mut sink);
         let text = str::from_utf8(sink.as_slice()).map_err(|_| "a report is text")?;
         Ok((status, String::from_str(alloc, text)?))
@@ -131,6 +133,70 @@ fn each_line_of_a_report_is_one_write(rt: HostRuntime) -> Result<(), Fail> {
         each_line_is_one_write(alloc, case.as_bytes(), &report)?,
         "writes"
     );
+    Ok(())
+}
+
+/// Two cubes in a row, and a host at each.
+const ROW: &str = "[[cubes]]
+vault_bits = 0
+bank_bits = 0
+rows = 4
+queue = 4
+
+[[cubes]]
+vault_bits = 0
+bank_bits = 0
+rows = 4
+queue = 4
+
+[[links]]
+a = \"h1\"
+b = \"c1.3\"
+line = 8
+tokens = 34
+retry = 64
+output = 4
+
+[[links]]
+a = \"c0.1\"
+b = \"c1.0\"
+line = 8
+tokens = 34
+retry = 64
+output = 4
+
+[[links]]
+a = \"h0\"
+b = \"c0.0\"
+line = 8
+tokens = 34
+retry = 64
+output = 4
+";
+
+/// The last lines of two requests, each to the other cube.
+const ROW_ENDS: &str = "memory 1 0x0 000102030405060708090a0b0c0d0e0f
+register 0 4 00000005
+host 0 1 1 0
+host 1 1 1 0
+cube 0 1 0
+cube 1 1 0
+state drained
+";
+
+#[test]
+fn final_lines_are_those_of_all_cubes_and_hosts(rt: HostRuntime) -> Result<(), Fail> {
+    let alloc = rt.alloc();
+    let script = format!(in alloc; "0 wr16 1 0 {BYTES}\n1 mdwr 0 4 5\n")?;
+    let texts = format!(in alloc; "script = '''\n{script}'''\nschedule = '''\nround 82\n'''\n")?;
+    let case = format!(in alloc; "profile = 1\n{texts}\n{ROW}")?;
+    let run = Run {
+        room: 4 * ROOM,
+        ..Run::of(&["run"], case.as_bytes())
+    };
+    let (status, report) = run.gives(alloc)?;
+    assert!(rt; status == 0, "status");
+    assert!(rt; report.ends_with(ROW_ENDS), "last lines");
     Ok(())
 }
 

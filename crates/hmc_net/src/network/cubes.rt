@@ -1,248 +1,92 @@
-//! The steps of cubes.
+//! The steps in cubes: spread, bank and registers.
 
-ghost use Rattle.std.specs.Prelude.{◌≡◌, ◌<◌, ◌^◌, IfSome, List, Some};
+ghost use Rattle.std.specs.Prelude.{◌≡◌, ◌<◌};
 ghost use Rattle.hmc_codes.specs.Commands.{is_posted};
-ghost use Rattle.hmc_journal.specs.Event.{cause_of};
-ghost use Rattle.hmc_journal.specs.Next.{choice, goal_at, spread_entry, tag_of, ran_entry};
-ghost use Rattle.hmc_journal.specs.StepView.{StepView};
-ghost use Rattle.hmc_link.specs.StandsFor.{LinkStandsFor};
-ghost use Rattle.hmc_send.specs.LinkEntries.{LinkEntry};
-ghost use Rattle.hmc_net.specs.Apply.{with_entry, to_of, IsLinkAfter};
-ghost use Rattle.hmc_net.specs.NetState.{topology_of, net_view};
-ghost use Rattle.hmc_net.specs.Ready.{IsReady, IsLiftFor};
+ghost use Rattle.hmc_journal.specs.Answers.{spread_entry, tag_of, ran_entry};
+ghost use Rattle.hmc_journal.specs.Setup.{cubes_in};
+ghost use Rattle.hmc_net.specs.Apply.{DoesStep};
+ghost use Rattle.hmc_net.specs.Ready.{IsVaultIn, IsBankIn};
+ghost use Rattle.hmc_net.specs.Sees.{IsReady};
 
 use crate::Network;
-use hmc_codes::{Command, Lift, Unit};
-use hmc_crossbar::To;
+use hmc_codes::{Command, Unit};
 use hmc_cube::{Executed, Spread};
-use hmc_journal::{Cause, Goal, LastEntry};
-use hmc_link::Toward;
+use hmc_journal::{Cause, LastEntry};
 use hmc_schedule::Step;
 
 impl Network {
-    // The front of the port's buffer goes on, or is dropped.
-    pub(crate) fn shift(&mut self, port: u8)
-        requires there { port ≡ self.old.port }
-        requires ready { IsReady self.old }
-        ensures entry { (view : StepView) →
-            LinkStandsFor self.old.sizes self.old.link (view.entries 0) →
-            self.new.last
-            ≡ choice (topology_of self.old) (net_view self.old view) (Step.Shift 0 port) }
-        ensures link { (entries : List LinkEntry) →
-            LinkStandsFor self.old.sizes self.old.link entries →
-            IsLinkAfter self.old self.new entries }
-        ensures parts { self.new
-            ≡ record (with_entry self.new.last self.old) { link = self.new.link } }
-        ensures idle { (cause : Cause) → cause_of self.new.last ≡ Some cause →
-            self.new.link ≡ self.old.link }
-    {
-        let Some(front) = self.link.front(Toward::Forth) else {
-            self.last.idle(&Step::Shift(0, port), Cause::Empty);
-            return;
-        };
-        let setup = self.setup;
-        let to = To::of(setup.shape, &front);
-        let Some(goal) = goal_at(to) else {
-            let _ = self.link.take(Toward::Forth);
-            self.last.dropped(0, port);
-            return;
-        };
-        if !self.cube.room(to) {
-            self.last.idle(&Step::Shift(0, port), Cause::Full);
-            return;
-        }
-        let _ = self.link.take(Toward::Forth);
-        self.cube.enter(to, front);
-        self.last.shifted(0, port, goal);
-    }
-
     // The front of a vault's queue goes to its bank.
-    pub(crate) fn spread(&mut self, vault: u8)
-        requires there { vault < 2 ^ self.old.setup.shape.vault_bits }
+    pub(crate) fn spread(&mut self, cube: u8, vault: u8)
+        requires there { IsVaultIn self.old.topology cube vault }
         requires ready { IsReady self.old }
-        ensures entry { (view : StepView) →
-            LinkStandsFor self.old.sizes self.old.link (view.entries 0) →
-            self.new.last
-            ≡ choice (topology_of self.old) (net_view self.old view) (Step.Spread 0 vault) }
-        ensures link { (entries : List LinkEntry) →
-            LinkStandsFor self.old.sizes self.old.link entries →
-            IsLinkAfter self.old self.new entries }
-        ensures parts { self.new
-            ≡ record (with_entry self.new.last self.old) { link = self.new.link } }
-        ensures idle { (cause : Cause) → cause_of self.new.last ≡ Some cause →
-            self.new.link ≡ self.old.link }
+        ensures { DoesStep self.old self.new (Step.Spread cube vault) }
     {
-        self.cube.invariant();
-        let spread = self.cube.spread(vault);
-        note_spread(&mut self.last, vault, spread);
+        let owner = &mut self.cubes[usize::from(cube)];
+        owner.invariant();
+        let spread = owner.spread(vault);
+        note_spread(&mut self.last, cube, vault, spread);
     }
 
     // A bank executes the front of its queue.
-    pub(crate) fn bank(&mut self, vault: u8, bank: u8)
-        requires vault { vault < 2 ^ self.old.setup.shape.vault_bits }
-        requires bank { bank < 2 ^ self.old.setup.shape.bank_bits }
+    pub(crate) fn bank(&mut self, cube: u8, vault: u8, bank: u8)
+        requires there { IsBankIn self.old.topology cube vault bank }
         requires ready { IsReady self.old }
-        ensures entry { (view : StepView) →
-            LinkStandsFor self.old.sizes self.old.link (view.entries 0) →
-            self.new.last
-            ≡ choice (topology_of self.old) (net_view self.old view) (Step.Bank 0 vault bank) }
-        ensures link { (entries : List LinkEntry) →
-            LinkStandsFor self.old.sizes self.old.link entries →
-            IsLinkAfter self.old self.new entries }
-        ensures parts { self.new
-            ≡ record (with_entry self.new.last self.old) { link = self.new.link } }
-        ensures idle { (cause : Cause) → cause_of self.new.last ≡ Some cause →
-            self.new.link ≡ self.old.link }
+        ensures { DoesStep self.old self.new (Step.Bank cube vault bank) }
     {
-        if self.cube.bank_is_empty(vault, bank) {
-            self.last.idle(&Step::Bank(0, vault, bank), Cause::Empty);
+        if self.cubes[usize::from(cube)].bank_is_empty(vault, bank) {
+            self.last.idle(&Step::Bank(cube, vault, bank), Cause::Empty);
             return;
         }
-        self.bank_front(vault, bank);
+        self.bank_front(cube, vault, bank);
     }
 
     // The same. Where the queue is empty, no request is to be moved.
-    fn bank_front(&mut self, vault: u8, bank: u8)
-        requires vault { vault < 2 ^ self.old.setup.shape.vault_bits }
-        requires bank { bank < 2 ^ self.old.setup.shape.bank_bits }
+    fn bank_front(&mut self, cube: u8, vault: u8, bank: u8)
+        requires there { IsBankIn self.old.topology cube vault bank }
         requires ready { IsReady self.old }
-        ensures entry { (view : StepView) →
-            LinkStandsFor self.old.sizes self.old.link (view.entries 0) →
-            self.new.last
-            ≡ choice (topology_of self.old) (net_view self.old view) (Step.Bank 0 vault bank) }
-        ensures link { (entries : List LinkEntry) →
-            LinkStandsFor self.old.sizes self.old.link entries →
-            IsLinkAfter self.old self.new entries }
-        ensures parts { self.new
-            ≡ record (with_entry self.new.last self.old) { link = self.new.link } }
-        ensures idle { (cause : Cause) → cause_of self.new.last ≡ Some cause →
-            self.new.link ≡ self.old.link }
+        ensures { DoesStep self.old self.new (Step.Bank cube vault bank) }
     {
-        let unit = Unit::Bank {
-            cube: 0,
-            vault,
-            bank,
-        };
-        let ran = self.cube.execute(vault, bank);
-        note_ran(&mut self.last, unit, &Step::Bank(0, vault, bank), &ran);
+        let unit = Unit::Bank { cube, vault, bank };
+        let owner = &mut self.cubes[usize::from(cube)];
+        owner.invariant();
+        let ran = owner.execute(vault, bank);
+        note_ran(&mut self.last, unit, &Step::Bank(cube, vault, bank), &ran);
     }
 
     // The registers execute the front of their queue.
-    pub(crate) fn registers(&mut self)
-        requires { IsReady self.old }
-        ensures entry { (view : StepView) →
-            LinkStandsFor self.old.sizes self.old.link (view.entries 0) →
-            self.new.last
-            ≡ choice (topology_of self.old) (net_view self.old view) (Step.Registers 0) }
-        ensures link { (entries : List LinkEntry) →
-            LinkStandsFor self.old.sizes self.old.link entries →
-            IsLinkAfter self.old self.new entries }
-        ensures parts { self.new
-            ≡ record (with_entry self.new.last self.old) { link = self.new.link } }
-        ensures idle { (cause : Cause) → cause_of self.new.last ≡ Some cause →
-            self.new.link ≡ self.old.link }
+    pub(crate) fn registers(&mut self, cube: u8)
+        requires there { cube < cubes_in self.old.topology }
+        requires ready { IsReady self.old }
+        ensures { DoesStep self.old self.new (Step.Registers cube) }
     {
-        if self.cube.register_queue_is_empty() {
-            self.last.idle(&Step::Registers(0), Cause::Empty);
+        if self.cubes[usize::from(cube)].register_queue_is_empty() {
+            self.last.idle(&Step::Registers(cube), Cause::Empty);
             return;
         }
-        self.registers_front();
+        self.registers_front(cube);
     }
 
     // The same. Where the queue is empty, no request is to be moved.
-    fn registers_front(&mut self)
-        requires { IsReady self.old }
-        ensures entry { (view : StepView) →
-            LinkStandsFor self.old.sizes self.old.link (view.entries 0) →
-            self.new.last
-            ≡ choice (topology_of self.old) (net_view self.old view) (Step.Registers 0) }
-        ensures link { (entries : List LinkEntry) →
-            LinkStandsFor self.old.sizes self.old.link entries →
-            IsLinkAfter self.old self.new entries }
-        ensures parts { self.new
-            ≡ record (with_entry self.new.last self.old) { link = self.new.link } }
-        ensures idle { (cause : Cause) → cause_of self.new.last ≡ Some cause →
-            self.new.link ≡ self.old.link }
-    {
-        let ran = self.cube.registers();
-        let unit = Unit::Registers { cube: 0 };
-        note_ran(&mut self.last, unit, &Step::Registers(0), &ran);
-    }
-
-    // An answer goes to the output queue of the port.
-    pub(crate) fn lift(&mut self, from: Lift)
-        requires there { IsLiftFor (topology_of self.old) 0 from }
+    fn registers_front(&mut self, cube: u8)
+        requires there { cube < cubes_in self.old.topology }
         requires ready { IsReady self.old }
-        ensures entry { (view : StepView) →
-            LinkStandsFor self.old.sizes self.old.link (view.entries 0) →
-            self.new.last
-            ≡ choice (topology_of self.old) (net_view self.old view) (Step.Lift 0 from) }
-        ensures link { (entries : List LinkEntry) →
-            LinkStandsFor self.old.sizes self.old.link entries →
-            IsLinkAfter self.old self.new entries }
-        ensures parts { self.new
-            ≡ record (with_entry self.new.last self.old) { link = self.new.link } }
-        ensures idle { (cause : Cause) → cause_of self.new.last ≡ Some cause →
-            self.new.link ≡ self.old.link }
+        ensures { DoesStep self.old self.new (Step.Registers cube) }
     {
-        if self.cube.answers_are_empty(from) {
-            self.last.idle(&Step::Lift(0, from), Cause::Empty);
-            return;
-        }
-        self.lift_answer(from);
-    }
-
-    // The same. Where there is no answer, no packet is to be moved.
-    fn lift_answer(&mut self, from: Lift)
-        requires there { IsLiftFor (topology_of self.old) 0 from }
-        requires ready { IsReady self.old }
-        ensures entry { (view : StepView) →
-            LinkStandsFor self.old.sizes self.old.link (view.entries 0) →
-            self.new.last
-            ≡ choice (topology_of self.old) (net_view self.old view) (Step.Lift 0 from) }
-        ensures link { (entries : List LinkEntry) →
-            LinkStandsFor self.old.sizes self.old.link entries →
-            IsLinkAfter self.old self.new entries }
-        ensures parts { self.new
-            ≡ record (with_entry self.new.last self.old) { link = self.new.link } }
-        ensures idle { (cause : Cause) → cause_of self.new.last ≡ Some cause →
-            self.new.link ≡ self.old.link }
-    {
-        let Some(front) = self.cube.lift_front(from) else {
-            self.last.idle(&Step::Lift(0, from), Cause::Empty);
-            return;
-        };
-        if !self.link.room(Toward::Back) {
-            self.last.idle(&Step::Lift(0, from), Cause::Full);
-            return;
-        }
-        let _ = self.cube.lift(from);
-        self.link.hand(Toward::Back, front);
-        self.last.lifted(0, from, self.port);
-    }
-}
-
-// The goal that this place is, unless it is nowhere.
-fn goal_at(to: To) -> Option<Goal>
-    ensures goal { result ≡ goal_at to }
-    ensures place { IfSome result (λ goal. to ≡ to_of goal) }
-{
-    match to {
-        To::Vault(vault) => Some(Goal::Vault(vault)),
-        To::Registers => Some(Goal::Registers),
-        To::Port(port) => Some(Goal::Port(port)),
-        To::Nowhere => None,
+        let unit = Unit::Registers { cube };
+        let owner = &mut self.cubes[usize::from(cube)];
+        let ran = owner.registers();
+        note_ran(&mut self.last, unit, &Step::Registers(cube), &ran);
     }
 }
 
 // The last entry becomes that of a spread.
-fn note_spread(last: &mut LastEntry, vault: u8, spread: Spread)
-    ensures { last.new ≡ spread_entry 0 vault spread }
+fn note_spread(last: &mut LastEntry, cube: u8, vault: u8, spread: Spread)
+    ensures { last.new ≡ spread_entry cube vault spread }
 {
     match spread {
-        Spread::Empty => last.idle(&Step::Spread(0, vault), Cause::Empty),
-        Spread::Full => last.idle(&Step::Spread(0, vault), Cause::Full),
-        Spread::Moved { bank } => last.spread(0, vault, bank),
+        Spread::Empty => last.idle(&Step::Spread(cube, vault), Cause::Empty),
+        Spread::Full => last.idle(&Step::Spread(cube, vault), Cause::Full),
+        Spread::Moved { bank } => last.spread(cube, vault, bank),
     }
 }
 

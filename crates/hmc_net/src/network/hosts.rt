@@ -1,104 +1,84 @@
 //! The steps of hosts.
 
-ghost use Rattle.std.specs.Prelude.{◌≡◌, true, List, Some, length, nat_lt};
-ghost use Rattle.hmc_codes.specs.Link.{LinkFields};
+ghost use Rattle.std.specs.Prelude.{◌≡◌, ◌<◌, ◌/◌, ℕ, List, Some};
+ghost use Rattle.hmc_case.specs.declared.setup.LinkRow.{LinkRow};
+ghost use Rattle.hmc_codes.specs.declared.place.Place.TheVariants as places;
+ghost use Rattle.hmc_journal.specs.Answers.{gave_entry, took_entry};
 ghost use Rattle.hmc_journal.specs.Event.{cause_of};
-ghost use Rattle.hmc_journal.specs.Next.{choice, gave_entry, took_entry};
+ghost use Rattle.hmc_journal.specs.Links.{toward, direction_to};
+ghost use Rattle.hmc_journal.specs.Setup.{hosts_in, direction_from};
 ghost use Rattle.hmc_journal.specs.StepView.{StepView};
-ghost use Rattle.hmc_link.specs.StandsFor.{LinkStandsFor};
+ghost use Rattle.hmc_send.specs.LinkCalls.{has_room};
 ghost use Rattle.hmc_send.specs.LinkEntries.{LinkEntry};
-ghost use Rattle.hmc_net.specs.Apply.{with_entry, IsLinkAfter};
-ghost use Rattle.hmc_net.specs.Gives.{IsGiven, given_to, cause_by};
-ghost use Rattle.hmc_net.specs.NetState.{topology_of, net_view};
-ghost use Rattle.hmc_net.specs.Ready.{IsReady};
+ghost use Rattle.hmc_net.specs.Apply.{DoesStep};
+ghost use Rattle.hmc_net.specs.Gives.{IsGiven, IsRequested, given_to, cause_by};
+ghost use Rattle.hmc_net.specs.LinkList.{LinksStandFor, IsDirection, IsRoom};
+ghost use Rattle.hmc_net.specs.Sees.{IsReady};
 
 use crate::Network;
-use hmc_crossbar::PortBuffer;
-use hmc_host::{Given, Hindrance, HostBuffer, Settled};
+use crate::link_list::LinkList;
+use hmc_host::{Given, Hindrance, Settled};
 use hmc_journal::{Cause, LastEntry};
-use hmc_link::{Link, Toward};
 use hmc_schedule::Step;
 
 impl Network {
-    // The host gives its next request to the link.
-    pub(crate) fn give(&mut self)
-        requires { IsReady self.old }
-        ensures entry { (view : StepView) →
-            LinkStandsFor self.old.sizes self.old.link (view.entries 0) →
-            self.new.last
-            ≡ choice (topology_of self.old) (net_view self.old view) (Step.Give 0) }
-        ensures link { (entries : List LinkEntry) →
-            LinkStandsFor self.old.sizes self.old.link entries →
-            IsLinkAfter self.old self.new entries }
-        ensures parts { self.new
-            ≡ record (with_entry self.new.last self.old) { link = self.new.link } }
-        ensures idle { (cause : Cause) → cause_of self.new.last ≡ Some cause →
-            self.new.link ≡ self.old.link }
+    // The host gives its next request to its link.
+    pub(crate) fn give(&mut self, host: u8)
+        requires there { host < hosts_in self.old.topology }
+        requires ready { IsReady self.old }
+        ensures { DoesStep self.old self.new (Step.Give host) }
     {
-        let room = self.link.room(Toward::Forth);
-        if let Some(hindrance) = self.host.hindrance(room) {
-            self.last.idle(&Step::Give(0), cause_of(hindrance));
+        let direction = self.wiring.from_host(host);
+        let room = self.links.room(direction);
+        if let Some(hindrance) = self.hosts[usize::from(host)].hindrance(room) {
+            self.last.idle(&Step::Give(host), cause_of(hindrance));
             return;
         }
-        self.give_next(room);
+        self.give_next(host, direction, room);
     }
 
     // The same. Where nothing is given, no packet is to be moved.
-    fn give_next(&mut self, room: bool)
+    fn give_next(&mut self, host: u8, direction: u8, room: bool)
+        requires there { host < hosts_in self.old.topology }
         requires ready { IsReady self.old }
-        requires room { room ≡ nat_lt (length self.old.link.a.queue) self.old.link.a.setup.output }
-        ensures entry { (view : StepView) →
-            LinkStandsFor self.old.sizes self.old.link (view.entries 0) →
-            self.new.last
-            ≡ choice (topology_of self.old) (net_view self.old view) (Step.Give 0) }
-        ensures link { (entries : List LinkEntry) →
-            LinkStandsFor self.old.sizes self.old.link entries →
-            IsLinkAfter self.old self.new entries }
-        ensures parts { self.new
-            ≡ record (with_entry self.new.last self.old) { link = self.new.link } }
-        ensures idle { (cause : Cause) → cause_of self.new.last ≡ Some cause →
-            self.new.link ≡ self.old.link }
+        requires from { direction_from self.old.topology (places.Host host) ≡ Some direction }
+        requires room { IsRoom self.old.links direction room }
+        ensures { DoesStep self.old self.new (Step.Give host) }
     {
-        let given = self.host.give(room);
-        hand_given(&mut self.link, &given);
-        note_given(&mut self.last, &given);
+        let giver = &mut self.hosts[usize::from(host)];
+        let given = giver.give(room);
+        hand_given(&mut self.links, direction, &given);
+        note_given(&mut self.last, host, &given);
     }
 
     // The host takes the answer of the packet that came first, or drops that.
-    pub(crate) fn take(&mut self)
-        requires { IsReady self.old }
-        ensures entry { (view : StepView) →
-            LinkStandsFor self.old.sizes self.old.link (view.entries 0) →
-            self.new.last
-            ≡ choice (topology_of self.old) (net_view self.old view) (Step.Take 0) }
-        ensures link { (entries : List LinkEntry) →
-            LinkStandsFor self.old.sizes self.old.link entries →
-            IsLinkAfter self.old self.new entries }
-        ensures parts { self.new
-            ≡ record (with_entry self.new.last self.old) { link = self.new.link } }
-        ensures idle { (cause : Cause) → cause_of self.new.last ≡ Some cause →
-            self.new.link ≡ self.old.link }
+    pub(crate) fn take(&mut self, host: u8)
+        requires there { host < hosts_in self.old.topology }
+        requires ready { IsReady self.old }
+        ensures { DoesStep self.old self.new (Step.Take host) }
     {
-        let Some(front) = self.link.front(Toward::Back) else {
-            self.last.idle(&Step::Take(0), Cause::Empty);
+        let direction = self.wiring.to_host(host);
+        let Some(front) = self.links.front(direction) else {
+            self.last.idle(&Step::Take(host), Cause::Empty);
             return;
         };
-        let _ = self.link.take(Toward::Back);
-        let settled = self.host.settle(&front);
-        note_settled(&mut self.last, &settled);
+        self.links.take(direction);
+        let taker = &mut self.hosts[usize::from(host)];
+        let settled = taker.settle(&front);
+        note_settled(&mut self.last, host, &settled);
     }
 }
 
-// Hands to the link what the host gave, if it gave something.
-fn hand_given(link: &mut Link<HostBuffer, PortBuffer>, given: &Given)
-    requires going { link.old.going ≡ true }
-    requires fit { IsGiven given.now (nat_lt (length link.old.a.queue) link.old.a.setup.output) }
-    ensures stands { (sizes : LinkFields) (entries : List LinkEntry) →
-        LinkStandsFor sizes link.old entries →
-        LinkStandsFor sizes link.new (given_to given.now entries) }
-    ensures going { link.new.going ≡ true }
-    ensures same { (cause : Cause) → cause_of (gave_entry 0 given.now) ≡ Some cause →
-        link.new ≡ link.old }
+// Hands to a direction what the host gave, if it gave something.
+fn hand_given(links: &mut LinkList, direction: u8, given: &Given)
+    requires there { IsDirection links.old direction }
+    requires fit { IsGiven links.old direction given.now }
+    ensures stands { (rows : List LinkRow) (entries : ℕ → List LinkEntry) →
+        LinksStandFor rows links.old entries →
+        LinksStandFor rows links.new (given_to rows direction given.now entries) }
+    ensures asks { IsRequested given.now }
+    ensures same { (host : ℕ) (cause : Cause) →
+        cause_of (gave_entry host given.now) ≡ Some cause → links.new ≡ links.old }
 {
     match given {
         Given::Gave {
@@ -107,7 +87,7 @@ fn hand_given(link: &mut Link<HostBuffer, PortBuffer>, given: &Given)
             ..
         } => {
             request.invariant();
-            link.hand(Toward::Forth, *packet);
+            links.hand(direction, *packet);
         }
         Given::Ended | Given::Fence | Given::Tags | Given::Full => {}
     }
@@ -126,29 +106,29 @@ fn cause_of(hindrance: Hindrance) -> Cause
 }
 
 // The last entry becomes that of a give.
-fn note_given(last: &mut LastEntry, given: &Given)
-    ensures { last.new ≡ gave_entry 0 given.now }
+fn note_given(last: &mut LastEntry, host: u8, given: &Given)
+    ensures { last.new ≡ gave_entry host given.now }
 {
     match given {
-        Given::Ended => last.idle(&Step::Give(0), Cause::Ended),
-        Given::Fence => last.idle(&Step::Give(0), Cause::Fence),
-        Given::Tags => last.idle(&Step::Give(0), Cause::Tags),
-        Given::Full => last.idle(&Step::Give(0), Cause::Full),
+        Given::Ended => last.idle(&Step::Give(host), Cause::Ended),
+        Given::Fence => last.idle(&Step::Give(host), Cause::Fence),
+        Given::Tags => last.idle(&Step::Give(host), Cause::Tags),
+        Given::Full => last.idle(&Step::Give(host), Cause::Full),
         Given::Gave {
             request,
             tag,
             poisoned,
             ..
-        } => last.gave(0, *tag, *poisoned, request),
+        } => last.gave(host, *tag, *poisoned, request),
     }
 }
 
 // The last entry becomes that of a take.
-fn note_settled(last: &mut LastEntry, settled: &Settled)
-    ensures { last.new ≡ took_entry 0 settled.now }
+fn note_settled(last: &mut LastEntry, host: u8, settled: &Settled)
+    ensures { last.new ≡ took_entry host settled.now }
 {
     match settled {
-        Settled::Discarded => last.discarded(0),
-        Settled::Took { tag, answer } => last.took(0, *tag, answer),
+        Settled::Discarded => last.discarded(host),
+        Settled::Took { tag, answer } => last.took(host, *tag, answer),
     }
 }

@@ -1,83 +1,47 @@
 //! The steps of links.
 
-ghost use Rattle.std.specs.Prelude.{◌≡◌, ◌<◌, List, Some, length};
-ghost use Rattle.hmc_journal.specs.Event.{cause_of};
-ghost use Rattle.hmc_journal.specs.Next.{choice};
-ghost use Rattle.hmc_journal.specs.StepView.{StepView};
-ghost use Rattle.hmc_link.specs.StandsFor.{LinkStandsFor};
-ghost use Rattle.hmc_send.specs.LinkEntries.{LinkEntry};
-ghost use Rattle.hmc_net.specs.Apply.{with_entry, IsLinkAfter};
+ghost use Rattle.std.specs.Prelude.{◌≡◌, ◌<◌, length};
+ghost use Rattle.hmc_journal.specs.Setup.{directions_in};
+ghost use Rattle.hmc_net.specs.Apply.{DoesStep};
 ghost use Rattle.hmc_net.specs.Links.{sent_by, landed_by, outcome_of, IsCameFlit};
-ghost use Rattle.hmc_net.specs.NetState.{topology_of, net_view};
-ghost use Rattle.hmc_net.specs.Ready.{IsReady};
+ghost use Rattle.hmc_net.specs.Ready.{IsLandingIn};
+ghost use Rattle.hmc_net.specs.Sees.{IsReady};
 
 use crate::Network;
-use crate::network::toward_of;
 use hmc_codes::{Flit, ZERO_FLIT};
 use hmc_journal::{Cause, LastEntry};
 use hmc_link::{LinkLanded, LinkSent};
-use hmc_packet::{Feed, Landed, Outcome, constant_flits};
+use hmc_packet::{Landed, Outcome, constant_flits};
 use hmc_schedule::Step;
 
 impl Network {
     // A flit is sent in a direction.
     pub(crate) fn send(&mut self, direction: u8)
-        requires there { direction < 2 }
+        requires there { direction < directions_in self.old.topology }
         requires ready { IsReady self.old }
-        ensures entry { (view : StepView) →
-            LinkStandsFor self.old.sizes self.old.link (view.entries 0) →
-            self.new.last
-            ≡ choice (topology_of self.old) (net_view self.old view) (Step.Send direction) }
-        ensures link { (entries : List LinkEntry) →
-            LinkStandsFor self.old.sizes self.old.link entries →
-            IsLinkAfter self.old self.new entries }
-        ensures parts { self.new
-            ≡ record (with_entry self.new.last self.old) { link = self.new.link } }
-        ensures idle { (cause : Cause) → cause_of self.new.last ≡ Some cause →
-            self.new.link ≡ self.old.link }
+        ensures { DoesStep self.old self.new (Step.Send direction) }
     {
-        let sent = self.link.send(toward_of(direction), Feed::Waiting);
+        let sent = self.links.send(direction);
         note_sent(&mut self.last, direction, &sent);
     }
 
     // The next flit of a direction lands under a mask.
     pub(crate) fn land(&mut self, direction: u8, mask: &Flit)
-        requires there { (direction < 2) × (length mask.now ≡ 16) }
+        requires there { IsLandingIn self.old.topology direction (length mask.now) }
         requires ready { IsReady self.old }
-        ensures entry { (view : StepView) →
-            LinkStandsFor self.old.sizes self.old.link (view.entries 0) →
-            self.new.last
-            ≡ choice (topology_of self.old) (net_view self.old view)
-            (Step.Land direction mask.now) }
-        ensures link { (entries : List LinkEntry) →
-            LinkStandsFor self.old.sizes self.old.link entries →
-            IsLinkAfter self.old self.new entries }
-        ensures parts { self.new
-            ≡ record (with_entry self.new.last self.old) { link = self.new.link } }
-        ensures idle { (cause : Cause) → cause_of self.new.last ≡ Some cause →
-            self.new.link ≡ self.old.link }
+        ensures { DoesStep self.old self.new (Step.Land direction mask.now) }
     {
-        let landed = self.link.land(toward_of(direction), *mask);
+        let landed = self.links.land(direction, mask);
         note_landed(&mut self.last, direction, &landed);
     }
 
     // The receiver of a direction loses its framing.
     pub(crate) fn unlock(&mut self, direction: u8)
-        requires there { direction < 2 }
+        requires there { direction < directions_in self.old.topology }
         requires ready { IsReady self.old }
-        ensures entry { (view : StepView) →
-            LinkStandsFor self.old.sizes self.old.link (view.entries 0) →
-            self.new.last
-            ≡ choice (topology_of self.old) (net_view self.old view) (Step.Unlock direction) }
-        ensures link { (entries : List LinkEntry) →
-            LinkStandsFor self.old.sizes self.old.link entries →
-            IsLinkAfter self.old self.new entries }
-        ensures parts { self.new
-            ≡ record (with_entry self.new.last self.old) { link = self.new.link } }
-        ensures idle { (cause : Cause) → cause_of self.new.last ≡ Some cause →
-            self.new.link ≡ self.old.link }
+        ensures { DoesStep self.old self.new (Step.Unlock direction) }
     {
-        self.link.unlock(toward_of(direction));
+        self.links.unlock(direction);
         self.last.unlocked(direction);
     }
 }

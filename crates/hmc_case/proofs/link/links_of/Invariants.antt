@@ -1,6 +1,5 @@
 use Rattle.std.proofs.Common.{◌≡◌, drop, [], vec_len}
-use Rattle.std.specs.List.{All}
-use Rattle.hmc_case.specs.Places.{IsJoinOf}
+use Rattle.hmc_case.specs.Graph.{AreLinks}
 use Rattle.toml.specs.View.{items_view}
 use Rattle.hmc_case.specs.Links.{next_link}
 use Rattle.hmc_case.specs.Reading.{in_turn}
@@ -9,6 +8,6 @@ use Rattle.hmc_case.proofs.link.links_of.Given as goal
 abbrev pub invariant-values : goal.invariant-values
 invariant-values l = record {
   count : vec_len l.links ≡ l.value-index;
-  so_far : in_turn (next_link l.cubes) l.links.items (items_view (drop l.value-index l.values.items)) ≡ in_turn (next_link l.cubes) [] (items_view l.values.items);
-  within : All (λ link. IsJoinOf 8 l.cubes link.join) l.links.items;
+  so_far : in_turn (next_link l.profile l.cubes) l.links.items (items_view (drop l.value-index l.values.items)) ≡ in_turn (next_link l.profile l.cubes) [] (items_view l.values.items);
+  within : AreLinks l.cubes l.links.items;
 }

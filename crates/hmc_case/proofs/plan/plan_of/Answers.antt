@@ -9,9 +9,9 @@ invariant_of-result c =
     let cubes = ap length c.deref-2.ensures.value in
     record {
       some_hosts = net.some_hosts;
-      hosts = net.hosts;
-      some_directions = omega (arith, c.len.ensures, net.one_link);
-      directions = omega (arith, c.len.ensures, net.one_link);
-      some_cubes = omega (arith, plans, cubes, net.one_cube);
-      cubes = omega (arith, plans, cubes, net.one_cube);
+      hosts = net.few_hosts;
+      some_directions = omega (arith, c.len.ensures, net.some_links);
+      directions = omega (arith, c.len.ensures, net.few_links);
+      some_cubes = omega (arith, plans, cubes, net.graph.some_cubes);
+      cubes = omega (arith, plans, cubes, net.graph.few_cubes);
     }

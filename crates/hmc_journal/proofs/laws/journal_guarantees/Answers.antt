@@ -1,7 +1,6 @@
 -- From the laws of lawful journals.
-use Rattle.hmc_journal.proofs.OneCube.{parts_of}
 use Rattle.hmc_journal.proofs.Guaranteeing.{guarantees}
 use Rattle.hmc_journal.proofs.laws.journal_guarantees.Goals as goal
 
 pub returns : goal.returns
-returns c = λ setup one. guarantees setup (parts_of setup one)
+returns c = guarantees

@@ -1,7 +1,6 @@
 -- By induction on the journal.
-use Rattle.hmc_journal.proofs.OneCube.{parts_of}
 use Rattle.hmc_journal.proofs.QueueInvariant.{queue_invariant}
 use Rattle.hmc_journal.proofs.laws.lawful_keeps_queues.Goals as goal
 
 pub returns : goal.returns
-returns c = λ setup past one lawful. queue_invariant setup past (parts_of setup one) lawful
+returns c = queue_invariant

@@ -1,12 +1,14 @@
 use Rattle.std.proofs.Common.{◌≡◌, ◌∙◌, true, ap, subst, sym}
 use Rattle.std.specs.Prelude.{is_none}
-use Rattle.hmc_cube.specs.Cube.{CubeFields}
+use Rattle.hmc_journal.specs.Lawful.{journal_of}
+use Rattle.hmc_journal.specs.Setup.{setup_of}
 use Rattle.hmc_outside.specs.Lines.{WritesLines, BreaksOff}
 use Rattle.hmc_outside.proofs.LinesLemmas.{WritesLines-after, BreaksOff-after, BreaksOff-more}
 use Rattle.hmc_replay.specs.Output.{Writes}
 use Rattle.hmc_replay.specs.Top.{passes}
 use Rattle.hmc_replay.proofs.Writing.{passed_on}
-use Rattle.hmc_replay.proofs.Reports.{report_is, report_passed, report_starts}
+use Rattle.hmc_replay.proofs.Passes.{passes_is}
+use Rattle.hmc_replay.proofs.Reports.{report_is, none_passes, counted_is, report_passed, report_starts}
 use Rattle.hmc_replay.proofs.report.write_lines.Goals as goal
 
 pub returns-in_err-taken-clause-written : goal.returns-in_err-taken-clause-written
@@ -23,20 +25,27 @@ returns-in_default-clause-written g c =
 pub returns-in_default-clause-passed : goal.returns-in_default-clause-passed
 returns-in_default-clause-passed g c = sym (ap is_none c.in_default.is) ∙ c.in_ok-taken.ensures.passed
 
+pub write_final-requires : goal.write_final-requires
+write_final-requires g c = (journal_of (setup_of c.args.case.now), c.in_ok-taken.ensures.stands)
+
 pub returns-in_err-write_final-clause-written : goal.returns-in_err-write_final-clause-written
 returns-in_err-write_final-clause-written g c =
-    let ending = c.ending_of-ending in
-    let whole = report_is c.write_steps.new.network c.args.case.now c.cube.result.now.state _ c.in-Some.counts ending.result.host ending.result.cube ending.result.drained c.in-Some.is c.in_ok-taken.ensures.passed
-    c.in_ok-taken.ensures.stands c.in_ok-taken.ensures.counted (ap (λ (cube : CubeFields). cube.state) c.cube.ensures) ending.ensures.host ending.ensures.cube (ending.ensures.drained _ _ c.in_ok-taken.ensures.stands) in
+    let case = c.args.case.now in
+    let past = journal_of (setup_of case) in
+    let no_pass = none_passes case _ c.in-Some.counts c.in-Some.is c.in_ok-taken.ensures.passed in
+    let counted = counted_is past _ c.in-Some.counts c.in-Some.is c.in_ok-taken.ensures.counted in
+    let broken = c.in_err-write_final.ensures past c.in_ok-taken.ensures.stands (sym (passes_is case) ∙ no_pass) counted in
     passed_on _ _ _ c.in_err-write_final.field-0.0 c.from_residual-in_err-write_final.result c.from_residual-in_err-write_final.ensures.1
-    (subst (BreaksOff (g.O.Sink.shows c.args.sink.now) (g.O.Sink.shows c.write_final.new.sink)) whole (BreaksOff-after _ _ _ _ _ c.in_ok-taken.ensures.written c.in_err-write_final.ensures))
+    (subst (BreaksOff (g.O.Sink.shows c.args.sink.now) (g.O.Sink.shows c.write_final.new.sink)) (report_is case no_pass) (BreaksOff-after _ _ _ _ _ c.in_ok-taken.ensures.written broken))
 
 pub returns-clause-written : goal.returns-clause-written
 returns-clause-written g c =
-    let ending = c.ending_of-ending in
-    let whole = report_is c.write_steps.new.network c.args.case.now c.cube.result.now.state _ c.in-Some.counts ending.result.host ending.result.cube ending.result.drained c.in-Some.is c.in_ok-taken.ensures.passed
-    c.in_ok-taken.ensures.stands c.in_ok-taken.ensures.counted (ap (λ (cube : CubeFields). cube.state) c.cube.ensures) ending.ensures.host ending.ensures.cube (ending.ensures.drained _ _ c.in_ok-taken.ensures.stands) in
-    subst (WritesLines (g.O.Sink.shows c.args.sink.now) (g.O.Sink.shows c.write_final.new.sink)) whole (WritesLines-after _ _ _ _ _ c.in_ok-taken.ensures.written c.in_ok-write_final.ensures)
+    let case = c.args.case.now in
+    let past = journal_of (setup_of case) in
+    let no_pass = none_passes case _ c.in-Some.counts c.in-Some.is c.in_ok-taken.ensures.passed in
+    let counted = counted_is past _ c.in-Some.counts c.in-Some.is c.in_ok-taken.ensures.counted in
+    let written = c.in_ok-write_final.ensures past c.in_ok-taken.ensures.stands (sym (passes_is case) ∙ no_pass) counted in
+    subst (WritesLines (g.O.Sink.shows c.args.sink.now) (g.O.Sink.shows c.write_final.new.sink)) (report_is case no_pass) (WritesLines-after _ _ _ _ _ c.in_ok-taken.ensures.written written)
 
 pub returns-clause-passed : goal.returns-clause-passed
 returns-clause-passed g c = sym (ap is_none c.in-Some.is) ∙ c.in_ok-taken.ensures.passed

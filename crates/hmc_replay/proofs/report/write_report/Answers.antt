@@ -12,4 +12,4 @@ pub returns-clause-written : goal.returns-clause-written
 returns-clause-written g c = c.in_ok-finish.ensures _ _ c.in_ok-passed.ensures.written
 
 pub returns-clause-guarantees : goal.returns-clause-guarantees
-returns-clause-guarantees g c = c.journal_guarantees.ensures _ c.requires.one_cube
+returns-clause-guarantees g c = c.journal_guarantees.ensures _ c.requires.network

@@ -1,16 +1,15 @@
 -- A bank whose queue is empty does nothing.
-use Rattle.std.proofs.Common.{◌∙◌, ap, sym}
+use Rattle.std.proofs.Common.{◌≡◌, [], ap, subst}
 use Rattle.hmc_vault.specs.Vault.{bank_at}
-use Rattle.hmc_cube.specs.Cube.{vault_at}
+use Rattle.hmc_cube.specs.Cube.{CubeFields, vault_at}
 use Rattle.hmc_net.specs.NetState.{NetState}
-use Rattle.hmc_net.proofs.CubeChoices.{bank_none}
-use Rattle.hmc_net.proofs.Linking.{linked_idle}
+use Rattle.hmc_net.proofs.CubeSteps.{bank_none}
+use Rattle.hmc_net.proofs.Indexed.{cube_found, entry_changed}
 use Rattle.hmc_net.proofs.network.Network.bank.Goals as goal
 
-pub returns-then-bank_is_empty-clause-entry : goal.returns-then-bank_is_empty-clause-entry
-returns-then-bank_is_empty-clause-entry c = λ view stands.
-    bank_none c.args.self.now view c.args.vault c.args.bank c.idle.new.self
-    (ap (λ (n : NetState). bank_at (vault_at n.cube c.args.vault) c.args.bank) (sym c.self.view_is) ∙ c.bank_is_empty.ensures.0 c.if-bank_is_empty.true) c.idle.ensures
-
-pub returns-then-bank_is_empty-clause-link : goal.returns-then-bank_is_empty-clause-link
-returns-then-bank_is_empty-clause-link c = λ past stands. linked_idle c.args.self.now _ past _ _ c.requires.ready.link.going stands (ap (λ (n : NetState). n.link) c.self.view_is) c.idle.ensures
+pub returns-then-bank_is_empty : goal.returns-then-bank_is_empty
+returns-then-bank_is_empty c =
+    let found = cube_found c.self.inside.cubes.items c.args.self.now c.from.result c.args.cube c.index.result.now (ap (λ (n : NetState). n.cubes) c.self.view_is) c.from.ensures c.index.ensures c.requires.ready.sized c.requires.there.some_vault.some_cube in
+    bank_none c.args.self.now _ c.args.cube c.args.vault c.args.bank c.requires.ready.sized
+    (subst (λ (x : CubeFields). bank_at (vault_at x c.args.vault) c.args.bank ≡ []) found (c.bank_is_empty.ensures.0 c.if-bank_is_empty.true))
+    (entry_changed _ c.args.self.now _ _ _ _ c.idle.new.self _ c.self.view_is c.idle.ensures)

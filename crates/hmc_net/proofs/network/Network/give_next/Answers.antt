@@ -1,35 +1,31 @@
 -- What the host gives is an entry, and goes to the link.
-use Rattle.std.proofs.Common.{◌∙◌, ap, sym, subst}
+use Rattle.std.proofs.Common.{◌≡◌, ◌∙◌, ap, sym, subst}
+use Rattle.hmc_codes.specs.declared.place.Place.TheVariants as places
 use Rattle.hmc_host.specs.Give.{give_says, after_give}
-use Rattle.hmc_link.specs.StandsFor.{LinkStandsFor}
-use Rattle.hmc_journal.specs.Event.{cause_of}
+use Rattle.hmc_host.specs.Host.{HostFields}
+use Rattle.hmc_link.specs.Held.{LinkHeld}
+use Rattle.hmc_net.specs.Gives.{IsGiven, given_to}
+use Rattle.hmc_net.specs.LinkList.{LinksStandFor, IsDirection}
 use Rattle.hmc_net.specs.NetState.{NetState}
-use Rattle.hmc_net.proofs.Choices.{has_room_forth, given_is, give_entry, give_held, linked_give}
+use Rattle.hmc_net.proofs.Doing.{starts_in}
+use Rattle.hmc_net.proofs.HostSteps.{given_fits, give_does}
+use Rattle.hmc_net.proofs.Indexed.{host_found, host_changed}
 use Rattle.hmc_net.proofs.network.Network.give_next.Goals as goal
 
-pub hand_given-requires-clause-going : goal.hand_given-requires-clause-going
-hand_given-requires-clause-going c = ap (λ (n : NetState). n.link.going) c.self.view_is ∙ c.requires.ready.link.going
+pub hand_given-requires-clause-there : goal.hand_given-requires-clause-there
+hand_given-requires-clause-there c =
+    subst (λ (n : NetState). IsDirection n.links c.args.direction) (sym c.self.view_is) (starts_in c.args.self.now (places.Host c.args.host) c.args.direction c.requires.ready c.requires.from)
 
 pub hand_given-requires-clause-fit : goal.hand_given-requires-clause-fit
 hand_given-requires-clause-fit c =
-    given_is c.self.inside.host _ c.give-given.result (c.give-given.ensures.answer ∙ ap (give_says c.self.inside.host) (c.requires.room ∙ ap has_room_forth (sym c.self.view_is))) c.self.invariant.number
+    subst (λ (n : NetState). IsGiven n.links c.args.direction c.give-given.result) (sym c.self.view_is)
+    (given_fits c.args.self.now c.args.direction c.args.room c.give-given.result c.index_mut-giver.result.now c.requires.ready c.requires.room c.give-given.ensures.answer)
 
-pub returns-clause-entry : goal.returns-clause-entry
-returns-clause-entry c = λ view stands.
-    give_entry c.args.self.now view c.give-given.result c.note_given.new.last stands.a.setup
-    (c.give-given.ensures.answer ∙ ap (give_says c.self.inside.host) c.requires.room ∙ ap (λ (n : NetState). give_says n.host (has_room_forth c.args.self.now)) c.self.view_is) c.note_given.ensures
-
-pub returns-clause-link : goal.returns-clause-link
-returns-clause-link c = λ past stands.
-    let here = subst (λ (n : NetState). LinkStandsFor c.args.self.now.sizes n.link past) (sym c.self.view_is) stands in
-    linked_give c.args.self.now _ past c.give-given.result _ (given_is c.self.inside.host _ c.give-given.result c.give-given.ensures.answer c.self.invariant.number)
-    c.hand_given.ensures.going (c.hand_given.ensures.stands c.args.self.now.sizes past here) c.note_given.ensures
-
-pub returns-clause-parts : goal.returns-clause-parts
-returns-clause-parts c =
-    ap (λ (n : NetState). record n { host = c.give-given.new.self; link = c.hand_given.new.link; last = c.note_given.new.last }) c.self.view_is ∙
-    ap (λ (n : NetState). record n { link = c.hand_given.new.link; last = c.note_given.new.last }) (give_held c.args.self.now c.give-given.new.self c.give-given.result c.note_given.new.last
-    (c.give-given.ensures.leaves ∙ ap (λ (n : NetState). after_give c.give-given.result n.host) c.self.view_is) c.note_given.ensures)
-
-pub returns-clause-idle : goal.returns-clause-idle
-returns-clause-idle c = λ cause is. c.hand_given.ensures.same cause (sym (ap cause_of c.note_given.ensures) ∙ is) ∙ ap (λ (n : NetState). n.link) c.self.view_is
+pub returns : goal.returns
+returns c =
+    let found = host_found c.self.inside.hosts.items c.args.self.now c.from.result c.args.host c.index_mut-giver.result.now (ap (λ (n : NetState). n.hosts) c.self.view_is) c.from.ensures c.index_mut-giver.ensures.value c.requires.ready.sized c.requires.there in
+    give_does c.args.self.now _ c.args.host c.args.direction c.args.room c.give-given.result c.hand_given.new.links c.requires.ready c.requires.there c.requires.from c.requires.room
+    (c.give-given.ensures.answer ∙ ap (λ (h : HostFields). give_says h c.args.room) found) c.hand_given.ensures.asks
+    (λ rows entries stand. c.hand_given.ensures.stands rows entries (subst (λ (n : NetState). LinksStandFor rows n.links entries) (sym c.self.view_is) stand))
+    (λ cause is. c.hand_given.ensures.same c.args.host cause is ∙ ap (λ (n : NetState). n.links) c.self.view_is)
+    (host_changed _ c.args.self.now _ c.self.inside.hosts.items c.from.result c.args.host c.index_mut-giver.result.now c.give-given.new.self (after_give c.give-given.result) _ c.hand_given.new.links _ c.note_given.new.last _ c.self.view_is c.from.ensures found c.give-given.ensures.leaves c.note_given.ensures)

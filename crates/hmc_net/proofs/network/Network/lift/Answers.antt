@@ -1,20 +1,16 @@
 -- Where there is no answer none is lifted.
-use Rattle.std.proofs.Common.{◌≡◌, ◌∙◌, ap, sym, subst}
-use Rattle.hmc_cube.specs.Places.{IsLift, answers_at}
-use Rattle.hmc_net.specs.NetState.{NetState}
-use Rattle.hmc_net.proofs.Choices.{no_front}
-use Rattle.hmc_net.proofs.Stepping.{lift_there}
-use Rattle.hmc_net.proofs.CubeChoices.{lift_none}
-use Rattle.hmc_net.proofs.Linking.{linked_idle}
+use Rattle.std.proofs.Common.{◌≡◌, [], ap, subst}
+use Rattle.hmc_cube.specs.Cube.{CubeFields}
+use Rattle.hmc_cube.specs.Places.{answers_at}
+use Rattle.hmc_net.specs.NetState.{NetState, cube_in}
+use Rattle.hmc_net.proofs.Doing.{no_front}
+use Rattle.hmc_net.proofs.Indexed.{cube_found, entry_changed}
+use Rattle.hmc_net.proofs.PortSteps.{lift_none}
 use Rattle.hmc_net.proofs.network.Network.lift.Goals as goal
 
-pub answers_are_empty-requires : goal.answers_are_empty-requires
-answers_are_empty-requires c = subst (λ (n : NetState). IsLift n.cube c.args.from) (sym c.self.view_is) (lift_there c.args.self.now c.args.from (subst (λ (n : NetState). n.cube.state.shape ≡ n.setup.shape) c.self.view_is c.self.invariant.shape) c.requires.there)
-
-pub returns-then-answers_are_empty-clause-entry : goal.returns-then-answers_are_empty-clause-entry
-returns-then-answers_are_empty-clause-entry c = λ view stands.
-    lift_none c.args.self.now view c.args.from c.idle.new.self
-    (no_front (answers_at c.args.self.now.cube c.args.from) (ap (λ (n : NetState). answers_at n.cube c.args.from) (sym c.self.view_is) ∙ c.answers_are_empty.ensures.0 c.if-answers_are_empty.true)) c.idle.ensures
-
-pub returns-then-answers_are_empty-clause-link : goal.returns-then-answers_are_empty-clause-link
-returns-then-answers_are_empty-clause-link c = λ past stands. linked_idle c.args.self.now _ past _ _ c.requires.ready.link.going stands (ap (λ (n : NetState). n.link) c.self.view_is) c.idle.ensures
+pub returns-then-answers_are_empty : goal.returns-then-answers_are_empty
+returns-then-answers_are_empty c =
+    let found = cube_found c.self.inside.cubes.items c.args.self.now c.from.result c.args.cube c.index.result.now (ap (λ (n : NetState). n.cubes) c.self.view_is) c.from.ensures c.index.ensures c.requires.ready.sized c.requires.there.some_cube in
+    lift_none c.args.self.now _ c.args.cube c.args.from c.requires.ready.sized
+    (no_front (answers_at (cube_in c.args.self.now.cubes c.args.cube) c.args.from) (subst (λ (x : CubeFields). answers_at x c.args.from ≡ []) found (c.answers_are_empty.ensures.0 c.if-answers_are_empty.true)))
+    (entry_changed _ c.args.self.now _ _ _ _ c.idle.new.self _ c.self.view_is c.idle.ensures)

@@ -1,24 +1,16 @@
 -- An execution by the registers is an entry.
-use Rattle.std.proofs.Common.{◌≡◌, ◌∙◌, ap, subst}
+use Rattle.std.proofs.Common.{◌≡◌, ◌∙◌, ap, sym, subst}
+use Rattle.hmc_cube.specs.Cube.{CubeFields}
 use Rattle.hmc_cube.specs.After.{registers_say, after_registers}
 use Rattle.hmc_net.specs.NetState.{NetState}
-use Rattle.hmc_net.proofs.CubeChoices.{registers_entry, registers_held, ran_entries, ran_on}
-use Rattle.hmc_net.proofs.Linking.{linked_cube}
-use Rattle.hmc_journal.specs.Event.{is_passed}
-use Rattle.hmc_net.specs.Apply.{entries_after}
+use Rattle.hmc_net.proofs.CubeSteps.{registers_does}
+use Rattle.hmc_net.proofs.Indexed.{cube_found, cube_only}
 use Rattle.hmc_net.proofs.network.Network.registers_front.Goals as goal
 
-pub returns-clause-entry : goal.returns-clause-entry
-returns-clause-entry c = λ view stands.
-    registers_entry c.args.self.now view c.registers-ran.result c.note_ran.new.last (subst (λ (n : NetState). n.cube.size ≡ n.setup.queue) c.self.view_is c.self.invariant.queue) c.requires
-    (c.registers-ran.ensures.answer ∙ ap (λ (n : NetState). registers_say n.cube) c.self.view_is) c.note_ran.ensures
-
-pub returns-clause-parts : goal.returns-clause-parts
-returns-clause-parts c =
-    ap (λ (n : NetState). record n { cube = c.registers-ran.new.self; link = c.self.inside.link; last = c.note_ran.new.last }) c.self.view_is ∙
-    ap (λ (n : NetState). record n { link = c.self.inside.link; last = c.note_ran.new.last }) (registers_held c.args.self.now c.registers-ran.new.self c.registers-ran.result c.note_ran.new.last
-    (c.registers-ran.ensures.leaves ∙ ap (λ (n : NetState). after_registers c.registers-ran.result n.cube) c.self.view_is) c.note_ran.ensures)
-
-pub returns-clause-link : goal.returns-clause-link
-returns-clause-link c = λ past stands.
-    linked_cube c.args.self.now _ past c.requires.link.going stands (ap (λ (n : NetState). n.link) c.self.view_is) (ap is_passed c.note_ran.ensures ∙ ran_on _ _ c.registers-ran.result) (ap (entries_after c.args.self.now past) c.note_ran.ensures ∙ ran_entries c.args.self.now _ _ c.registers-ran.result past)
+pub returns : goal.returns
+returns c =
+    let found = cube_found c.self.inside.cubes.items c.args.self.now c.from.result c.args.cube c.index_mut-owner.result.now (ap (λ (n : NetState). n.cubes) c.self.view_is) c.from.ensures c.index_mut-owner.ensures.value c.requires.ready.sized c.requires.there in
+    registers_does c.args.self.now _ c.args.cube c.registers-ran.result c.requires.ready c.requires.there
+    (c.registers-ran.ensures.answer ∙ ap registers_say found)
+    (subst (λ (x : CubeFields). (after_registers c.registers-ran.result x).state.shape ≡ x.state.shape) found (ap (λ (x : CubeFields). x.state.shape) (sym c.registers-ran.ensures.leaves) ∙ c.registers-ran.ensures.shape))
+    (cube_only _ c.args.self.now c.self.inside.cubes.items c.from.result c.args.cube c.index_mut-owner.result.now c.registers-ran.new.self (after_registers c.registers-ran.result) _ _ _ c.note_ran.new.last _ c.self.view_is c.from.ensures found c.registers-ran.ensures.leaves c.note_ran.ensures)

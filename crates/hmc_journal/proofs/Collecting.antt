@@ -1,0 +1,138 @@
+-- What a journal says was given, executed, carried, lifted and taken is what its moves say.
+use Rattle.std.proofs.Common.{◌≡◌, ◌≤◌, ◌∙◌, ◌==◌, ◌&&◌, ℕ, zero, suc, Bool, true, false, not, if◌then◌else◌, Option, Some, None, List, [], ◌∷◌, ◌++◌, length, refl, sym, ap, ap₂, subst, arith, append-nil}
+use Rattle.hmc_codes.specs.Commands.{is_posted}
+use Rattle.hmc_codes.specs.Request.{RequestFields, IsRequest}
+use Rattle.hmc_codes.specs.declared.place.Place.TheVariants as places
+use Rattle.hmc_codes.specs.declared.unit.Unit.{Unit as RequestUnit}
+use Rattle.hmc_packet.specs.Packet.{PacketFields}
+use Rattle.hmc_packet.specs.Transactions.{request_packet}
+use Rattle.hmc_packet.proofs.TransactionLemmas.{request_in-request_packet}
+use Rattle.hmc_packet.specs.declared.what.What.TheVariants as what
+use Rattle.hmc_host.specs.Tags.{lowest_free}
+use Rattle.hmc_journal.specs.Hosts.{host_of}
+use Rattle.hmc_hops.specs.Packets.{Packet}
+use Rattle.hmc_hops.specs.Flows.{pick, collect, requests_to, given_packets}
+use Rattle.hmc_hops.specs.Flows.{given_to as hop_given_to}
+use Rattle.hmc_hops.specs.Moves.{Move}
+use Rattle.hmc_hops.specs.Moves.Move.{Comes, Goes}
+use Rattle.hmc_hops.specs.Queues.{QueueId as hops}
+use Rattle.hmc_journal.specs.Answers.{tag_of}
+use Rattle.hmc_journal.specs.Carried.{tagged_request, tagged_requests}
+use Rattle.hmc_journal.specs.Choice.{append_if}
+use Rattle.hmc_journal.specs.declared.entry.Entry.{Entry}
+use Rattle.hmc_journal.specs.declared.entry.Entry.TheVariants.{Gave, Sent, Landed}
+use Rattle.hmc_journal.specs.Directions.{unsent, landed_packets}
+use Rattle.hmc_journal.specs.Filters.{TaggedRequest, same_unit, given_to}
+use Rattle.hmc_journal.specs.Lawful.{Lawful}
+use Rattle.hmc_journal.specs.Network.{IsNetwork}
+use Rattle.hmc_journal.specs.Queues.{tag_number}
+use Rattle.hmc_journal.specs.Setup.{Topology, Setup, unit_in, unit_cube}
+use Rattle.hmc_journal.specs.StepView.{view_of}
+use Rattle.hmc_journal.proofs.EntryRule.{IsTagged, HasGiven, entry_rule, lawful_past}
+use Rattle.hmc_journal.proofs.Entering.{has_direction, own_item}
+use Rattle.hmc_journal.proofs.Flowing.{requests_seen}
+use Rattle.hmc_journal.proofs.MayMove.{few_moves}
+use Rattle.hmc_journal.proofs.Seen.{seen, spot_of, comes_from, begins_move, lands, moves_of, moves}
+
+-- ---- one entry adds what its move adds
+
+abbrev pub piece_of : {X : Type 0} → (Move → List X) → List Move → List X
+piece_of piece [] = []
+piece_of piece (move ∷ rest) = piece move
+
+pub joined_collect : {X : Type 0} (piece : Move → List X) (new moved : List Move) → length new ≤ 1 → collect piece (new ++ moved) ≡ collect piece moved ++ piece_of piece new
+unfolding collect
+joined_collect piece [] moved few = sym (append-nil (collect piece moved))
+joined_collect piece (move ∷ []) moved few = refl
+joined_collect piece (move ∷ next ∷ rest) moved few = absurd (omega arith)
+
+-- a filter of entries that says, entry by entry, what the moves say
+pub collected : {X : Type 0} (setup : Setup) (piece : Move → List X) (said : List Entry → List X) → said [] ≡ []
+    → ((entry : Entry) (past : List Entry) → Lawful setup (entry ∷ past) → said (entry ∷ past) ≡ said past ++ piece_of piece (moves_of setup.topology past entry))
+    → (past : List Entry) → Lawful setup past → collect piece (moves setup.topology past) ≡ said past
+unfolding moves collect
+collected setup piece said first more [] lawful = sym first
+collected setup piece said first more (entry ∷ past) lawful =
+    joined_collect piece (moves_of setup.topology past entry) (moves setup.topology past) (few_moves setup.topology past entry)
+    ∙ ap (λ l. l ++ piece_of piece (moves_of setup.topology past entry)) (collected setup piece said first more past (lawful_past setup entry past lawful))
+    ∙ sym (more entry past lawful)
+
+pub append_when : {X : Type 0} (here : Bool) (x : X) (list : List X) → append_if here (x ∷ []) list ≡ list ++ (if here then x ∷ [] else [])
+append_when true x list = refl
+append_when false x list = sym (append-nil list)
+
+pub quiet : {X : Type 0} (list : List X) → list ≡ list ++ []
+quiet list = sym (append-nil list)
+
+-- a move that adds nothing, whichever it is
+pub begins_nothing : {X : Type 0} (piece : Move → List X) (topology : Topology) (past : List Entry) (d n : ℕ) → ((x : Packet) → piece (Goes (hops.Output d) 0 x) ≡ []) → piece_of piece (begins_move topology past d n) ≡ []
+begins_nothing piece topology past d zero none = none _
+begins_nothing piece topology past d (suc n) none = refl
+
+pub lands_nothing : {X : Type 0} (piece : Move → List X) (topology : Topology) (d : ℕ) (packets : List PacketFields) → ((x : Packet) → piece (Goes (hops.Line d) 0 x) ≡ []) → piece_of piece (lands topology d packets) ≡ []
+lands_nothing piece topology d [] none = refl
+lands_nothing piece topology d (p ∷ packets) none = none _
+
+pub comes_nothing : {X : Type 0} (piece : Move → List X) (topology : Topology) (found : Option ℕ) (packet : PacketFields) → ((d : ℕ) (x : Packet) → piece (Comes (hops.Output d) x) ≡ []) → piece_of piece (comes_from topology found packet) ≡ []
+comes_nothing piece topology None packet none = refl
+comes_nothing piece topology (Some d) packet none = none d _
+
+-- ---- given
+
+given_tag : (awaited : Bool) (free tag : Option ℕ) (posted : Bool) → IsTagged awaited free tag → awaited ≡ not posted → tag_of posted (tag_number tag) ≡ tag
+given_tag true free tag true is same = absurd (cc)
+given_tag true free tag false is same = ap (λ (o : Option ℕ). tag_of false (tag_number o)) is.2 ∙ sym is.2
+given_tag false free tag true is same = sym is
+given_tag false free tag false is same = absurd (cc)
+
+asked_one : Option ℕ → RequestFields → List TaggedRequest
+asked_one tag request = record { tag = tag; request = request } ∷ []
+
+given_value : (host_same unit_same poisoned posted : Bool) (free tag : Option ℕ) (request : RequestFields) → IsTagged (not poisoned && not posted) free tag
+    → (if host_same && (not poisoned && unit_same) then record { tag = tag_of posted (tag_number tag); request = request } ∷ [] else []) ≡ (if host_same && (not poisoned && unit_same) then asked_one tag request else [])
+unfolding asked_one
+given_value false unit_same poisoned posted free tag request is = refl
+given_value true unit_same true posted free tag request is = refl
+given_value true false false posted free tag request is = refl
+given_value true true false posted free tag request is = ap (λ (o : Option ℕ). record { tag = o; request = request } ∷ []) (given_tag (not posted) free tag posted is refl)
+
+gave_said : (setup : Setup) (past : List Entry) (host : ℕ) (unit : RequestUnit) (giver : ℕ) (tag : Option ℕ) (poisoned : Bool) (request : RequestFields) → IsNetwork setup → HasGiven setup past giver tag poisoned request
+    → (pick (requests_to host (unit_cube unit) (spot_of unit)) (seen setup.topology (request_packet request (tag_number tag) giver poisoned) ∷ []))
+    ≡ (if (giver == host) && (not poisoned && same_unit (unit_in setup.topology request) unit) then record { tag = tag; request = request } ∷ [] else [])
+unfolding tagged_requests request_packet host_of asked_one
+gave_said setup past host unit giver tag poisoned request network has =
+    let packet = request_packet request (tag_number tag) giver poisoned in
+    let own = own_item setup past giver has.item network has.is_next in
+    let is : IsRequest request = subst IsRequest (sym has.is_request) own.1.request in
+    let tagged : IsTagged (not poisoned && not (is_posted request.command)) (lowest_free (host_of setup past giver).tags) tag =
+    subst (λ (b : Bool). IsTagged b (lowest_free (host_of setup past giver).tags) tag) (sym (ap₂ (λ (p : Bool) (r : RequestFields). not p && not (is_posted r.command)) has.is_poisoned has.is_request)) has.is_tagged in
+    requests_seen setup.topology host unit (packet ∷ [])
+    ∙ ap (λ (o : Option RequestFields). tagged_request setup.topology host unit packet o ++ []) (request_in-request_packet request (tag_number tag) giver poisoned is)
+    ∙ append-nil (tagged_request setup.topology host unit packet (Some request))
+    ∙ given_value (giver == host) (same_unit (unit_in setup.topology request) unit) poisoned (is_posted request.command) (lowest_free (host_of setup past giver).tags) tag request tagged
+
+given_more : (setup : Setup) (host : ℕ) (unit : RequestUnit) → IsNetwork setup → (entry : Entry) (past : List Entry) → Lawful setup (entry ∷ past)
+    → given_to setup.topology host unit (entry ∷ past) ≡ given_to setup.topology host unit past ++ (piece_of (λ move. pick (requests_to host (unit_cube unit) (spot_of unit)) (given_packets move)) (moves_of setup.topology past entry))
+unfolding given_to moves_of pick
+given_more setup host unit network (Gave giver tag poisoned request) past lawful =
+    let t = setup.topology in
+    let right = entry_rule setup (Gave giver tag poisoned request) past lawful in
+    let packet = request_packet request (tag_number tag) giver poisoned in
+    let to = has_direction t (view_of setup past) (places.Host giver) right.room in
+    let piece = λ (move : Move). pick (requests_to host (unit_cube unit) (spot_of unit)) (given_packets move) in
+    append_when ((giver == host) && (not poisoned && same_unit (unit_in t request) unit)) (record { tag = tag; request = request }) (given_to t host unit past)
+    ∙ ap (λ l. given_to t host unit past ++ l) (sym (ap (λ (o : Option ℕ). piece_of piece (comes_from t o packet)) to.1 ∙ gave_said setup past host unit giver tag poisoned request network right))
+given_more setup host unit network (Sent d what.New flit) past lawful =
+    quiet (given_to setup.topology host unit past)
+    ∙ ap (λ l. given_to setup.topology host unit past ++ l) (sym (begins_nothing (λ move. pick (requests_to host (unit_cube unit) (spot_of unit)) (given_packets move)) setup.topology past d (unsent d past) (λ x. refl)))
+given_more setup host unit network (Landed d flit outcome) past lawful =
+    quiet (given_to setup.topology host unit past)
+    ∙ ap (λ l. given_to setup.topology host unit past ++ l) (sym (lands_nothing (λ move. pick (requests_to host (unit_cube unit) (spot_of unit)) (given_packets move)) setup.topology d (landed_packets setup.topology d flit outcome past) (λ x. refl)))
+given_more setup host unit network (Sent d what.Tret flit) past lawful = quiet (given_to setup.topology host unit past)
+given_more setup host unit network _ past lawful = quiet (given_to setup.topology host unit past)
+
+-- the requests that a host gave to a unit
+pub given_are : (setup : Setup) (host : ℕ) (unit : RequestUnit) (past : List Entry) → IsNetwork setup → Lawful setup past → (hop_given_to host (unit_cube unit) (spot_of unit) (moves setup.topology past)) ≡ given_to setup.topology host unit past
+unfolding given_to
+given_are setup host unit past network lawful =
+    collected setup (λ move. pick (requests_to host (unit_cube unit) (spot_of unit)) (given_packets move)) (given_to setup.topology host unit) refl (given_more setup host unit network) past lawful

@@ -1,0 +1,36 @@
+-- What a shift and a lift know of the packet that they move.
+use Rattle.std.specs.Prelude.{◌≡◌, ℕ, is_none, Option, Some}
+use Rattle.hmc_codes.specs.declared.place.Place.TheVariants as places
+use Rattle.hmc_packet.specs.Packet.{PacketFields}
+use Rattle.hmc_crossbar.specs.To.{where_to}
+use Rattle.hmc_journal.specs.declared.outcome.Goal.{Goal}
+use Rattle.hmc_journal.specs.declared.outcome.Goal.TheVariants as goals
+use Rattle.hmc_journal.specs.Links.{direction_to}
+use Rattle.hmc_journal.specs.Next.{goal_at, lacks_room}
+use Rattle.hmc_journal.specs.Queues.{output_from}
+use Rattle.hmc_journal.specs.Setup.{graph_of, shape_of, direction_from}
+use Rattle.hmc_journal.specs.StepView.{StepView}
+use Rattle.hmc_net.specs.LinkList.{IsFrontAt}
+use Rattle.hmc_net.specs.NetState.{NetState}
+use Rattle.hmc_net.specs.Sees.{Sees}
+
+-- the front of the buffer of a port, at which this direction ends, goes to this goal
+pub record IsShifting (net : NetState) (cube port direction : ℕ) (front : PacketFields)
+    (goal : Goal) : Type 0 where
+  pub ends : direction_to net.topology (places.Port cube port) ≡ Some direction
+  pub is_front : IsFrontAt net.links direction (Some front)
+  pub goes : goal_at (where_to (graph_of net.topology) (shape_of net.topology cube) cube front)
+      ≡ Some goal
+
+-- a goal in the cube
+abbrev pub IsInner : Goal → Type 0
+IsInner (goals.Port port) = ⊥
+IsInner goal = Unit {0}
+
+-- this is the direction that starts at a port, where its output queue has room
+pub record IsWayOut (net : NetState) (cube port : ℕ) (found : Option ℕ) : Type 0 where
+  pub room : (view : StepView) → Sees net view →
+      lacks_room net.topology view (output_from net.topology (places.Port cube port))
+      ≡ is_none found
+  pub from : (direction : ℕ) → found ≡ Some direction →
+      direction_from net.topology (places.Port cube port) ≡ Some direction

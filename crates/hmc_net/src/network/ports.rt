@@ -1,0 +1,136 @@
+//! The steps at the ports of cubes: shift and lift.
+
+ghost use Rattle.std.specs.Prelude.{◌≡◌, ◌<◌};
+ghost use Rattle.hmc_journal.specs.Setup.{cubes_in};
+ghost use Rattle.hmc_net.specs.Apply.{DoesStep, to_of};
+ghost use Rattle.hmc_net.specs.Ports.{IsShifting, IsInner, IsWayOut};
+ghost use Rattle.hmc_net.specs.Ready.{IsPortIn, IsLiftIn};
+ghost use Rattle.hmc_net.specs.Sees.{IsReady};
+
+use crate::Network;
+use hmc_codes::Lift;
+use hmc_crossbar::To;
+use hmc_journal::{Cause, Goal};
+use hmc_packet::Packet;
+use hmc_schedule::Step;
+
+impl Network {
+    // The front of a port's buffer goes on, or is dropped.
+    pub(crate) fn shift(&mut self, cube: u8, port: u8)
+        requires there { IsPortIn self.old.topology cube port }
+        requires ready { IsReady self.old }
+        ensures { DoesStep self.old self.new (Step.Shift cube port) }
+    {
+        let direction = self.wiring.to_port(cube, port);
+        let Some(front) = self.links.front(direction) else {
+            self.last.idle(&Step::Shift(cube, port), Cause::Empty);
+            return;
+        };
+        let to = self.wiring.goal(cube, &front);
+        match to {
+            To::Vault(vault) => self.shift_in(cube, port, direction, Goal::Vault(vault), front),
+            To::Registers => self.shift_in(cube, port, direction, Goal::Registers, front),
+            To::Port(out) => self.shift_out(cube, port, direction, out, front),
+            To::Nowhere => {
+                self.links.take(direction);
+                self.last.dropped(cube, port);
+            }
+        }
+    }
+
+    // The front of a port's buffer goes into the cube, to this goal.
+    fn shift_in(&mut self, cube: u8, port: u8, direction: u8, goal: Goal, front: Packet)
+        requires there { IsPortIn self.old.topology cube port }
+        requires ready { IsReady self.old }
+        requires front { IsShifting self.old cube port direction front goal }
+        requires inner { IsInner goal }
+        ensures { DoesStep self.old self.new (Step.Shift cube port) }
+    {
+        let to = to_of(goal);
+        if !self.cubes[usize::from(cube)].room(to) {
+            self.last.idle(&Step::Shift(cube, port), Cause::Full);
+            return;
+        }
+        self.links.take(direction);
+        let owner = &mut self.cubes[usize::from(cube)];
+        owner.invariant();
+        owner.enter(to, front);
+        self.last.shifted(cube, port, goal);
+    }
+
+    // The front of a port's buffer goes on through another port.
+    fn shift_out(&mut self, cube: u8, port: u8, direction: u8, out: u8, front: Packet)
+        requires there { IsPortIn self.old.topology cube port }
+        requires ready { IsReady self.old }
+        requires front { IsShifting self.old cube port direction front (Goal.Port out) }
+        ensures { DoesStep self.old self.new (Step.Shift cube port) }
+    {
+        let Some(onward) = self.room_through(cube, out) else {
+            self.last.idle(&Step::Shift(cube, port), Cause::Full);
+            return;
+        };
+        self.links.take(direction);
+        self.links.hand(onward, front);
+        self.last.shifted(cube, port, Goal::Port(out));
+    }
+
+    // The direction that starts at a port, if its output queue has room.
+    fn room_through(&self, cube: u8, port: u8) -> Option<u8>
+        requires there { cube < cubes_in self.now.topology }
+        requires ready { IsReady self.now }
+        ensures { IsWayOut self.now cube port result }
+    {
+        let direction = self.wiring.from_port(cube, port)?;
+        if self.links.room(direction) {
+            Some(direction)
+        } else {
+            None
+        }
+    }
+
+    // An answer goes to the output queue of the port towards its host.
+    pub(crate) fn lift(&mut self, cube: u8, from: Lift)
+        requires there { IsLiftIn self.old.topology cube from }
+        requires ready { IsReady self.old }
+        ensures { DoesStep self.old self.new (Step.Lift cube from) }
+    {
+        if self.cubes[usize::from(cube)].answers_are_empty(from) {
+            self.last.idle(&Step::Lift(cube, from), Cause::Empty);
+            return;
+        }
+        self.lift_answer(cube, from);
+    }
+
+    // The same. Where there is no answer, no packet is to be moved.
+    fn lift_answer(&mut self, cube: u8, from: Lift)
+        requires there { IsLiftIn self.old.topology cube from }
+        requires ready { IsReady self.old }
+        ensures { DoesStep self.old self.new (Step.Lift cube from) }
+    {
+        let Some(front) = self.cubes[usize::from(cube)].lift_front(from) else {
+            self.last.idle(&Step::Lift(cube, from), Cause::Empty);
+            return;
+        };
+        let port = self.wiring.port_towards(cube, front.slid);
+        let Some(onward) = self.room_through(cube, port) else {
+            self.last.idle(&Step::Lift(cube, from), Cause::Full);
+            return;
+        };
+        let owner = &mut self.cubes[usize::from(cube)];
+        owner.invariant();
+        let _ = owner.lift(from);
+        self.links.hand(onward, front);
+        self.last.lifted(cube, from, port);
+    }
+}
+
+// The place in a cube that a goal is.
+fn to_of(goal: Goal) -> To
+    ensures { result ≡ to_of goal }
+{
+    match goal {
+        Goal::Vault(vault) => To::Vault(vault),
+        Goal::Registers => To::Registers,
+        Goal::Port(port) => To::Port(port),
+    }
+}
