@@ -18,6 +18,7 @@ usage: ./zehimbado COMMAND ..
 
   run [FILE]              replay a case by the proved program, and write its report
   try [FILE]              the same by a program that is built without proofs, in about a minute
+  make NUMBER             run the case of a number, and write its final lines
   explain FLIT..          the fields of a packet, with their bits and its check
   explain 'bad ..' [CASE] what a fault of a case means, and where it is
   json [REPORT]           a report as JSON lines
@@ -58,6 +59,15 @@ def run_parser(command: str) -> Parser:
     parser.add_argument("--no-idle", action="store_true", help="leave out steps that did nothing")
     parser.add_argument("--only", metavar="PATTERN", help="lines with this regular expression")
     parser.add_argument("--quiet", action="store_true", help="the final lines alone")
+    return parser
+
+
+def make_parser() -> Parser:
+    text = "Runs the case that is made from a number, by the proved program, and writes its final "
+    parser = parser_of("make", f"{text}lines. The exit status is the program's.")
+    help_text = "one to twenty decimal digits of a number less than 2^64"
+    parser.add_argument("number", metavar="NUMBER", help=help_text)
+    parser.add_argument("-o", dest="output", metavar="REPORT", help="write the lines to a file")
     return parser
 
 
@@ -110,6 +120,10 @@ def run_command(options: argparse.Namespace) -> int:
 
 def try_command(options: argparse.Namespace) -> int:
     return run.run_unproved(run.Options(**vars(options)))
+
+
+def make_command(options: argparse.Namespace) -> int:
+    return run.run_made(options.number, options.output)
 
 
 def explain_command(options: argparse.Namespace) -> int:
@@ -227,6 +241,7 @@ Command = Callable[[argparse.Namespace], int]
 COMMANDS: dict[str, tuple[Callable[[], Parser], Command]] = {
     "run": (lambda: run_parser("run"), run_command),
     "try": (lambda: run_parser("try"), try_command),
+    "make": (make_parser, make_command),
     "explain": (explain_parser, explain_command),
     "json": (json_parser, json_command),
     "diff": (diff_parser, diff_command),

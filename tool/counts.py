@@ -44,7 +44,7 @@ def counts() -> dict[str, int]:
         "computed values": found(ROW.pattern, texts(computed())),
         "mutants": len(list(CRATES.glob("*/must-fail/*.edit"))),
         "tests": found(r"#\[test\]", code()),
-        "cases with their reports": len(list((TOP / "examples").glob("*.report"))),
+        "cases with their reports": len(list((TOP / "examples").glob("*.toml"))),
     }
 
 

@@ -10,29 +10,33 @@ from tool import explain, packets, report
 
 # How many earlier lines of a request or a direction are shown.
 SHOWN = 6
+# The first words of lines whose second word is a direction.
+OF_DIRECTION = ("sent", "landed", "passed", "unlocked", "tokens", "counters")
 
 Subject = tuple
 
 
 def subjects_of(line: str) -> list[Subject]:
-    """What a line is about: a request, by host and tag, or a direction."""
+    """What a line is about: a request, by host and tag, a direction, or a slot."""
     words = line.split(" ")
-    if words[0] in ("sent", "landed", "passed", "unlocked") and len(words) > 1:
+    if words[0] in OF_DIRECTION and len(words) > 1:
         return [("direction", words[1])]
+    if words[0] == "retired" and len(words) > 1:
+        return [("slot", words[1])]
     if words[0] in ("gave", "took") and len(words) > 2:
         return [("request", words[1], words[2])]
     if words[0] == "executed":
         start = 3 if words[2:3] == ["r"] else 4
         return [("request", *words[start : start + 2])] if len(words) > start + 1 else []
-    if words[0] == "idle" and words[1:2] in (["send"], ["land"]):
-        return [("direction", words[2])]
+    if words[0] == "idle" and words[1:2] in (["send"], ["land"], ["retire"]) and len(words) > 2:
+        return [("slot" if words[1] == "retire" else "direction", words[2])]
     return []
 
 
 def name_of(subject: Subject) -> str:
     """A subject in words."""
-    if subject[0] == "direction":
-        return f"direction {subject[1]}"
+    if subject[0] in ("direction", "slot"):
+        return f"{subject[0]} {subject[1]}"
     tag = "no tag" if subject[2] == "-" else f"tag {subject[2]}"
     return f"requests of host {subject[1]} with {tag}"
 

@@ -64,7 +64,7 @@ MEANINGS = {
         "words": "a word is missing, or words are left over",
         "number": "a word is not a number where one is required",
         "range": "the network of the case has no such host, direction, cube, joined port, vault "
-        "or bank, or the number of rounds is out of range",
+        "or bank, or there is no such slot, or the number of rounds or landings is out of range",
         "mask": "the word is not 32 hexadecimal digits",
         "steps": f"with this line there are more than {texts.MOST_STEPS:,} steps",
     },
@@ -179,8 +179,10 @@ def text_advice(fault: Fault, words: list[texts.Word]) -> str:
 def range_advice(step: str, word: str, place: int) -> str:
     """Which part of the network the word of a schedule does not name."""
     operand = schedule.STEPS[step][place - 1]
-    if operand == "rounds":
-        return f"`{word}`: the number of rounds is 1 to {texts.MOST_ROUNDS:,}"
+    if operand in ("rounds", "landings"):
+        return f"`{word}`: the number of {operand} is 1 to {texts.MOST_ROUNDS:,}"
+    if operand == "slot":
+        return f"`{word}`: the slots of logic units are 0 to {texts.SLOTS - 1}"
     if operand == "port":
         return f"`{word}`: no link ends at such a port of this cube"
     part = "vault" if operand == "place" else operand

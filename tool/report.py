@@ -136,7 +136,7 @@ LINES: dict[str, dict[str, Reader]] = {
     "discarded": {"host": number},
     "through": {"cube": number, "port": number, "direction": number},
     "unlocked": {"direction": number},
-    "retired": {"unit": number},
+    "retired": {"slot": number},
     "idle": {"step": step, "cause": cause},
     "memory": {"cube": number, "address": address, "bytes": some_bytes},
     "register": {"cube": number, "register": number, "value": eight_digits},

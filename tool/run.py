@@ -54,6 +54,18 @@ def run_proved(options: Options) -> int:
     return status
 
 
+def run_made(number: str, output: str | None) -> int:
+    """Runs the case of a number by the proved program, and returns its exit status."""
+    options = Options(output=output)
+    with ExitStack() as files:
+        sink = opened_output(options, files)
+        source = files.enter_context(open(os.devnull, "rb"))
+        program = build.proved_program()
+        status = run_program([str(program), "make", number], source, sink, None)
+    explain_status(status, options)
+    return status
+
+
 def run_unproved(options: Options) -> int:
     """Builds the program without proofs, runs it, and returns its exit status."""
     with ExitStack() as files:

@@ -18,6 +18,8 @@ script = '''
 {script}'''
 schedule = '''
 noise {every} {mask}
+round {early}
+retire {slot}
 round {rounds}
 noise off
 round {rounds}
@@ -41,6 +43,7 @@ output = {output}
 """
 # Requests, and the bytes that each carries.
 COMMANDS = {"wr16": 16, "wr64": 64, "rd16": 0, "rd64": 0, "add16": 16, "inc8": 0, "pinc8": 0}
+UNITS = {"unit0": 16, "unit1": 16}
 MOST_REQUESTS = 40
 # A chain of so many cubes, with one host or a second one at its end.
 MOST_CUBES = 3
@@ -52,10 +55,11 @@ LANDINGS = (200, 600)
 
 def request(chance: random.Random, hosts: int, blocks: list[int]) -> str:
     """One line of a script, to the beginning of a block of 256 bytes."""
-    command, cube = chance.choice(list(COMMANDS)), chance.randrange(len(blocks))
+    commands = COMMANDS | UNITS
+    command, cube = chance.choice(list(commands)), chance.randrange(len(blocks))
     address = 256 * chance.randrange(blocks[cube])
     line = f"{chance.randrange(hosts)} {command} {cube} {address:#x}"
-    carried = COMMANDS[command]
+    carried = commands[command]
     return f"{line} {chance.randbytes(carried).hex()}" if carried else line
 
 
@@ -93,6 +97,8 @@ def sample(number: int) -> str:
         script="".join(f"{line}\n" for line in lines),
         every=chance.randrange(*LANDINGS),
         mask=(1 << chance.randrange(128)).to_bytes(16, "big").hex(),
+        early=OTHER_ROUNDS // 2 + chance.randrange(2 * ROUNDS_FOR_EACH),
+        slot=chance.randrange(texts.SLOTS // 2),
         rounds=ROUNDS_FOR_EACH * requests + OTHER_ROUNDS,
         cubes="".join(CUBE.format(**cube) for cube in cubes),
         links="".join(LINK.format(a=a, b=b, **link_of(chance)) for a, b in ends),

@@ -22,6 +22,7 @@ STEPS = {
     "lift": ("cube", "place"),
     "take": ("host",),
     "unlock": ("direction",),
+    "retire": ("slot",),
     "round": ("rounds",),
     "noise": ("landings",),
 }
@@ -83,6 +84,7 @@ def is_in_range(operand: str, number: int, before: list[int], plan: Plan) -> boo
     if operand in ("rounds", "landings"):
         return 1 <= number <= texts.MOST_ROUNDS
     counts = {"host": plan.hosts, "direction": plan.directions, "cube": len(plan.cubes)}
+    counts["slot"] = texts.SLOTS
     if operand in counts:
         return number < counts[operand]
     cube = plan.cubes[before[0]]

@@ -13,6 +13,8 @@ MOST_ROUNDS = 1_000_000
 INPUT_BYTES = 4_194_304
 MOST_BYTES = 16_777_216
 PORTS = 4
+# The slots of logic units.
+SLOTS = 8
 
 WORD = re.compile(r"[^ \t]+")
 NUMBER = re.compile(r"0x[0-9a-fA-F]{1,20}|[0-9]{1,20}")

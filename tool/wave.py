@@ -1,8 +1,8 @@
-"""The waves of a report: what crosses each direction, and how much each queue holds.
+"""The waves of a report: what crosses each direction, how much each queue holds, and its tokens.
 
 The report alone is counted; the case gives the names and the number of directions and queues. An
 entry changes at most two queues: a packet leaves one and enters another. What a receiver waits for
-follows from its outcomes.
+follows from its outcomes, and where tokens are from what is begun, accepted and moved on.
 """
 
 from __future__ import annotations
@@ -11,6 +11,7 @@ from collections.abc import Iterable, Iterator
 
 from tool import packets, report
 from tool.case import Endpoint, ends_of
+from tool.tokens import PLACES, Tokens
 from tool.vcd import TEXT, Dump
 
 TOP = "network"
@@ -142,6 +143,7 @@ class Wave:
 
     def __init__(self, document: dict):
         self._queues = Queues(document)
+        self._tokens = Tokens(document)
         self._dump = Dump()
         self._entry = self._dump.add((TOP,), "entry", TEXT)
         self._places = {
@@ -153,6 +155,10 @@ class Wave:
         self._modes = [FIRST_MODE for _ in directions]
         self._mode_places = [
             self._dump.add((TOP, f"direction{n}"), "receiver", TEXT) for n in directions
+        ]
+        self._token_places = [
+            {name: self._dump.add((TOP, f"direction{n}"), f"tokens_{name}") for name in PLACES}
+            for n in directions
         ]
         # The signals of flits that the last entry has set.
         self._set: list[int] = []
@@ -167,6 +173,10 @@ class Wave:
         """How much each queue holds after the last entry."""
         return self._queues.held
 
+    def tokens(self) -> list[dict[str, int]]:
+        """The tokens of each direction after the last entry, by their places."""
+        return self._tokens.counts
+
     def lines(self, lines: Iterable[str]) -> Iterator[str]:
         """Yields the lines of the dump."""
         yield from self._dump.head()
@@ -174,6 +184,7 @@ class Wave:
         yield from self._changes([(place, 0) for place in self._places.values()])
         yield from self._changes(self._quiet())
         yield from self._changes([(place, FIRST_MODE) for place in self._mode_places])
+        yield from self._changes(self._of_tokens(range(len(self._token_places))))
         last = 0
         for entry in report.read_report(lines):
             if "entry" not in entry:
@@ -201,7 +212,16 @@ class Wave:
         self._set = list(flit)
         for queue in self._queues.apply(entry):
             values[self._places[queue]] = self._queues.held[queue]
+        values |= self._of_tokens(self._tokens.apply(entry))
         return list({**values, **flit}.items())
+
+    def _of_tokens(self, directions: Iterable[int]) -> list[tuple[int, int | str]]:
+        """The signals of the tokens of these directions."""
+        return [
+            (self._token_places[direction][name], number)
+            for direction in directions
+            for name, number in self._tokens.counts[direction].items()
+        ]
 
     def _of_flit(self, entry: dict) -> dict[int, int | str]:
         """The signals of a flit that is sent or that lands, and of a receiver that is unlocked."""

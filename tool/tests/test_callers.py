@@ -7,7 +7,13 @@ from tool.tests.shared import TOP
 
 CALLERS = TOP / "crates" / "hmc_callers"
 # The crates that have a page, each with the file of its caller.
-PAGES = {"hmc_crc": "crc", "hmc_packet": "packet", "hmc_serial": "serial", "hmc_case": "case"}
+PAGES = {
+    "hmc_crc": "crc",
+    "hmc_packet": "packet",
+    "hmc_serial": "serial",
+    "hmc_case": "case",
+    "hmc_report": "report",
+}
 MOST_COLUMNS = 100
 
 
@@ -38,6 +44,11 @@ class Callers(unittest.TestCase):
         for crate, name in PAGES.items():
             source = (CALLERS / "src" / f"{name}.rt").read_text(encoding="utf-8")
             self.assertEqual(blocks(page_of(crate), "rust"), [source], crate)
+
+    def test_the_unit_is_the_file(self):
+        page = (TOP / "docs" / "units.md").read_text(encoding="utf-8")
+        source = (CALLERS / "src" / "units.rt").read_text(encoding="utf-8")
+        self.assertEqual(blocks(page, "rust"), [source])
 
     def test_the_contracts_are_those_of_the_crate(self):
         """Each stands in a file of the crate, whole: the body follows the last clause."""

@@ -77,14 +77,16 @@ class Docs(unittest.TestCase):
             self.assertRegex(path.read_text(encoding="utf-8"), r"(?m)^# [A-Z]", path.name)
 
     def test_only_cases_and_reports_are_examples(self):
-        names = {path.with_suffix(".toml").name for path in EXAMPLES.iterdir()}
+        """Beside them are the reports of cases that are made from a number."""
+        made = set(EXAMPLES.glob("make-*.report"))
+        names = {path.with_suffix(".toml").name for path in {*EXAMPLES.iterdir()} - made}
         self.assertEqual(names, {path.name for path in CASES})
 
     def test_examples(self):
         """The commands that need no program write what the page has."""
         tried = []
         for words, text in examples():
-            if not words.startswith("run "):
+            if not words.startswith(("run ", "make ")):
                 self.assertEqual(self.written(words), text, words)
                 tried.append(words.split(" ")[0])
         self.assertEqual(tried, ["explain", "explain", "json", "diff", "show", "show"])
@@ -104,11 +106,11 @@ class Docs(unittest.TestCase):
             ran = subprocess.run(command, shell=True, cwd=folder, capture_output=True, text=True)
         return ran.stdout
 
-    def test_the_example_of_run(self):
+    def test_the_examples_of_run_and_make(self):
         require_program()
-        words, text = examples()[0]
-        self.assertTrue(words.startswith("run "))
-        self.assertEqual(tool(*shlex.split(words)).stdout.decode(), text)
+        for (words, text), command in zip(examples(), ("run ", "make ")):
+            self.assertTrue(words.startswith(command))
+            self.assertEqual(tool(*shlex.split(words)).stdout.decode(), text)
 
 
 if __name__ == "__main__":

@@ -107,19 +107,19 @@ class Long(unittest.TestCase):
 
     def test_writes_and_reads_with_noise(self):
         lines = self.check(
-            writes_and_reads(), "124961705d6ce300d7df7b3ef652ac2feeb86e7ccf72fca99c1a6c130f7d25c2"
+            writes_and_reads(), "411d41db1f2581f6d3db7915ede7b6133f79fca6b1a27a0079ada15b45ad3694"
         )
         self.assertEqual(lines[-3:], ["host 0 2000 2000 0", "cube 0 2000 0", "state drained"])
         self.assertEqual([changed_flits(lines, direction) for direction in "01"], [276, 275])
 
     def test_pointers_that_wrap(self):
         self.check(
-            pointers_wrap(), "2e9f9612c3f258ea30ab86cdc66a3e18b9381ba766686fe492ddd5c94fad8af1"
+            pointers_wrap(), "054519a4a5cefaa95de798522f60f798931dee0fa1266a9acd052b8f33beb9c3"
         )
 
     def test_a_chain_of_eight_cubes(self):
         lines = self.check(
-            chain_of_eight(), "a8fb01ccab5c45ffc5766f39c5bb9b2b7790e53b1e262ba22ede911cf0cd337a"
+            chain_of_eight(), "3b98f70cdfcad1a3789204a93fc605235b36a49b1ef37c20e9fdd3965825f05f"
         )
         self.assertEqual(lines[-11:-9], ["host 0 200 200 0", "host 1 200 200 0"])
         self.assertEqual(lines[-1], "state drained")

@@ -6,7 +6,7 @@ import tempfile
 import unittest
 from pathlib import Path
 
-from tool import case, diff, report, wave
+from tool import case, diff, report, tokens, wave
 from tool.tests.shared import CASES, EXAMPLES, output_of, tool
 
 
@@ -167,6 +167,20 @@ class Diff(unittest.TestCase):
         said = self.explained("changed-flit", again[1] + 1, f"sent 0 again {flit}")
         self.assertEqual(said[0], f"flit 2 of 2  {flit}")
 
+    def test_a_slot_and_a_line_of_counters(self):
+        mine = lines_of("retired-slots")
+        retired = mine.index("retired 1")
+        said = diff.compare(mine, [*mine[:retired], "idle retire 1 empty"], ("A", "B"))
+        self.assertEqual(said[3:], ["before, in both reports, slot 1:", "  nothing"])
+        again = mine.index("idle retire 1 empty")
+        said = diff.compare(mine, [*mine[:again], "retired 1"], ("A", "B"))
+        slot = ["before, in both reports, slot 1:", f"  {retired + 1}: retired 1"]
+        self.assertEqual(said[3:], slot)
+        counters = next(n for n, line in enumerate(mine) if line.startswith("counters 1 "))
+        said = diff.compare(mine, [*mine[:counters], "counters 1 0 0 0 0 0 0"], ("A", "B"))
+        self.assertEqual(said[0], f"the reports part at line {counters + 1}, a final line")
+        self.assertIn("before, in both reports, direction 1:", said)
+
     def test_a_report_that_ends(self):
         mine = lines_of("fence")
         said = diff.compare(mine, mine[:5], ("A", "B"))
@@ -190,6 +204,28 @@ class Wave(unittest.TestCase):
             is_drained = lines_of(path.stem)[-1] == "state drained"
             packets = {queue for queue in held if queue[0] != "line"}
             self.assertEqual(packets == set(), is_drained, path.name)
+
+    def test_tokens_end_as_the_report_says(self):
+        """The last values of each direction are those of its line `tokens`."""
+        compared = 0
+        for path in CASES:
+            waves, _ = self.dump_of(path)
+            rows = [it.split()[2:] for it in lines_of(path.stem) if it.startswith("tokens ")]
+            ended = [[*counts.values()] for counts in waves.tokens()]
+            wanted = [[int(word) for word in row[:-1]] for row in rows]
+            self.assertEqual(ended if rows else [], wanted, path.name)
+            compared += len(rows)
+        self.assertGreater(compared, 200)
+
+    def test_no_token_is_lost(self):
+        """At each step the tokens of a direction are as many as its buffer has room for."""
+        for name in ("repeats", "two-profiles", "tokens-on-the-way", "poisoned-at-first-hop"):
+            document, _ = case.read((EXAMPLES / f"{name}.toml").read_bytes())
+            counted = tokens.Tokens(document)
+            wanted = [link["tokens"] for link in document["links"] for _ in range(2)]
+            for entry in report.read_report(lines_of(name)):
+                counted.apply(entry)
+                self.assertEqual([sum(it.values()) for it in counted.counts], wanted, name)
 
     def test_queues_hold_no_more_than_the_case_allows(self):
         for path in CASES:

@@ -48,6 +48,17 @@ class Run(unittest.TestCase):
                 self.assertEqual(ran.returncode, status)
                 self.assertEqual(b"status 7: " in ran.stderr, status == 7)
 
+    def test_made_cases(self):
+        """The final lines of the cases of some numbers, and words that the program refuses."""
+        for number in ("0", "1", "2", "3"):
+            ran = tool("make", number)
+            wanted = (EXAMPLES / f"make-{number}.report").read_bytes()
+            self.assertEqual((ran.returncode, ran.stdout), (0, wanted), number)
+        for number in ("x", "", "18446744073709551616", "000000000000000000000"):
+            ran = tool("make", number)
+            self.assertEqual((ran.returncode, ran.stdout), (2, b""), number)
+            self.assertIn(b"status 2: ", ran.stderr)
+
     def test_the_end_of_a_report_that_passed(self):
         """It has no final lines: `--quiet` shows the landing."""
         ran = tool("run", "--quiet", str(EXAMPLES / "passed-null.toml"))
@@ -77,12 +88,12 @@ class Run(unittest.TestCase):
             self.assertEqual(path.read_bytes(), WRITE_THEN_READ.read_bytes())
 
     def test_lines_that_are_asked_for(self):
-        first_words = (b"memory", b"register", b"host", b"cube", b"state")
+        first_words = (b"memory", b"register", b"tokens", b"counters", b"host", b"cube", b"state")
         rows = (
             (["--no-idle"], lambda line: not line.startswith(b"idle")),
             (["--quiet"], lambda line: line.split()[0] in first_words),
             (["--only", "^(gave|took) "], lambda line: line[:5] in (b"gave ", b"took ")),
-            (["--only", "0", "--quiet"], lambda line: line.split()[0] in first_words[:4]),
+            (["--only", "0", "--quiet"], lambda line: line.split()[0] in first_words[:6]),
         )
         for words, test in rows:
             with self.subTest(words):
@@ -127,6 +138,8 @@ class WrongWords(unittest.TestCase):
             ((), 64),
             (("jump",), 64),
             (("run", "--colour"), 64),
+            (("make",), 64),
+            (("make", "3", "3"), 64),
             (("run", "no-such-file.toml"), 66),
             (("run", str(WRITE_THEN_READ), "-o", "/no/such/folder/report"), 73),
             (("run", str(WRITE_THEN_READ), "--only", "("), 64),

@@ -5,6 +5,7 @@ pub mod Parts
 pub mod Setup
 pub mod Cubes
 pub mod Places
+pub mod Line
 pub mod Links
 pub mod Together
 pub mod Graph

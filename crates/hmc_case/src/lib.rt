@@ -16,6 +16,7 @@ mod cube;
 mod fault;
 mod graph;
 mod keys;
+mod line;
 mod link;
 mod net;
 mod parts;
@@ -28,4 +29,5 @@ mod together;
 
 pub use case::Case;
 pub use fault::{CaseFault, CaseKind, Section};
+pub use line::bad_line;
 pub use setup::{CubeSetup, LinkRow};

@@ -94,33 +94,33 @@ after_spread-nothing : map (λ spread. after_spread 0 spread cube) (spreads.Empt
 after_spread-nothing = refl
 
 -- bank 0 of the second vault has nothing to do, and bank 1 waits since that vault's answers are full
-bank_says-second : map (bank_says cube 1) (0 ∷ 1 ∷ []) ≡ Empty ∷ Full ∷ []
+bank_says-second : map (bank_says cube [] 1) (0 ∷ 1 ∷ []) ≡ Empty ∷ Full ∷ []
 unfolding request_in payload_of table_line
 bank_says-second = refl
 
 -- bank 0 of the first vault has executed its front
-after_execute-vault : after_execute 0 0 (Ran 5 2 write_of_register (answers.Done false)) cube ≡
+after_execute-vault : after_execute 0 0 (Ran 5 2 write_of_register (answers.Done false)) [] cube ≡
     record (cube_with (record first_vault { banks = [] ∷ [] ∷ []; answers = done 3 ∷ done 2 ∷ [] }) second_vault register_queue (done 11 ∷ [])) { state = state_with 7 }
 unfolding table_line reply_packet perform_on action_of register_write_error
 after_execute-vault = refl
 
-after_execute-nothing : map (λ executed. after_execute 0 0 executed cube) (Empty ∷ Full ∷ []) ≡ cube ∷ cube ∷ []
+after_execute-nothing : map (λ executed. after_execute 0 0 executed [] cube) (Empty ∷ Full ∷ []) ≡ cube ∷ cube ∷ []
 after_execute-nothing = refl
 
 -- a register is read, and the reply is the last answer
-registers_say-read : registers_say cube ≡ Ran 5 10 read_of_register (answers.Register 9)
+registers_say-read : registers_say cube [] ≡ Ran 5 10 read_of_register (answers.Register 9)
 unfolding request_in payload_of table_line perform_on action_of register_error
 registers_say-read = refl
 
-registers_say-full : registers_say (record cube { answers = done 11 ∷ done 12 ∷ [] }) ≡ Full
+registers_say-full : registers_say (record cube { answers = done 11 ∷ done 12 ∷ [] }) [] ≡ Full
 unfolding request_in payload_of table_line
 registers_say-full = refl
 
-after_registers-write : after_registers (Ran 5 10 write_of_register (answers.Done false)) cube ≡ record cube { state = state_with 7; register_queue = []; answers = done 11 ∷ done 10 ∷ [] }
+after_registers-write : after_registers (Ran 5 10 write_of_register (answers.Done false)) [] cube ≡ record cube { state = state_with 7; register_queue = []; answers = done 11 ∷ done 10 ∷ [] }
 unfolding table_line reply_packet perform_on action_of register_write_error
 after_registers-write = refl
 
-after_registers-nothing : map (λ executed. after_registers executed cube) (Empty ∷ Full ∷ []) ≡ cube ∷ cube ∷ []
+after_registers-nothing : map (λ executed. after_registers executed [] cube) (Empty ∷ Full ∷ []) ≡ cube ∷ cube ∷ []
 after_registers-nothing = refl
 
 after_lift-each : map (λ lift. after_lift lift cube) (lifts.Vault 1 ∷ lifts.Registers ∷ []) ≡

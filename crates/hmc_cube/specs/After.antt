@@ -1,8 +1,9 @@
 -- What the calls of a cube return and leave.
-use Rattle.std.specs.Prelude.{ℕ, [], ◌∷◌, ◌++◌, drop}
+use Rattle.std.specs.Prelude.{ℕ, List, [], ◌∷◌, ◌++◌, drop, Option}
 use Rattle.hmc_codes.specs.declared.lift.Lift.{Lift}
 use Rattle.hmc_codes.specs.declared.lift.Lift.TheVariants as lifts
 use Rattle.hmc_packet.specs.Packet.{PacketFields}
+use Rattle.hmc_units.specs.Unit.{UnitFields}
 use Rattle.hmc_crossbar.specs.declared.to.To.{To}
 use Rattle.hmc_crossbar.specs.declared.to.To.TheVariants.{Vault, Registers}
 use Rattle.hmc_vault.specs.declared.spread.Spread.{Spread}
@@ -31,29 +32,30 @@ after_spread vault (Moved bank) cube =
 after_spread vault _ cube = cube
 
 -- what an execution by a bank returns
-abbrev pub bank_says : CubeFields → (vault bank : ℕ) → Executed
-bank_says cube vault bank =
+abbrev pub bank_says : CubeFields → List (Option UnitFields) → (vault bank : ℕ) → Executed
+bank_says cube slots vault bank =
     execute_says (bank_at (vault_at cube vault) bank) (vault_at cube vault).answers
-    cube.size cube.state
+    cube.size cube.state slots
 
--- an execution by a bank has returned this
-abbrev pub after_execute : (vault bank : ℕ) → Executed → CubeFields → CubeFields
-after_execute vault bank (Ran host tag request answer) cube =
+-- an execution by a bank has returned this, with logic units as they were before
+abbrev pub after_execute : (vault bank : ℕ) → Executed → List (Option UnitFields) → CubeFields
+    → CubeFields
+after_execute vault bank (Ran host tag request answer) slots cube =
     let ran = Ran host tag request answer in
     record (with_vault cube vault (execute_gives bank ran (vault_at cube vault))) {
-      state = cube_after ran cube.state;
+      state = cube_after ran cube.state slots;
     }
-after_execute vault bank _ cube = cube
+after_execute vault bank _ slots cube = cube
 
 -- what an execution by the registers returns
-abbrev pub registers_say : CubeFields → Executed
-registers_say cube = execute_says cube.register_queue cube.answers cube.size cube.state
+abbrev pub registers_say : CubeFields → List (Option UnitFields) → Executed
+registers_say cube slots = execute_says cube.register_queue cube.answers cube.size cube.state slots
 
 -- an execution by the registers has returned this
-abbrev pub after_registers : Executed → CubeFields → CubeFields
-after_registers executed cube =
+abbrev pub after_registers : Executed → List (Option UnitFields) → CubeFields → CubeFields
+after_registers executed slots cube =
     record cube {
-      state = cube_after executed cube.state;
+      state = cube_after executed cube.state slots;
       register_queue = waiting_after executed cube.register_queue;
       answers = answers_after executed cube.answers;
     }

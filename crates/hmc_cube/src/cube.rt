@@ -6,6 +6,7 @@ ghost use Rattle.hmc_codes.specs.Shape.{capacity_of};
 ghost use Rattle.hmc_vault.specs.Packets.{IsForBanks};
 ghost use Rattle.hmc_vault.specs.Vault.{opening_vault, bank_at, held_by};
 ghost use Rattle.hmc_vault.specs.Spread.{spread_says};
+ghost use Rattle.hmc_vault.specs.Execute.{slots_after};
 ghost use Rattle.hmc_cube.specs.Cube.{opening_cube, vault_at, held_in_cube};
 ghost use Rattle.hmc_cube.specs.Places.{IsForRegisters, IsHere, IsFor, IsLift, entrance, answers_at};
 ghost use Rattle.hmc_cube.specs.After.{after_enter, after_spread, bank_says, after_execute, registers_say, after_registers, after_lift};
@@ -16,6 +17,7 @@ use hmc_memory::Banks;
 use hmc_packet::Packet;
 use hmc_registers::Registers;
 use hmc_tokens::{Intake, Queue};
+use hmc_units::Workbench;
 use hmc_vault::{Executed, Spread, Vault, execute_front};
 use std::alloc::Global;
 use std::marker::Model;
@@ -131,17 +133,20 @@ impl Cube {
         vault.spread(shape)
     }
 
-    /// Performs the request at the front of a bank's queue.
-    pub fn execute(&mut self, vault: u8, bank: u8) -> Executed
+    /// Performs the request at the front of a bank's queue. Only a unit command asks the bench of
+    /// logic units.
+    pub fn execute<B: Workbench>(&mut self, vault: u8, bank: u8, bench: &mut B) -> Executed
         requires vault { vault < 2 ^ self.old.state.shape.vault_bits }
         requires bank { bank < 2 ^ self.old.state.shape.bank_bits }
-        ensures answer { result ≡ bank_says self.old vault bank }
-        ensures leaves { self.new ≡ after_execute vault bank result self.old }
+        ensures answer { result ≡ bank_says self.old (B.slots bench.old) vault bank }
+        ensures leaves { self.new ≡ after_execute vault bank result (B.slots bench.old) self.old }
+        ensures slots { B.slots bench.new
+            ≡ slots_after result self.old.state (B.slots bench.old) }
         ensures shape { self.new.state.shape ≡ self.old.state.shape }
         ensures empty { (result ≡ Executed.Empty) ↔ (bank_at (vault_at self.old vault) bank ≡ []) }
     {
         let vault = &mut self.vaults[usize::from(vault)];
-        vault.execute(bank, &mut self.banks, &mut self.registers)
+        vault.execute(bank, &mut self.banks, &mut self.registers, bench)
     }
 
     /// Whether the queue of a bank is empty, and an execution by it would do nothing.
@@ -161,9 +166,11 @@ impl Cube {
     }
 
     /// Performs the request at the front of the registers' queue.
-    pub fn registers(&mut self) -> Executed
-        ensures answer { result ≡ registers_say self.old }
-        ensures leaves { self.new ≡ after_registers result self.old }
+    pub fn registers<B: Workbench>(&mut self, bench: &mut B) -> Executed
+        ensures answer { result ≡ registers_say self.old (B.slots bench.old) }
+        ensures leaves { self.new ≡ after_registers result (B.slots bench.old) self.old }
+        ensures slots { B.slots bench.new
+            ≡ slots_after result self.old.state (B.slots bench.old) }
         ensures shape { self.new.state.shape ≡ self.old.state.shape }
         ensures empty { (result ≡ Executed.Empty) ↔ (self.old.register_queue ≡ []) }
     {
@@ -172,6 +179,7 @@ impl Cube {
             &mut self.answers,
             &mut self.banks,
             &mut self.registers,
+            bench,
         )
     }
 

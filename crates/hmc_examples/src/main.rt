@@ -1,15 +1,17 @@
-//! Replays each example case, and compares its report with the one beside it. Those reports came
-//! from a model in another language, or were found by hand (docs/DECISIONS.md says which).
+//! Replays each example case, runs the cases of some numbers, and compares each report with the one
+//! beside it. Those reports came from a model in another language, or were found by hand
+//! (docs/DECISIONS.md says which).
 #![tactic(auto)]
 
 use hmc_outside::{MemorySink, MemorySource};
 use hmc_replay::replay;
+use hmc_units::{LogicUnit, Reverse, Stamp};
 use std::alloc::Global;
 use std::rt::Files;
 use std::{fs, io};
 
 /// The cases of this folder whose run ends, `NAME.toml` each, with their reports, `NAME.report`.
-const NAMES: [&str; 50] = [
+const NAMES: [&str; 59] = [
     "write-then-read",
     "six-errors",
     "posted-increments",
@@ -60,6 +62,15 @@ const NAMES: [&str; 50] = [
     "two-profiles",
     "profile-two",
     "eight-largest",
+    "no-steps",
+    "stamped-twice",
+    "reversed-twice",
+    "retired-unit",
+    "retired-slots",
+    "units-left-alone",
+    "units-of-one-cube",
+    "counts-of-flits",
+    "tokens-on-the-way",
 ];
 
 /// The cases whose run ends at a landing that passed.
@@ -71,24 +82,44 @@ const PASSED: [&str; 5] = [
     "passed-quiet",
 ];
 
+/// The numbers whose cases are made and run, each with its report, `NAME.report`. Leading zeros
+/// change nothing.
+const MADE: [(&str, &str); 6] = [
+    ("0", "make-0"),
+    ("1", "make-1"),
+    ("2", "make-2"),
+    ("3", "make-3"),
+    ("00000000000000000001", "make-1"),
+    ("18446744073709551615", "make-greatest"),
+];
+
 /// More bytes than any of the reports has.
 const ROOM: usize = 1 << 20;
 
-fn words(alloc: Global) -> Result<Vec<String>, io::Error> {
-    let word = String::from_str(alloc, "run")?;
-    Ok(vec![in alloc; word]?)
+fn owned(alloc: Global, words: &[&str]) -> Result<Vec<String>, io::Error> {
+    let mut owned = Vec::new(alloc);
+    for word in words {
+        owned.push(String::from_str(alloc, word)?)?;
+    }
+    Ok(owned)
 }
 
-// Whether the input ends with this status and this report.
-fn has_report(alloc: Global, case: &[u8], wanted: u8, report: &[u8]) -> Result<bool, io::Error> {
-    let words = words(alloc)?;
-    let Ok(mut source) = MemorySource::new(alloc, case, &[]) else {
-        return Ok(false);
-    };
+// Whether the program of these words and the shipped units ends with this status and this report.
+fn has_report(
+    alloc: Global,
+    words: &[&str],
+    mut source: MemorySource,
+    wanted: u8,
+    report: &[u8],
+) -> Result<bool, io::Error> {
+    let words = owned(alloc, words)?;
     let Ok(mut sink) = MemorySink::new(alloc, ROOM, &[]) else {
         return Ok(false);
     };
-    let status = replay(alloc, &words, &mut source, &mut sink);
+    let mut units: Vec<Box<dyn LogicUnit>> = Vec::new(alloc);
+    units.push(Box::new(alloc, Reverse::new(0, 0))?)?;
+    units.push(Box::new(alloc, Stamp::new(0, 1))?)?;
+    let status = replay(alloc, &words, &mut source, &mut sink, units);
     Ok(status == wanted && sink.as_slice() == report)
 }
 
@@ -106,7 +137,25 @@ fn example_is_reported(
     let alloc = rt.alloc();
     let case = file(rt, format!(in alloc; "{name}.toml")?.as_str())?;
     let report = file(rt, format!(in alloc; "{name}.report")?.as_str())?;
-    has_report(alloc, case.as_bytes(), status, report.as_bytes())
+    let Ok(source) = MemorySource::new(alloc, case.as_bytes(), &[]) else {
+        return Ok(false);
+    };
+    has_report(alloc, &["run"], source, status, report.as_bytes())
+}
+
+// Whether the case of a number is run to its end with this report. Its first read would fail, so
+// nothing is read.
+fn made_is_reported(
+    rt: &(impl Files + AllocGlobal),
+    number: &str,
+    name: &str,
+) -> Result<bool, io::Error> {
+    let alloc = rt.alloc();
+    let report = file(rt, format!(in alloc; "{name}.report")?.as_str())?;
+    let Ok(source) = MemorySource::new(alloc, &[], &[1]) else {
+        return Ok(false);
+    };
+    has_report(alloc, &["make", number], source, 0, report.as_bytes())
 }
 
 // Prints whether an example ends with this status and the report beside it.
@@ -120,12 +169,26 @@ fn print_example(
     println!(rt; "{name}: {word}")
 }
 
+// Prints whether the case of a number has the report beside it.
+fn print_made(
+    rt: &(impl Files + AllocGlobal + Print),
+    number: &str,
+    name: &str,
+) -> Result<(), io::Error> {
+    let same = made_is_reported(rt, number, name)?;
+    let word = if same { "as reported" } else { "differs" };
+    println!(rt; "make {number}: {word}")
+}
+
 fn main(rt: HostRuntime) -> Result<(), io::Error> {
     for name in NAMES {
         print_example(&rt, name, 0)?;
     }
     for name in PASSED {
         print_example(&rt, name, 7)?;
+    }
+    for (number, name) in MADE {
+        print_made(&rt, number, name)?;
     }
     Ok(())
 }

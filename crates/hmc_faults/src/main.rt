@@ -1,18 +1,24 @@
 //! Reads the faulty inputs of the tables in `data/`, and compares the first fault of each with that
-//! of its row. Bad cases are replayed, and scripts and schedules are read. The faults of the tables
-//! were found by hand (docs/DECISIONS.md).
+//! of its row. Bad cases are replayed, and scripts and schedules are read. The program is run with
+//! words that are not a form. The faults of the tables were found by hand (docs/DECISIONS.md).
 #![tactic(auto)]
 
 mod faults;
 mod lines;
+mod words;
 
 use faults::changed;
 use hmc_outside::{MemorySink, MemorySource};
 use hmc_replay::replay;
+use hmc_units::LogicUnit;
 use lines::{Texts, rows_reported, small, wide};
 use std::alloc::Global;
 use std::rt::Files;
 use std::{fs, io};
+use words::words_of;
+
+/// The status of words that are not a form.
+const USAGE: u8 = 2;
 
 /// The status of a bad case.
 const BAD_CASE: u8 = 6;
@@ -20,18 +26,38 @@ const BAD_CASE: u8 = 6;
 /// More bytes than the line of a fault has.
 const ROOM: usize = 64;
 
-// Whether the program refuses a case by this line.
-fn is_refused(alloc: Global, case: &str, line: &str) -> Result<bool, io::Error> {
-    let word = String::from_str(alloc, "run")?;
-    let words = vec![in alloc; word]?;
-    let Ok(mut source) = MemorySource::new(alloc, case.as_bytes(), &[]) else {
-        return Ok(false);
-    };
+// Whether the program, without logic units, ends with this status and has written this text.
+fn ends_with(
+    alloc: Global,
+    words: &[String],
+    mut source: MemorySource,
+    wanted: u8,
+    text: &str,
+) -> Result<bool, io::Error> {
     let Ok(mut sink) = MemorySink::new(alloc, ROOM, &[]) else {
         return Ok(false);
     };
-    let status = replay(alloc, &words, &mut source, &mut sink);
-    Ok(status == BAD_CASE && sink.as_slice() == line.as_bytes())
+    let units: Vec<Box<dyn LogicUnit>> = Vec::new(alloc);
+    let status = replay(alloc, words, &mut source, &mut sink, units);
+    Ok(status == wanted && sink.as_slice() == text.as_bytes())
+}
+
+// Whether the program refuses a case by this line.
+fn is_refused(alloc: Global, case: &str, line: &str) -> Result<bool, io::Error> {
+    let words = words_of(alloc, " run")?;
+    let Ok(source) = MemorySource::new(alloc, case.as_bytes(), &[]) else {
+        return Ok(false);
+    };
+    ends_with(alloc, &words, source, BAD_CASE, line)
+}
+
+// Whether the program refuses these words, and neither reads nor writes.
+fn is_not_a_form(alloc: Global, words: &str) -> Result<bool, io::Error> {
+    let words = words_of(alloc, words)?;
+    let Ok(source) = MemorySource::new(alloc, &[], &[1]) else {
+        return Ok(false);
+    };
+    ends_with(alloc, &words, source, USAGE, "")
 }
 
 // Whether the base case with this change is reported as this fault.
@@ -64,6 +90,21 @@ fn faults_reported<'a>(
         }
         count = count.saturating_add(1);
         change.clear();
+    }
+    Ok((count, None))
+}
+
+// How many rows of words are refused, and which is the first that isn't.
+fn words_refused(alloc: Global, table: &str) -> Result<(u32, Option<&str>), io::Error> {
+    let mut count = 0_u32;
+    for line in table.lines() {
+        let Some(words) = line.strip_prefix("$") else {
+            continue;
+        };
+        if !is_not_a_form(alloc, words)? {
+            return Ok((count, Some(line)));
+        }
+        count = count.saturating_add(1);
     }
     Ok((count, None))
 }
@@ -102,7 +143,15 @@ fn print_texts(
     print_count(rt, name, reported)
 }
 
+// Runs the program with the words of each row, and prints how many are refused.
+fn print_words(rt: &(impl Files + AllocGlobal + Print)) -> Result<(), io::Error> {
+    let table = fs::read_to_string(rt, "words.txt")?;
+    let reported = words_refused(rt.alloc(), table.as_str())?;
+    print_count(rt, "words", reported)
+}
+
 fn main(rt: HostRuntime) -> Result<(), io::Error> {
+    print_words(&rt)?;
     print_cases(&rt)?;
     let wide = Texts::Schedules(wide(rt.alloc())?);
     let small = Texts::Schedules(small(rt.alloc())?);

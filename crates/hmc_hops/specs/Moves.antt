@@ -8,7 +8,7 @@ use Rattle.hmc_routes.specs.Route.Goal.{ToHost, ToCube}
 use Rattle.hmc_hops.specs.Queues.{QueueId, same_queue, is_at, lift_of, next_queue}
 use Rattle.hmc_hops.specs.Queues.QueueId.{Output, Line, UnitQueue, Answers}
 
--- What one step does to the queues. A packet that goes on, or is executed, may pass packets of other
+-- What one step does to the queues. A packet that goes on, or is executed, may pass those of other
 -- flows; `passing` is how many.
 pub data Move : Type 0 where
   Rests : Move  -- no packet moves

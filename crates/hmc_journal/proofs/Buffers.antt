@@ -20,7 +20,7 @@ use Rattle.hmc_send.specs.Places.{is_token}
 use Rattle.hmc_journal.specs.declared.outcome.Goal.{Goal}
 use Rattle.hmc_journal.specs.declared.outcome.Goal.TheVariants as goals
 use Rattle.hmc_journal.specs.declared.entry.Entry.{Entry}
-use Rattle.hmc_journal.specs.declared.entry.Entry.TheVariants.{Gave, Sent, Landed, Shifted, Dropped, Spread, Executed, Lifted, Took, Discarded, Unlocked, Passed, Idle}
+use Rattle.hmc_journal.specs.declared.entry.Entry.TheVariants.{Gave, Sent, Landed, Shifted, Dropped, Spread, Executed, Lifted, Took, Discarded, Through, Unlocked, Retired, Passed, Idle}
 use Rattle.hmc_journal.specs.Setup.{Topology}
 use Rattle.hmc_journal.specs.Directions.{unsent, receiver_of, profile_of, landed_packets, accepted}
 use Rattle.hmc_journal.specs.Queues.{QueueId, same_queue, leaves, one_if, packet_if, arrival_in, arrival_of, arrived, goal_queue, queue_of, answers_of, unless_posted, landing_buffer, enters, left, entered}
@@ -108,6 +108,8 @@ entered-same topology queue is (Took host tag answer) past quiet = append-nil _
 entered-same topology queue is (Discarded host) past quiet = append-nil _
 entered-same topology queue is (Unlocked direction) past quiet = append-nil _
 entered-same topology queue is (Passed direction flit) past quiet = append-nil _
+entered-same topology queue is (Through cube port direction) past quiet = append-nil _
+entered-same topology queue is (Retired slot) past quiet = append-nil _
 entered-same topology queue is (Idle step cause) past quiet = append-nil _
 
 -- what is accepted changes at landings alone

@@ -11,7 +11,7 @@ use Rattle.hmc_hops.specs.Moves.{Move}
 use Rattle.hmc_hops.specs.Moves.{packet_if as hop_if, leaves as hop_leaves}
 use Rattle.hmc_hops.specs.Queues.{QueueId as hops}
 use Rattle.hmc_journal.specs.declared.entry.Entry.{Entry}
-use Rattle.hmc_journal.specs.declared.entry.Entry.TheVariants.{Gave, Sent, Landed, Shifted, Dropped, Spread, Executed, Lifted, Took, Discarded, Unlocked, Passed, Idle}
+use Rattle.hmc_journal.specs.declared.entry.Entry.TheVariants.{Gave, Sent, Landed, Shifted, Dropped, Spread, Executed, Lifted, Took, Discarded, Through, Unlocked, Retired, Passed, Idle}
 use Rattle.hmc_journal.specs.Directions.{unsent, receiver_of, landed_packets, accepted}
 use Rattle.hmc_journal.specs.Lawful.{Lawful}
 use Rattle.hmc_journal.specs.Queues.{tag_number}
@@ -80,6 +80,8 @@ carried_more setup f said d reads (Took giver tag answer) past lawful = quiet_en
 carried_more setup f said d reads (Discarded giver) past lawful = quiet_entry setup.topology f said d (Discarded giver) past (moves_of setup.topology past (Discarded giver)) tt refl
 carried_more setup f said d reads (Unlocked e) past lawful = quiet_entry setup.topology f said d (Unlocked e) past [] tt refl
 carried_more setup f said d reads (Passed e flit) past lawful = quiet_entry setup.topology f said d (Passed e flit) past [] tt refl
+carried_more setup f said d reads (Through cube port direction) past lawful = quiet_entry setup.topology f said d (Through cube port direction) past [] tt refl
+carried_more setup f said d reads (Retired slot) past lawful = quiet_entry setup.topology f said d (Retired slot) past [] tt refl
 carried_more setup f said d reads (Idle step cause) past lawful = quiet_entry setup.topology f said d (Idle step cause) past [] tt refl
 
 -- what was accepted, by the moves

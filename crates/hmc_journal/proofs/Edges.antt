@@ -46,7 +46,7 @@ abbrev posted : RequestFields
 posted = record { command = Pinc8; cube = 0; address = 0x40; payload = [] }
 
 -- two requests out under one tag are not in order
-twice_out : DeliveredInOrder (record { topology = sizes; script = []; schedule = [] }) (Gave 0 (Some 0) false read ∷ Gave 0 (Some 0) false read ∷ []) → ⊥
+twice_out : DeliveredInOrder (record { topology = sizes; slots = []; script = []; schedule = [] }) (Gave 0 (Some 0) false read ∷ Gave 0 (Some 0) false read ∷ []) → ⊥
 unfolding asked_under answers_under
 twice_out is = let most : 2 ≤ 1 = is.out 0 0 in absurd (omega arith)
 

@@ -77,7 +77,7 @@ pub record Kept (setup : Setup) (past : List Entry) : Type 0 where
   pub ends : (d : ℕ) → d < directions_in setup.topology → EndKept setup.topology past d
   -- nothing was sent on a direction that isn't there
   pub none : (d : ℕ) → directions_in setup.topology ≤ d → sent_flits d past ≡ []
-  pub state : HasCubes setup.topology (state_of setup.topology past)
+  pub state : HasCubes setup.topology (state_of setup past)
   pub tags : (host : ℕ) → length (tags_out host past) ≡ 2048
 
 pub contents_stand : (setup : Setup) (past : List Entry) (room : QueueId) → Kept setup past → All (Stands setup.topology room) (contents setup.topology past room)
@@ -364,11 +364,12 @@ pub sends : (setup : Setup) (past : List Entry) (unit : RequestUnit) (host : ℕ
 unfolding answer_to
 sends setup past unit host tag request answer has kept answered =
     let run = runs_request setup past unit host tag request answer has kept in
-    let before = cube_state_at (state_of setup.topology past) request.cube in
-    let carried = performed_is_carried before request (cube_there setup.topology (state_of setup.topology past) request.cube kept.state run.there) run.is in record {
+    let state = state_of setup past in
+    let before = cube_state_at state request.cube in
+    let carried = performed_is_carried before state.slots request (cube_there setup.topology state request.cube kept.state run.there) run.is in record {
       carried = subst CanReply (sym has.is_answer) (carried.carried answered);
       fits = subst IsAnswer (sym has.is_answer) carried.fits;
-      small = subst IsSmallError (sym has.is_answer) (performed_small before request);
+      small = subst IsSmallError (sym has.is_answer) (performed_small before state.slots request);
     }
 
 pub executed_reply : (setup : Setup) (past : List Entry) (unit : RequestUnit) (host : ℕ) (tag : Option ℕ) (request : RequestFields) (answer : Answer) → IsNetwork setup → HasExecuted setup past unit host tag request answer → Kept setup past

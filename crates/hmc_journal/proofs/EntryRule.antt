@@ -16,8 +16,7 @@ use Rattle.hmc_packet.specs.Transactions.{request_in, answer_in}
 use Rattle.hmc_schedule.specs.declared.step.Step.{Step}
 use Rattle.hmc_schedule.specs.declared.step.Step.TheVariants as steps
 use Rattle.hmc_script.specs.Items.{ItemFields}
-use Rattle.hmc_serial.specs.Machine.{cube_state_at, answer_to}
-use Rattle.hmc_serial.specs.Perform.{perform_on}
+use Rattle.hmc_serial.specs.Machine.{performed, answer_to}
 use Rattle.hmc_serial.specs.Unit.{is_for_registers}
 use Rattle.hmc_crossbar.specs.declared.to.To.TheVariants as tos
 use Rattle.hmc_crossbar.specs.To.{unpoisoned_to}
@@ -28,10 +27,11 @@ use Rattle.hmc_host.specs.declared.settled.Settled.TheVariants as settles
 use Rattle.hmc_host.specs.Tags.{is_some_out, lowest_free}
 use Rattle.hmc_host.specs.Give.{wants_tag, tag_for, lacks_tag, next_item, next_says, give_says, gave_request}
 use Rattle.hmc_host.specs.Settle.{took_answer}
+use Rattle.hmc_journal.specs.declared.outcome.Cause.TheVariants as causes
 use Rattle.hmc_journal.specs.declared.outcome.Goal.{Goal}
 use Rattle.hmc_journal.specs.declared.outcome.Goal.TheVariants as goals
 use Rattle.hmc_journal.specs.declared.entry.Entry.{Entry}
-use Rattle.hmc_journal.specs.declared.entry.Entry.TheVariants.{Gave, Sent, Landed, Shifted, Dropped, Spread, Executed, Lifted, Took, Discarded, Unlocked, Passed, Idle}
+use Rattle.hmc_journal.specs.declared.entry.Entry.TheVariants.{Gave, Sent, Landed, Shifted, Dropped, Spread, Executed, Lifted, Took, Discarded, Through, Unlocked, Retired, Passed, Idle}
 use Rattle.hmc_codes.specs.declared.place.Place.TheVariants as places
 use Rattle.hmc_send.specs.declared.sent.Sent.{Sent as Sending}
 use Rattle.hmc_send.specs.declared.sent.Sent.TheVariants.{Out, Starved}
@@ -116,7 +116,7 @@ pub record HasExecuted (setup : Setup) (past : List Entry) (unit : RequestUnit) 
   pub is_request : request_in at.front ≡ Some request
   pub is_host : host ≡ at.front.slid
   pub is_tag : tag ≡ tag_of (is_posted request.command) at.front.tag
-  pub is_answer : answer ≡ answer_to (state_of setup.topology past) request
+  pub is_answer : answer ≡ answer_to (state_of setup past) request
 
 pub record HasLifted (setup : Setup) (past : List Entry) (cube : ℕ) (from : Lift) (port : ℕ) : Type 0 where
   pub at : HasFront setup past (Answers cube from)
@@ -146,6 +146,8 @@ EntryRule setup past (Took host tag answer) = HasTaken setup past host tag answe
 EntryRule setup past (Discarded host) = HasDiscarded setup past host
 EntryRule setup past (Unlocked direction) = Unit {0}
 EntryRule setup past (Passed direction flit) = HasPassed setup past direction flit
+EntryRule setup past (Through cube port direction) = Unit {0}
+EntryRule setup past (Retired slot) = Unit {0}
 EntryRule setup past (Idle step cause) = Unit {0}
 
 unless : (setup : Setup) (past : List Entry) (step : Step) (full : Bool) (entry : Entry) → EntryRule setup past entry → EntryRule setup past (unless_full step full entry)
@@ -225,20 +227,20 @@ shift_by setup past cube port at true is = record { at = at; is_lost = inl is }
 shift_by setup past cube port at false is = shift_goal setup past cube port at _ is refl
 
 run : (setup : Setup) (past : List Entry) (unit : RequestUnit) (step : Step) (at : HasFront setup past (queue_of unit)) (request : RequestFields) (waits : Bool) → request_in at.front ≡ Some request
-    → EntryRule setup past (ran_entry unit step (if waits then executions.Full else executions.Ran at.front.slid at.front.tag request (perform_on (cube_state_at (state_of setup.topology past) request.cube) request).answer))
+    → EntryRule setup past (ran_entry unit step (if waits then executions.Full else executions.Ran at.front.slid at.front.tag request (performed (state_of setup past) request).answer))
 unfolding answer_to
 run setup past unit step at request true is = tt
 run setup past unit step at request false is = record { at = at; is_request = is; is_host = refl; is_tag = refl; is_answer = refl }
 
 execute : (setup : Setup) (past : List Entry) (unit : RequestUnit) (step : Step) (answers : List PacketFields) (size : ℕ) (at : HasFront setup past (queue_of unit)) (found : Option RequestFields) → request_in at.front ≡ found
-    → EntryRule setup past (execution_entry unit step at.front answers size (state_of setup.topology past) found)
+    → EntryRule setup past (execution_entry unit step at.front answers size (state_of setup past) found)
 execute setup past unit step answers size at None is = tt
 execute setup past unit step answers size at (Some request) is = run setup past unit step at request (must_wait request answers size) is
 
 execute_front : (setup : Setup) (past : List Entry) (unit : RequestUnit) (step : Step) (answers : List PacketFields) (size : ℕ)
-    → EntryRule setup past (with_front step (contents setup.topology past (queue_of unit)) (λ front. execution_entry unit step front answers size (state_of setup.topology past) (request_in front)))
+    → EntryRule setup past (with_front step (contents setup.topology past (queue_of unit)) (λ front. execution_entry unit step front answers size (state_of setup past) (request_in front)))
 execute_front setup past unit step answers size =
-    fronted setup past step (queue_of unit) _ (λ front. execution_entry unit step front answers size (state_of setup.topology past) (request_in front)) refl
+    fronted setup past step (queue_of unit) _ (λ front. execution_entry unit step front answers size (state_of setup past) (request_in front)) refl
     (λ at. execute setup past unit step answers size at (request_in at.front) refl)
 
 -- lift
@@ -264,6 +266,11 @@ take_front : (setup : Setup) (past : List Entry) (host : ℕ) (at : HasFront set
 take_front setup past host at true is = record { at = at; is_none = inl is }
 take_front setup past host at false is = take_answer setup past host at (answer_in at.front) is refl
 
+-- retire
+retire : (setup : Setup) (past : List Entry) (slot : ℕ) (live : Bool) → EntryRule setup past (if live then Retired slot else Idle (steps.Retire slot) causes.Empty)
+retire setup past slot true = tt
+retire setup past slot false = tt
+
 pub next_rule : (setup : Setup) (past : List Entry) (step : Step) → slice_get setup.schedule (length past) ≡ Some step → EntryRule setup past (next setup past step)
 unfolding next choice view_of give_says
 next_rule setup past (steps.Give host) there = give setup past host (next_item (host_of setup past host)) refl
@@ -281,6 +288,7 @@ next_rule setup past (steps.Lift cube from) there =
     fronted setup past (steps.Lift cube from) (Answers cube from) _ _ refl
     (λ at. lift setup past cube from at (port_towards setup.topology cube at.front.slid) refl)
 next_rule setup past (steps.Take host) there = fronted setup past (steps.Take host) (Host host) _ _ refl (λ at. take_front setup past host at at.front.poisoned refl)
+next_rule setup past (steps.Retire slot) there = retire setup past slot _
 next_rule setup past _ there = tt
 
 follows_rule : (setup : Setup) (past : List Entry) (step : Option Step) (entry : Entry) → slice_get setup.schedule (length past) ≡ step → Follows setup past step entry → EntryRule setup past entry

@@ -37,7 +37,7 @@ use Rattle.hmc_hops.specs.Moves.{Move, without, without_if, answer_queue}
 use Rattle.hmc_hops.specs.Moves.{packet_if as hop_if, contents as hop_contents}
 use Rattle.hmc_hops.specs.Moves.Move.{Comes, Executes}
 use Rattle.hmc_journal.specs.declared.entry.Entry.{Entry}
-use Rattle.hmc_journal.specs.declared.entry.Entry.TheVariants.{Gave, Sent, Landed, Shifted, Dropped, Spread, Executed, Lifted, Took, Discarded, Unlocked, Passed, Idle}
+use Rattle.hmc_journal.specs.declared.entry.Entry.TheVariants.{Gave, Sent, Landed, Shifted, Dropped, Spread, Executed, Lifted, Took, Discarded, Through, Unlocked, Retired, Passed, Idle}
 use Rattle.hmc_journal.specs.Carried.{underway_on}
 use Rattle.hmc_journal.specs.Delivered.{unnumbered}
 use Rattle.hmc_journal.specs.Directions.{unsent, receiver_of, landed_packets, accepted}
@@ -432,6 +432,10 @@ agrees_more setup m past moved (Unlocked direction) network wires map_of keeps n
     still_step setup m past moved (Unlocked direction) agrees right tt keeps.within refl (λ q. refl) (λ e. ap (map (seen setup.topology)) (underway-quiet setup.topology e (Unlocked direction) past tt tt))
 agrees_more setup m past moved (Passed direction flit) network wires map_of keeps now agrees right =
     still_step setup m past moved (Passed direction flit) agrees right tt keeps.within refl (λ q. refl) (λ e. ap (map (seen setup.topology)) (underway-quiet setup.topology e (Passed direction flit) past tt tt))
+agrees_more setup m past moved (Through cube port direction) network wires map_of keeps now agrees right =
+    still_step setup m past moved (Through cube port direction) agrees right tt keeps.within refl (λ q. refl) (λ e. ap (map (seen setup.topology)) (underway-quiet setup.topology e (Through cube port direction) past tt tt))
+agrees_more setup m past moved (Retired slot) network wires map_of keeps now agrees right =
+    still_step setup m past moved (Retired slot) agrees right tt keeps.within refl (λ q. refl) (λ e. ap (map (seen setup.topology)) (underway-quiet setup.topology e (Retired slot) past tt tt))
 agrees_more setup m past moved (Idle step cause) network wires map_of keeps now agrees right =
     still_step setup m past moved (Idle step cause) agrees right tt keeps.within refl (λ q. refl) (λ e. ap (map (seen setup.topology)) (underway-quiet setup.topology e (Idle step cause) past tt tt))
 

@@ -10,7 +10,7 @@ use Rattle.hmc_wire.specs.LinkLaws.{IsKept}
 use Rattle.hmc_journal.specs.declared.outcome.Goal.{Goal}
 use Rattle.hmc_journal.specs.declared.outcome.Goal.TheVariants as goals
 use Rattle.hmc_journal.specs.declared.entry.Entry.{Entry}
-use Rattle.hmc_journal.specs.declared.entry.Entry.TheVariants.{Gave, Sent, Landed, Shifted, Dropped, Spread, Executed, Lifted, Took, Discarded, Unlocked, Passed, Idle}
+use Rattle.hmc_journal.specs.declared.entry.Entry.TheVariants.{Gave, Sent, Landed, Shifted, Dropped, Spread, Executed, Lifted, Took, Discarded, Through, Unlocked, Retired, Passed, Idle}
 use Rattle.hmc_journal.specs.Setup.{Topology}
 use Rattle.hmc_journal.specs.Queues.{front_of, contents}
 use Rattle.hmc_journal.specs.Queues.QueueId.{Port}
@@ -46,4 +46,6 @@ kept_past sizes topology link (Discarded host) past is = kept-put sizes link _ L
 kept_past sizes topology link (Executed unit host tag request answer) past is = is
 kept_past sizes topology link (Spread cube vault bank) past is = is
 kept_past sizes topology link (Passed direction flit) past is = is
+kept_past sizes topology link (Through cube port direction) past is = is
+kept_past sizes topology link (Retired slot) past is = is
 kept_past sizes topology link (Idle step cause) past is = is

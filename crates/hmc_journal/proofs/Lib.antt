@@ -54,7 +54,14 @@ pub mod Keeping
 pub mod Networks
 mod ZeroDigits
 mod WorkedLines
+mod WorkedUnits
 mod WorkedRow
 mod Worked
 mod Edges
 mod WorkedHops
+pub mod ParseLines
+pub mod ParseText
+pub mod ParseTells
+pub mod ParseSame
+pub mod ParseShown
+pub mod ParseJournals

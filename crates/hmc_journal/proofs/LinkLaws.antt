@@ -13,7 +13,7 @@ use Rattle.hmc_wire.specs.LinkLaws.{TokenLaws}
 use Rattle.hmc_wire.proofs.LawsHold.{direction-laws}
 use Rattle.hmc_wire.proofs.TokenFacts.{token-laws}
 use Rattle.hmc_journal.specs.declared.entry.Entry.{Entry}
-use Rattle.hmc_journal.specs.declared.entry.Entry.TheVariants.{Gave, Sent, Landed, Shifted, Dropped, Spread, Executed, Lifted, Took, Discarded, Unlocked, Passed, Idle}
+use Rattle.hmc_journal.specs.declared.entry.Entry.TheVariants.{Gave, Sent, Landed, Shifted, Dropped, Spread, Executed, Lifted, Took, Discarded, Through, Unlocked, Retired, Passed, Idle}
 use Rattle.hmc_journal.specs.Setup.{Setup}
 use Rattle.hmc_journal.specs.Carried.{begun_on}
 use Rattle.hmc_journal.specs.Delivered.{IsPrefix, unnumbered, IsInOrder}
@@ -79,6 +79,8 @@ ordered_entry setup network (Took host tag answer) past right lawful = tt
 ordered_entry setup network (Discarded host) past right lawful = tt
 ordered_entry setup network (Unlocked direction) past right lawful = tt
 ordered_entry setup network (Passed direction flit) past right lawful = tt
+ordered_entry setup network (Through cube port direction) past right lawful = tt
+ordered_entry setup network (Retired slot) past right lawful = tt
 ordered_entry setup network (Idle step cause) past right lawful = tt
 
 pub all_in_order : (setup : Setup) (network : IsNetwork setup) (past : List Entry) → Lawful setup past → All IsInOrder past

@@ -7,11 +7,11 @@ use Rattle.hmc_case.specs.Setup.{CubeSetupFields, IsCubeSetup}
 use Rattle.hmc_codes.specs.Request.{RequestFields, IsRequest}
 use Rattle.hmc_codes.specs.Shape.{ShapeFields, IsShape}
 use Rattle.hmc_serial.specs.Cube.{IsCube, opening}
-use Rattle.hmc_serial.specs.Perform.{perform_on}
-use Rattle.hmc_serial.specs.Machine.{State, cube_state_at, apply, no_cube_state, openings_from, opening_state}
+use Rattle.hmc_serial.specs.Machine.{State, cube_state_at, performed, apply, retire, no_cube_state, openings_from, opening_state}
 use Rattle.hmc_serial.proofs.CubeLemmas.{IsCube-performed, IsCube-opening}
 use Rattle.hmc_journal.specs.Setup.{Topology, Setup, shapes_of, cubes_in}
 use Rattle.hmc_journal.specs.Network.{IsNetwork}
+use Rattle.hmc_journal.specs.StepView.{opening_of}
 
 -- a machine of the cubes of a topology
 pub record HasCubes (topology : Topology) (state : State) : Type 0 where
@@ -24,10 +24,14 @@ cube_there topology state cube has less = let many = has.count in has.cubes cube
 pub HasCubes-apply : (topology : Topology) (state : State) (request : RequestFields) → HasCubes topology state → IsRequest request → request.cube < cubes_in topology → HasCubes topology (apply state request)
 unfolding apply
 HasCubes-apply topology state request has is less =
-    let new = (perform_on (cube_state_at state request.cube) request).cube in record {
+    let new = (performed state request).cube in record {
       count = length-set state.cubes request.cube new ∙ has.count;
-      cubes = All-set IsCube state.cubes request.cube new (IsCube-performed (cube_state_at state request.cube) request (cube_there topology state request.cube has less) is) has.cubes;
+      cubes = All-set IsCube state.cubes request.cube new (IsCube-performed (cube_state_at state request.cube) state.slots request (cube_there topology state request.cube has less) is) has.cubes;
     }
+
+pub HasCubes-retire : (topology : Topology) (state : State) (slot : ℕ) → HasCubes topology state → HasCubes topology (retire state slot)
+unfolding retire
+HasCubes-retire topology state slot has = record { count = has.count; cubes = has.cubes }
 
 opened : (number : ℕ) (shapes : List ShapeFields) → All IsShape shapes → number + length shapes ≤ 8 → All IsCube (openings_from number shapes)
 opened number [] all few = All-nil IsCube
@@ -44,7 +48,7 @@ are_shapes [] all = All-nil IsShape
 are_shapes (cube ∷ cubes) all =
     All-cons IsShape cube.shape (map (λ (c : CubeSetupFields). c.shape) cubes) (All-head IsCubeSetup cube cubes all).shape (are_shapes cubes (All-tail IsCubeSetup cube cubes all))
 
-pub HasCubes-opening : (setup : Setup) → IsNetwork setup → HasCubes setup.topology (opening_state (shapes_of setup.topology))
+pub HasCubes-opening : (setup : Setup) → IsNetwork setup → HasCubes setup.topology (opening_of setup)
 unfolding opening_state
 HasCubes-opening setup network =
     let cubes = setup.topology.cubes in

@@ -1,7 +1,8 @@
 -- The setup of every case is a network.
-use Rattle.std.proofs.Common.{◌≡◌, ◌≤◌, ℕ, length, nat_lt, subst}
+use Rattle.std.proofs.Common.{◌≡◌, ◌≤◌, ℕ, Option, List, length, nat_lt, subst}
 use Rattle.std.specs.List.{All}
 use Rattle.hmc_codes.specs.Limits.{most_hosts}
+use Rattle.hmc_units.specs.Unit.{UnitFields}
 use Rattle.hmc_routes.specs.WellFormed.{is_host_of}
 use Rattle.hmc_case.specs.Case.{CaseFields, IsCase}
 use Rattle.hmc_case.specs.Graph.{graph_of}
@@ -16,8 +17,8 @@ items_of case is = λ k d there. record {
 }
 
 -- a case is a network
-pub network_of : (case : CaseFields) → IsCase case → IsNetwork (setup_of case)
-network_of case is =
+pub network_of : (case : CaseFields) (slots : List (Option UnitFields)) → IsCase case → IsNetwork (setup_of case slots)
+network_of case slots is =
     let net = is.net in
     let links = case.net.links in
     let cubes = length case.net.cubes in

@@ -14,7 +14,7 @@ use Rattle.hmc_send.specs.LinkSenders.{sender_entries}
 use Rattle.hmc_journal.specs.declared.outcome.Goal.{Goal}
 use Rattle.hmc_journal.specs.declared.outcome.Goal.TheVariants as goals
 use Rattle.hmc_journal.specs.declared.entry.Entry.{Entry}
-use Rattle.hmc_journal.specs.declared.entry.Entry.TheVariants.{Gave, Sent, Landed, Shifted, Dropped, Spread, Executed, Lifted, Took, Discarded, Unlocked, Passed, Idle}
+use Rattle.hmc_journal.specs.declared.entry.Entry.TheVariants.{Gave, Sent, Landed, Shifted, Dropped, Spread, Executed, Lifted, Took, Discarded, Through, Unlocked, Retired, Passed, Idle}
 use Rattle.hmc_journal.specs.Setup.{Topology}
 use Rattle.hmc_journal.specs.Queues.{front_of, contents}
 use Rattle.hmc_journal.specs.Queues.QueueId.{Port}
@@ -67,6 +67,8 @@ no-send f is topology d (Discarded host) past quiet = put_on-same (of_sends f to
 no-send f is topology d (Executed unit host tag request answer) past quiet = refl
 no-send f is topology d (Spread cube vault bank) past quiet = refl
 no-send f is topology d (Passed direction flit) past quiet = refl
+no-send f is topology d (Through cube port direction) past quiet = refl
+no-send f is topology d (Retired slot) past quiet = refl
 no-send f is topology d (Idle step cause) past quiet = refl
 
 -- a send on another direction

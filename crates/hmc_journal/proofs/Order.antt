@@ -9,7 +9,7 @@ use Rattle.hmc_codes.specs.Request.{RequestFields}
 use Rattle.hmc_host.specs.Host.{items_of}
 use Rattle.hmc_script.specs.Items.{ItemFields}
 use Rattle.hmc_journal.specs.declared.entry.Entry.{Entry}
-use Rattle.hmc_journal.specs.declared.entry.Entry.TheVariants.{Gave, Sent, Landed, Shifted, Dropped, Spread, Executed, Lifted, Took, Discarded, Unlocked, Passed, Idle}
+use Rattle.hmc_journal.specs.declared.entry.Entry.TheVariants.{Gave, Sent, Landed, Shifted, Dropped, Spread, Executed, Lifted, Took, Discarded, Through, Unlocked, Retired, Passed, Idle}
 use Rattle.hmc_journal.specs.Delivered.{IsScripted, said, under_masks}
 use Rattle.hmc_journal.specs.Filters.{ScriptRequest, given_by}
 use Rattle.hmc_journal.specs.Hosts.{count_if, given_count, host_of}
@@ -121,6 +121,8 @@ one_entry setup d (Lifted cube from port) past right on is = record { are = is.a
 one_entry setup d (Took host tag answer) past right on is = record { are = is.are; within = is.within; count = λ none. is.count on }
 one_entry setup d (Discarded host) past right on is = record { are = is.are; within = is.within; count = λ none. is.count on }
 one_entry setup d (Unlocked direction) past right on is = record { are = is.are; within = is.within; count = λ none. is.count on }
+one_entry setup d (Through cube port direction) past right on is = record { are = is.are; within = is.within; count = λ none. is.count on }
+one_entry setup d (Retired slot) past right on is = record { are = is.are; within = is.within; count = λ none. is.count on }
 one_entry setup d (Idle step cause) past right on is = record { are = is.are; within = is.within; count = λ none. is.count on }
 
 -- the flits that landed are the first that were sent, each under the mask of its step
@@ -170,6 +172,8 @@ one_given setup h (Took host tag answer) past right is = is
 one_given setup h (Discarded host) past right is = is
 one_given setup h (Unlocked direction) past right is = is
 one_given setup h (Passed direction flit) past right is = is
+one_given setup h (Through cube port direction) past right is = is
+one_given setup h (Retired slot) past right is = is
 one_given setup h (Idle step cause) past right is = is
 
 -- what a host gave are the first requests that the script has for it

@@ -17,7 +17,7 @@ use Rattle.hmc_journal.specs.Choice.{append_if}
 use Rattle.hmc_journal.specs.declared.outcome.Goal.{Goal}
 use Rattle.hmc_journal.specs.declared.outcome.Goal.TheVariants as goals
 use Rattle.hmc_journal.specs.declared.entry.Entry.{Entry}
-use Rattle.hmc_journal.specs.declared.entry.Entry.TheVariants.{Gave, Sent, Landed, Shifted, Dropped, Spread, Executed, Lifted, Took, Discarded, Unlocked, Passed, Idle}
+use Rattle.hmc_journal.specs.declared.entry.Entry.TheVariants.{Gave, Sent, Landed, Shifted, Dropped, Spread, Executed, Lifted, Took, Discarded, Through, Unlocked, Retired, Passed, Idle}
 use Rattle.hmc_codes.specs.Commands.{is_posted}
 use Rattle.hmc_codes.specs.declared.unit.Unit.{Unit as RequestUnit}
 use Rattle.hmc_codes.specs.declared.unit.Unit.TheVariants as units
@@ -125,6 +125,8 @@ received-step topology d (Discarded host) past is = is ∙ sym (put_on-same (rec
 received-step topology d (Spread cube vault bank) past is = is
 received-step topology d (Executed unit host tag request answer) past is = is
 received-step topology d (Passed direction flit) past is = is
+received-step topology d (Through cube port direction) past is = is
+received-step topology d (Retired slot) past is = is
 received-step topology d (Idle step cause) past is = is
 
 pub received : (topology : Topology) (d : ℕ) (past : List Entry) → receiver_of d past ≡ receiver_entries (toward d) (entries_on topology d past)
@@ -173,6 +175,8 @@ sent-step topology d (Discarded host) past is = is ∙ sym (put_on-same (link_fl
 sent-step topology d (Spread cube vault bank) past is = is
 sent-step topology d (Executed unit host tag request answer) past is = is
 sent-step topology d (Passed direction flit) past is = is
+sent-step topology d (Through cube port direction) past is = is
+sent-step topology d (Retired slot) past is = is
 sent-step topology d (Idle step cause) past is = is
 
 pub sent_are : (topology : Topology) (d : ℕ) (past : List Entry) → sent_flits d past ≡ link_flits topology d (entries_on topology d past)
@@ -215,6 +219,8 @@ landed-step topology d (Discarded host) past is = is ∙ sym (put_on-same (lines
 landed-step topology d (Spread cube vault bank) past is = is
 landed-step topology d (Executed unit host tag request answer) past is = is
 landed-step topology d (Passed direction flit) past is = is
+landed-step topology d (Through cube port direction) past is = is
+landed-step topology d (Retired slot) past is = is
 landed-step topology d (Idle step cause) past is = is
 
 pub landed_are : (topology : Topology) (d : ℕ) (past : List Entry) → landed_count d past ≡ lines.landings (toward d) (entries_on topology d past)
@@ -283,6 +289,8 @@ handed-step topology d (Dropped cube port) past is = append-nil _ ∙ is ∙ sym
 handed-step topology d (Took host tag answer) past is = append-nil _ ∙ is ∙ sym (put_on-same (handed_packets (toward d)) (d / 2) _ LinkEntry.taken (entries_on topology d past) (λ e. refl))
 handed-step topology d (Discarded host) past is = append-nil _ ∙ is ∙ sym (put_on-same (handed_packets (toward d)) (d / 2) _ LinkEntry.taken (entries_on topology d past) (λ e. refl))
 handed-step topology d (Passed direction flit) past is = append-nil _ ∙ is
+handed-step topology d (Through cube port direction) past is = append-nil _ ∙ is
+handed-step topology d (Retired slot) past is = append-nil _ ∙ is
 handed-step topology d (Idle step cause) past is = append-nil _ ∙ is
 
 pub handed_are : (topology : Topology) (d : ℕ) (past : List Entry) → entered topology past (Output d) ≡ handed_packets (toward d) (entries_on topology d past)
@@ -322,6 +330,8 @@ direct-step topology link (Discarded host) past is = direct-put link _ LinkEntry
 direct-step topology link (Executed unit host tag request answer) past is = is
 direct-step topology link (Spread cube vault bank) past is = is
 direct-step topology link (Passed direction flit) past is = is
+direct-step topology link (Through cube port direction) past is = is
+direct-step topology link (Retired slot) past is = is
 direct-step topology link (Idle step cause) past is = is
 
 pub are_direct : (topology : Topology) (link : ℕ) (past : List Entry) → AreDirect (link_entries topology link past)

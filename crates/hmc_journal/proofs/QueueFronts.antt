@@ -11,7 +11,7 @@ use Rattle.hmc_send.specs.Places.{Place}
 use Rattle.hmc_wire.specs.LinkLaws.{IsKept}
 use Rattle.hmc_wire.proofs.Parts.{IsPart}
 use Rattle.hmc_journal.specs.declared.entry.Entry.{Entry}
-use Rattle.hmc_journal.specs.declared.entry.Entry.TheVariants.{Gave, Sent, Landed, Shifted, Dropped, Spread, Executed, Lifted, Took, Discarded, Unlocked, Passed, Idle}
+use Rattle.hmc_journal.specs.declared.entry.Entry.TheVariants.{Gave, Sent, Landed, Shifted, Dropped, Spread, Executed, Lifted, Took, Discarded, Through, Unlocked, Retired, Passed, Idle}
 use Rattle.hmc_journal.specs.Setup.{Topology}
 use Rattle.hmc_journal.specs.Directions.{unsent}
 use Rattle.hmc_journal.specs.Queues.{begins, is_at, leaves, one_if, left}
@@ -122,6 +122,8 @@ begun-step topology d (Took host tag answer) past kept is = left_same d (Took ho
 begun-step topology d (Discarded host) past kept is = left_same d (Discarded host) past tt ∙ is ∙ sym (no-send taken_fronts of_sends-fronts topology d (Discarded host) past tt)
 begun-step topology d (Unlocked direction) past kept is = left_same d (Unlocked direction) past tt ∙ is ∙ sym (no-send taken_fronts of_sends-fronts topology d (Unlocked direction) past tt)
 begun-step topology d (Passed direction flit) past kept is = left_same d (Passed direction flit) past tt ∙ is ∙ sym (no-send taken_fronts of_sends-fronts topology d (Passed direction flit) past tt)
+begun-step topology d (Through cube port direction) past kept is = left_same d (Through cube port direction) past tt ∙ is ∙ sym (no-send taken_fronts of_sends-fronts topology d (Through cube port direction) past tt)
+begun-step topology d (Retired slot) past kept is = left_same d (Retired slot) past tt ∙ is ∙ sym (no-send taken_fronts of_sends-fronts topology d (Retired slot) past tt)
 begun-step topology d (Idle step cause) past kept is = left_same d (Idle step cause) past tt ∙ is ∙ sym (no-send taken_fronts of_sends-fronts topology d (Idle step cause) past tt)
 
 pub begun_are : (topology : Topology) (d : ℕ) (past : List Entry) → IsKept (sizes_on topology d) (entries_on topology d past) → left past (Output d) ≡ fronts_on topology d (entries_on topology d past)

@@ -1,5 +1,6 @@
 -- The number of an error fits the error number of either profile.
-use Rattle.std.proofs.Common.{◌≡◌, ◌<◌, ℕ, Bool, true, false, if◌then◌else◌, Option, Some, None, length, refl, arith}
+use Rattle.std.proofs.Common.{◌≡◌, ◌<◌, ℕ, Bool, true, false, if◌then◌else◌, List, Option, Some, None, length, refl, arith}
+use Rattle.std.specs.List.{list_any}
 use Rattle.hmc_codes.specs.Commands.{reply_of, is_posted}
 use Rattle.hmc_codes.specs.Request.{RequestFields}
 use Rattle.hmc_codes.specs.declared.command.Command.{Command}
@@ -7,6 +8,8 @@ use Rattle.hmc_codes.specs.declared.command.Command.TheVariants as commands
 use Rattle.hmc_codes.specs.declared.answer.Answer.{Answer}
 use Rattle.hmc_codes.specs.declared.answer.Answer.TheVariants as answers
 use Rattle.hmc_codes.specs.declared.answer.Acted.{Acted}
+use Rattle.hmc_units.specs.Unit.{UnitFields}
+use Rattle.hmc_units.specs.Bench.{serves}
 use Rattle.hmc_serial.specs.declared.action.Action.{Action}
 use Rattle.hmc_serial.specs.declared.action.Action.TheVariants.{Read, Write, ReadRegister, WriteRegister, Act, Work}
 use Rattle.hmc_serial.specs.Actions.{action_of}
@@ -14,7 +17,7 @@ use Rattle.hmc_serial.specs.Cube.{CubeState}
 use Rattle.hmc_codes.specs.Shape.{ShapeFields}
 use Rattle.hmc_atomics.specs.Operations.{by_halves}
 use Rattle.hmc_serial.specs.Errors.{memory_error, register_error, register_write_error, unit_error, acted_size, error_of}
-use Rattle.hmc_serial.specs.Perform.{unless_error, acted_answer, acted_at, carry_out, perform_action, perform_on}
+use Rattle.hmc_serial.specs.Perform.{unless_error, acted_answer, acted_at, leaves_worked, carry_out, perform_action, perform_on}
 use Rattle.hmc_journal.proofs.Standing.{IsSmallError}
 
 -- each error has one of six numbers
@@ -37,18 +40,22 @@ memory_number : (shape : ShapeFields) (size : ℕ) (halves : Bool) (address e : 
 unfolding memory_error
 memory_number shape size halves address e is = three_numbers _ _ _ e is
 
-unit_number : (before : Option ℕ) (e : ℕ) → ((k : ℕ) → before ≡ Some k → k < 8) → unit_error before ≡ Some e → e < 8
-unit_number (Some k) e small is = small e is
-unit_number None e small is = let same : 6 ≡ e = cc in omega arith
+unit_free : (served : Bool) (e : ℕ) → (if served then None else Some 6) ≡ Some e → e < 8
+unit_free true e is = absurd (cc)
+unit_free false e is = let same : 6 ≡ e = cc in omega arith
 
-error_number : (action : Action) (shape : ShapeFields) (address len e : ℕ) → error_of action shape address len ≡ Some e → e < 8
+unit_number : (before : Option ℕ) (slots : List (Option UnitFields)) (cube code e : ℕ) → ((k : ℕ) → before ≡ Some k → k < 8) → unit_error before slots cube code ≡ Some e → e < 8
+unit_number (Some k) slots cube code e small is = small e is
+unit_number None slots cube code e small is = unit_free (list_any (serves cube code) slots) e is
+
+error_number : (action : Action) (shape : ShapeFields) (slots : List (Option UnitFields)) (request : RequestFields) (e : ℕ) → error_of action shape slots request ≡ Some e → e < 8
 unfolding register_error register_write_error
-error_number (Read size) shape address len e is = memory_number shape size false address e is
-error_number Write shape address len e is = memory_number shape len false address e is
-error_number ReadRegister shape address len e is = one_number _ e is
-error_number WriteRegister shape address len e is = two_numbers _ _ e is
-error_number (Act op) shape address len e is = memory_number shape (acted_size (by_halves op)) (by_halves op) address e is
-error_number (Work code) shape address len e is = unit_number (memory_error shape 16 false address) e (λ k. memory_number shape 16 false address k) is
+error_number (Read size) shape slots request e is = memory_number shape size false request.address e is
+error_number Write shape slots request e is = memory_number shape (length request.payload) false request.address e is
+error_number ReadRegister shape slots request e is = one_number _ e is
+error_number WriteRegister shape slots request e is = two_numbers _ _ e is
+error_number (Act op) shape slots request e is = memory_number shape (acted_size (by_halves op)) (by_halves op) request.address e is
+error_number (Work code) shape slots request e is = unit_number (memory_error shape 16 false request.address) slots request.cube code e (λ k. memory_number shape 16 false request.address k) is
 
 unless_small : (posted : Bool) (answer : Answer) → IsSmallError answer → IsSmallError (if posted then answers.Silent else answer)
 unless_small true answer small = tt
@@ -60,25 +67,29 @@ acted_small (Some commands.WrRs) acted = tt
 acted_small (Some _) acted = tt
 acted_small None acted = tt
 
-carried_small : (action : Action) (cube : CubeState) (request : RequestFields) → IsSmallError (carry_out action cube request).answer
-carried_small (Read size) cube request = tt
-carried_small Write cube request = unless_small (is_posted request.command) (answers.Done false) tt
-carried_small ReadRegister cube request = tt
-carried_small WriteRegister cube request = tt
-carried_small (Act op) cube request = acted_small (reply_of request.command) (acted_at op cube.memory request.address request.payload)
-carried_small (Work code) cube request = tt
+worked_small : (cube : CubeState) (slots : List (Option UnitFields)) (request : RequestFields) (acted : Option Acted) → IsSmallError (leaves_worked cube slots request acted).answer
+worked_small cube slots request None = tt
+worked_small cube slots request (Some acted) = acted_small (reply_of request.command) acted
 
-by_error : (error : Option ℕ) (action : Action) (cube : CubeState) (request : RequestFields) → error_of action cube.shape request.address (length request.payload) ≡ error
-    → IsSmallError (unless_error error cube request.command (carry_out action cube request)).answer
-by_error None action cube request is = carried_small action cube request
-by_error (Some errstat) action cube request is =
-    let few = error_number action cube.shape request.address (length request.payload) errstat is in
+carried_small : (action : Action) (cube : CubeState) (slots : List (Option UnitFields)) (request : RequestFields) → IsSmallError (carry_out action cube slots request).answer
+carried_small (Read size) cube slots request = tt
+carried_small Write cube slots request = unless_small (is_posted request.command) (answers.Done false) tt
+carried_small ReadRegister cube slots request = tt
+carried_small WriteRegister cube slots request = tt
+carried_small (Act op) cube slots request = acted_small (reply_of request.command) (acted_at op cube.memory request.address request.payload)
+carried_small (Work code) cube slots request = worked_small cube _ request _
+
+by_error : (error : Option ℕ) (action : Action) (cube : CubeState) (slots : List (Option UnitFields)) (request : RequestFields) → error_of action cube.shape slots request ≡ error
+    → IsSmallError (unless_error error cube slots request.command (carry_out action cube slots request)).answer
+by_error None action cube slots request is = carried_small action cube slots request
+by_error (Some errstat) action cube slots request is =
+    let few = error_number action cube.shape slots request errstat is in
     unless_small (is_posted request.command) (answers.Refused errstat) (omega arith)
 
-by_action : (action : Option Action) (cube : CubeState) (request : RequestFields) → IsSmallError (perform_action action cube request).answer
-by_action None cube request = tt
-by_action (Some action) cube request = by_error _ action cube request refl
+by_action : (action : Option Action) (cube : CubeState) (slots : List (Option UnitFields)) (request : RequestFields) → IsSmallError (perform_action action cube slots request).answer
+by_action None cube slots request = tt
+by_action (Some action) cube slots request = by_error _ action cube slots request refl
 
-pub performed_small : (cube : CubeState) (request : RequestFields) → IsSmallError (perform_on cube request).answer
+pub performed_small : (cube : CubeState) (slots : List (Option UnitFields)) (request : RequestFields) → IsSmallError (perform_on cube slots request).answer
 unfolding perform_on
-performed_small cube request = by_action (action_of request.command) cube request
+performed_small cube slots request = by_action (action_of request.command) cube slots request

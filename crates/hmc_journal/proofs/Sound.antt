@@ -7,7 +7,7 @@ use Rattle.std.proofs.lemmas.List.Elements.{All-nil, All-append, All-cons}
 use Rattle.hmc_packet.specs.Packet.{PacketFields}
 use Rattle.hmc_host.specs.Tags.{none_out, with_out}
 use Rattle.hmc_journal.specs.declared.entry.Entry.{Entry}
-use Rattle.hmc_journal.specs.declared.entry.Entry.TheVariants.{Gave, Sent, Landed, Shifted, Dropped, Spread, Executed, Lifted, Took, Discarded, Unlocked, Passed, Idle}
+use Rattle.hmc_journal.specs.declared.entry.Entry.TheVariants.{Gave, Sent, Landed, Shifted, Dropped, Spread, Executed, Lifted, Took, Discarded, Through, Unlocked, Retired, Passed, Idle}
 use Rattle.hmc_journal.specs.Setup.{Setup, Topology, no_link, directions_in, end_of, direction_from}
 use Rattle.hmc_codes.specs.Profile.{most_retry}
 use Rattle.hmc_codes.specs.declared.place.Place.TheVariants as ends
@@ -56,7 +56,7 @@ use Rattle.hmc_journal.proofs.EntryRule.{EntryRule, HasFront, HasSent, HasShifte
 use Rattle.hmc_journal.proofs.Moves.{same_queue_is, same_queue_refl, within-more, arrives, HasLeaving, HasBegun, front_inside, front_is}
 use Rattle.hmc_journal.proofs.Standing.{IsCounted, IsAtEnd, IsCounted-moving, Stands}
 use Rattle.hmc_journal.proofs.Entering.{Kept, front_stands, ArrivesRight, accepted_are, given_asks, has_direction, landed-real, kept_landing, runs_request, enters_right}
-use Rattle.hmc_journal.proofs.Machine.{HasCubes, HasCubes-apply, HasCubes-opening}
+use Rattle.hmc_journal.proofs.Machine.{HasCubes, HasCubes-apply, HasCubes-retire, HasCubes-opening}
 use Rattle.hmc_journal.proofs.Wired.{Wired, wired, ends_there, one_buffer}
 use Rattle.hmc_journal.specs.Network.{IsNetwork}
 
@@ -76,11 +76,12 @@ stands-more setup entry past room network wires right kept =
     All-append (Stands setup.topology room) (entered setup.topology past room) _ (kept.stands room)
     (entering_stands setup.topology (arrives setup.topology past entry) room (enters_right setup past entry network wires right kept))
 
-state-more : (setup : Setup) (entry : Entry) (past : List Entry) → EntryRule setup past entry → Kept setup past → HasCubes setup.topology (state_of setup.topology (entry ∷ past))
+state-more : (setup : Setup) (entry : Entry) (past : List Entry) → EntryRule setup past entry → Kept setup past → HasCubes setup.topology (state_of setup (entry ∷ past))
 unfolding state_of state_after
 state-more setup (Executed unit host tag request answer) past right kept =
     let run = runs_request setup past unit host tag request answer right kept in
-    HasCubes-apply setup.topology (state_of setup.topology past) request kept.state run.is run.there
+    HasCubes-apply setup.topology (state_of setup past) request kept.state run.is run.there
+state-more setup (Retired slot) past right kept = HasCubes-retire setup.topology (state_of setup past) slot kept.state
 state-more setup _ past right kept = kept.state
 
 length-choose : (here : Bool) (changed same : List Bool) → length changed ≡ 2048 → length same ≡ 2048 → length (choose here changed same) ≡ 2048
@@ -245,6 +246,8 @@ link-more setup (Unlocked d) past link network wires right kept =
 link-more setup (Spread cube vault bank) past link network wires right kept = kept.links link
 link-more setup (Executed unit host tag request answer) past link network wires right kept = kept.links link
 link-more setup (Passed direction flit) past link network wires right kept = kept.links link
+link-more setup (Through cube port direction) past link network wires right kept = kept.links link
+link-more setup (Retired slot) past link network wires right kept = kept.links link
 link-more setup (Idle step cause) past link network wires right kept = kept.links link
 
 -- ---- the buffers
@@ -308,6 +311,8 @@ takes_same topology d (Discarded host) past quiet = absurd quiet
 takes_same topology d (Spread cube vault bank) past quiet = refl
 takes_same topology d (Executed unit host tag request answer) past quiet = refl
 takes_same topology d (Passed direction flit) past quiet = refl
+takes_same topology d (Through cube port direction) past quiet = refl
+takes_same topology d (Retired slot) past quiet = refl
 takes_same topology d (Idle step cause) past quiet = refl
 
 quiet-taken : (setup : Setup) (entry : Entry) (past : List Entry) (d : ℕ) → d < directions_in setup.topology → IsNoTaking entry → Kept setup past → left (entry ∷ past) (landing_buffer setup.topology d) ≡ takes (toward d) (entries_on setup.topology d (entry ∷ past))
@@ -331,6 +336,8 @@ ends-taken setup (Unlocked direction) past d less wires right kept = quiet-taken
 ends-taken setup (Spread cube vault bank) past d less wires right kept = quiet-taken setup (Spread cube vault bank) past d less tt kept
 ends-taken setup (Executed unit host tag request answer) past d less wires right kept = quiet-taken setup (Executed unit host tag request answer) past d less tt kept
 ends-taken setup (Passed direction flit) past d less wires right kept = quiet-taken setup (Passed direction flit) past d less tt kept
+ends-taken setup (Through cube port direction) past d less wires right kept = quiet-taken setup (Through cube port direction) past d less tt kept
+ends-taken setup (Retired slot) past d less wires right kept = quiet-taken setup (Retired slot) past d less tt kept
 ends-taken setup (Idle step cause) past d less wires right kept = quiet-taken setup (Idle step cause) past d less tt kept
 
 -- a landing on this direction, or on another
@@ -363,6 +370,8 @@ ends-buffered setup (Unlocked direction) past d less wires right kept = quiet-bu
 ends-buffered setup (Spread cube vault bank) past d less wires right kept = quiet-buffered setup (Spread cube vault bank) past d less tt kept
 ends-buffered setup (Executed unit host tag request answer) past d less wires right kept = quiet-buffered setup (Executed unit host tag request answer) past d less tt kept
 ends-buffered setup (Passed direction flit) past d less wires right kept = quiet-buffered setup (Passed direction flit) past d less tt kept
+ends-buffered setup (Through cube port direction) past d less wires right kept = quiet-buffered setup (Through cube port direction) past d less tt kept
+ends-buffered setup (Retired slot) past d less wires right kept = quiet-buffered setup (Retired slot) past d less tt kept
 ends-buffered setup (Idle step cause) past d less wires right kept = quiet-buffered setup (Idle step cause) past d less tt kept
 
 -- ---- nothing is sent where no direction is

@@ -14,7 +14,7 @@ use Rattle.hmc_wire.specs.LinkLaws.{IsKept}
 use Rattle.hmc_wire.proofs.Parts.{IsPart}
 use Rattle.hmc_journal.specs.Choice.{choose}
 use Rattle.hmc_journal.specs.declared.entry.Entry.{Entry}
-use Rattle.hmc_journal.specs.declared.entry.Entry.TheVariants.{Gave, Sent, Landed, Shifted, Dropped, Spread, Executed, Lifted, Took, Discarded, Unlocked, Passed, Idle}
+use Rattle.hmc_journal.specs.declared.entry.Entry.TheVariants.{Gave, Sent, Landed, Shifted, Dropped, Spread, Executed, Lifted, Took, Discarded, Through, Unlocked, Retired, Passed, Idle}
 use Rattle.hmc_journal.specs.Setup.{Topology}
 use Rattle.hmc_journal.specs.Directions.{one_sent, unsent}
 use Rattle.hmc_journal.specs.Queues.{left}
@@ -136,6 +136,8 @@ unsent-step topology d (Took host tag answer) past kept is = unsent_same d _ pas
 unsent-step topology d (Discarded host) past kept is = unsent_same d _ past tt ∙ is ∙ sym (ap new_left (no-send unfinished of_sends-unfinished topology d (Discarded host) past tt))
 unsent-step topology d (Unlocked direction) past kept is = unsent_same d _ past tt ∙ is ∙ sym (ap new_left (no-send unfinished of_sends-unfinished topology d (Unlocked direction) past tt))
 unsent-step topology d (Passed direction flit) past kept is = unsent_same d _ past tt ∙ is ∙ sym (ap new_left (no-send unfinished of_sends-unfinished topology d (Passed direction flit) past tt))
+unsent-step topology d (Through cube port direction) past kept is = unsent_same d _ past tt ∙ is ∙ sym (ap new_left (no-send unfinished of_sends-unfinished topology d (Through cube port direction) past tt))
+unsent-step topology d (Retired slot) past kept is = unsent_same d _ past tt ∙ is ∙ sym (ap new_left (no-send unfinished of_sends-unfinished topology d (Retired slot) past tt))
 unsent-step topology d (Idle step cause) past kept is = unsent_same d _ past tt ∙ is ∙ sym (ap new_left (no-send unfinished of_sends-unfinished topology d (Idle step cause) past tt))
 
 pub unsent_left : (topology : Topology) (d : ℕ) (past : List Entry) → IsKept (sizes_on topology d) (entries_on topology d past) → unsent d past ≡ new_left (under_on topology d (entries_on topology d past))

@@ -47,7 +47,7 @@ use Rattle.hmc_send.specs.Places.{flit_of}
 use Rattle.hmc_journal.specs.declared.entry.Entry.{Entry}
 use Rattle.hmc_journal.specs.declared.entry.Entry.TheVariants.{Gave, Sent, Landed, Shifted, Dropped, Spread, Executed, Lifted, Took, Discarded, Idle}
 use Rattle.hmc_serial.specs.Unit.{unit_of}
-use Rattle.hmc_journal.specs.Setup.{Topology, Setup, other, start_of, end_of, shapes_of, direction_from, unit_in}
+use Rattle.hmc_journal.specs.Setup.{Topology, Setup, other, start_of, end_of, direction_from, unit_in}
 use Rattle.hmc_journal.specs.Routes.{port_towards}
 use Rattle.hmc_routes.specs.Directions.{direction_among}
 use Rattle.hmc_routes.specs.Distance.{within, distance}
@@ -58,7 +58,7 @@ use Rattle.hmc_journal.specs.Links.{link_entries}
 use Rattle.hmc_journal.specs.Queues.{contents, entered, left, leaves, enters}
 use Rattle.hmc_journal.specs.Queues.QueueId.{Output, Answers}
 use Rattle.hmc_journal.specs.Hosts.{given_count, tags_out, host_of}
-use Rattle.hmc_journal.specs.StepView.{view_of, state_of}
+use Rattle.hmc_journal.specs.StepView.{opening_of, view_of, state_of}
 use Rattle.hmc_journal.specs.Serial.{state_after, IsSerial}
 use Rattle.hmc_journal.specs.Next.{next, choice}
 use Rattle.hmc_journal.specs.Drained.{is_drained}
@@ -88,6 +88,7 @@ item_of fenced poisoned request = record { host = 0; fenced = fenced; poisoned =
 abbrev four_reads : Setup
 four_reads = record {
   topology = one_cube;
+  slots = [];
   script =
       item_of false false (read_at 0x40) ∷ item_of false true (read_at 0x80) ∷ item_of false false (read_at 0xc0) ∷
       item_of true false (read_at 0x100) ∷ [];
@@ -289,7 +290,7 @@ unfolding tagged_answers reply_packet answer_in answer_by
 tagged_answers-each = refl
 
 -- the executions run on a plain machine
-serial-read : IsSerial (opening_state (shapes_of one_cube)) answered_once
+serial-read : IsSerial (opening_of four_reads) answered_once
 unfolding IsSerial state_after opening_state opening opening_registers answer_to perform_on action_of memory_error table_line
 serial-read = (refl, tt)
 

@@ -82,6 +82,7 @@ increment = record { command = Inc8; cube = 1; address = 0x40; payload = [] }
 abbrev one_request : Setup
 one_request = record {
   topology = two_cubes;
+  slots = [];
   script = record { host = 0; fenced = false; poisoned = false; request = increment } ∷ [];
   schedule = [];
 }

@@ -17,23 +17,23 @@ use Rattle.hmc_packet.specs.declared.outcome.Outcome.TheVariants.{Quiet, Trained
 use Rattle.hmc_packet.specs.declared.what.What.TheVariants.{Null, Again}
 use Rattle.hmc_schedule.specs.declared.step.Step.TheVariants as steps
 use Rattle.hmc_journal.specs.declared.event.Event.TheVariants as events
-use Rattle.hmc_journal.specs.declared.outcome.Cause.TheVariants.{Empty, Full, Starved}
+use Rattle.hmc_journal.specs.declared.outcome.Cause.TheVariants.{Empty, Full, Starved, NoPacket, Busy}
 use Rattle.hmc_journal.specs.declared.outcome.Goal.TheVariants as goals
-use Rattle.hmc_journal.specs.declared.entry.Entry.TheVariants.{Gave, Sent, Landed, Shifted, Dropped, Spread, Executed, Lifted, Took, Discarded, Unlocked, Passed, Idle}
+use Rattle.hmc_journal.specs.declared.entry.Entry.TheVariants.{Gave, Sent, Landed, Shifted, Dropped, Spread, Executed, Lifted, Took, Discarded, Through, Unlocked, Retired, Passed, Idle}
 use Rattle.hmc_journal.specs.Event.{event_of, cause_of}
 use Rattle.hmc_journal.specs.Lines.{line_of, outcome_text}
 
 abbrev read : RequestFields
 read = record { command = Rd16; cube = 1; address = 0x40; payload = [] }
 
--- the four kinds that are counted
-event_of-counted : map event_of (Gave 1 (Some 5) true read ∷ Took 2 9 Silent ∷ Executed (units.Bank 3 4 5) 1 None read Silent ∷ Executed (units.Registers 6) 1 None read Silent ∷ Dropped 7 0 ∷ []) ≡
-    events.Gave 1 ∷ events.Took 2 ∷ events.Executed (units.Bank 3 4 5) ∷ events.Executed (units.Registers 6) ∷ events.Dropped 7 ∷ []
+-- the kinds that are counted
+event_of-counted : map event_of (Gave 1 (Some 5) true read ∷ Sent 2 Null zero_flit ∷ Landed 3 zero_flit Quiet ∷ Unlocked 1 ∷ Took 2 9 Silent ∷ Executed (units.Bank 3 4 5) 1 None read Silent ∷ Executed (units.Registers 6) 1 None read Silent ∷ Dropped 7 0 ∷ []) ≡
+    events.Gave 1 ∷ events.Sent 2 ∷ events.Landed 3 Quiet ∷ events.Unlocked 1 ∷ events.Took 2 ∷ events.Executed (units.Bank 3 4 5) ∷ events.Executed (units.Registers 6) ∷ events.Dropped 7 ∷ []
 event_of-counted = refl
 
--- a dropped answer of a host isn't counted, and neither is a step that did nothing
-event_of-others : map event_of (Sent 0 Null zero_flit ∷ Landed 0 zero_flit Quiet ∷ Shifted 7 0 goals.Registers ∷ Spread 7 0 0 ∷ Lifted 7 lifts.Registers 0 ∷ Discarded 1 ∷ Unlocked 1 ∷ Passed 1 zero_flit ∷ Idle (steps.Give 1) Empty ∷ []) ≡
-    events.Other ∷ events.Other ∷ events.Other ∷ events.Other ∷ events.Other ∷ events.Other ∷ events.Other ∷ events.Other ∷ events.Other ∷ []
+-- a dropped answer of a host isn't counted, nor a landing that passed, nor a step that did nothing
+event_of-others : map event_of (Shifted 7 0 goals.Registers ∷ Spread 7 0 0 ∷ Lifted 7 lifts.Registers 0 ∷ Discarded 1 ∷ Through 7 0 1 ∷ Retired 7 ∷ Passed 1 zero_flit ∷ Idle (steps.Give 1) Empty ∷ []) ≡
+    events.Other ∷ events.Other ∷ events.Other ∷ events.Other ∷ events.Other ∷ events.Other ∷ events.Other ∷ events.Other ∷ []
 event_of-others = refl
 
 cause_of-idle : map cause_of (Idle (steps.Give 1) Empty ∷ Discarded 1 ∷ []) ≡ Some Empty ∷ None ∷ []
@@ -57,3 +57,9 @@ line_of-link : map line_of (Sent 10 Again zero_flit ∷ Landed 11 zero_flit (Abo
     codes "sent 10 again 00000000000000000000000000000000\n" ∷ codes "landed 11 00000000000000000000000000000000 aborted reserved\n" ∷ codes "unlocked 12\n" ∷ codes "passed 13 00000000000000000000000000000000\n" ∷ codes "idle land 14 empty\n" ∷ codes "idle send 15 full\n" ∷ codes "idle send 16 starved\n" ∷ []
 unfolding line_of encode_with digits zero_flit
 line_of-link = refl
+
+-- lines of packets that are passed on, and of logic units
+line_of-through : map line_of (Through 1 2 3 ∷ Idle (steps.Through 0 1) NoPacket ∷ Idle (steps.Through 0 1) Full ∷ Idle (steps.Through 0 1) Busy ∷ Retired 3 ∷ Idle (steps.Retire 3) Empty ∷ []) ≡
+    codes "through 1 2 3\n" ∷ codes "idle through 0 1 nopacket\n" ∷ codes "idle through 0 1 full\n" ∷ codes "idle through 0 1 busy\n" ∷ codes "retired 3\n" ∷ codes "idle retire 3 empty\n" ∷ []
+unfolding line_of encode_with digits zero_flit
+line_of-through = refl

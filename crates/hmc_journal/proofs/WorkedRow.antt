@@ -114,7 +114,7 @@ times zero steps = []
 times (suc count) steps = steps ++ times count steps
 
 abbrev case_with : List Step → Setup
-case_with schedule = record { topology = topology; script = item_of write ∷ item_of read ∷ []; schedule = schedule }
+case_with schedule = record { topology = topology; slots = []; script = item_of write ∷ item_of read ∷ []; schedule = schedule }
 
 -- 72 rounds until the link is trained and open, and ten with all steps
 abbrev opening_steps : List Step

@@ -1,5 +1,5 @@
--- What packets carry: requests and answers with their tags. Along a route these are what each of its
--- directions carried, and what waits on each.
+-- What packets carry: requests and answers with their tags. Along a route these are what each of
+-- its directions carried, and what waits on each.
 use Rattle.std.specs.Prelude.{ℕ, not, ◌==◌, ◌&&◌, if◌then◌else◌, List, [], ◌∷◌, ◌++◌, length, map, flat_map, take, drop, Option, Some, None}
 use Rattle.hmc_codes.specs.Commands.{is_posted}
 use Rattle.hmc_codes.specs.Request.{RequestFields}

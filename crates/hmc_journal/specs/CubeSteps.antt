@@ -1,5 +1,5 @@
--- What the steps of cubes do: shift, spread, bank, registers and lift.
-use Rattle.std.specs.Prelude.{ℕ, Option, Some, None, List}
+-- What the steps of cubes and of logic units do: shift, spread, bank, registers, lift and retire.
+use Rattle.std.specs.Prelude.{ℕ, if◌then◌else◌, Option, Some, None, List}
 use Rattle.hmc_journal.specs.Answers.{ran_entry}
 use Rattle.hmc_codes.specs.Request.{RequestFields}
 use Rattle.hmc_codes.specs.declared.lift.Lift.{Lift}
@@ -9,6 +9,7 @@ use Rattle.hmc_packet.specs.Packet.{PacketFields}
 use Rattle.hmc_packet.specs.Transactions.{request_in}
 use Rattle.hmc_schedule.specs.declared.step.Step.{Step}
 use Rattle.hmc_schedule.specs.declared.step.Step.TheVariants as steps
+use Rattle.hmc_units.specs.Bench.{is_live}
 use Rattle.hmc_serial.specs.Machine.{State, cube_state_at}
 use Rattle.hmc_crossbar.specs.declared.to.To.{To}
 use Rattle.hmc_crossbar.specs.declared.to.To.TheVariants as tos
@@ -18,7 +19,7 @@ use Rattle.hmc_journal.specs.declared.outcome.Cause.TheVariants as causes
 use Rattle.hmc_journal.specs.declared.outcome.Goal.{Goal}
 use Rattle.hmc_journal.specs.declared.outcome.Goal.TheVariants as goals
 use Rattle.hmc_journal.specs.declared.entry.Entry.{Entry}
-use Rattle.hmc_journal.specs.declared.entry.Entry.TheVariants.{Shifted, Dropped, Spread, Lifted, Idle}
+use Rattle.hmc_journal.specs.declared.entry.Entry.TheVariants.{Shifted, Dropped, Spread, Lifted, Retired, Idle}
 use Rattle.hmc_journal.specs.Setup.{Topology, shape_of, graph_of}
 use Rattle.hmc_journal.specs.Queues.{output_from, queue_of, answers_of, goal_queue}
 use Rattle.hmc_journal.specs.Queues.QueueId.{Bank}
@@ -57,7 +58,8 @@ abbrev pub execution_entry : RequestUnit → Step → PacketFields → (answers 
     State → Option RequestFields → Entry
 execution_entry unit step front answers size state None = Idle step causes.Empty
 execution_entry unit step front answers size state (Some request) =
-    ran_entry unit step (runs front request answers size (cube_state_at state request.cube))
+    ran_entry unit step
+    (runs front request answers size (cube_state_at state request.cube) state.slots)
 
 -- the front of the queue of a unit is executed, if there is one
 abbrev pub executed_entry : Topology → StepView → RequestUnit → Step → Entry
@@ -74,3 +76,8 @@ lifted_entry topology view cube from (Some port) =
     unless_full (steps.Lift cube from)
     (lacks_room topology view (output_from topology (places.Port cube port)))
     (Lifted cube from port)
+
+-- retire: the unit of a slot is gone for good, if there is one
+abbrev pub retired_entry : StepView → (slot : ℕ) → Entry
+retired_entry view slot =
+    (if is_live view.state.slots slot then Retired slot else Idle (steps.Retire slot) causes.Empty)

@@ -97,7 +97,8 @@ pub record DeliveredInOrder (setup : Setup) (journal : List Entry) : Type 0 wher
       IsPrefix (taken_by host journal) (tagged_answers (accepted_by setup.topology host journal))
   -- the answers of a cube to a host: those that packets carried over the first direction of their
   -- route are a prefix of those that were lifted in the cube, those carried over each further
-  -- direction are a prefix of the ones before, and those that the host took are a prefix of the last
+  -- direction are a prefix of the ones before, and those that the host took are a prefix of the
+  -- last
   pub answers : (cube host : ℕ) →
       IsChain (answers_lifted setup.topology cube host journal)
       (answers_along setup.topology cube host journal

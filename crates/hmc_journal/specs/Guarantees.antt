@@ -1,12 +1,12 @@
 -- What the journal of a case guarantees.
 use Rattle.std.specs.Prelude.{◌≡◌, ◌++◌, true, List}
-use Rattle.hmc_serial.specs.Machine.{opening_state}
 use Rattle.hmc_journal.specs.declared.entry.Entry.{Entry}
 use Rattle.hmc_journal.specs.Delivered.{IsScripted, LinksInOrder, DeliveredInOrder, AllServed}
 use Rattle.hmc_journal.specs.Drained.{is_drained}
 use Rattle.hmc_journal.specs.Lawful.{IsWhole}
 use Rattle.hmc_journal.specs.Serial.{IsSerial}
-use Rattle.hmc_journal.specs.Setup.{Setup, shapes_of}
+use Rattle.hmc_journal.specs.Setup.{Setup}
+use Rattle.hmc_journal.specs.StepView.{opening_of}
 
 -- A journal has its newest entry first, so an earlier journal is its end.
 pub record Guarantees (setup : Setup) (journal : List Entry) : Type 0 where
@@ -15,8 +15,9 @@ pub record Guarantees (setup : Setup) (journal : List Entry) : Type 0 where
   pub whole : IsWhole setup journal
   -- the requests that each host gave are a prefix of those that the script has for it
   pub scripted : IsScripted setup.script journal
-  -- the executions, run in order on a plain machine, give every answer
-  pub serial : IsSerial (opening_state (shapes_of setup.topology)) journal
+  -- the executions, run in order on a plain machine of these cubes and logic units, give every
+  -- answer
+  pub serial : IsSerial (opening_of setup) journal
   -- at every moment: each direction is a list, first in and first out
   pub links : (later past : List Entry) → journal ≡ later ++ past → LinksInOrder setup past
   -- at every moment: what was executed was carried there, and what was answered was carried back,

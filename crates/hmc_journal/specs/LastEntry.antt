@@ -6,7 +6,7 @@ use Rattle.hmc_schedule.specs.declared.step.Step.{Step}
 use Rattle.hmc_journal.specs.declared.last_entry.Short.{Short}
 use Rattle.hmc_journal.specs.declared.last_entry.Short.TheVariants as shorts
 use Rattle.hmc_journal.specs.declared.entry.Entry.{Entry}
-use Rattle.hmc_journal.specs.declared.entry.Entry.TheVariants.{Gave, Sent, Landed, Shifted, Dropped, Spread, Executed, Lifted, Took, Discarded, Unlocked, Passed, Idle}
+use Rattle.hmc_journal.specs.declared.entry.Entry.TheVariants.{Gave, Sent, Landed, Shifted, Dropped, Spread, Executed, Lifted, Took, Discarded, Through, Unlocked, Retired, Passed, Idle}
 
 -- the short parts say which entry it is, and which of the other parts belong to it
 abbrev pub entry_of : Short → Step → (flit : List ℕ) → RequestFields → Answer → Entry
@@ -22,6 +22,9 @@ entry_of (shorts.Executed unit host tag) step flit request answer =
 entry_of (shorts.Lifted cube from port) step flit request answer = Lifted cube from port
 entry_of (shorts.Took host tag) step flit request answer = Took host tag answer
 entry_of (shorts.Discarded host) step flit request answer = Discarded host
+entry_of (shorts.Through cube port direction) step flit request answer =
+    Through cube port direction
 entry_of (shorts.Unlocked direction) step flit request answer = Unlocked direction
+entry_of (shorts.Retired slot) step flit request answer = Retired slot
 entry_of (shorts.Passed direction) step flit request answer = Passed direction flit
 entry_of (shorts.Idle cause) step flit request answer = Idle step cause

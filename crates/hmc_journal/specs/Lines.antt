@@ -20,7 +20,7 @@ use Rattle.hmc_journal.specs.declared.outcome.Goal.TheVariants as goals
 use Rattle.hmc_journal.specs.declared.outcome.Cause.{Cause}
 use Rattle.hmc_journal.specs.declared.outcome.Cause.TheVariants as causes
 use Rattle.hmc_journal.specs.declared.entry.Entry.{Entry}
-use Rattle.hmc_journal.specs.declared.entry.Entry.TheVariants.{Gave, Sent, Landed, Shifted, Dropped, Spread, Executed, Lifted, Took, Discarded, Unlocked, Passed, Idle}
+use Rattle.hmc_journal.specs.declared.entry.Entry.TheVariants.{Gave, Sent, Landed, Shifted, Dropped, Spread, Executed, Lifted, Took, Discarded, Through, Unlocked, Retired, Passed, Idle}
 use Rattle.hmc_schedule.specs.declared.step.Step.{Step}
 use Rattle.hmc_schedule.specs.declared.step.Step.TheVariants as steps
 
@@ -89,6 +89,8 @@ cause_text causes.Tags = codes "tags"
 cause_text causes.Empty = codes "empty"
 cause_text causes.Full = codes "full"
 cause_text causes.Starved = codes "starved"
+cause_text causes.NoPacket = codes "nopacket"
+cause_text causes.Busy = codes "busy"
 
 -- the words of a step, without a mask
 abbrev pub step_words : Step → List (List ℕ)
@@ -127,7 +129,10 @@ line_of (Lifted cube from port) =
 line_of (Took host tag answer) =
     line (codes "took" ∷ decimal host ∷ decimal tag ∷ answer_text answer ∷ [])
 line_of (Discarded host) = line (codes "discarded" ∷ decimal host ∷ [])
+line_of (Through cube port direction) =
+    line (codes "through" ∷ decimal cube ∷ decimal port ∷ decimal direction ∷ [])
 line_of (Unlocked direction) = line (codes "unlocked" ∷ decimal direction ∷ [])
+line_of (Retired slot) = line (codes "retired" ∷ decimal slot ∷ [])
 line_of (Passed direction flit) =
     line (codes "passed" ∷ decimal direction ∷ encode_lower flit ∷ [])
 line_of (Idle step cause) =

@@ -20,9 +20,9 @@ use Rattle.hmc_journal.specs.StepView.{StepView, view_of}
 pub use Rattle.hmc_journal.specs.Waiting.{size_of, queue_size, is_full, lacks_room, with_front, unless_full}
 pub use Rattle.hmc_journal.specs.Answers.{gave_entry, took_entry, spread_entry, tag_of, ran_entry}
 pub use Rattle.hmc_journal.specs.LinkSteps.{sent_entry, send_entry, landed_entry, landed_flit, landed_front, land_entry}
-pub use Rattle.hmc_journal.specs.CubeSteps.{goal_at, shifted_entry, shift_entry, spread_to_bank, execution_entry, executed_entry, lifted_entry}
+pub use Rattle.hmc_journal.specs.CubeSteps.{goal_at, shifted_entry, shift_entry, spread_to_bank, execution_entry, executed_entry, lifted_entry, retired_entry}
 
--- the entry of a step by what it sees; the steps through and retire are in no schedule yet
+-- the entry of a step by what it sees; the step through is in no schedule yet
 unfoldable pub choice : Topology → StepView → Step → Entry
 choice topology view (steps.Give host) =
     gave_entry host
@@ -50,6 +50,7 @@ choice topology view (steps.Take host) =
     with_front (steps.Take host) (view.inside (Host host))
     (λ front. took_entry host (settle_says front))
 choice topology view (steps.Unlock direction) = Unlocked direction
+choice topology view (steps.Retire slot) = retired_entry view slot
 choice topology view step = Idle step causes.Empty
 
 -- the entry of a step after a journal

@@ -8,6 +8,7 @@ use Rattle.hmc_codes.specs.declared.place.Join.{Join}
 use Rattle.hmc_codes.specs.declared.place.Place.{Place}
 use Rattle.hmc_codes.specs.declared.unit.Unit.{Unit as RequestUnit}
 use Rattle.hmc_codes.specs.declared.unit.Unit.TheVariants as units
+use Rattle.hmc_units.specs.Unit.{UnitFields}
 use Rattle.hmc_serial.specs.Unit.{unit_of}
 use Rattle.hmc_script.specs.Items.{ItemFields}
 use Rattle.hmc_schedule.specs.declared.step.Step.{Step}
@@ -23,16 +24,18 @@ pub record Topology : Type 0 where
   pub cubes : List CubeSetupFields
   pub links : List LinkRow
 
--- the topology, what the hosts ask, and the steps
+-- the topology, the logic units as they were handed in, what the hosts ask, and the steps
 pub record Setup : Type 0 where
   pub topology : Topology
+  pub slots : List (Option UnitFields)
   pub script : List ItemFields
   pub schedule : List Step
 
--- the setup of a case
-abbrev pub setup_of : CaseFields → Setup
-setup_of case = record {
+-- the setup of a case and of logic units
+abbrev pub setup_of : CaseFields → List (Option UnitFields) → Setup
+setup_of case slots = record {
   topology = record { cubes = case.net.cubes; links = case.net.links };
+  slots = slots;
   script = case.script;
   schedule = case.schedule;
 }

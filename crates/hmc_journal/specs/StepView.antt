@@ -5,28 +5,32 @@ use Rattle.hmc_host.specs.Host.{HostFields}
 use Rattle.hmc_send.specs.LinkEntries.{LinkEntry}
 use Rattle.hmc_serial.specs.Machine.{State, opening_state}
 use Rattle.hmc_journal.specs.declared.entry.Entry.{Entry}
-use Rattle.hmc_journal.specs.Setup.{Topology, Setup, shapes_of}
+use Rattle.hmc_journal.specs.Setup.{Setup, shapes_of}
 use Rattle.hmc_journal.specs.Queues.{QueueId, contents}
 use Rattle.hmc_journal.specs.Links.{link_entries}
 use Rattle.hmc_journal.specs.Hosts.{host_of}
 use Rattle.hmc_journal.specs.Serial.{state_after}
 
--- the packets in each queue, the memory and the registers, each host, and what each link did
+-- the packets in each queue; memory, registers and logic units; each host; and what each link did
 pub record StepView : Type 0 where
   pub inside : QueueId → List PacketFields
   pub state : State
   pub host : (number : ℕ) → HostFields
   pub entries : (link : ℕ) → List LinkEntry
 
--- the memory and the registers that the executions leave
-unfoldable pub state_of : Topology → List Entry → State
-state_of topology past = state_after (opening_state (shapes_of topology)) past
+-- a plain machine of the case's cubes and of the logic units that were handed in
+abbrev pub opening_of : Setup → State
+opening_of setup = opening_state (shapes_of setup.topology) setup.slots
+
+-- the memory, the registers and the logic units that a journal leaves
+unfoldable pub state_of : Setup → List Entry → State
+state_of setup past = state_after (opening_of setup) past
 
 -- what a step sees after a journal
 unfoldable pub view_of : Setup → List Entry → StepView
 view_of setup past = record {
   inside = contents setup.topology past;
-  state = state_of setup.topology past;
+  state = state_of setup past;
   host = host_of setup past;
   entries = λ link. link_entries setup.topology link past;
 }

@@ -68,9 +68,19 @@ pub enum Entry {
     Discarded {
         host: u8,
     },
+    /// A packet that was still arriving at a port went on, onto a direction.
+    Through {
+        cube: u8,
+        port: u8,
+        direction: u8,
+    },
     /// The receiver of a direction lost its framing.
     Unlocked {
         direction: u8,
+    },
+    /// The logic unit of a slot was retired.
+    Retired {
+        slot: u8,
     },
     /// A flit landed, and a check succeeded over flits that a mask changed. No step follows.
     Passed {

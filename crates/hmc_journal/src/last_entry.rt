@@ -7,13 +7,14 @@
 ghost use Rattle.std.specs.Prelude.{◌≡◌, ◌<◌, [], length};
 ghost use Rattle.hmc_codes.specs.Flit.{zero_flit};
 ghost use Rattle.hmc_journal.specs.declared.entry.Entry.{Entry};
-ghost use Rattle.hmc_journal.specs.Event.{event_of, cause_of, is_passed};
+ghost use Rattle.hmc_journal.specs.Event.{event_of, cause_of, is_passed, IsLongFlit};
 ghost use Rattle.hmc_journal.specs.Lines.{line_of};
 ghost use Rattle.hmc_schedule.specs.declared.step.Step.{Step};
 
 use crate::line::{
     discarded_line, dropped_line, executed_line, gave_line, idle_line, landed_line, lifted_line,
-    passed_line, sent_line, shifted_line, spread_line, took_line, unlocked_line,
+    passed_line, retired_line, sent_line, shifted_line, spread_line, through_line, took_line,
+    unlocked_line,
 };
 use crate::{Cause, Entry, Event, Goal};
 use hmc_codes::{Answer, Command, Flit, Lift, LineText, Payload, Request, Unit, ZERO_FLIT};
@@ -68,8 +69,16 @@ pub(crate) enum Short {
     Discarded {
         host: u8,
     },
+    Through {
+        cube: u8,
+        port: u8,
+        direction: u8,
+    },
     Unlocked {
         direction: u8,
+    },
+    Retired {
+        slot: u8,
     },
     Passed {
         direction: u8,
@@ -206,11 +215,29 @@ impl LastEntry {
         self.short = Short::Discarded { host };
     }
 
+    /// A packet that was still arriving at a port went on, onto a direction.
+    pub fn through(&mut self, cube: u8, port: u8, direction: u8)
+        ensures { self.new ≡ Entry.Through cube port direction }
+    {
+        self.short = Short::Through {
+            cube,
+            port,
+            direction,
+        };
+    }
+
     /// The receiver of a direction lost its framing.
     pub fn unlocked(&mut self, direction: u8)
         ensures { self.new ≡ Entry.Unlocked direction }
     {
         self.short = Short::Unlocked { direction };
+    }
+
+    /// The logic unit of a slot was retired.
+    pub fn retired(&mut self, slot: u8)
+        ensures { self.new ≡ Entry.Retired slot }
+    {
+        self.short = Short::Retired { slot };
     }
 
     /// A flit landed, and a check succeeded over flits that a mask changed.
@@ -235,11 +262,21 @@ impl LastEntry {
     {
         match self.short {
             Short::Gave { host, .. } => Event::Gave { host },
+            Short::Sent { direction, .. } => Event::Sent { direction },
+            Short::Landed { direction, outcome } => Event::Landed { direction, outcome },
+            Short::Unlocked { direction } => Event::Unlocked { direction },
             Short::Took { host, .. } => Event::Took { host },
             Short::Executed { unit, .. } => Event::Executed { unit },
             Short::Dropped { cube, .. } => Event::Dropped { cube },
             _ => Event::Other,
         }
+    }
+
+    /// A flit that landed has 16 bytes.
+    pub fn flit_is_long(&self)
+        ensures { IsLongFlit self.now }
+    {
+        is_long(&self.flit);
     }
 
     /// Why the step did nothing, if it did nothing.
@@ -285,7 +322,13 @@ impl LastEntry {
             Short::Lifted { cube, from, port } => lifted_line(into, cube, from, port),
             Short::Took { host, tag } => took_line(into, host, tag, &self.answer),
             Short::Discarded { host } => discarded_line(into, host),
+            Short::Through {
+                cube,
+                port,
+                direction,
+            } => through_line(into, cube, port, direction),
             Short::Unlocked { direction } => unlocked_line(into, direction),
+            Short::Retired { slot } => retired_line(into, slot),
             Short::Passed { direction } => passed_line(into, direction, &self.flit),
             Short::Idle { cause } => idle_line(into, &self.step, cause),
         }
@@ -333,7 +376,17 @@ impl LastEntry {
                 answer: self.answer,
             },
             Short::Discarded { host } => Entry::Discarded { host },
+            Short::Through {
+                cube,
+                port,
+                direction,
+            } => Entry::Through {
+                cube,
+                port,
+                direction,
+            },
             Short::Unlocked { direction } => Entry::Unlocked { direction },
+            Short::Retired { slot } => Entry::Retired { slot },
             Short::Passed { direction } => Entry::Passed {
                 direction,
                 flit: self.flit,
@@ -344,4 +397,11 @@ impl LastEntry {
             },
         }
     }
+}
+
+// A flit is 16 bytes.
+fn is_long(flit: &Flit)
+    ensures { length flit.now ≡ 16 }
+{
+    let _ = flit.len();
 }

@@ -1,7 +1,6 @@
 //! Laws of journals. Each is the contract of a function that does nothing.
 
 ghost use Rattle.std.specs.Prelude.{◌≡◌, ◌++◌, true, List, length, reverse, map};
-ghost use Rattle.hmc_serial.specs.Machine.{opening_state};
 ghost use Rattle.hmc_journal.specs.declared.entry.Entry.{Entry};
 ghost use Rattle.hmc_journal.specs.Delivered.{IsScripted, LinksInOrder, DeliveredInOrder, AllServed};
 ghost use Rattle.hmc_journal.specs.Drained.{IsDrained, is_drained};
@@ -11,7 +10,8 @@ ghost use Rattle.hmc_journal.specs.QueueInvariant.{QueueInvariant, AnswersAwaite
 ghost use Rattle.hmc_journal.specs.Lawful.{Lawful, IsWhole, journal_of};
 ghost use Rattle.hmc_journal.specs.Lines.{line_of};
 ghost use Rattle.hmc_journal.specs.Serial.{IsSerial};
-ghost use Rattle.hmc_journal.specs.Setup.{Setup, shapes_of};
+ghost use Rattle.hmc_journal.specs.Setup.{Setup};
+ghost use Rattle.hmc_journal.specs.StepView.{opening_of};
 ghost use Rattle.hmc_journal.specs.Text.{lines_of};
 
 /// Two lawful journals of one case and of one length are equal. A whole one, which has an entry
@@ -36,12 +36,12 @@ pub fn lawful_is_scripted()
 /// The executions of a lawful journal, run in order on a plain machine, give every answer.
 pub fn lawful_is_serial()
     ensures { (setup : Setup) (past : List Entry) → Lawful setup past →
-        IsSerial (opening_state (shapes_of setup.topology)) past }
+        IsSerial (opening_of setup) past }
 {}
 
-/// After a lawful journal the queues hold packets on their way to a cube or a host that is there. Of
-/// each direction of a link the entries are such as its users keep to, and its output queue and its
-/// buffer hold what these entries say.
+/// After a lawful journal the queues hold packets on their way to a cube or a host that is there.
+/// Of each direction of a link the entries are such as its users keep to, and its output queue and
+/// its buffer hold what these entries say.
 pub fn lawful_keeps_queues()
     ensures { (setup : Setup) (past : List Entry) → IsNetwork setup → Lawful setup past →
         QueueInvariant setup past }

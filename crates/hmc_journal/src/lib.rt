@@ -7,15 +7,23 @@
 
 mod entry;
 mod event;
+mod fits;
+mod head;
 mod journal;
+mod journal_text;
 mod last_entry;
 mod laws;
 mod line;
 mod outcome;
+mod parse;
+mod parse_laws;
+mod parse_parts;
+mod parse_words;
 
 pub use entry::Entry;
 pub use event::Event;
 pub use journal::Journal;
+pub use journal_text::journal_tells;
 pub use last_entry::LastEntry;
 pub use laws::{
     journal_guarantees, lawful_awaits_answers, lawful_delivers, lawful_is_drained,
@@ -23,3 +31,4 @@ pub use laws::{
     lines_are_in_order, one_journal,
 };
 pub use outcome::{Cause, Goal};
+pub use parse_laws::text_tells;

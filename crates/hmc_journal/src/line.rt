@@ -140,7 +140,7 @@ fn aborted_end(bad: Bad) -> &'static str
 // The cause ends the line.
 fn cause_end(cause: Cause) -> &'static str
     ensures word { result.now ≡ 32 ∷ (cause_text cause ++ (10 ∷ [])) }
-    ensures few { length result.now ≤ 9 }
+    ensures few { length result.now ≤ 10 }
 {
     match cause {
         Cause::Ended => " ended\n",
@@ -149,6 +149,8 @@ fn cause_end(cause: Cause) -> &'static str
         Cause::Empty => " empty\n",
         Cause::Full => " full\n",
         Cause::Starved => " starved\n",
+        Cause::NoPacket => " nopacket\n",
+        Cause::Busy => " busy\n",
     }
 }
 
@@ -366,6 +368,18 @@ pub(crate) fn discarded_line(into: &mut LineText, host: u8)
     into.push_str("\n");
 }
 
+/// The line of a packet that went on while it arrived.
+pub(crate) fn through_line(into: &mut LineText, cube: u8, port: u8, direction: u8)
+    requires empty { into.old.bytes ≡ [] }
+    ensures text { into.new.bytes ≡
+        line (codes "through" ∷ decimal cube ∷ decimal port ∷ decimal direction ∷ []) }
+    ensures short { length into.new.bytes < 2048 }
+{
+    push_twice_numbered(into, "through", cube, port);
+    append_spaced(into, u64::from(direction));
+    into.push_str("\n");
+}
+
 /// The line of a receiver that lost its framing.
 pub(crate) fn unlocked_line(into: &mut LineText, direction: u8)
     requires empty { into.old.bytes ≡ [] }
@@ -373,6 +387,16 @@ pub(crate) fn unlocked_line(into: &mut LineText, direction: u8)
     ensures short { length into.new.bytes < 2048 }
 {
     push_numbered(into, "unlocked", direction);
+    into.push_str("\n");
+}
+
+/// The line of a logic unit that was retired.
+pub(crate) fn retired_line(into: &mut LineText, slot: u8)
+    requires empty { into.old.bytes ≡ [] }
+    ensures text { into.new.bytes ≡ line (codes "retired" ∷ decimal slot ∷ []) }
+    ensures short { length into.new.bytes < 2048 }
+{
+    push_numbered(into, "retired", slot);
     into.push_str("\n");
 }
 
@@ -438,7 +462,13 @@ impl Entry {
             Entry::Lifted { cube, from, port } => lifted_line(into, *cube, *from, *port),
             Entry::Took { host, tag, answer } => took_line(into, *host, *tag, answer),
             Entry::Discarded { host } => discarded_line(into, *host),
+            Entry::Through {
+                cube,
+                port,
+                direction,
+            } => through_line(into, *cube, *port, *direction),
             Entry::Unlocked { direction } => unlocked_line(into, *direction),
+            Entry::Retired { slot } => retired_line(into, *slot),
             Entry::Passed { direction, flit } => passed_line(into, *direction, flit),
             Entry::Idle { step, cause } => idle_line(into, step, *cause),
         }

@@ -26,4 +26,8 @@ pub enum Cause {
     Full,
     /// The next flit of a packet that is passed on isn't there yet.
     Starved,
+    /// No packet that could be passed on is arriving.
+    NoPacket,
+    /// The packet can't be passed on now.
+    Busy,
 }

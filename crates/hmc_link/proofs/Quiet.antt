@@ -1,8 +1,9 @@
 -- When an end is quiet.
-use Rattle.std.proofs.Common.{◌≡◌, ◌∙◌, ◌&&◌, ◌==◌, ◌↔◌, ℕ, Bool, true, false, not, List, [], ◌∷◌, refl, sym, ap, eqb-true, eq-eqb}
-use Rattle.std.specs.Prelude.{IsTrue, is_some, slice_get}
-use Rattle.std.proofs.lemmas.Bool.{and_parts}
-use Rattle.hmc_packet.specs.Packet.{PacketFields}
+use Rattle.std.proofs.Common.{◌≡◌, ◌∙◌, ◌&&◌, ◌==◌, ◌↔◌, ℕ, Bool, true, false, not, List, [], ◌∷◌, refl, sym, ap, eqb-true, eq-eqb, arith}
+use Rattle.std.specs.Prelude.{IsTrue, is_some, nat_lt, slice_get, sum_by}
+use Rattle.std.proofs.lemmas.List.Sums.{sum_by-cons}
+use Rattle.std.proofs.lemmas.Bool.{and_parts, lt-ltb}
+use Rattle.hmc_packet.specs.Packet.{PacketFields, flits_of}
 use Rattle.hmc_link.specs.Held.{EndFields, IsQuiet}
 
 true-of : (b : Bool) → b ≡ true → IsTrue b
@@ -23,6 +24,11 @@ all-true : (a b c : Bool) → a ≡ true → b ≡ true → c ≡ true → ((a &
 all-true true true c x y z = z
 all-true true false c x y z = absurd cc
 all-true false b c x y z = absurd cc
+
+-- each packet has a flit, so that flits are used exactly where there is a packet
+pub used-where : (buffer : List PacketFields) (used : ℕ) → used ≡ sum_by flits_of buffer → nat_lt 0 used ≡ is_some (slice_get buffer 0)
+used-where [] used is = ap (nat_lt 0) is
+used-where (packet ∷ rest) used is = lt-ltb 0 used (omega (arith, is, sum_by-cons flits_of packet rest))
 
 pub quiet-by : (q b r : Bool) (n : ℕ) (queue buffer : List PacketFields) (e : EndFields) → IsTrue q ↔ (queue ≡ []) → is_some (slice_get buffer 0) ≡ not b → r ≡ ((q && (n == 0)) && b)
     → queue ≡ e.queue → n ≡ e.transit → buffer ≡ e.buffer → IsTrue r ↔ IsQuiet e

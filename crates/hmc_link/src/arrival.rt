@@ -2,7 +2,6 @@
 
 ghost use Rattle.std.specs.Prelude.{◌≡◌, ◌≤◌, ◌+◌, ◌++◌, ◌∷◌, [], ◌&&◌, ◌||◌, true, List, filter, sum_by, option_map};
 ghost use Rattle.hmc_codes.specs.Limits.{most_tokens};
-ghost use Rattle.hmc_packet.specs.Packet.{flits_of};
 ghost use Rattle.hmc_send.specs.Entries.{SenderEntry};
 ghost use Rattle.hmc_send.specs.LinkSenders.{run_entries};
 ghost use Rattle.hmc_send.specs.Places.{is_token};

@@ -176,11 +176,18 @@ impl<I: Intake> End<I> {
         self.changed = false;
     }
 
+    /// Whether the buffer holds a packet.
+    pub fn has_arrived(&self) -> bool
+        ensures { result ≡ is_some (slice_get self.now.buffer 0) }
+    {
+        self.used() > 0
+    }
+
     // Whether the buffer holds no packet.
     fn has_empty_buffer(&self) -> bool
         ensures { is_some (slice_get self.now.buffer 0) ≡ not result }
     {
-        self.intake.front().is_none()
+        !self.has_arrived()
     }
 
     /// Whether the output queue and the buffer hold no packet, and each packet that was begun was

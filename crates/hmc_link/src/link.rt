@@ -1,6 +1,6 @@
 //! A link.
 
-ghost use Rattle.std.specs.Prelude.{◌≡◌, ◌<◌, ◌+◌, ◌++◌, ◌∷◌, ◌↔◌, IsTrue, ℕ, map, true, false, not, [], List, IfOk, length, nat_lt, slice_get, option_map};
+ghost use Rattle.std.specs.Prelude.{◌≡◌, ◌<◌, ◌+◌, ◌++◌, ◌∷◌, ◌↔◌, IsTrue, map, true, false, not, [], List, IfOk, is_some, length, nat_lt, slice_get, option_map};
 ghost use Rattle.hmc_codes.specs.Link.{LinkFields};
 ghost use Rattle.hmc_packet.specs.declared.feed.Feed.TheVariants.{Waiting};
 ghost use Rattle.hmc_packet.specs.Head.{head_in};
@@ -14,7 +14,7 @@ ghost use Rattle.hmc_send.specs.LinkCalls.{LinkCall, has_room, is_full, may_pass
 ghost use Rattle.hmc_send.specs.LinkEntries.{LinkEntry, receiver_entries};
 ghost use Rattle.hmc_send.specs.LinkLines.{line};
 ghost use Rattle.hmc_send.specs.LinkSenders.{sender_entries, tokens};
-ghost use Rattle.hmc_link.specs.Held.{sending_end, landing_end, is_ready, flits_seen, IsQuiet};
+ghost use Rattle.hmc_link.specs.Held.{sending_end, landing_end, row_held, is_ready, flits_seen, IsQuiet};
 ghost use Rattle.hmc_link.specs.Answers.{after_call, front_in, link_sent, sends_none};
 ghost use Rattle.hmc_link.specs.Landings.{link_landed, has_passed, lands_none, is_out_of_order, removed, IsUntouched};
 ghost use Rattle.hmc_link.specs.List.{handed_list, listed_packet, listed_open};
@@ -166,9 +166,23 @@ impl<A: Intake, B: Intake> Link<A, B> {
         }
     }
 
+    /// Whether the buffer at the end of a direction holds a packet.
+    pub fn has_arrived(&self, toward: Toward) -> bool
+        ensures value { result ≡ is_some (slice_get (landing_end toward self.now).buffer 0) }
+        ensures by_list { (link : LinkFields) (past : List LinkEntry) →
+            LinkStandsFor link self.now past → result ≡ is_some (front_in link toward past) }
+    {
+        match toward {
+            Toward::Forth => self.b.has_arrived(),
+            Toward::Back => self.a.has_arrived(),
+        }
+    }
+
     /// What the receiver of a direction waits for.
     pub fn mode(&self, toward: Toward) -> Mode
-        ensures { (link : LinkFields) (past : List LinkEntry) →
+        ensures value { self.now.going ≡ true →
+            result ≡ (landing_end toward self.now).receiver.mode }
+        ensures by_list { (link : LinkFields) (past : List LinkEntry) →
             LinkStandsFor link self.now past → result ≡ mode (receiver_entries toward past) }
     {
         match toward {
@@ -295,6 +309,8 @@ impl<A: Intake, B: Intake> Link<A, B> {
 
     /// The tokens of a direction. Their sum is the number that an end advertises.
     pub fn tokens(&self, toward: Toward) -> TokenRow
+        ensures value { result
+            ≡ row_held (sending_end toward self.now) (landing_end toward self.now) }
         ensures by_list { (link : LinkFields) (past : List LinkEntry) →
             LinkStandsFor link self.now past → result ≡ tokens link toward past }
         ensures sum { (link : LinkFields) (past : List LinkEntry) →

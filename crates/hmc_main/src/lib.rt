@@ -1,19 +1,21 @@
-//! What the program does: the words of the command line, a source and a sink go to `replay`, where
-//! the words and the sink can be had.
+//! What the program does: the words of the command line, a source, a sink and the two shipped logic
+//! units go to `replay`, where the words, the sink and the units can be had.
 //!
 //! `hmc_prog` is the program, which has standard input and output. A second program,
 //! `hmc_prog_refused`, does the same, and is there for a stored run that ends with another status.
 #![tactic(auto)]
 
-ghost use Rattle.std.specs.Prelude.{◌≡◌, ◌≢◌, ◌⊎◌, drop, map, string_bytes, IfOk, IfErr};
+ghost use Rattle.std.specs.Prelude.{◌≡◌, ◌≢◌, ◌⊎◌, drop, map, string_bytes, IfOk, IfErr, OnErr};
 ghost use Rattle.std.specs.Vec.Iter.{into_iter_items};
 ghost use Rattle.hmc_main.specs.Ends.{Ends, IsWithoutSink};
+ghost use Rattle.hmc_main.specs.Shipped.{shipped_slots};
 ghost use Rattle.hmc_replay.specs.Top.{Replayed};
 
 use hmc_codes::Memory;
 use hmc_outside::{Sink, Source};
 use hmc_replay::replay;
-use std::alloc::Global;
+use hmc_units::{LogicUnit, Reverse, Stamp};
+use std::alloc::{AllocError, Global};
 use std::env;
 use std::env::{Args, Env};
 use std::io::ErrorKind;
@@ -82,20 +84,38 @@ fn words(rt: &(impl Env + AllocGlobal)) -> Result<Vec<String>, u8>
     }
 }
 
-// Replays where the words can be had, and returns the status of that; else theirs.
+// Replays with the shipped units. An error if there is no memory for them: then nothing was read or
+// written.
+fn replay_shipped<S: Source, O: Sink>(
+    alloc: Global,
+    words: &[String],
+    source: &mut S,
+    sink: &mut O,
+) -> Result<u8, AllocError>
+    ensures replayed { IfOk result (λ status. Replayed S.shows O.shows
+        (map string_bytes words.now) shipped_slots
+        source.old source.new sink.old sink.new status) }
+    ensures source { OnErr result (source.new ≡ source.old) }
+    ensures sink { OnErr result (sink.new ≡ sink.old) }
+{
+    let mut units: Vec<Box<dyn LogicUnit>> = Vec::new(alloc);
+    units.push(Box::new(alloc, Reverse::new(0, 0))?)?;
+    units.push(Box::new(alloc, Stamp::new(0, 1))?)?;
+    Ok(replay(alloc, words, source, sink, units))
+}
+
+// Replays where the words can be had, and returns the status to end with.
 fn end<S: Source, O: Sink>(
     alloc: Global,
     words: Result<Vec<String>, u8>,
     source: &mut S,
     sink: &mut O,
 ) -> u8
-    ensures replayed { IfOk words (λ words. Replayed S.shows O.shows
-        (map string_bytes words.items) source.old source.new sink.old sink.new result) }
-    ensures without_words { IfErr words (λ status.
-        (result ≡ status) × (source.new ≡ source.old) × (sink.new ≡ sink.old)) }
+    requires { IfErr words (λ status. (status ≡ 1) ⊎ (status ≡ 2)) }
+    ensures { Ends S.shows O.shows source.old source.new sink.old sink.new result }
 {
     match words {
-        Ok(words) => replay(alloc, &words, source, sink),
+        Ok(words) => replay_shipped(alloc, &words, source, sink).unwrap_or(OUT_OF_MEMORY),
         Err(status) => status,
     }
 }

@@ -1,11 +1,10 @@
 -- The steps of a case are steps of the parts of its topology.
-use Rattle.std.proofs.Common.{◌≡◌, ◌<◌, ◌+◌, ◌*◌, ◌^◌, ◌||◌, ◌∙◌, ℕ, zero, suc, Bool, true, false, if◌then◌else◌, Option, Some, None, List, [], ◌∷◌, length, map, slice_get, refl, sym, ap, subst, arith}
+use Rattle.std.proofs.Common.{◌≡◌, ◌<◌, ◌+◌, ◌^◌, ◌||◌, ◌∙◌, ℕ, zero, suc, Bool, true, false, if◌then◌else◌, Option, Some, List, [], ◌∷◌, length, map, slice_get, refl, sym, ap, subst, arith}
 use Rattle.std.specs.Prelude.{slice_index_or}
 use Rattle.std.specs.List.{All}
 use Rattle.std.specs.Option.{option_map_or}
 use Rattle.std.proofs.lemmas.List.FromFn.{get_or-map-range_with_len}
 use Rattle.hmc_codes.specs.Limits.{ports}
-use Rattle.hmc_codes.specs.Numbers.{upto}
 use Rattle.hmc_codes.specs.Places.{same_place}
 use Rattle.hmc_codes.specs.declared.lift.Lift.{Lift}
 use Rattle.hmc_codes.specs.declared.lift.Lift.TheVariants as lifts
@@ -14,7 +13,7 @@ use Rattle.hmc_codes.specs.declared.place.Place.TheVariants as places
 use Rattle.hmc_routes.specs.Directions.{direction_among}
 use Rattle.hmc_schedule.specs.declared.step.Step.{Step}
 use Rattle.hmc_schedule.specs.declared.step.Step.TheVariants as steps
-use Rattle.hmc_schedule.specs.Plan.{IsStepOf, IsBuilt, IsPortOf, IsVaultOf, IsBankOf, IsLiftOf, CubePlanFields, is_joined, vaults_at, banks_at}
+use Rattle.hmc_schedule.specs.Plan.{IsStepOf, IsBuilt, IsPortOf, IsVaultOf, IsBankOf, IsLiftOf, CubePlanFields}
 use Rattle.hmc_case.specs.Case.{CaseFields, IsCase}
 use Rattle.hmc_case.specs.Net.{NetFields}
 use Rattle.hmc_case.specs.Places.{is_taken}
@@ -22,7 +21,8 @@ use Rattle.hmc_case.specs.Plan.{ports_of, plans_of, plan_of}
 use Rattle.hmc_case.specs.Setup.{CubeSetupFields}
 use Rattle.hmc_case.specs.declared.setup.LinkRow.{LinkRow}
 use Rattle.hmc_case.proofs.PlanLemmas.{length-plans_of}
-use Rattle.hmc_journal.specs.Setup.{Topology, setup_of, no_cube, cube_setup, hosts_in, direction_from}
+use Rattle.hmc_units.specs.Unit.{UnitFields}
+use Rattle.hmc_journal.specs.Setup.{Topology, setup_of, no_cube, hosts_in}
 use Rattle.hmc_net.specs.Ready.{IsPortIn, IsVaultIn, IsBankIn, IsLiftIn, IsStepFor}
 
 -- the plan of a cube
@@ -107,5 +107,5 @@ step_fits net (steps.Through cube port) hosts is built = tt
 step_fits net (steps.Unlock direction) hosts is built = is
 step_fits net (steps.Retire slot) hosts is built = tt
 
-pub steps_fit : (case : CaseFields) → IsCase case → All (IsStepFor (setup_of case).topology) case.schedule
-steps_fit case is = λ k d there. step_fits case.net (slice_index_or case.schedule k d) is.net.all_hosts (is.schedule k d there) (is.built k d there)
+pub steps_fit : (case : CaseFields) (slots : List (Option UnitFields)) → IsCase case → All (IsStepFor (setup_of case slots).topology) case.schedule
+steps_fit case slots is = λ k d there. step_fits case.net (slice_index_or case.schedule k d) is.net.all_hosts (is.schedule k d there) (is.built k d there)

@@ -1,6 +1,6 @@
 -- What an entry leaves of the cubes is what their queues hold after it.
 use Rattle.std.proofs.Common.{◌≡◌, ◌<◌, ◌==◌, ◌∙◌, ℕ, zero, suc, Bool, true, false, if◌then◌else◌, Option, Some, None, List, [], ◌∷◌, ◌++◌, length, take, drop, refl, sym, ap, subst, arith, append-nil}
-use Rattle.std.specs.Prelude.{option_map, slice_set, slice_index_or, filter}
+use Rattle.std.specs.Prelude.{option_map, slice_set}
 use Rattle.std.proofs.lemmas.List.{get_or-set_same, length-set, set-set}
 use Rattle.hmc_codes.specs.Commands.{is_posted}
 use Rattle.hmc_codes.specs.Request.{RequestFields}
@@ -19,11 +19,11 @@ use Rattle.hmc_cube.specs.Cube.{CubeFields, vault_at, with_vault, no_vault}
 use Rattle.hmc_journal.specs.Choice.{choose}
 use Rattle.hmc_journal.specs.declared.outcome.Goal.TheVariants as goals
 use Rattle.hmc_journal.specs.declared.entry.Entry.{Entry}
-use Rattle.hmc_journal.specs.declared.entry.Entry.TheVariants.{Gave, Sent, Landed, Shifted, Dropped, Spread, Executed, Lifted, Took, Discarded, Unlocked, Passed, Idle}
+use Rattle.hmc_journal.specs.declared.entry.Entry.TheVariants.{Gave, Sent, Landed, Shifted, Dropped, Spread, Executed, Lifted, Took, Discarded, Through, Unlocked, Retired, Passed, Idle}
 use Rattle.hmc_journal.specs.Directions.{unsent}
 use Rattle.hmc_journal.specs.Queues.{QueueId, leaves, enters, begins, buffer_at, unless_posted, front_of, tag_number, contents, arrival_in, arrival_of}
 use Rattle.hmc_journal.specs.Queues.QueueId.{Output, Port, Host, Vault, Bank, Registers, Answers}
-use Rattle.hmc_journal.specs.Setup.{Setup, Topology, direction_from, end_of}
+use Rattle.hmc_journal.specs.Setup.{Setup, direction_from, end_of}
 use Rattle.hmc_journal.specs.StepView.{view_of}
 use Rattle.hmc_journal.proofs.EntryRule.{EntryRule}
 use Rattle.hmc_journal.proofs.Moves.{arrives}
@@ -218,6 +218,8 @@ moves_of setup past (Lifted cube lifts.Registers port) cubes rule told is =
     let none = no_arrival (without cubes (Some (Answers cube lifts.Registers))) (direction_from setup.topology (places.Port cube port)) _ in record { there = is; going = none.0; same = λ q. ap (λ (l : List CubeFields). inside l q) none.1 }
 moves_of setup past (Took host tag answer) cubes rule told is = record { there = tt; going = tt; same = λ q. refl }
 moves_of setup past (Discarded host) cubes rule told is = record { there = tt; going = tt; same = λ q. refl }
+moves_of setup past (Through cube port direction) cubes rule told is = record { there = tt; going = tt; same = λ q. refl }
 moves_of setup past (Unlocked direction) cubes rule told is = record { there = tt; going = tt; same = λ q. refl }
+moves_of setup past (Retired slot) cubes rule told is = record { there = tt; going = tt; same = λ q. refl }
 moves_of setup past (Passed direction flit) cubes rule told is = record { there = tt; going = tt; same = λ q. refl }
 moves_of setup past (Idle step cause) cubes rule told is = record { there = tt; going = tt; same = λ q. refl }

@@ -1,6 +1,6 @@
 -- The steps in cubes: spread, bank and registers.
-use Rattle.std.proofs.Common.{◌≡◌, ◌≤◌, ◌<◌, ◌==◌, ◌%◌, ◌^◌, ◌∙◌, ℕ, Bool, true, false, not, nat_le, nat_lt, if◌then◌else◌, Option, Some, None, List, [], ◌∷◌, ◌++◌, length, drop, slice_get, refl, sym, ap, ap₂, subst, arith, eqb-true}
-use Rattle.std.specs.Prelude.{slice_index_or, slice_set}
+use Rattle.std.proofs.Common.{◌≡◌, ◌≤◌, ◌<◌, ◌==◌, ◌%◌, ◌^◌, ◌∙◌, ℕ, Bool, true, false, not, nat_le, nat_lt, if◌then◌else◌, Option, Some, None, List, [], ◌∷◌, ◌++◌, length, drop, refl, sym, ap, ap₂, subst, arith, eqb-true}
+use Rattle.std.specs.Prelude.{slice_set}
 use Rattle.std.specs.List.{All}
 use Rattle.std.proofs.Math.Nat.{pow-le-pow_right}
 use Rattle.std.proofs.lemmas.Bool.Decides.{nat_tests}
@@ -17,13 +17,15 @@ use Rattle.hmc_packet.specs.Packet.{PacketFields}
 use Rattle.hmc_packet.specs.Transactions.{request_in, reply_packet}
 use Rattle.hmc_serial.specs.Cube.{CubeState}
 use Rattle.hmc_serial.specs.Machine.{State, cube_state_at}
+use Rattle.hmc_serial.specs.Perform.{perform_on}
 use Rattle.hmc_vault.specs.Vault.{VaultFields, bank_at}
 use Rattle.hmc_vault.specs.declared.spread.Spread.{Spread}
 use Rattle.hmc_vault.specs.declared.spread.Spread.TheVariants as spreads
 use Rattle.hmc_vault.specs.Spread.{spread_says, front_goes, goes_to}
 use Rattle.hmc_vault.specs.declared.execute.Executed.{Executed as Execution}
 use Rattle.hmc_vault.specs.declared.execute.Executed.TheVariants as runs_as
-use Rattle.hmc_vault.specs.Execute.{execute_says, carried_runs, replies_to, cube_after, runs}
+use Rattle.hmc_vault.specs.Execute.{execute_says, carried_runs, replies_to, cube_after, slots_after as units_left, runs}
+use Rattle.hmc_units.specs.Unit.{UnitFields}
 use Rattle.hmc_cube.specs.Cube.{CubeFields, vault_at, with_vault, no_vault}
 use Rattle.hmc_cube.specs.After.{bank_says, registers_say, after_spread, after_execute, after_registers}
 use Rattle.hmc_cube.specs.Parts.{AreParts, VaultFits}
@@ -32,7 +34,6 @@ use Rattle.hmc_link.specs.Held.{LinkHeld}
 use Rattle.hmc_schedule.specs.declared.step.Step.{Step}
 use Rattle.hmc_schedule.specs.declared.step.Step.TheVariants as steps
 use Rattle.hmc_journal.specs.Answers.{spread_entry, ran_entry, tag_of}
-use Rattle.hmc_journal.specs.Choice.{choose}
 use Rattle.hmc_journal.specs.declared.outcome.Cause.{Cause}
 use Rattle.hmc_journal.specs.declared.outcome.Cause.TheVariants as causes
 use Rattle.hmc_journal.specs.declared.entry.Entry.{Entry}
@@ -40,16 +41,16 @@ use Rattle.hmc_journal.specs.declared.entry.Entry.TheVariants as entries
 use Rattle.hmc_journal.specs.Event.{cause_of}
 use Rattle.hmc_journal.specs.Next.{choice, with_front, unless_full, spread_to_bank, execution_entry, queue_size}
 use Rattle.hmc_journal.specs.QueueInvariant.{IsCubeRequest}
-use Rattle.hmc_journal.specs.Queues.{QueueId, tag_number, queue_of, answers_of}
+use Rattle.hmc_journal.specs.Queues.{tag_number, queue_of}
 use Rattle.hmc_journal.specs.Queues.QueueId.{Vault, Bank, Registers, Answers}
-use Rattle.hmc_journal.specs.Setup.{Topology, cube_setup, shape_of, cubes_in}
+use Rattle.hmc_journal.specs.Setup.{Topology, cube_setup, shape_of, cubes_in, unit_cube}
 use Rattle.hmc_journal.specs.StepView.{StepView}
-use Rattle.hmc_net.specs.Apply.{cubes_after, hosts_after, entries_after, with_cube, IsEntryIn, IsHostIn, DoesStep}
+use Rattle.hmc_net.specs.Apply.{cubes_after, hosts_after, slots_after, entries_after, with_cube, IsEntryIn, IsHostIn, DoesStep}
 use Rattle.hmc_net.specs.LinkList.{LinksStandFor}
 use Rattle.hmc_net.specs.NetState.{NetState, cube_in, no_cube, IsQueueOf}
 use Rattle.hmc_net.specs.Ready.{IsVaultIn, IsBankIn}
 use Rattle.hmc_net.specs.Sees.{Sees, IsSized, CubeFits, IsReady}
-use Rattle.hmc_net.proofs.Doing.{with_parts, does_by, idle_does, front_none, no_front}
+use Rattle.hmc_net.proofs.Doing.{with_all, with_parts, does_by, sized_units, units_seen, idle_does, front_none, no_front}
 use Rattle.hmc_net.proofs.Elements.{changed_at}
 use Rattle.hmc_net.proofs.Standing.{own_cube, state_at}
 
@@ -144,6 +145,11 @@ spread_hosts hosts cube vault spreads.Empty = refl
 spread_hosts hosts cube vault spreads.Full = refl
 spread_hosts hosts cube vault (spreads.Moved bank) = refl
 
+spread_slots : (view : StepView) (slots : List (Option UnitFields)) (cube vault : ℕ) (spread : Spread) → slots ≡ slots_after view (spread_entry cube vault spread) slots
+spread_slots view slots cube vault spreads.Empty = refl
+spread_slots view slots cube vault spreads.Full = refl
+spread_slots view slots cube vault (spreads.Moved bank) = refl
+
 spread_host_in : (hosts : List HostFields) (cube vault : ℕ) (spread : Spread) → IsHostIn hosts (spread_entry cube vault spread)
 spread_host_in hosts cube vault spreads.Empty = tt
 spread_host_in hosts cube vault spreads.Full = tt
@@ -175,12 +181,13 @@ spread_does net now cube vault spread ready there parts says now_is =
     let fits = vault_fits x vault parts inside in
     let own = sized.fits cube less in
     let kept = spread_shape x vault spread in
-    does_by net now (with_cube cube (after_spread vault spread) net.cubes) net.hosts net.links (spread_entry cube vault spread) (steps.Spread cube vault) now_is (record {
+    does_by net now (with_cube cube (after_spread vault spread) net.cubes) net.hosts net.slots net.links (spread_entry cube vault spread) (steps.Spread cube vault) now_is (record {
       chosen = λ view sees. ap (spread_entry cube vault) says
           ∙ spread_front net.topology view cube vault (vault_at x vault) x.state.shape (vault_at x vault).vault_queue (fits.same_size ∙ own.queue) own.shape (λ bank. sees.shows.queues (Bank cube vault bank) tt)
           ∙ ap (λ (l : List PacketFields). with_front (steps.Spread cube vault) l (λ front. spread_to_bank net.topology view cube vault (bank_of (shape_of net.topology cube) front.address))) (sees.shows.queues (Vault cube vault) tt);
       cubes_are = λ view sees. spread_cubes view net.cubes cube vault spread;
       hosts_are = spread_hosts net.hosts cube vault spread;
+      slots_are = λ view sees. spread_slots view net.slots cube vault spread;
       links_are = λ view sees on. subst (LinksStandFor net.topology.links net.links) (spread_links net.topology view cube vault spread) sees.shows.links;
       there = spread_in net.cubes cube vault spread less inside (λ bank is. subst (λ (n : ℕ). bank < n) (sym fits.banks) (spread_bank (vault_at x vault) x.state.shape spread bank says is));
       host = spread_host_in net.hosts cube vault spread;
@@ -190,21 +197,22 @@ spread_does net now cube vault spread ready there parts says now_is =
 
 -- ---- bank and registers
 
-run_found : (topology : Topology) (view : StepView) (unit : RequestUnit) (step : Step) (cube : ℕ) (front : PacketFields) (answers : List PacketFields) (size queue : ℕ) (state : CubeState) (found : Option RequestFields) → request_in front ≡ found → size ≡ queue → IsCubeRequest cube front → state ≡ cube_state_at view.state cube
-    → ran_entry unit step (carried_runs front found answers size state) ≡ execution_entry unit step front answers queue view.state found
-run_found topology view unit step cube front answers size queue state None is same asks state_is = refl
-run_found topology view unit step cube front answers size queue state (Some request) is same asks state_is =
+run_found : (topology : Topology) (view : StepView) (unit : RequestUnit) (step : Step) (cube : ℕ) (front : PacketFields) (answers : List PacketFields) (size queue : ℕ) (state : CubeState) (slots : List (Option UnitFields)) (found : Option RequestFields) → request_in front ≡ found → size ≡ queue → IsCubeRequest cube front → state ≡ cube_state_at view.state cube → slots ≡ view.state.slots
+    → ran_entry unit step (carried_runs front found answers size state slots) ≡ execution_entry unit step front answers queue view.state found
+run_found topology view unit step cube front answers size queue state slots None is same asks state_is slots_are = refl
+run_found topology view unit step cube front answers size queue state slots (Some request) is same asks state_is slots_are =
     let own : state ≡ cube_state_at view.state request.cube = state_is ∙ ap (λ (n : ℕ). cube_state_at view.state n) (sym (own_cube front request cube is asks.cube)) in
-    ap₂ (λ (n : ℕ) (c : CubeState). ran_entry unit step (runs front request answers n c)) same own
+    ap₂ (λ (n : ℕ) (c : CubeState). ran_entry unit step (runs front request answers n c slots)) same own
+    ∙ ap (λ (s : List (Option UnitFields)). ran_entry unit step (runs front request answers queue (cube_state_at view.state request.cube) s)) slots_are
 
-run_front : (topology : Topology) (view : StepView) (unit : RequestUnit) (step : Step) (cube : ℕ) (waiting answers : List PacketFields) (size queue : ℕ) (state : CubeState) → size ≡ queue → All (IsCubeRequest cube) waiting → state ≡ cube_state_at view.state cube
-    → ran_entry unit step (execute_says waiting answers size state) ≡ with_front step waiting (λ front. execution_entry unit step front answers queue view.state (request_in front))
-run_front topology view unit step cube [] answers size queue state same asks state_is = refl
-run_front topology view unit step cube (front ∷ rest) answers size queue state same asks state_is =
-    run_found topology view unit step cube front answers size queue state (request_in front) refl same (All-head (IsCubeRequest cube) front rest asks) state_is
+run_front : (topology : Topology) (view : StepView) (unit : RequestUnit) (step : Step) (cube : ℕ) (waiting answers : List PacketFields) (size queue : ℕ) (state : CubeState) (slots : List (Option UnitFields)) → size ≡ queue → All (IsCubeRequest cube) waiting → state ≡ cube_state_at view.state cube → slots ≡ view.state.slots
+    → ran_entry unit step (execute_says waiting answers size state slots) ≡ with_front step waiting (λ front. execution_entry unit step front answers queue view.state (request_in front))
+run_front topology view unit step cube [] answers size queue state slots same asks state_is slots_are = refl
+run_front topology view unit step cube (front ∷ rest) answers size queue state slots same asks state_is slots_are =
+    run_found topology view unit step cube front answers size queue state slots (request_in front) refl same (All-head (IsCubeRequest cube) front rest asks) state_is slots_are
 
 cube_state : (net : NetState) (view : StepView) (cube : ℕ) → Sees net view → (cube_in net.cubes cube).state ≡ cube_state_at view.state cube
-cube_state net view cube sees = sym (state_at net.cubes cube) ∙ ap (λ (s : State). cube_state_at s cube) sees.shows.state
+cube_state net view cube sees = sym (state_at net.cubes net.slots cube) ∙ ap (λ (s : State). cube_state_at s cube) sees.shows.state
 
 -- the tag of a posted request is in no reply
 same_replies : (request : RequestFields) (answer : Answer) (host tag : ℕ) (posted : Bool) → is_posted request.command ≡ posted → replies_to request answer host tag ≡ replies_to request answer host (tag_number (tag_of (is_posted request.command) tag))
@@ -212,31 +220,44 @@ same_replies request answer host tag true is =
     ap (λ (t : Bool). if t then [] else reply_packet answer tag host request.cube ∷ []) is ∙ sym (ap (λ (t : Bool). if t then [] else reply_packet answer (tag_number (tag_of (is_posted request.command) tag)) host request.cube ∷ []) is)
 same_replies request answer host tag false is = ap (λ (t : Bool). replies_to request answer host (tag_number (tag_of t tag))) (sym is)
 
-bank_cubes : (view : StepView) (cubes : List CubeFields) (cube vault bank : ℕ) (step : Step) (ran : Execution) → with_cube cube (after_execute vault bank ran) cubes ≡ cubes_after view (ran_entry (units.Bank cube vault bank) step ran) cubes
-bank_cubes view cubes cube vault bank step runs_as.Empty = set-get_or cubes cube no_cube
-bank_cubes view cubes cube vault bank step runs_as.Full = set-get_or cubes cube no_cube
-bank_cubes view cubes cube vault bank step (runs_as.Ran host tag request answer) =
+bank_cubes : (view : StepView) (cubes : List CubeFields) (slots : List (Option UnitFields)) (cube vault bank : ℕ) (step : Step) (ran : Execution) → slots ≡ view.state.slots → with_cube cube (after_execute vault bank ran slots) cubes ≡ cubes_after view (ran_entry (units.Bank cube vault bank) step ran) cubes
+bank_cubes view cubes slots cube vault bank step runs_as.Empty same = set-get_or cubes cube no_cube
+bank_cubes view cubes slots cube vault bank step runs_as.Full same = set-get_or cubes cube no_cube
+bank_cubes view cubes slots cube vault bank step (runs_as.Ran host tag request answer) same =
     let x = cube_in cubes cube in
-    ap (λ (l : List PacketFields). slice_set cubes cube (record (with_vault x vault (record (vault_at x vault) { banks = slice_set (vault_at x vault).banks bank (drop 1 (bank_at (vault_at x vault) bank)); answers = (vault_at x vault).answers ++ l })) { state = cube_after (runs_as.Ran host tag request answer) x.state }))
+    ap (λ (l : List PacketFields). slice_set cubes cube (record (with_vault x vault (record (vault_at x vault) { banks = slice_set (vault_at x vault).banks bank (drop 1 (bank_at (vault_at x vault) bank)); answers = (vault_at x vault).answers ++ l })) { state = cube_after (runs_as.Ran host tag request answer) x.state slots }))
     (same_replies request answer host tag (is_posted request.command) refl)
+    ∙ ap (λ (s : List (Option UnitFields)). with_cube cube (after_execute vault bank (runs_as.Ran host (tag_number (tag_of (is_posted request.command) tag)) request answer) s) cubes) same
 
-registers_cubes : (view : StepView) (cubes : List CubeFields) (cube : ℕ) (step : Step) (ran : Execution) → with_cube cube (after_registers ran) cubes ≡ cubes_after view (ran_entry (units.Registers cube) step ran) cubes
-registers_cubes view cubes cube step runs_as.Empty = set-get_or cubes cube no_cube
-registers_cubes view cubes cube step runs_as.Full = set-get_or cubes cube no_cube
-registers_cubes view cubes cube step (runs_as.Ran host tag request answer) =
+registers_cubes : (view : StepView) (cubes : List CubeFields) (slots : List (Option UnitFields)) (cube : ℕ) (step : Step) (ran : Execution) → slots ≡ view.state.slots → with_cube cube (after_registers ran slots) cubes ≡ cubes_after view (ran_entry (units.Registers cube) step ran) cubes
+registers_cubes view cubes slots cube step runs_as.Empty same = set-get_or cubes cube no_cube
+registers_cubes view cubes slots cube step runs_as.Full same = set-get_or cubes cube no_cube
+registers_cubes view cubes slots cube step (runs_as.Ran host tag request answer) same =
     let x = cube_in cubes cube in
-    ap (λ (l : List PacketFields). slice_set cubes cube (record x { state = cube_after (runs_as.Ran host tag request answer) x.state; register_queue = drop 1 x.register_queue; answers = x.answers ++ l }))
+    ap (λ (l : List PacketFields). slice_set cubes cube (record x { state = cube_after (runs_as.Ran host tag request answer) x.state slots; register_queue = drop 1 x.register_queue; answers = x.answers ++ l }))
     (same_replies request answer host tag (is_posted request.command) refl)
+    ∙ ap (λ (s : List (Option UnitFields)). with_cube cube (after_registers (runs_as.Ran host (tag_number (tag_of (is_posted request.command) tag)) request answer) s) cubes) same
 
-bank_idle : (cubes : List CubeFields) (cube vault bank : ℕ) (unit : RequestUnit) (step : Step) (ran : Execution) (cause : Cause) → cause_of (ran_entry unit step ran) ≡ Some cause → with_cube cube (after_execute vault bank ran) cubes ≡ cubes
-bank_idle cubes cube vault bank unit step runs_as.Empty cause is = set-get_or cubes cube no_cube
-bank_idle cubes cube vault bank unit step runs_as.Full cause is = set-get_or cubes cube no_cube
-bank_idle cubes cube vault bank unit step (runs_as.Ran host tag request answer) cause is = absurd (cc)
+bank_idle : (cubes : List CubeFields) (slots : List (Option UnitFields)) (cube vault bank : ℕ) (unit : RequestUnit) (step : Step) (ran : Execution) (cause : Cause) → cause_of (ran_entry unit step ran) ≡ Some cause → with_cube cube (after_execute vault bank ran slots) cubes ≡ cubes
+bank_idle cubes slots cube vault bank unit step runs_as.Empty cause is = set-get_or cubes cube no_cube
+bank_idle cubes slots cube vault bank unit step runs_as.Full cause is = set-get_or cubes cube no_cube
+bank_idle cubes slots cube vault bank unit step (runs_as.Ran host tag request answer) cause is = absurd (cc)
 
-registers_idle : (cubes : List CubeFields) (cube : ℕ) (unit : RequestUnit) (step : Step) (ran : Execution) (cause : Cause) → cause_of (ran_entry unit step ran) ≡ Some cause → with_cube cube (after_registers ran) cubes ≡ cubes
-registers_idle cubes cube unit step runs_as.Empty cause is = set-get_or cubes cube no_cube
-registers_idle cubes cube unit step runs_as.Full cause is = set-get_or cubes cube no_cube
-registers_idle cubes cube unit step (runs_as.Ran host tag request answer) cause is = absurd (cc)
+registers_idle : (cubes : List CubeFields) (slots : List (Option UnitFields)) (cube : ℕ) (unit : RequestUnit) (step : Step) (ran : Execution) (cause : Cause) → cause_of (ran_entry unit step ran) ≡ Some cause → with_cube cube (after_registers ran slots) cubes ≡ cubes
+registers_idle cubes slots cube unit step runs_as.Empty cause is = set-get_or cubes cube no_cube
+registers_idle cubes slots cube unit step runs_as.Full cause is = set-get_or cubes cube no_cube
+registers_idle cubes slots cube unit step (runs_as.Ran host tag request answer) cause is = absurd (cc)
+
+-- the logic units are left as performing the request leaves them
+ran_slots : (view : StepView) (state : CubeState) (slots : List (Option UnitFields)) (unit : RequestUnit) (step : Step) (ran : Execution) → state ≡ cube_state_at view.state (unit_cube unit) → units_left ran state slots ≡ slots_after view (ran_entry unit step ran) slots
+ran_slots view state slots unit step runs_as.Empty same = refl
+ran_slots view state slots unit step runs_as.Full same = refl
+ran_slots view state slots unit step (runs_as.Ran host tag request answer) same = ap (λ (s : CubeState). (perform_on s slots request).slots) same
+
+ran_slots_idle : (state : CubeState) (slots : List (Option UnitFields)) (unit : RequestUnit) (step : Step) (ran : Execution) (cause : Cause) → cause_of (ran_entry unit step ran) ≡ Some cause → units_left ran state slots ≡ slots
+ran_slots_idle state slots unit step runs_as.Empty cause is = refl
+ran_slots_idle state slots unit step runs_as.Full cause is = refl
+ran_slots_idle state slots unit step (runs_as.Ran host tag request answer) cause is = absurd (cc)
 
 ran_hosts : (hosts : List HostFields) (unit : RequestUnit) (step : Step) (ran : Execution) → hosts ≡ hosts_after (ran_entry unit step ran) hosts
 ran_hosts hosts unit step runs_as.Empty = refl
@@ -258,14 +279,14 @@ ran_in cubes unit step runs_as.Empty is = tt
 ran_in cubes unit step runs_as.Full is = tt
 ran_in cubes unit step (runs_as.Ran host tag request answer) is = is
 
-execute_size : (x : CubeFields) (vault bank : ℕ) (ran : Execution) → (after_execute vault bank ran x).size ≡ x.size
-execute_size x vault bank runs_as.Empty = refl
-execute_size x vault bank runs_as.Full = refl
-execute_size x vault bank (runs_as.Ran host tag request answer) = refl
+execute_size : (x : CubeFields) (slots : List (Option UnitFields)) (vault bank : ℕ) (ran : Execution) → (after_execute vault bank ran slots x).size ≡ x.size
+execute_size x slots vault bank runs_as.Empty = refl
+execute_size x slots vault bank runs_as.Full = refl
+execute_size x slots vault bank (runs_as.Ran host tag request answer) = refl
 
-pub bank_does : (net now : NetState) (cube vault bank : ℕ) (ran : Execution) → IsReady net → IsBankIn net.topology cube vault bank → AreParts (cube_in net.cubes cube) → ran ≡ bank_says (cube_in net.cubes cube) vault bank
-    → (after_execute vault bank ran (cube_in net.cubes cube)).state.shape ≡ (cube_in net.cubes cube).state.shape
-    → now ≡ with_parts net (with_cube cube (after_execute vault bank ran) net.cubes) net.hosts net.links (ran_entry (units.Bank cube vault bank) (steps.Bank cube vault bank) ran) → DoesStep net now (steps.Bank cube vault bank)
+pub bank_does : (net now : NetState) (cube vault bank : ℕ) (ran : Execution) → IsReady net → IsBankIn net.topology cube vault bank → AreParts (cube_in net.cubes cube) → ran ≡ bank_says (cube_in net.cubes cube) net.slots vault bank
+    → (after_execute vault bank ran net.slots (cube_in net.cubes cube)).state.shape ≡ (cube_in net.cubes cube).state.shape
+    → now ≡ with_all net (with_cube cube (after_execute vault bank ran net.slots) net.cubes) net.hosts (units_left ran (cube_in net.cubes cube).state net.slots) net.links (ran_entry (units.Bank cube vault bank) (steps.Bank cube vault bank) ran) → DoesStep net now (steps.Bank cube vault bank)
 unfolding choice
 bank_does net now cube vault bank ran ready there parts says shape now_is =
     let x = cube_in net.cubes cube in
@@ -275,19 +296,22 @@ bank_does net now cube vault bank ran ready there parts says shape now_is =
     let fits = vault_fits x vault parts inside in
     let unit = units.Bank cube vault bank in
     let step = steps.Bank cube vault bank in
-    does_by net now (with_cube cube (after_execute vault bank ran) net.cubes) net.hosts net.links (ran_entry unit step ran) step now_is (record {
+    let left = units_left ran x.state net.slots in
+    does_by net now (with_cube cube (after_execute vault bank ran net.slots) net.cubes) net.hosts left net.links (ran_entry unit step ran) step now_is (record {
       chosen = λ view sees.
           (let waits : bank_at (vault_at x vault) bank ≡ view.inside (Bank cube vault bank) = sees.shows.queues (Bank cube vault bank) tt in
           ap (ran_entry unit step) says
-          ∙ run_front net.topology view unit step cube (bank_at (vault_at x vault) bank) (vault_at x vault).answers x.size (queue_size net.topology unit) x.state (sized.fits cube less).queue (subst (All (IsCubeRequest cube)) (sym waits) (sees.laws.banks cube vault bank)) (cube_state net view cube sees)
+          ∙ run_front net.topology view unit step cube (bank_at (vault_at x vault) bank) (vault_at x vault).answers x.size (queue_size net.topology unit) x.state net.slots (sized.fits cube less).queue (subst (All (IsCubeRequest cube)) (sym waits) (sees.laws.banks cube vault bank)) (cube_state net view cube sees) (units_seen net view sees)
           ∙ ap₂ (λ (w a : List PacketFields). with_front step w (λ front. execution_entry unit step front a (queue_size net.topology unit) view.state (request_in front))) waits (sees.shows.queues (Answers cube (lifts.Vault vault)) tt));
-      cubes_are = λ view sees. bank_cubes view net.cubes cube vault bank step ran;
+      cubes_are = λ view sees. bank_cubes view net.cubes net.slots cube vault bank step ran (units_seen net view sees);
       hosts_are = ran_hosts net.hosts unit step ran;
+      slots_are = λ view sees. ran_slots view x.state net.slots unit step ran (cube_state net view cube sees);
       links_are = λ view sees on. subst (LinksStandFor net.topology.links net.links) (ran_links net.topology view unit step ran) sees.shows.links;
       there = ran_in net.cubes unit step ran (less, (inside, subst (λ (n : ℕ). bank < n) (sym fits.banks) (bank_shape net cube vault bank sized there)));
       host = ran_host_in net.hosts unit step ran;
-      sized = sized_cube net cube (after_execute vault bank ran x) net.links (ran_entry unit step ran) sized less shape (execute_size x vault bank ran);
-      idle = λ cause is. ap (λ (l : List CubeFields). with_parts net l net.hosts net.links (ran_entry unit step ran)) (bank_idle net.cubes cube vault bank unit step ran cause is);
+      sized = sized_units (with_parts net (with_cube cube (after_execute vault bank ran net.slots) net.cubes) net.hosts net.links (ran_entry unit step ran)) left
+          (sized_cube net cube (after_execute vault bank ran net.slots x) net.links (ran_entry unit step ran) sized less shape (execute_size x net.slots vault bank ran));
+      idle = λ cause is. ap₂ (λ (l : List CubeFields) (s : List (Option UnitFields)). with_all net l net.hosts s net.links (ran_entry unit step ran)) (bank_idle net.cubes net.slots cube vault bank unit step ran cause is) (ran_slots_idle x.state net.slots unit step ran cause is);
     })
 
 pub bank_none : (net now : NetState) (cube vault bank : ℕ) → IsSized net → bank_at (vault_at (cube_in net.cubes cube) vault) bank ≡ [] → now ≡ record net { last = entries.Idle (steps.Bank cube vault bank) causes.Empty } → DoesStep net now (steps.Bank cube vault bank)
@@ -296,9 +320,9 @@ bank_none net now cube vault bank sized none now_is =
     idle_does net now (steps.Bank cube vault bank) (steps.Bank cube vault bank) causes.Empty now_is sized
     (λ view sees. sym (front_none (steps.Bank cube vault bank) (view.inside (Bank cube vault bank)) _ (no_front (view.inside (Bank cube vault bank)) (sym (sees.shows.queues (Bank cube vault bank) tt) ∙ none))))
 
-pub registers_does : (net now : NetState) (cube : ℕ) (ran : Execution) → IsReady net → cube < cubes_in net.topology → ran ≡ registers_say (cube_in net.cubes cube)
-    → (after_registers ran (cube_in net.cubes cube)).state.shape ≡ (cube_in net.cubes cube).state.shape
-    → now ≡ with_parts net (with_cube cube (after_registers ran) net.cubes) net.hosts net.links (ran_entry (units.Registers cube) (steps.Registers cube) ran) → DoesStep net now (steps.Registers cube)
+pub registers_does : (net now : NetState) (cube : ℕ) (ran : Execution) → IsReady net → cube < cubes_in net.topology → ran ≡ registers_say (cube_in net.cubes cube) net.slots
+    → (after_registers ran net.slots (cube_in net.cubes cube)).state.shape ≡ (cube_in net.cubes cube).state.shape
+    → now ≡ with_all net (with_cube cube (after_registers ran net.slots) net.cubes) net.hosts (units_left ran (cube_in net.cubes cube).state net.slots) net.links (ran_entry (units.Registers cube) (steps.Registers cube) ran) → DoesStep net now (steps.Registers cube)
 unfolding choice
 registers_does net now cube ran ready there says shape now_is =
     let x = cube_in net.cubes cube in
@@ -306,19 +330,22 @@ registers_does net now cube ran ready there says shape now_is =
     let less = cube_inside net cube sized there in
     let unit = units.Registers cube in
     let step = steps.Registers cube in
-    does_by net now (with_cube cube (after_registers ran) net.cubes) net.hosts net.links (ran_entry unit step ran) step now_is (record {
+    let left = units_left ran x.state net.slots in
+    does_by net now (with_cube cube (after_registers ran net.slots) net.cubes) net.hosts left net.links (ran_entry unit step ran) step now_is (record {
       chosen = λ view sees.
           (let waits : x.register_queue ≡ view.inside (Registers cube) = sees.shows.queues (Registers cube) tt in
           ap (ran_entry unit step) says
-          ∙ run_front net.topology view unit step cube x.register_queue x.answers x.size (queue_size net.topology unit) x.state (sized.fits cube less).queue (subst (All (IsCubeRequest cube)) (sym waits) (sees.laws.registers cube)) (cube_state net view cube sees)
+          ∙ run_front net.topology view unit step cube x.register_queue x.answers x.size (queue_size net.topology unit) x.state net.slots (sized.fits cube less).queue (subst (All (IsCubeRequest cube)) (sym waits) (sees.laws.registers cube)) (cube_state net view cube sees) (units_seen net view sees)
           ∙ ap₂ (λ (w a : List PacketFields). with_front step w (λ front. execution_entry unit step front a (queue_size net.topology unit) view.state (request_in front))) waits (sees.shows.queues (Answers cube lifts.Registers) tt));
-      cubes_are = λ view sees. registers_cubes view net.cubes cube step ran;
+      cubes_are = λ view sees. registers_cubes view net.cubes net.slots cube step ran (units_seen net view sees);
       hosts_are = ran_hosts net.hosts unit step ran;
+      slots_are = λ view sees. ran_slots view x.state net.slots unit step ran (cube_state net view cube sees);
       links_are = λ view sees on. subst (LinksStandFor net.topology.links net.links) (ran_links net.topology view unit step ran) sees.shows.links;
       there = ran_in net.cubes unit step ran (less, tt);
       host = ran_host_in net.hosts unit step ran;
-      sized = sized_cube net cube (after_registers ran x) net.links (ran_entry unit step ran) sized less shape refl;
-      idle = λ cause is. ap (λ (l : List CubeFields). with_parts net l net.hosts net.links (ran_entry unit step ran)) (registers_idle net.cubes cube unit step ran cause is);
+      sized = sized_units (with_parts net (with_cube cube (after_registers ran net.slots) net.cubes) net.hosts net.links (ran_entry unit step ran)) left
+          (sized_cube net cube (after_registers ran net.slots x) net.links (ran_entry unit step ran) sized less shape refl);
+      idle = λ cause is. ap₂ (λ (l : List CubeFields) (s : List (Option UnitFields)). with_all net l net.hosts s net.links (ran_entry unit step ran)) (registers_idle net.cubes net.slots cube unit step ran cause is) (ran_slots_idle x.state net.slots unit step ran cause is);
     })
 
 pub registers_none : (net now : NetState) (cube : ℕ) → IsSized net → (cube_in net.cubes cube).register_queue ≡ [] → now ≡ record net { last = entries.Idle (steps.Registers cube) causes.Empty } → DoesStep net now (steps.Registers cube)

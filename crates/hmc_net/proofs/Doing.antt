@@ -1,6 +1,6 @@
 -- What a step does of a network, part by part.
-use Rattle.std.proofs.Common.{◌≡◌, ◌<◌, ◌*◌, ◌/◌, ◌==◌, ◌∙◌, ℕ, Bool, true, false, not, nat_le, nat_lt, if◌then◌else◌, Option, Some, None, List, [], ◌∷◌, length, slice_get, drop, refl, sym, ap, subst, arith, eqb-true}
-use Rattle.std.specs.Prelude.{option_map, filter}
+use Rattle.std.proofs.Common.{◌≡◌, ◌<◌, ◌*◌, ◌/◌, ◌==◌, ◌∙◌, ℕ, Bool, true, false, not, nat_le, nat_lt, Option, Some, None, List, [], ◌∷◌, length, slice_get, refl, sym, ap, subst, arith, eqb-true}
+use Rattle.std.specs.Prelude.{option_map}
 use Rattle.std.proofs.lemmas.Bool.Decides.{nat_tests}
 use Rattle.std.specs.List.{All}
 use Rattle.std.proofs.lemmas.List.{length-map}
@@ -8,14 +8,15 @@ use Rattle.std.proofs.lemmas.List.Elements.{All-head}
 use Rattle.hmc_codes.specs.declared.place.Place.{Place}
 use Rattle.hmc_packet.specs.Packet.{PacketFields}
 use Rattle.hmc_case.specs.declared.setup.LinkRow.{LinkRow}
+use Rattle.hmc_units.specs.Unit.{UnitFields}
+use Rattle.hmc_serial.specs.Machine.{State}
 use Rattle.hmc_cube.specs.Cube.{CubeFields}
 use Rattle.hmc_host.specs.Host.{HostFields}
-use Rattle.hmc_link.specs.Answers.{after_call, front_in}
+use Rattle.hmc_link.specs.Answers.{after_call}
 use Rattle.hmc_link.specs.Held.{LinkHeld}
 use Rattle.hmc_routes.specs.Directions.{other}
 use Rattle.hmc_send.specs.LinkCalls.{LinkCall, has_room}
 use Rattle.hmc_send.specs.LinkEntries.{LinkEntry, put_if}
-use Rattle.hmc_send.specs.LinkSenders.{queue_in}
 use Rattle.hmc_send.specs.declared.toward.Toward.{Toward}
 use Rattle.hmc_schedule.specs.declared.step.Step.{Step}
 use Rattle.hmc_journal.specs.declared.outcome.Cause.{Cause}
@@ -30,34 +31,40 @@ use Rattle.hmc_journal.specs.Queues.QueueId.{Output}
 use Rattle.hmc_journal.specs.Setup.{Topology, joins_of, directions_in, direction_from, end_of}
 use Rattle.hmc_journal.specs.StepView.{StepView}
 use Rattle.hmc_journal.proofs.Joins.{from_place, start_is_end, other_inside}
-use Rattle.hmc_net.specs.Apply.{cubes_after, hosts_after, entries_after, IsAfter, DoesStep, IsEntryIn, IsHostIn}
+use Rattle.hmc_net.specs.Apply.{cubes_after, hosts_after, slots_after, entries_after, DoesStep, IsEntryIn, IsHostIn}
 use Rattle.hmc_net.specs.LinkList.{sizes_by, LinksStandFor, called, IsDirection, IsRoom, IsFrontAt}
 use Rattle.hmc_net.specs.NetState.{NetState}
 use Rattle.hmc_net.specs.Sees.{Sees, IsSized, IsReady}
 use Rattle.hmc_net.proofs.LinkCalls.{called_here, called_other}
 
 -- a network with other parts and another last entry
+abbrev pub with_all : NetState → List CubeFields → List HostFields → List (Option UnitFields) → List LinkHeld → Entry → NetState
+with_all net cubes hosts slots links entry = record net { cubes = cubes; hosts = hosts; slots = slots; links = links; last = entry }
+
+-- the same where the logic units stay
 abbrev pub with_parts : NetState → List CubeFields → List HostFields → List LinkHeld → Entry → NetState
-with_parts net cubes hosts links entry = record net { cubes = cubes; hosts = hosts; links = links; last = entry }
+with_parts net cubes hosts links entry = with_all net cubes hosts net.slots links entry
 
 -- what a step has to show of its parts
-pub record IsDone (net : NetState) (cubes : List CubeFields) (hosts : List HostFields) (links : List LinkHeld) (entry : Entry) (step : Step) : Type 0 where
+pub record IsDone (net : NetState) (cubes : List CubeFields) (hosts : List HostFields) (slots : List (Option UnitFields)) (links : List LinkHeld) (entry : Entry) (step : Step) : Type 0 where
   pub chosen : (view : StepView) → Sees net view → entry ≡ choice net.topology view step
   pub cubes_are : (view : StepView) → Sees net view → cubes ≡ cubes_after view entry net.cubes
   pub hosts_are : hosts ≡ hosts_after entry net.hosts
+  pub slots_are : (view : StepView) → Sees net view → slots ≡ slots_after view entry net.slots
   pub links_are : (view : StepView) → Sees net view → is_passed entry ≡ false → LinksStandFor net.topology.links links (entries_after net.topology view entry)
   pub there : IsEntryIn net.cubes entry
   pub host : IsHostIn net.hosts entry
-  pub sized : IsSized (with_parts net cubes hosts links entry)
-  pub idle : (cause : Cause) → cause_of entry ≡ Some cause → with_parts net cubes hosts links entry ≡ record net { last = entry }
+  pub sized : IsSized (with_all net cubes hosts slots links entry)
+  pub idle : (cause : Cause) → cause_of entry ≡ Some cause → with_all net cubes hosts slots links entry ≡ record net { last = entry }
 
-pub does_by : (net now : NetState) (cubes : List CubeFields) (hosts : List HostFields) (links : List LinkHeld) (entry : Entry) (step : Step) → now ≡ with_parts net cubes hosts links entry → IsDone net cubes hosts links entry step → DoesStep net now step
-does_by net now cubes hosts links entry step same done = subst (λ (n : NetState). DoesStep net n step) (sym same) (record {
+pub does_by : (net now : NetState) (cubes : List CubeFields) (hosts : List HostFields) (slots : List (Option UnitFields)) (links : List LinkHeld) (entry : Entry) (step : Step) → now ≡ with_all net cubes hosts slots links entry → IsDone net cubes hosts slots links entry step → DoesStep net now step
+does_by net now cubes hosts slots links entry step same done = subst (λ (n : NetState). DoesStep net n step) (sym same) (record {
   entry = done.chosen;
-  parts = λ view sees. record { topology = refl; cubes = done.cubes_are view sees; hosts = done.hosts_are; links = done.links_are view sees };
+  parts = λ view sees. record { topology = refl; cubes = done.cubes_are view sees; hosts = done.hosts_are; slots = done.slots_are view sees; links = done.links_are view sees };
   there = done.there;
   host = done.host;
   sized = done.sized;
+  tally = refl;
   idle = done.idle;
 })
 
@@ -65,12 +72,21 @@ does_by net now cubes hosts links entry step same done = subst (λ (n : NetState
 pub sized_links : (net : NetState) (links : List LinkHeld) (entry : Entry) → IsSized net → IsSized (with_parts net net.cubes net.hosts links entry)
 sized_links net links entry sized = record { cubes = sized.cubes; hosts = sized.hosts; fits = sized.fits }
 
+-- and where other logic units are left
+pub sized_units : (net : NetState) (slots : List (Option UnitFields)) → IsSized net → IsSized (record net { slots = slots })
+sized_units net slots sized = record { cubes = sized.cubes; hosts = sized.hosts; fits = sized.fits }
+
+-- the logic units are those that are seen
+pub units_seen : (net : NetState) (view : StepView) → Sees net view → net.slots ≡ view.state.slots
+units_seen net view sees = ap (λ (s : State). s.slots) sees.shows.state
+
 -- an idle step
 pub idle_does : (net now : NetState) (step here : Step) (cause : Cause) → now ≡ record net { last = Idle here cause } → IsSized net → ((view : StepView) → Sees net view → Idle here cause ≡ choice net.topology view step) → DoesStep net now step
-idle_does net now step here cause same sized chosen = does_by net now net.cubes net.hosts net.links (Idle here cause) step same (record {
+idle_does net now step here cause same sized chosen = does_by net now net.cubes net.hosts net.slots net.links (Idle here cause) step same (record {
   chosen = chosen;
   cubes_are = λ view sees. refl;
   hosts_are = refl;
+  slots_are = λ view sees. refl;
   links_are = λ view sees on. sees.shows.links;
   there = tt;
   host = tt;

@@ -1,6 +1,5 @@
 -- The steps of hosts.
-use Rattle.std.proofs.Common.{◌≡◌, ◌<◌, ◌/◌, ◌∙◌, ℕ, Bool, true, false, not, if◌then◌else◌, Option, Some, None, List, [], ◌∷◌, length, slice_get, refl, sym, ap, ap₂, subst, arith}
-use Rattle.std.specs.Prelude.{◌&&◌, option_map, slice_set, slice_index_or}
+use Rattle.std.proofs.Common.{◌≡◌, ◌<◌, ◌/◌, ◌∙◌, ℕ, Bool, true, false, not, if◌then◌else◌, Option, Some, None, List, length, refl, sym, ap, ap₂, subst, arith}
 use Rattle.std.specs.Option.{unwrap_or}
 use Rattle.std.proofs.lemmas.List.{length-set, set-get_or}
 use Rattle.hmc_codes.specs.Request.{RequestFields, IsRequest}
@@ -24,11 +23,11 @@ use Rattle.hmc_host.specs.declared.settled.Settled.TheVariants as settles
 use Rattle.hmc_host.specs.Host.{HostFields}
 use Rattle.hmc_host.specs.Give.{give_says, next_says, next_item, lacks_tag, tag_for, after_give, gave_request, hindrance_of}
 use Rattle.hmc_host.specs.Settle.{IsAwaited, settle_says, after_settle}
+use Rattle.hmc_units.specs.Unit.{UnitFields}
 use Rattle.hmc_cube.specs.Cube.{CubeFields}
-use Rattle.hmc_link.specs.Answers.{after_call, front_in}
 use Rattle.hmc_link.specs.Held.{LinkHeld}
 use Rattle.hmc_send.specs.Given.{IsTaken}
-use Rattle.hmc_send.specs.LinkCalls.{LinkCall, has_room}
+use Rattle.hmc_send.specs.LinkCalls.{LinkCall}
 use Rattle.hmc_send.specs.LinkEntries.{LinkEntry}
 use Rattle.hmc_schedule.specs.declared.step.Step.TheVariants as steps
 use Rattle.hmc_journal.specs.declared.outcome.Cause.{Cause}
@@ -37,18 +36,18 @@ use Rattle.hmc_journal.specs.declared.entry.Entry.{Entry}
 use Rattle.hmc_journal.specs.declared.entry.Entry.TheVariants.{Idle}
 use Rattle.hmc_journal.specs.Event.{is_passed, cause_of}
 use Rattle.hmc_journal.specs.Links.{toward, put_on, direction_to}
-use Rattle.hmc_journal.specs.Next.{choice, gave_entry, took_entry, with_front, lacks_room}
+use Rattle.hmc_journal.specs.Next.{choice, gave_entry, took_entry}
 use Rattle.hmc_journal.specs.QueueInvariant.{IsAnswerFor}
-use Rattle.hmc_journal.specs.Queues.{tag_number, output_from}
+use Rattle.hmc_journal.specs.Queues.{tag_number}
 use Rattle.hmc_journal.specs.Queues.QueueId.{Host}
 use Rattle.hmc_journal.specs.Setup.{hosts_in, direction_from}
 use Rattle.hmc_journal.specs.StepView.{StepView}
-use Rattle.hmc_net.specs.Apply.{cubes_after, hosts_after, entries_after, with_host, DoesStep, IsEntryIn, IsHostIn}
+use Rattle.hmc_net.specs.Apply.{cubes_after, hosts_after, slots_after, entries_after, with_host, DoesStep, IsEntryIn, IsHostIn}
 use Rattle.hmc_net.specs.Gives.{IsGiven, IsRequested, given_to, cause_by}
 use Rattle.hmc_net.specs.LinkList.{sizes_by, LinksStandFor, called, IsRoom, IsFrontAt, MayHand}
 use Rattle.hmc_net.specs.NetState.{NetState, host_in, no_host}
 use Rattle.hmc_net.specs.Sees.{Sees, IsSized, IsReady}
-use Rattle.hmc_net.proofs.Doing.{with_parts, IsDone, does_by, idle_does, starts_there, place_room, front_seen, called_puts, front_some, front_none, front_all}
+use Rattle.hmc_net.proofs.Doing.{with_parts, does_by, idle_does, place_room, front_seen, called_puts, front_some, front_none, front_all}
 use Rattle.hmc_net.proofs.LinkCalls.{same_entries}
 use Rattle.hmc_net.proofs.Linking.{handed_call, taken_call}
 
@@ -186,6 +185,13 @@ gave_cubes view cubes host givens.Tags = refl
 gave_cubes view cubes host givens.Full = refl
 gave_cubes view cubes host (givens.Gave packet request tag poisoned) = refl
 
+gave_slots : (view : StepView) (slots : List (Option UnitFields)) (host : ℕ) (given : Given) → slots ≡ slots_after view (gave_entry host given) slots
+gave_slots view slots host givens.Ended = refl
+gave_slots view slots host givens.Fence = refl
+gave_slots view slots host givens.Tags = refl
+gave_slots view slots host givens.Full = refl
+gave_slots view slots host (givens.Gave packet request tag poisoned) = refl
+
 gave_idle : (hosts : List HostFields) (host : ℕ) (given : Given) (cause : Cause) → cause_of (gave_entry host given) ≡ Some cause → with_host host (after_give given) hosts ≡ hosts
 gave_idle hosts host givens.Ended cause is = set-get_or hosts host no_host
 gave_idle hosts host givens.Fence cause is = set-get_or hosts host no_host
@@ -205,10 +211,11 @@ give_does net now host direction room given links ready there from is says asks 
     let inside : host < length net.hosts = omega (arith, there, ready.sized.hosts) in
     let number : (host_in net.hosts host).number ≡ host = ap (λ (h : HostFields). h.number) (ready.sees.shows.hosts host inside) ∙ ready.sees.laws.numbers host in
     let by : IsGivenBy given room host = subst (IsGivenBy given room) number (given_is (host_in net.hosts host) room given says) in
-    does_by net now net.cubes (with_host host (after_give given) net.hosts) links (gave_entry host given) (steps.Give host) now_is (record {
+    does_by net now net.cubes (with_host host (after_give given) net.hosts) net.slots links (gave_entry host given) (steps.Give host) now_is (record {
       chosen = λ view sees. ap (gave_entry host) says ∙ give_seen net view host direction room sees inside from is;
       cubes_are = λ view sees. gave_cubes view net.cubes host given;
       hosts_are = gave_hosts net.hosts host given;
+      slots_are = λ view sees. gave_slots view net.slots host given;
       links_are = λ view sees on. gave_links net view host direction room given links sees from is by asks (hand net.topology.links view.entries sees.shows.links);
       there = gave_in net.cubes host given;
       host = gave_host_in net.hosts host given inside;
@@ -238,6 +245,10 @@ took_cubes : (view : StepView) (cubes : List CubeFields) (host : ℕ) (settled :
 took_cubes view cubes host settles.Discarded = refl
 took_cubes view cubes host (settles.Took tag answer) = refl
 
+took_slots : (view : StepView) (slots : List (Option UnitFields)) (host : ℕ) (settled : Settled) → slots ≡ slots_after view (took_entry host settled) slots
+took_slots view slots host settles.Discarded = refl
+took_slots view slots host (settles.Took tag answer) = refl
+
 took_in : (cubes : List CubeFields) (host : ℕ) (settled : Settled) → IsEntryIn cubes (took_entry host settled)
 took_in cubes host settles.Discarded = tt
 took_in cubes host (settles.Took tag answer) = tt
@@ -261,10 +272,11 @@ pub take_does : (net now : NetState) (host direction : ℕ) (front : PacketField
 unfolding choice
 take_does net now host direction front settled links ready there to is says take now_is =
     let inside : host < length net.hosts = omega (arith, there, ready.sized.hosts) in
-    does_by net now net.cubes (with_host host (after_settle settled) net.hosts) links (took_entry host settled) (steps.Take host) now_is (record {
+    does_by net now net.cubes (with_host host (after_settle settled) net.hosts) net.slots links (took_entry host settled) (steps.Take host) now_is (record {
       chosen = λ view sees. ap (took_entry host) says ∙ sym (front_some (steps.Take host) (view.inside (Host host)) front (λ f. took_entry host (settle_says f)) (front_seen net view (places.Host host) direction (Some front) sees to is));
       cubes_are = λ view sees. took_cubes view net.cubes host settled;
       hosts_are = took_hosts net.hosts host settled;
+      slots_are = λ view sees. took_slots view net.slots host settled;
       links_are = λ view sees on. same_entries net.topology.links links (called net.topology.links direction LinkCall.take view.entries) (entries_after net.topology view (took_entry host settled)) (take net.topology.links view.entries sees.shows.links)
           (λ link. called_puts net.topology.links direction link LinkCall.take (λ _. LinkEntry.taken) view.entries
           (taken_call (sizes_by net.topology.links direction) (view.entries (direction / 2)) (toward direction) front (sym (is net.topology.links view.entries sees.shows.links)))

@@ -1,4 +1,4 @@
--- Steps that are in no schedule yet do nothing.
+-- A step that is in no schedule yet does nothing.
 use Rattle.std.proofs.Common.{◌≡◌, ◌∙◌, ℕ, refl, sym, ap, subst}
 use Rattle.hmc_schedule.specs.declared.step.Step.{Step}
 use Rattle.hmc_schedule.specs.declared.step.Step.TheVariants as steps
@@ -14,8 +14,3 @@ pub through_does : (net now : NetState) (step : Step) (cube port : ℕ) → IsSi
 unfolding choice
 through_does net now step cube port sized is same =
     subst (DoesStep net now) (sym is) (idle_does net now (steps.Through cube port) (steps.Through cube port) causes.Empty (same ∙ ap (λ (s : Step). record net { last = Idle s causes.Empty }) is) sized (λ view sees. refl))
-
-pub retire_does : (net now : NetState) (step : Step) (slot : ℕ) → IsSized net → step ≡ steps.Retire slot → now ≡ record net { last = Idle step causes.Empty } → DoesStep net now step
-unfolding choice
-retire_does net now step slot sized is same =
-    subst (DoesStep net now) (sym is) (idle_does net now (steps.Retire slot) (steps.Retire slot) causes.Empty (same ∙ ap (λ (s : Step). record net { last = Idle s causes.Empty }) is) sized (λ view sees. refl))

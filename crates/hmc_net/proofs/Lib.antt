@@ -14,6 +14,7 @@ pub mod LinkSteps
 pub mod CubeSteps
 pub mod PortSteps
 pub mod Idling
+pub mod Retiring
 pub mod Indexed
 pub mod Stillness
 pub mod TokensTold
@@ -26,4 +27,13 @@ pub mod Firsts
 pub mod Opening
 pub mod Cases
 pub mod Quiet
+pub mod Rows
+pub mod Accepting
+pub mod NoUnlocks
+pub mod TallyLaw
+pub mod Telling
+pub mod Still
+pub mod Sizes
+pub mod FinalStands
+mod WorkedCounts
 mod Worked

@@ -1,5 +1,5 @@
 -- The links after a call of one of them.
-use Rattle.std.proofs.Common.{◌≡◌, ◌<◌, ◌*◌, ◌/◌, ◌==◌, ◌∙◌, ℕ, Bool, true, false, if◌then◌else◌, List, [], ◌∷◌, length, refl, sym, ap, subst, arith, eqb-true, eq-eqb}
+use Rattle.std.proofs.Common.{◌≡◌, ◌<◌, ◌*◌, ◌/◌, ◌==◌, ◌∙◌, ℕ, Bool, true, false, if◌then◌else◌, List, [], ◌∷◌, length, refl, sym, ap, subst, arith, eq-eqb}
 use Rattle.std.specs.Prelude.{slice_set, slice_index_or}
 use Rattle.std.proofs.lemmas.List.{length-set, set-get_or}
 use Rattle.hmc_codes.specs.Link.{LinkFields}
@@ -13,7 +13,7 @@ use Rattle.hmc_send.specs.declared.toward.Toward.{Toward}
 use Rattle.hmc_wire.specs.LinkLaws.{IsKept}
 use Rattle.hmc_journal.specs.Links.{toward}
 use Rattle.hmc_net.specs.LinkList.{sizes_at, sizes_by, AreGoing, LinksStandFor, called, IsDirection}
-use Rattle.hmc_net.proofs.Elements.{default_same, each_set}
+use Rattle.hmc_net.proofs.Elements.{each_set}
 
 -- the link of a direction that is there
 pub link_there : (links : List LinkHeld) (direction : ℕ) → IsDirection links direction → direction / 2 < length links

@@ -1,5 +1,5 @@
 -- The steps of links, where the network is read through its fields.
-use Rattle.std.proofs.Common.{◌≡◌, ◌/◌, ℕ, Bool, true, false, List, length, sym, ap, subst}
+use Rattle.std.proofs.Common.{◌≡◌, ◌/◌, ℕ, true, false, List, length, sym, ap, subst}
 use Rattle.std.specs.Prelude.{slice_get}
 use Rattle.hmc_packet.specs.declared.feed.Feed.TheVariants.{Waiting}
 use Rattle.hmc_case.specs.declared.setup.LinkRow.{LinkRow}

@@ -3,8 +3,6 @@ use Rattle.std.proofs.Common.{◌≡◌, ◌≤◌, ◌<◌, ◌/◌, ◌∙◌,
 use Rattle.std.specs.Prelude.{slice_get}
 use Rattle.hmc_codes.specs.Link.{LinkFields}
 use Rattle.hmc_case.specs.declared.setup.LinkRow.{LinkRow}
-use Rattle.hmc_cube.specs.Cube.{CubeFields}
-use Rattle.hmc_host.specs.Host.{HostFields}
 use Rattle.hmc_packet.specs.declared.feed.Feed.TheVariants.{Waiting}
 use Rattle.hmc_packet.specs.declared.outcome.Outcome.{Outcome}
 use Rattle.hmc_packet.specs.declared.outcome.Outcome.TheVariants as outcomes
@@ -21,7 +19,6 @@ use Rattle.hmc_send.specs.declared.toward.Toward.{Toward}
 use Rattle.hmc_link.specs.Answers.{after_call, link_sent, sends_none}
 use Rattle.hmc_link.specs.Held.{LinkHeld}
 use Rattle.hmc_link.specs.Landings.{link_landed, landed_in, came, has_passed, lands_none}
-use Rattle.hmc_link.specs.StandsFor.{LinkStandsFor}
 use Rattle.hmc_link.specs.declared.link_landed.LinkLanded.{LinkLanded}
 use Rattle.hmc_link.specs.declared.link_landed.LinkLanded.TheVariants as lands
 use Rattle.hmc_link.specs.declared.link_sent.LinkSent.{LinkSent}
@@ -29,37 +26,37 @@ use Rattle.hmc_link.specs.declared.link_sent.LinkSent.TheVariants as links
 use Rattle.hmc_schedule.specs.declared.step.Step.TheVariants as steps
 use Rattle.hmc_journal.specs.declared.outcome.Cause.{Cause}
 use Rattle.hmc_journal.specs.declared.entry.Entry.{Entry}
-use Rattle.hmc_journal.specs.declared.entry.Entry.TheVariants.{Sent, Landed, Unlocked, Passed, Idle}
+use Rattle.hmc_journal.specs.declared.entry.Entry.TheVariants.{Landed, Unlocked}
 use Rattle.hmc_journal.specs.Event.{is_passed, cause_of}
-use Rattle.hmc_journal.specs.Links.{toward, landing_mask, put_on}
+use Rattle.hmc_journal.specs.Links.{toward, landing_mask}
 use Rattle.hmc_journal.specs.Next as journals
 use Rattle.hmc_journal.specs.Next.{choice}
-use Rattle.hmc_journal.specs.Setup.{Topology, directions_in}
+use Rattle.hmc_journal.specs.Setup.{directions_in}
 use Rattle.hmc_journal.specs.StepView.{StepView}
 use Rattle.hmc_journal.proofs.LinkKept.{short-line}
-use Rattle.hmc_net.specs.Apply.{cubes_after, hosts_after, entries_after, IsEntryIn, IsHostIn, DoesStep}
+use Rattle.hmc_net.specs.Apply.{cubes_after, hosts_after, slots_after, entries_after, IsEntryIn, IsHostIn, DoesStep}
 use Rattle.hmc_net.specs.LinkList.{sizes_at, sizes_by, LinksStandFor, called, MaySend}
 use Rattle.hmc_net.specs.Links.{outcome_of, sent_by, landed_by, IsCameFlit}
 use Rattle.hmc_net.specs.NetState.{NetState}
 use Rattle.hmc_net.specs.Ready.{IsLandingIn}
-use Rattle.hmc_net.specs.Sees.{Sees, IsSized, IsReady}
-use Rattle.hmc_net.proofs.Doing.{with_parts, IsDone, does_by, sized_links, called_puts, called_stays}
+use Rattle.hmc_net.specs.Sees.{IsReady}
+use Rattle.hmc_net.proofs.Doing.{with_parts, does_by, sized_links, called_puts, called_stays}
 use Rattle.hmc_net.proofs.LinkCalls.{same_entries, one_there}
 use Rattle.hmc_net.proofs.Masks.{mask_found}
 
--- an entry of a send or of a landing changes no cube and no host
+-- an entry of a send or of a landing changes no cube, no host and no unit
 abbrev leaves_parts : NetState → StepView → Entry → Type 0
-leaves_parts net view entry = (net.cubes ≡ cubes_after view entry net.cubes) × (net.hosts ≡ hosts_after entry net.hosts) × IsEntryIn net.cubes entry × IsHostIn net.hosts entry
+leaves_parts net view entry = (net.cubes ≡ cubes_after view entry net.cubes) × (net.hosts ≡ hosts_after entry net.hosts) × IsEntryIn net.cubes entry × IsHostIn net.hosts entry × (net.slots ≡ slots_after view entry net.slots)
 
 sent_leaves : (net : NetState) (view : StepView) (direction : ℕ) (sent : LinkSent) → leaves_parts net view (sent_by direction sent)
-sent_leaves net view direction links.Full = (refl, refl, tt, tt)
-sent_leaves net view direction links.Starved = (refl, refl, tt, tt)
-sent_leaves net view direction (links.Out flit what) = (refl, refl, tt, tt)
+sent_leaves net view direction links.Full = (refl, refl, tt, tt, refl)
+sent_leaves net view direction links.Starved = (refl, refl, tt, tt, refl)
+sent_leaves net view direction (links.Out flit what) = (refl, refl, tt, tt, refl)
 
 landed_leaves : (net : NetState) (view : StepView) (direction : ℕ) (landed : LinkLanded) → leaves_parts net view (landed_by direction landed)
-landed_leaves net view direction lands.Empty = (refl, refl, tt, tt)
-landed_leaves net view direction (lands.Passed flit) = (refl, refl, tt, tt)
-landed_leaves net view direction (lands.Came flit landed) = (refl, refl, tt, tt)
+landed_leaves net view direction lands.Empty = (refl, refl, tt, tt, refl)
+landed_leaves net view direction (lands.Passed flit) = (refl, refl, tt, tt, refl)
+landed_leaves net view direction (lands.Came flit landed) = (refl, refl, tt, tt, refl)
 
 -- ---- send
 
@@ -101,10 +98,11 @@ pub send_does : (net now : NetState) (direction : ℕ) (sent : LinkSent) (own : 
 unfolding choice
 send_does net now direction sent own ready answer stand idle now_is =
     let parts = sent_leaves net ready.view direction sent in
-    does_by net now net.cubes net.hosts own (sent_by direction sent) (steps.Send direction) now_is (record {
+    does_by net now net.cubes net.hosts net.slots own (sent_by direction sent) (steps.Send direction) now_is (record {
       chosen = λ view sees. ap (sent_by direction) (answer net.topology.links view.entries sees.shows.links) ∙ sent_same direction _ _;
       cubes_are = λ view sees. (sent_leaves net view direction sent).0;
       hosts_are = parts.1;
+      slots_are = λ view sees. (sent_leaves net view direction sent).4;
       links_are = λ view sees on. same_entries net.topology.links own (called net.topology.links direction (λ d. LinkCall.send d Waiting) view.entries) (entries_after net.topology view (sent_by direction sent)) (stand net.topology.links view.entries sees.shows.links)
           (λ link. sent_entries net view direction link _ _ (sent_call net.topology.links direction view.entries _ _ refl refl)
           ∙ ap (λ (s : LinkSent). entries_after net.topology view (sent_by direction s) link) (sym (answer net.topology.links view.entries sees.shows.links)));
@@ -155,7 +153,7 @@ passed_same direction lands.Empty = refl
 passed_same direction (lands.Passed flit) = refl
 passed_same direction (lands.Came flit landed) = refl
 
-front_size : (mask front : List ℕ) → length (under_mask mask front) ≡ 16 → length front ≤ 16 → length front ≡ 16
+pub front_size : (mask front : List ℕ) → length (under_mask mask front) ≡ 16 → length front ≤ 16 → length front ≡ 16
 front_size mask front size short = let more = under_most mask front in omega arith
   where
     under_most : (mask front : List ℕ) → length (under_mask mask front) ≤ length front
@@ -199,11 +197,12 @@ pub land_does : (net now : NetState) (direction : ℕ) (mask : List ℕ) (landed
 unfolding choice
 land_does net now direction mask landed own ready there answer stand idle size now_is =
     let parts = landed_leaves net ready.view direction landed in
-    does_by net now net.cubes net.hosts own (landed_by direction landed) (steps.Land direction mask) now_is (record {
+    does_by net now net.cubes net.hosts net.slots own (landed_by direction landed) (steps.Land direction mask) now_is (record {
       chosen = λ view sees. ap (landed_by direction) (answer net.topology.links view.entries sees.shows.links)
           ∙ landed_same direction (sizes_by net.topology.links direction) (toward direction) (view.entries (direction / 2)) mask _ refl;
       cubes_are = λ view sees. (landed_leaves net view direction landed).0;
       hosts_are = parts.1;
+      slots_are = λ view sees. (landed_leaves net view direction landed).4;
       links_are = λ view sees on.
           (let says = answer net.topology.links view.entries sees.shows.links in
           let fine : has_passed landed ≡ false = sym (passed_same direction landed) ∙ on in
@@ -228,10 +227,11 @@ pub unlock_does : (net now : NetState) (direction : ℕ) (own : List LinkHeld) �
     → ((rows : List LinkRow) (entries : ℕ → List LinkEntry) → LinksStandFor rows net.links entries → LinksStandFor rows own (called rows direction LinkCall.unlock entries))
     → now ≡ with_parts net net.cubes net.hosts own (Unlocked direction) → DoesStep net now (steps.Unlock direction)
 unfolding choice
-unlock_does net now direction own ready stand now_is = does_by net now net.cubes net.hosts own (Unlocked direction) (steps.Unlock direction) now_is (record {
+unlock_does net now direction own ready stand now_is = does_by net now net.cubes net.hosts net.slots own (Unlocked direction) (steps.Unlock direction) now_is (record {
   chosen = λ view sees. refl;
   cubes_are = λ view sees. refl;
   hosts_are = refl;
+  slots_are = λ view sees. refl;
   links_are = λ view sees on. same_entries net.topology.links own (called net.topology.links direction LinkCall.unlock view.entries) (entries_after net.topology view (Unlocked direction)) (stand net.topology.links view.entries sees.shows.links)
       (λ link. called_puts net.topology.links direction link LinkCall.unlock (λ _. LinkEntry.unlocked) view.entries (unlocked_call (sizes_by net.topology.links direction) (view.entries (direction / 2)) (toward direction)));
   there = tt;

@@ -1,19 +1,18 @@
 -- The queues after one more entry: the front of one leaves, and a packet enters another.
-use Rattle.std.proofs.Common.{◌≡◌, ◌≤◌, ◌<◌, ◌+◌, ◌∙◌, ℕ, zero, suc, Bool, true, false, Option, Some, None, List, [], ◌∷◌, ◌++◌, length, drop, refl, sym, ap, subst, arith, append-nil, length-append, length-drop}
-use Rattle.hmc_journal.proofs.Moves.{arrives, same_queue_is, begins_off}
+use Rattle.std.proofs.Common.{◌≡◌, ◌≤◌, ◌+◌, ◌∙◌, ℕ, zero, suc, Bool, true, false, Option, Some, None, List, [], ◌∷◌, ◌++◌, length, drop, refl, sym, ap, subst, arith, append-nil, length-append, length-drop}
+use Rattle.hmc_journal.proofs.Moves.{arrives, same_queue_is}
 use Rattle.hmc_journal.proofs.EntryRule.{EntryRule, HasFront}
 use Rattle.std.proofs.lemmas.List.{drop-append-le}
-use Rattle.hmc_codes.specs.declared.lift.Lift.TheVariants as lifts
 use Rattle.hmc_codes.specs.declared.unit.Unit.TheVariants as units
 use Rattle.hmc_packet.specs.Packet.{PacketFields}
 use Rattle.hmc_packet.specs.declared.what.What.TheVariants.{New}
-use Rattle.hmc_cube.specs.Cube.{CubeFields, vault_at}
+use Rattle.hmc_cube.specs.Cube.{CubeFields}
 use Rattle.hmc_journal.specs.declared.entry.Entry.{Entry}
 use Rattle.hmc_journal.specs.declared.entry.Entry.TheVariants.{Sent, Shifted, Dropped, Spread, Executed, Lifted, Took, Discarded}
 use Rattle.hmc_journal.specs.Directions.{unsent}
 use Rattle.hmc_journal.specs.Setup.{Topology, Setup}
 use Rattle.hmc_journal.specs.Queues.{QueueId, same_queue, is_at, leaves, begins, Arrival, arrived, one_if, packet_if, left, entered, contents}
-use Rattle.hmc_journal.specs.Queues.QueueId.{Output, Port, Host, Vault, Bank, Registers, Answers}
+use Rattle.hmc_journal.specs.Queues.QueueId.{Vault, Bank, Registers, Answers}
 use Rattle.hmc_net.specs.NetState.{inside, IsQueueOf}
 use Rattle.hmc_net.specs.Sees.{IsCubeQueue}
 use Rattle.hmc_net.proofs.QueueChanges.{changed, change_if, inside_changed}

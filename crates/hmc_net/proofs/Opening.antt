@@ -1,20 +1,20 @@
 -- A new network stands for its case and the empty journal.
-use Rattle.std.proofs.Common.{◌≡◌, ◌≤◌, ◌<◌, ◌+◌, ◌^◌, ◌∙◌, ℕ, zero, suc, true, false, Result, Ok, Err, IfOk, List, [], ◌∷◌, length, map, refl, sym, ap, ap₂, subst, arith}
+use Rattle.std.proofs.Common.{◌≡◌, ◌≤◌, ◌<◌, ◌+◌, ◌^◌, ◌∙◌, ℕ, zero, suc, Result, Ok, Err, IfOk, Option, List, [], ◌∷◌, length, map, refl, sym, ap, ap₂, subst, arith}
 use Rattle.std.specs.Prelude.{replicate, slice_index_or}
 use Rattle.std.specs.List.{All}
-use Rattle.std.proofs.lemmas.List.{length-map}
+use Rattle.std.proofs.lemmas.List.Elements.{All-cons}
 use Rattle.hmc_codes.specs.Shape.{ShapeFields}
 use Rattle.hmc_codes.specs.declared.lift.Lift.TheVariants as lifts
 use Rattle.hmc_packet.specs.Packet.{PacketFields}
+use Rattle.hmc_units.specs.Unit.{UnitFields}
 use Rattle.hmc_serial.specs.Cube.{CubeState, opening}
 use Rattle.hmc_serial.specs.Machine.{State, openings_from, opening_state}
 use Rattle.hmc_vault.specs.Vault.{VaultFields, opening_vault, bank_at}
-use Rattle.hmc_cube.specs.Cube.{CubeFields, no_vault, vault_at, opening_cube}
-use Rattle.hmc_host.specs.Host.{HostFields, opening_host}
+use Rattle.hmc_cube.specs.Cube.{CubeFields, no_vault, opening_cube}
+use Rattle.hmc_host.specs.Host.{opening_host}
 use Rattle.hmc_case.specs.Setup.{CubeSetupFields}
 use Rattle.hmc_case.specs.declared.setup.LinkRow.{LinkRow}
 use Rattle.hmc_send.specs.LinkEntries.{LinkEntry}
-use Rattle.hmc_journal.specs.declared.entry.Entry.{Entry}
 use Rattle.hmc_journal.specs.Hosts.{host_of, given_count, tags_out}
 use Rattle.hmc_journal.specs.Lawful.{Lawful}
 use Rattle.hmc_journal.specs.Links.{link_entries}
@@ -22,16 +22,17 @@ use Rattle.hmc_journal.specs.Network.{IsNetwork}
 use Rattle.hmc_journal.specs.Queues.{QueueId, left, entered, contents}
 use Rattle.hmc_journal.specs.Queues.QueueId.{Output, Port, Host, Vault, Bank, Registers, Answers}
 use Rattle.hmc_journal.specs.Serial.{state_after}
-use Rattle.hmc_journal.specs.Setup.{Topology, Setup, no_cube as no_setup, cube_setup, cubes_in, hosts_in, shapes_of}
+use Rattle.hmc_journal.specs.Setup.{Topology, Setup, no_cube as no_setup, cube_setup, cubes_in, hosts_in, directions_in}
 use Rattle.hmc_journal.specs.StepView.{state_of}
-use Rattle.hmc_net.specs.LinkList.{LinksStandFor}
-use Rattle.hmc_net.specs.NetState.{NetState, cube_in, no_cube, host_in, no_host, packets_in, queue_cube, inside, machine_of}
-use Rattle.hmc_net.specs.Opening.{AreNewCubes, AreNewHosts, IsOpening}
+use Rattle.hmc_net.specs.NetState.{NetState, cube_in, no_cube, no_host, packets_in, queue_cube, inside, machine_of}
+use Rattle.hmc_net.specs.Opening.{AreNewCubes, IsOpening}
 use Rattle.hmc_net.specs.Ready.{IsStepFor}
-use Rattle.hmc_net.specs.Sees.{IsCubeQueue, CubeFits, IsSized}
+use Rattle.hmc_net.specs.Sees.{CubeFits, IsSized}
 use Rattle.hmc_net.specs.Stands.{StandsFor}
+use Rattle.hmc_net.specs.Tally.{no_counters, no_host_steps, no_cube_counts, opening_tally, CountersWithin, HostWithin, CubeWithin, IsWithin}
 use Rattle.hmc_net.specs.Wiring.{IsLaidOut}
 use Rattle.hmc_net.proofs.LinkCalls.{same_entries}
+use Rattle.hmc_net.proofs.TallyLaw.{tally_none}
 
 pub laid_out : (setup : Setup) → IsNetwork setup → IsLaidOut setup.topology
 laid_out setup network = record { few_links = network.few_links; graph = network.graph; one_part = network.one_part; hosts = network.hosts }
@@ -107,11 +108,12 @@ states_from (s ∷ setups) (x ∷ cubes) n same each =
     ap₂ (λ (c : CubeState) (l : List CubeState). c ∷ l) (each 0 (omega arith) ∙ ap (opening s.shape) zero_is)
     (states_from setups cubes (n + 1) (omega arith) (λ k less. each (suc k) (omega arith) ∙ ap (opening (slice_index_or setups k no_setup).shape) (omega arith)))
 
-new_states : (topology : Topology) (cubes : List CubeFields) → AreNewCubes topology.cubes cubes → machine_of cubes ≡ state_of topology []
+new_states : (setup : Setup) (cubes : List CubeFields) (slots : List (Option UnitFields)) → AreNewCubes setup.topology.cubes cubes → slots ≡ setup.slots → machine_of cubes slots ≡ state_of setup []
 unfolding state_of state_after opening_state
-new_states topology cubes new =
-    ap {B = State} (λ (l : List CubeState). record { cubes = l }) (states_from topology.cubes cubes 0 new.counted
-    (λ k less. ap (λ (x : CubeFields). x.state) (new.each k no_setup no_cube less) ∙ ap (opening (slice_index_or topology.cubes k no_setup).shape) (omega arith)))
+new_states setup cubes slots new same =
+    let topology = setup.topology in
+    ap₂ {C = State} (λ (l : List CubeState) (s : List (Option UnitFields)). record { cubes = l; slots = s }) (states_from topology.cubes cubes 0 new.counted
+    (λ k less. ap (λ (x : CubeFields). x.state) (new.each k no_setup no_cube less) ∙ ap (opening (slice_index_or topology.cubes k no_setup).shape) (omega arith))) same
 
 opening_fits : (setup own : CubeSetupFields) (number : ℕ) (cube : CubeFields) → cube ≡ opening_cube number own.shape own.queue → own ≡ setup → CubeFits setup cube
 unfolding opening
@@ -136,8 +138,21 @@ no_entries : (topology : Topology) (link : ℕ) → ◌≡◌ {A = List LinkEntr
 unfolding link_entries
 no_entries topology link = refl
 
-pub opening_stands : (setup : Setup) (net : NetState) → IsNetwork setup → All (IsStepFor setup.topology) setup.schedule → IsOpening net setup.topology setup.script → StandsFor net setup []
-opening_stands setup net network steps is = record {
+within_copies : {X : Type 0} (P : X → Type 0) (x : X) (n : ℕ) → P x → All P (replicate n x)
+within_copies P x zero is = λ k d there. absurd (omega arith)
+within_copies P x (suc n) is = All-cons P x (replicate n x) is (within_copies P x n is)
+
+opening_within : (topology : Topology) → IsWithin 0 (opening_tally topology)
+opening_within topology =
+    let none : 0 ≤ 0 = omega arith in
+    record {
+      directions = within_copies (CountersWithin 0) no_counters (directions_in topology) (record { sent = none; landed = none; changed = none; accepted = none; repeats = none; aborts = none });
+      hosts = within_copies (HostWithin 0) no_host_steps (hosts_in topology) (record { given = none; taken = none });
+      cubes = within_copies (CubeWithin 0) no_cube_counts (cubes_in topology) (record { executed = none; dropped = none });
+    }
+
+pub opening_stands : (setup : Setup) (net : NetState) → IsNetwork setup → All (IsStepFor setup.topology) setup.schedule → length setup.schedule < 2 ^ 32 → IsOpening net setup.topology setup.slots setup.script → StandsFor net setup []
+opening_stands setup net network steps few is = record {
   network = network;
   steps = steps;
   topology = is.same_topology;
@@ -145,9 +160,12 @@ opening_stands setup net network steps is = record {
   lawful = lawful_nothing setup;
   queues = λ queue cube. nothing_inside setup.topology.cubes net.cubes queue is.cubes ∙ sym (nothing_in setup.topology queue);
   moves = λ queue cube. within_nothing setup.topology queue;
-  state = new_states setup.topology net.cubes is.cubes;
+  state = new_states setup net.cubes net.slots is.cubes is.same_slots;
   hosts = λ host less. is.hosts.each host no_host (omega (arith, is.hosts.counted)) ∙ opening_host_is setup host;
   links = λ on. same_entries setup.topology.links net.links (λ link. []) (λ link. link_entries setup.topology link []) is.links (no_entries setup.topology);
+  few = few;
+  within = subst (IsWithin 0) (sym is.tally) (opening_within setup.topology);
+  tally = λ on. is.tally ∙ tally_none setup.topology;
 }
 
 -- what holds of each value holds of a good answer

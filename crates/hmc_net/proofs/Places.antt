@@ -1,5 +1,5 @@
 -- The directions of places, by what a wiring keeps.
-use Rattle.std.proofs.Common.{◌≡◌, ◌≤◌, ◌<◌, ◌*◌, ◌+◌, ◌/◌, ◌%◌, ◌∙◌, ℕ, nat_lt, true, Option, Some, None, List, length, refl, sym, ap, subst, arith}
+use Rattle.std.proofs.Common.{◌≡◌, ◌≤◌, ◌<◌, ◌*◌, ◌+◌, ◌/◌, ◌%◌, ◌∙◌, ℕ, nat_lt, true, Option, Some, None, List, length, refl, sym, ap, arith}
 use Rattle.std.specs.Prelude.{slice_index_or, IfSome}
 use Rattle.std.proofs.lemmas.Bool.Decides.{nat_tests}
 use Rattle.hmc_codes.specs.Graph.{GraphFields}

@@ -1,21 +1,18 @@
 -- The steps at the ports of cubes: shift and lift.
-use Rattle.std.proofs.Common.{◌≡◌, ◌≤◌, ◌<◌, ◌/◌, ◌==◌, ◌%◌, ◌^◌, ◌∙◌, ℕ, Bool, true, false, not, nat_le, nat_lt, if◌then◌else◌, Option, Some, None, is_none, List, [], ◌∷◌, length, slice_get, refl, sym, ap, ap₂, subst, arith, eqb-true}
-use Rattle.std.specs.Prelude.{option_map, slice_set}
-use Rattle.std.specs.List.{All}
+use Rattle.std.proofs.Common.{◌≡◌, ◌≤◌, ◌<◌, ◌/◌, ◌==◌, ◌%◌, ◌^◌, ◌∙◌, ℕ, Bool, true, false, not, nat_le, if◌then◌else◌, Option, Some, None, List, ◌∷◌, length, slice_get, refl, sym, ap, ap₂, subst, arith}
+use Rattle.std.specs.Prelude.{option_map}
 use Rattle.std.proofs.Math.Nat.{pow-le-pow_right}
 use Rattle.std.proofs.lemmas.Bool.Decides.{nat_tests}
 use Rattle.hmc_codes.specs.Commands.{is_flow, layout_of, family_of, family_of_layout}
 use Rattle.hmc_codes.specs.Graph.{GraphFields}
 use Rattle.hmc_codes.specs.Link.{LinkFields}
 use Rattle.hmc_codes.specs.Shape.{ShapeFields, vault_of}
-use Rattle.hmc_codes.specs.Table.{table_line}
 use Rattle.hmc_codes.specs.declared.family.Family.{Family}
 use Rattle.hmc_codes.specs.declared.family.Family.TheVariants as families
 use Rattle.hmc_codes.specs.declared.layout.Layout.{Layout}
 use Rattle.hmc_codes.specs.declared.layout.Layout.TheVariants as layouts
 use Rattle.hmc_codes.specs.declared.lift.Lift.{Lift}
 use Rattle.hmc_codes.specs.declared.lift.Lift.TheVariants as lifts
-use Rattle.hmc_codes.specs.declared.place.Place.{Place}
 use Rattle.hmc_codes.specs.declared.place.Place.TheVariants as places
 use Rattle.hmc_codes.specs.declared.profile.Profile.{Profile}
 use Rattle.hmc_case.specs.declared.setup.LinkRow.{LinkRow}
@@ -24,12 +21,10 @@ use Rattle.hmc_serial.specs.Unit.{is_for_registers}
 use Rattle.hmc_crossbar.specs.declared.to.To.{To}
 use Rattle.hmc_crossbar.specs.declared.to.To.TheVariants as tos
 use Rattle.hmc_crossbar.specs.To.{into_cube, out_of_cube, request_to, unpoisoned_to, where_to, HasGoal, HasWay}
-use Rattle.hmc_cube.specs.Cube.{CubeFields, vault_at}
+use Rattle.hmc_cube.specs.Cube.{CubeFields}
 use Rattle.hmc_cube.specs.After.{after_enter, after_lift}
 use Rattle.hmc_cube.specs.Places.{IsHere, IsFor, IsLift, entrance, answers_at}
 use Rattle.hmc_cube.specs.Parts.{AreParts}
-use Rattle.hmc_host.specs.Host.{HostFields}
-use Rattle.hmc_link.specs.Answers.{after_call, front_in}
 use Rattle.hmc_link.specs.Held.{LinkHeld}
 use Rattle.hmc_send.specs.Given.{IsTaken}
 use Rattle.hmc_send.specs.LinkCalls.{LinkCall, has_room}
@@ -37,29 +32,26 @@ use Rattle.hmc_send.specs.LinkEntries.{LinkEntry, put_if, handed_packets}
 use Rattle.hmc_send.specs.LinkSenders.{sender_entries}
 use Rattle.hmc_send.specs.declared.toward.Toward.{Toward}
 use Rattle.hmc_schedule.specs.declared.step.Step.TheVariants as steps
-use Rattle.hmc_journal.specs.declared.outcome.Cause.{Cause}
 use Rattle.hmc_journal.specs.declared.outcome.Cause.TheVariants as causes
 use Rattle.hmc_journal.specs.declared.outcome.Goal.{Goal}
 use Rattle.hmc_journal.specs.declared.outcome.Goal.TheVariants as goals
-use Rattle.hmc_journal.specs.declared.entry.Entry.{Entry}
 use Rattle.hmc_journal.specs.declared.entry.Entry.TheVariants as entries
-use Rattle.hmc_journal.specs.Event.{cause_of}
 use Rattle.hmc_journal.specs.Links.{toward, put_on, direction_to}
-use Rattle.hmc_journal.specs.Next.{choice, with_front, unless_full, lacks_room, goal_at, shift_entry, shifted_entry, lifted_entry}
+use Rattle.hmc_journal.specs.Next.{choice, unless_full, lacks_room, goal_at, shift_entry, shifted_entry, lifted_entry}
 use Rattle.hmc_journal.specs.QueueInvariant.{IsOnItsWay, IsHostAnswer}
-use Rattle.hmc_journal.specs.Queues.{front_of, output_from, goal_queue, buffer_at}
+use Rattle.hmc_journal.specs.Queues.{front_of, output_from, goal_queue}
 use Rattle.hmc_journal.specs.Queues.QueueId.{Output, Port, Vault, Registers, Answers}
 use Rattle.hmc_journal.specs.Routes.{port_towards}
-use Rattle.hmc_journal.specs.Setup.{Topology, graph_of, shape_of, cube_setup, cubes_in, hosts_in, direction_from}
+use Rattle.hmc_journal.specs.Setup.{Topology, graph_of, shape_of, cube_setup, cubes_in, direction_from}
 use Rattle.hmc_journal.specs.StepView.{StepView}
-use Rattle.hmc_net.specs.Apply.{to_of, cubes_after, hosts_after, entries_after, with_cube, IsEntryIn, IsHostIn, DoesStep}
+use Rattle.hmc_net.specs.Apply.{to_of, cubes_after, entries_after, with_cube, IsEntryIn, DoesStep}
 use Rattle.hmc_net.specs.LinkList.{sizes_by, LinksStandFor, called, IsDirection, IsRoom, IsFrontAt, MayHand}
 use Rattle.hmc_net.specs.NetState.{NetState, cube_in}
 use Rattle.hmc_net.specs.Ports.{IsShifting, IsInner, IsWayOut}
-use Rattle.hmc_net.specs.Ready.{IsPortIn, IsLiftIn, IsVaultIn}
-use Rattle.hmc_net.specs.Sees.{Sees, IsSized, CubeFits, IsReady}
+use Rattle.hmc_net.specs.Ready.{IsLiftIn}
+use Rattle.hmc_net.specs.Sees.{Sees, IsSized, IsReady}
 use Rattle.hmc_net.proofs.CubeSteps.{sized_cube, cube_inside}
-use Rattle.hmc_net.proofs.Doing.{with_parts, does_by, idle_does, starts_in, sized_links, place_room, place_has_room, front_seen, called_puts, front_some, front_none, front_all, front_here, no_front}
+use Rattle.hmc_net.proofs.Doing.{with_parts, does_by, idle_does, starts_in, sized_links, place_room, place_has_room, front_seen, called_puts, front_some, front_none, front_all, front_here}
 use Rattle.hmc_net.proofs.LinkCalls.{same_entries}
 use Rattle.hmc_net.proofs.Linking.{handed_call, taken_call}
 
@@ -152,11 +144,12 @@ pub dropped_does : (net now : NetState) (cube port direction : ℕ) (front : Pac
     → ((rows : List LinkRow) (entries : ℕ → List LinkEntry) → LinksStandFor rows net.links entries → LinksStandFor rows links (called rows direction LinkCall.take entries))
     → now ≡ with_parts net net.cubes net.hosts links (entries.Dropped cube port) → DoesStep net now (steps.Shift cube port)
 unfolding choice
-dropped_does net now cube port direction front to links ready ends is to_is nowhere take now_is = does_by net now net.cubes net.hosts links (entries.Dropped cube port) (steps.Shift cube port) now_is (record {
+dropped_does net now cube port direction front to links ready ends is to_is nowhere take now_is = does_by net now net.cubes net.hosts net.slots links (entries.Dropped cube port) (steps.Shift cube port) now_is (record {
   chosen = λ view sees. ap (λ (t : To). shifted_entry net.topology view cube port (goal_at t)) (sym nowhere ∙ to_is)
       ∙ sym (front_some (steps.Shift cube port) (view.inside (Port cube port)) front (shift_entry net.topology view cube port) (port_front net view cube port direction (Some front) sees ends is));
   cubes_are = λ view sees. refl;
   hosts_are = refl;
+  slots_are = λ view sees. refl;
   links_are = λ view sees on. same_entries net.topology.links links (called net.topology.links direction LinkCall.take view.entries) (entries_after net.topology view (entries.Dropped cube port)) (take net.topology.links view.entries sees.shows.links)
       (λ link. taken_entries net view cube port direction link front sees ends is);
   there = tt;
@@ -280,12 +273,13 @@ shift_in_does net now cube port direction front goal links ready there is inner 
     let sized = ready.sized in
     let less = cube_inside net cube sized there in
     let kept = enter_kept (cube_in net.cubes cube) goal front in
-    does_by net now (with_cube cube (after_enter (to_of goal) front) net.cubes) net.hosts links (entries.Shifted cube port goal) (steps.Shift cube port) now_is (record {
+    does_by net now (with_cube cube (after_enter (to_of goal) front) net.cubes) net.hosts net.slots links (entries.Shifted cube port goal) (steps.Shift cube port) now_is (record {
       chosen = λ view sees. ap (λ (t : Bool). unless_full (steps.Shift cube port) t (entries.Shifted cube port goal))
           (sym (inner_lacks net view cube goal false sees inner (sized.fits cube less).queue (below (cube_in net.cubes cube).size _ room)))
           ∙ shift_seen net view cube port direction front goal sees is;
       cubes_are = λ view sees. shift_cubes view net.cubes cube port goal front inner (front_here (view.inside (Port cube port)) front (port_front net view cube port direction (Some front) sees is.ends is.is_front));
       hosts_are = refl;
+      slots_are = λ view sees. refl;
       links_are = λ view sees on. same_entries net.topology.links links (called net.topology.links direction LinkCall.take view.entries) (entries_after net.topology view (entries.Shifted cube port goal)) (take net.topology.links view.entries sees.shows.links)
           (λ link. taken_entries net view cube port direction link front sees is.ends is.is_front ∙ shift_links net.topology view cube port link goal inner);
       there = shift_entry_in net.cubes cube port goal less parts (shift_here net cube port direction front goal sized there is inner) inner;
@@ -341,10 +335,11 @@ pub shift_out_does : (net now : NetState) (cube port direction out onward : ℕ)
     → ((rows : List LinkRow) (entries : ℕ → List LinkEntry) → LinksStandFor rows net.links entries → LinksStandFor rows taken (called rows direction LinkCall.take entries))
     → ((rows : List LinkRow) (entries : ℕ → List LinkEntry) → LinksStandFor rows taken entries → LinksStandFor rows links (called rows onward (λ d. LinkCall.hand d front) entries))
     → now ≡ with_parts net net.cubes net.hosts links (entries.Shifted cube port (goals.Port out)) → DoesStep net now (steps.Shift cube port)
-shift_out_does net now cube port direction out onward front taken links ready is way take hand now_is = does_by net now net.cubes net.hosts links (entries.Shifted cube port (goals.Port out)) (steps.Shift cube port) now_is (record {
+shift_out_does net now cube port direction out onward front taken links ready is way take hand now_is = does_by net now net.cubes net.hosts net.slots links (entries.Shifted cube port (goals.Port out)) (steps.Shift cube port) now_is (record {
   chosen = λ view sees. ap (λ (t : Bool). unless_full (steps.Shift cube port) t (entries.Shifted cube port (goals.Port out))) (sym (way.room view sees)) ∙ shift_seen net view cube port direction front (goals.Port out) sees is;
   cubes_are = λ view sees. refl;
   hosts_are = refl;
+  slots_are = λ view sees. refl;
   links_are = λ view sees on.
       (let rows = net.topology.links in
       let after = called rows direction LinkCall.take view.entries in
@@ -420,10 +415,11 @@ lift_does net now cube from front port onward links ready there parts some towar
     let less = cube_inside net cube sized there.some_cube in
     let kept = lift_kept (cube_in net.cubes cube) from in
     let fit = answer_taken (sizes_by net.topology.links onward).profile net.topology front (lift_answer net cube from front ready some) in
-    does_by net now (with_cube cube (after_lift from) net.cubes) net.hosts links (entries.Lifted cube from port) (steps.Lift cube from) now_is (record {
+    does_by net now (with_cube cube (after_lift from) net.cubes) net.hosts net.slots links (entries.Lifted cube from port) (steps.Lift cube from) now_is (record {
       chosen = λ view sees. ap (λ (t : Bool). unless_full (steps.Lift cube from) t (entries.Lifted cube from port)) (sym (way.room view sees)) ∙ lift_seen net view cube from front port sees some towards;
       cubes_are = λ view sees. refl;
       hosts_are = refl;
+      slots_are = λ view sees. refl;
       links_are = λ view sees on. same_entries net.topology.links links (called net.topology.links onward (λ d. LinkCall.hand d front) view.entries) (entries_after net.topology view (entries.Lifted cube from port)) (hand net.topology.links view.entries sees.shows.links)
           (λ link. called_puts net.topology.links onward link (λ d. LinkCall.hand d front) (λ _ d. LinkEntry.handed d front) view.entries
           (handed_call (sizes_by net.topology.links onward) (view.entries (onward / 2)) (toward onward) front (way_room net view cube port onward sees way) (ap not fit.token))

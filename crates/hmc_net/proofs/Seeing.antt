@@ -1,5 +1,5 @@
 -- What a step sees of a network is what it sees of the journal that the network stands for.
-use Rattle.std.proofs.Common.{◌≡◌, ◌<◌, ◌/◌, ◌∙◌, ℕ, zero, suc, false, Option, Some, List, [], ◌∷◌, length, drop, slice_get, refl, sym, ap, subst}
+use Rattle.std.proofs.Common.{◌≡◌, ◌/◌, ◌∙◌, ℕ, zero, suc, false, Some, List, [], ◌∷◌, length, drop, slice_get, refl, sym, ap, subst}
 use Rattle.std.specs.Prelude.{filter}
 use Rattle.std.specs.List.{All}
 use Rattle.std.proofs.lemmas.List.Elements.{All-head, All-tail}
@@ -19,7 +19,7 @@ use Rattle.hmc_journal.specs.Lawful.{has_passed}
 use Rattle.hmc_journal.specs.Links.{toward, entries_on, sizes_on, link_entries}
 use Rattle.hmc_journal.specs.Next.{next, choice}
 use Rattle.hmc_journal.specs.QueueInvariant.{LinkInvariant, QueueInvariant, AnswersAwaited}
-use Rattle.hmc_journal.specs.Setup.{Topology, Setup, directions_in}
+use Rattle.hmc_journal.specs.Setup.{Topology, Setup}
 use Rattle.hmc_journal.specs.StepView.{view_of}
 use Rattle.hmc_journal.proofs.LinkKept.{no-through, nothing-fed}
 use Rattle.hmc_journal.proofs.Projections.{are_direct}

@@ -1,6 +1,7 @@
 -- A network that stands for a journal stands for it with one more entry.
-use Rattle.std.proofs.Common.{◌≡◌, ◌≤◌, ◌<◌, ◌==◌, ◌∙◌, ℕ, Bool, true, false, if◌then◌else◌, Option, Some, None, List, [], ◌∷◌, length, map, refl, sym, ap, subst, arith, eqb-true}
-use Rattle.std.specs.Prelude.{slice_set, slice_index_or}
+use Rattle.std.proofs.Common.{◌≡◌, ◌<◌, ◌+◌, ◌^◌, ◌==◌, ◌∙◌, ℕ, suc, Bool, true, false, if◌then◌else◌, Option, Some, None, List, ◌∷◌, length, map, refl, sym, ap, ap₂, subst, arith, eqb-true}
+use Rattle.std.specs.Prelude.{slice_set}
+use Rattle.std.proofs.lemmas.Option.{slice_get_within}
 use Rattle.std.proofs.lemmas.List.{map-set, length-set}
 use Rattle.std.proofs.Math.Seq.{map-set_same}
 use Rattle.std.proofs.Math.ListN.{get_or-map}
@@ -18,8 +19,9 @@ use Rattle.hmc_script.specs.Items.{ItemFields}
 use Rattle.hmc_host.specs.Tags.{with_out}
 use Rattle.hmc_host.specs.Settle.{after_settle}
 use Rattle.hmc_host.specs.declared.settled.Settled.TheVariants as settles
+use Rattle.hmc_units.specs.Unit.{UnitFields}
 use Rattle.hmc_serial.specs.Cube.{CubeState}
-use Rattle.hmc_serial.specs.Machine.{State, apply, cube_state_at, no_cube_state}
+use Rattle.hmc_serial.specs.Machine.{State, apply, retire, cube_state_at}
 use Rattle.hmc_serial.specs.Perform.{perform_on}
 use Rattle.hmc_crossbar.specs.declared.to.To.TheVariants as tos
 use Rattle.hmc_vault.specs.declared.execute.Executed.TheVariants.{Ran}
@@ -28,75 +30,95 @@ use Rattle.hmc_cube.specs.Cube.{CubeFields}
 use Rattle.hmc_cube.specs.After.{after_enter, after_spread, after_execute, after_registers, after_lift}
 use Rattle.hmc_host.specs.Host.{HostFields, items_of}
 use Rattle.hmc_schedule.specs.declared.step.Step.{Step}
-use Rattle.hmc_send.specs.LinkEntries.{LinkEntry}
 use Rattle.hmc_journal.specs.Choice.{choose}
 use Rattle.hmc_journal.specs.declared.outcome.Goal.TheVariants as goals
 use Rattle.hmc_journal.specs.declared.entry.Entry.{Entry}
-use Rattle.hmc_journal.specs.declared.entry.Entry.TheVariants.{Gave, Sent, Landed, Shifted, Dropped, Spread, Executed, Lifted, Took, Discarded, Unlocked, Passed, Idle}
-use Rattle.hmc_journal.specs.Event.{is_passed}
+use Rattle.hmc_journal.specs.declared.entry.Entry.TheVariants.{Gave, Sent, Landed, Shifted, Dropped, Spread, Executed, Lifted, Took, Discarded, Through, Unlocked, Retired, Passed, Idle}
+use Rattle.hmc_journal.specs.declared.outcome.Cause.{Cause}
+use Rattle.hmc_journal.specs.declared.event.Event.TheVariants as events
+use Rattle.hmc_journal.specs.Event.{event_of, cause_of, is_passed, IsLongFlit}
 use Rattle.hmc_journal.specs.Hosts.{host_of, given_count, tags_out, count_if}
-use Rattle.hmc_journal.specs.Lawful.{Follows, has_passed, Lawful}
+use Rattle.hmc_journal.specs.Lawful.{Follows, Lawful}
 use Rattle.hmc_journal.specs.Links.{link_entries}
 use Rattle.hmc_journal.specs.Next.{next}
 use Rattle.hmc_journal.specs.QueueInvariant.{IsCubeRequest}
-use Rattle.hmc_journal.specs.Queues.{QueueId, left, entered, contents, front_of, tag_number}
+use Rattle.hmc_journal.specs.Queues.{contents, front_of, tag_number}
 use Rattle.hmc_journal.specs.Queues.QueueId.{Port, Bank, Registers}
 use Rattle.hmc_journal.specs.Serial.{state_after}
 use Rattle.hmc_journal.specs.Setup.{Topology, Setup, unit_cube}
 use Rattle.hmc_journal.specs.StepView.{StepView, state_of, view_of}
 use Rattle.hmc_journal.proofs.EntryRule.{EntryRule, next_rule}
-use Rattle.hmc_net.specs.Apply.{cubes_after, hosts_after, entries_after, IsAfter, DoesStep, IsEntryIn, IsHostIn, gave_one, with_cube, with_host}
+use Rattle.hmc_net.specs.Apply.{after_unit, cubes_after, hosts_after, slots_after, entries_after, IsAfter, DoesStep, IsEntryIn, IsHostIn, gave_one, with_cube, with_host}
 use Rattle.hmc_net.specs.LinkList.{LinksStandFor}
 use Rattle.hmc_net.specs.NetState.{NetState, cube_in, no_cube, host_in, no_host, inside, machine_of}
-use Rattle.hmc_net.specs.Sees.{IsCubeQueue}
+use Rattle.hmc_net.specs.Sees.{Sees}
 use Rattle.hmc_net.specs.Stands.{StandsFor, IsNext}
+use Rattle.hmc_net.specs.Tally.{TallyFields, IsWithin, tallied, step_changes, unlocks_good}
+use Rattle.hmc_net.specs.Went.{went_by, went_of}
+use Rattle.hmc_net.specs.declared.went.Went.TheVariants as wents
 use Rattle.hmc_net.proofs.CubeMoves.{moves_of}
 use Rattle.hmc_net.proofs.Elements.{changed_at}
 use Rattle.hmc_net.proofs.LinkCalls.{same_entries}
 use Rattle.hmc_net.proofs.Moves.{left_by_rule, queues_step, within_step}
 use Rattle.hmc_net.proofs.Seeing.{IsLawBound, sees_of, choice_seen}
+use Rattle.hmc_net.proofs.TallyLaw.{IsToldBy, tally_next}
+use Rattle.hmc_net.proofs.Telling.{told_by}
 
 -- ---- the plain machine
 
 -- a change of a cube that leaves its state
-state_same : (cubes : List CubeFields) (c : ℕ) (f : CubeFields → CubeFields) → (f (cube_in cubes c)).state ≡ (cube_in cubes c).state → machine_of (with_cube c f cubes) ≡ machine_of cubes
-state_same cubes c f same = ap {B = State} (λ (l : List CubeState). record { cubes = l }) (map-set_same (λ (x : CubeFields). x.state) cubes c (f (cube_in cubes c)) no_cube same)
+state_same : (cubes : List CubeFields) (slots : List (Option UnitFields)) (c : ℕ) (f : CubeFields → CubeFields) → (f (cube_in cubes c)).state ≡ (cube_in cubes c).state → machine_of (with_cube c f cubes) slots ≡ machine_of cubes slots
+state_same cubes slots c f same = ap {B = State} (λ (l : List CubeState). record { cubes = l; slots = slots }) (map-set_same (λ (x : CubeFields). x.state) cubes c (f (cube_in cubes c)) no_cube same)
 
-pub state_at : (cubes : List CubeFields) (c : ℕ) → cube_state_at (machine_of cubes) c ≡ (cube_in cubes c).state
-state_at cubes c = get_or-map (λ (x : CubeFields). x.state) cubes c no_cube
+pub state_at : (cubes : List CubeFields) (slots : List (Option UnitFields)) (c : ℕ) → cube_state_at (machine_of cubes slots) c ≡ (cube_in cubes c).state
+state_at cubes slots c = get_or-map (λ (x : CubeFields). x.state) cubes c no_cube
 
--- an execution leaves of the machine what it leaves of its cube
-state_run : (cubes : List CubeFields) (c : ℕ) (f : CubeFields → CubeFields) (request : RequestFields) → request.cube ≡ c → (f (cube_in cubes c)).state ≡ (perform_on (cube_in cubes c).state request).cube → machine_of (with_cube c f cubes) ≡ apply (machine_of cubes) request
+-- an execution leaves of the machine what it leaves of its cube and of the logic units
+state_run : (cubes : List CubeFields) (slots : List (Option UnitFields)) (c : ℕ) (f : CubeFields → CubeFields) (request : RequestFields) → request.cube ≡ c → (f (cube_in cubes c)).state ≡ (perform_on (cube_in cubes c).state slots request).cube
+    → machine_of (with_cube c f cubes) (perform_on (cube_state_at (machine_of cubes slots) c) slots request).slots ≡ apply (machine_of cubes slots) request
 unfolding apply
-state_run cubes c f request own run =
-    ap {B = State} (λ (l : List CubeState). record { cubes = l }) (map-set (λ (x : CubeFields). x.state) cubes c (f (cube_in cubes c)))
-    ∙ ap {B = State} (λ (s : CubeState). record { cubes = slice_set (map (λ (x : CubeFields). x.state) cubes) c s }) (run ∙ ap (λ (s : CubeState). (perform_on s request).cube) (sym (state_at cubes c)))
-    ∙ ap {B = State} (λ (n : ℕ). record { cubes = slice_set (map (λ (x : CubeFields). x.state) cubes) n (perform_on (cube_state_at (machine_of cubes) n) request).cube }) (sym own)
+state_run cubes slots c f request own run =
+    let left = (perform_on (cube_state_at (machine_of cubes slots) c) slots request).slots in
+    ap {B = State} (λ (l : List CubeState). record { cubes = l; slots = left }) (map-set (λ (x : CubeFields). x.state) cubes c (f (cube_in cubes c)))
+    ∙ ap {B = State} (λ (s : CubeState). record { cubes = slice_set (map (λ (x : CubeFields). x.state) cubes) c s; slots = left }) (run ∙ ap (λ (s : CubeState). (perform_on s slots request).cube) (sym (state_at cubes slots c)))
+    ∙ ap {B = State} (λ (n : ℕ). record { cubes = slice_set (map (λ (x : CubeFields). x.state) cubes) n (perform_on (cube_state_at (machine_of cubes slots) n) slots request).cube; slots = (perform_on (cube_state_at (machine_of cubes slots) n) slots request).slots }) (sym own)
 
 -- an executed request is one of the unit's cube
 abbrev pub IsOwn : Entry → Type 0
 IsOwn (Executed unit host tag request answer) = request.cube ≡ unit_cube unit
 IsOwn _ = Unit {0}
 
-state_then : (view : StepView) (topology : Topology) (past : List Entry) (entry : Entry) (cubes : List CubeFields) → IsOwn entry → machine_of cubes ≡ state_of topology past → machine_of (cubes_after view entry cubes) ≡ state_of topology (entry ∷ past)
-unfolding state_of state_after
-state_then view topology past (Executed (units.Bank cube vault bank) host tag request answer) cubes own same = state_run cubes cube (after_execute vault bank (Ran host (tag_number tag) request answer)) request own refl ∙ ap (λ (s : State). apply s request) same
-state_then view topology past (Executed (units.Registers cube) host tag request answer) cubes own same = state_run cubes cube (after_registers (Ran host (tag_number tag) request answer)) request own refl ∙ ap (λ (s : State). apply s request) same
-state_then view topology past (Shifted cube port (goals.Vault vault)) cubes own same = state_same cubes cube (after_enter (tos.Vault vault) (front_of (view.inside (Port cube port)))) refl ∙ same
-state_then view topology past (Shifted cube port goals.Registers) cubes own same = state_same cubes cube (after_enter tos.Registers (front_of (view.inside (Port cube port)))) refl ∙ same
-state_then view topology past (Shifted cube port (goals.Port out)) cubes own same = same
-state_then view topology past (Spread cube vault bank) cubes own same = state_same cubes cube (after_spread vault (Moved bank)) refl ∙ same
-state_then view topology past (Lifted cube (lifts.Vault vault) port) cubes own same = state_same cubes cube (after_lift (lifts.Vault vault)) refl ∙ same
-state_then view topology past (Lifted cube lifts.Registers port) cubes own same = state_same cubes cube (after_lift lifts.Registers) refl ∙ same
-state_then view topology past (Gave host tag poisoned request) cubes own same = same
-state_then view topology past (Sent direction what flit) cubes own same = same
-state_then view topology past (Landed direction flit outcome) cubes own same = same
-state_then view topology past (Dropped cube port) cubes own same = same
-state_then view topology past (Took host tag answer) cubes own same = same
-state_then view topology past (Discarded host) cubes own same = same
-state_then view topology past (Unlocked direction) cubes own same = same
-state_then view topology past (Passed direction flit) cubes own same = same
-state_then view topology past (Idle step cause) cubes own same = same
+-- what the step saw of the machine is what it has
+seen_first : (view : StepView) (cubes : List CubeFields) (slots : List (Option UnitFields)) (unit : RequestUnit) (host : ℕ) (tag : Option ℕ) (request : RequestFields) (answer : Answer) → view.state ≡ machine_of cubes slots
+    → machine_of (after_unit unit (Executed unit host tag request answer) view.state.slots cubes) (perform_on (cube_state_at view.state (unit_cube unit)) slots request).slots
+    ≡ machine_of (after_unit unit (Executed unit host tag request answer) slots cubes) (perform_on (cube_state_at (machine_of cubes slots) (unit_cube unit)) slots request).slots
+seen_first view cubes slots unit host tag request answer seen =
+    ap (λ (s : State). machine_of (after_unit unit (Executed unit host tag request answer) s.slots cubes) (perform_on (cube_state_at s (unit_cube unit)) slots request).slots) seen
+
+state_then : (view : StepView) (setup : Setup) (past : List Entry) (entry : Entry) (cubes : List CubeFields) (slots : List (Option UnitFields)) → IsOwn entry → view.state ≡ machine_of cubes slots → machine_of cubes slots ≡ state_of setup past
+    → machine_of (cubes_after view entry cubes) (slots_after view entry slots) ≡ state_of setup (entry ∷ past)
+unfolding state_of state_after retire
+state_then view setup past (Executed (units.Bank cube vault bank) host tag request answer) cubes slots own seen same =
+    seen_first view cubes slots (units.Bank cube vault bank) host tag request answer seen ∙ state_run cubes slots cube (after_execute vault bank (Ran host (tag_number tag) request answer) slots) request own refl ∙ ap (λ (s : State). apply s request) same
+state_then view setup past (Executed (units.Registers cube) host tag request answer) cubes slots own seen same =
+    seen_first view cubes slots (units.Registers cube) host tag request answer seen ∙ state_run cubes slots cube (after_registers (Ran host (tag_number tag) request answer) slots) request own refl ∙ ap (λ (s : State). apply s request) same
+state_then view setup past (Retired slot) cubes slots own seen same = ap (λ (s : State). retire s slot) same
+state_then view setup past (Shifted cube port (goals.Vault vault)) cubes slots own seen same = state_same cubes slots cube (after_enter (tos.Vault vault) (front_of (view.inside (Port cube port)))) refl ∙ same
+state_then view setup past (Shifted cube port goals.Registers) cubes slots own seen same = state_same cubes slots cube (after_enter tos.Registers (front_of (view.inside (Port cube port)))) refl ∙ same
+state_then view setup past (Shifted cube port (goals.Port out)) cubes slots own seen same = same
+state_then view setup past (Spread cube vault bank) cubes slots own seen same = state_same cubes slots cube (after_spread vault (Moved bank)) refl ∙ same
+state_then view setup past (Lifted cube (lifts.Vault vault) port) cubes slots own seen same = state_same cubes slots cube (after_lift (lifts.Vault vault)) refl ∙ same
+state_then view setup past (Lifted cube lifts.Registers port) cubes slots own seen same = state_same cubes slots cube (after_lift lifts.Registers) refl ∙ same
+state_then view setup past (Gave host tag poisoned request) cubes slots own seen same = same
+state_then view setup past (Sent direction what flit) cubes slots own seen same = same
+state_then view setup past (Landed direction flit outcome) cubes slots own seen same = same
+state_then view setup past (Dropped cube port) cubes slots own seen same = same
+state_then view setup past (Took host tag answer) cubes slots own seen same = same
+state_then view setup past (Discarded host) cubes slots own seen same = same
+state_then view setup past (Through cube port direction) cubes slots own seen same = same
+state_then view setup past (Unlocked direction) cubes slots own seen same = same
+state_then view setup past (Passed direction flit) cubes slots own seen same = same
+state_then view setup past (Idle step cause) cubes slots own seen same = same
 
 -- a front of a unit's queue that is executed is a request to its cube
 asked_of : (ask : Bool) (request found : RequestFields) → (if ask then Some found else None) ≡ Some request → found ≡ request
@@ -184,33 +206,79 @@ pub chosen_next : (net now : NetState) (past : List Entry) (setup : Setup) (step
 chosen_next net now past setup step is law does =
     does.entry (view_of setup past) (sees_of net past setup is.stands is.goes_on law) ∙ choice_seen net past setup step is.stands
 
-stands_by : (net now : NetState) (past : List Entry) (setup : Setup) (step : Step) (entry : Entry) → entry ≡ now.last → IsNext net setup past step → IsLawBound setup past → entry ≡ next setup past step → EntryRule setup past entry → DoesStep net now step
-    → StandsFor now setup (entry ∷ past)
-stands_by net now past setup step entry last is law next_is rule does =
+stands_by : (net now : NetState) (tally : TallyFields) (changed was_good : Bool) (past : List Entry) (setup : Setup) (step : Step) (entry : Entry) → entry ≡ now.last → IsNext net setup past step → IsLawBound setup past → entry ≡ next setup past step → EntryRule setup past entry → DoesStep net now step
+    → tally ≡ tallied changed was_good (event_of entry) net.tally → IsToldBy setup.topology past changed was_good entry → IsWithin (length past + 1) tally
+    → StandsFor (record now { tally = tally }) setup (entry ∷ past)
+stands_by net now tally changed was_good past setup step entry last is law next_is rule does tally_is told within =
     let stands = is.stands in
     let view = view_of setup past in
-    let after : IsAfter view net now = does.parts view (sees_of net past setup stands is.goes_on law) in
+    let sees = sees_of net past setup stands is.goes_on law in
+    let after : IsAfter view net now = does.parts view sees in
     let there : IsEntryIn net.cubes entry = subst (IsEntryIn net.cubes) (sym last) does.there in
     let cubes : now.cubes ≡ cubes_after view entry net.cubes = after.cubes ∙ ap (λ (e : Entry). cubes_after view e net.cubes) (sym last) in
     let hosts : now.hosts ≡ hosts_after entry net.hosts = after.hosts ∙ ap (λ (e : Entry). hosts_after e net.hosts) (sym last) in
+    let slots : now.slots ≡ slots_after view entry net.slots = after.slots ∙ ap (λ (e : Entry). slots_after view e net.slots) (sym last) in
     let moved = moves_of setup past entry net.cubes rule stands.queues there in
     let left_is = left_by_rule setup past entry rule in
     record {
       network = stands.network;
       steps = stands.steps;
       topology = after.topology ∙ stands.topology;
-      sized = does.sized;
+      sized = record { cubes = does.sized.cubes; hosts = does.sized.hosts; fits = does.sized.fits };
       lawful = lawful_then net past setup step entry is next_is;
       queues = λ queue cube. ap (λ (l : List CubeFields). inside l queue) cubes ∙ moved.same queue ∙ queues_step setup.topology past entry net.cubes left_is moved.there moved.going queue cube (stands.moves queue cube) (stands.queues queue cube);
       moves = λ queue cube. within_step setup.topology past entry queue cube left_is (stands.moves queue cube);
-      state = ap machine_of cubes ∙ state_then view setup.topology past entry net.cubes (own_of setup past entry law rule) stands.state;
+      state = ap₂ machine_of cubes slots ∙ state_then view setup past entry net.cubes net.slots (own_of setup past entry law rule) (sym sees.shows.state) stands.state;
       hosts = subst (λ (l : List HostFields). (host : ℕ) → host < length l → host_in l host ≡ host_of setup (entry ∷ past) host) (sym hosts) (hosts_then setup past entry net.hosts (subst (IsHostIn net.hosts) (sym last) does.host) stands.hosts);
       links = λ on. same_entries setup.topology.links now.links (entries_after setup.topology view entry) (λ link. link_entries setup.topology link (entry ∷ past))
           (subst (λ (t : Topology). LinksStandFor t.links now.links (entries_after t view entry)) stands.topology
           (subst (λ (e : Entry). LinksStandFor net.topology.links now.links (entries_after net.topology view e)) (sym last) (after.links (ap is_passed (sym last) ∙ on)))) (entries_then setup past entry);
+      few = stands.few;
+      within = (let more : length past + 1 ≡ suc (length past) = omega arith in subst (λ (n : ℕ). IsWithin n tally) more within);
+      tally = λ on. tally_is ∙ ap (tallied changed was_good (event_of entry)) (stands.tally is.goes_on) ∙ tally_next setup.topology past entry changed was_good on told;
     }
 
 -- the network stands for the journal with the entry of the step
-pub stands_stepped : (net now : NetState) (past : List Entry) (setup : Setup) (step : Step) → IsNext net setup past step → IsLawBound setup past → DoesStep net now step → StandsFor now setup (next setup past step ∷ past)
-stands_stepped net now past setup step is law does =
-    stands_by net now past setup step (next setup past step) (sym (chosen_next net now past setup step is law does)) is law refl (next_rule setup past step is.step_is) does
+pub stands_stepped : (net now : NetState) (tally : TallyFields) (was_good : Bool) (past : List Entry) (setup : Setup) (step : Step) → IsNext net setup past step → IsLawBound setup past → DoesStep net now step
+    → IsLongFlit now.last → ((view : StepView) → Sees net view → was_good ≡ unlocks_good view step) → tally ≡ tallied (step_changes step) was_good (event_of now.last) now.tally → ((most : ℕ) → IsWithin most now.tally → IsWithin (most + 1) tally)
+    → StandsFor (record now { tally = tally }) setup (next setup past step ∷ past)
+stands_stepped net now tally was_good past setup step is law does long good tally_is within =
+    let last = chosen_next net now past setup step is law does in
+    let told = told_by net past setup step is (subst IsLongFlit last long) in
+    let good_is : was_good ≡ unlocks_good (view_of setup past) step = good (view_of setup past) (sees_of net past setup is.stands is.goes_on law) in
+    stands_by net now tally (step_changes step) was_good past setup step (next setup past step) (sym last) is law refl (next_rule setup past step is.step_is) does
+    (tally_is ∙ ap (λ (e : Entry). tallied (step_changes step) was_good (event_of e) now.tally) last ∙ ap (tallied (step_changes step) was_good (event_of (next setup past step))) does.tally)
+    (subst (λ (g : Bool). IsToldBy setup.topology past (step_changes step) g (next setup past step)) (sym good_is) told)
+    (within (length past) (subst (IsWithin (length past)) (sym does.tally) is.stands.within))
+
+-- the next step can be counted
+pub countable : (net now : NetState) (past : List Entry) (setup : Setup) (step : Step) → IsNext net setup past step → DoesStep net now step → (most : ℕ) × (most + 1 < 2 ^ 32) × IsWithin most now.tally
+countable net now past setup step is does =
+    (length past, (let some = slice_get_within setup.schedule (length past) step is.step_is in let few = is.stands.few in omega arith), subst (IsWithin (length past)) (sym does.tally) is.stands.within)
+
+-- an idle step is not counted
+idle_other : (entry : Entry) (cause : Cause) → cause_of entry ≡ Some cause → event_of entry ≡ events.Other
+idle_other (Idle step why) cause is = refl
+idle_other (Gave host tag poisoned request) cause is = absurd (cc)
+idle_other (Sent direction what flit) cause is = absurd (cc)
+idle_other (Landed direction flit outcome) cause is = absurd (cc)
+idle_other (Dropped cube port) cause is = absurd (cc)
+idle_other (Executed unit host tag request answer) cause is = absurd (cc)
+idle_other (Took host tag answer) cause is = absurd (cc)
+idle_other (Unlocked direction) cause is = absurd (cc)
+idle_other _ cause is = refl
+
+pub idle_stays : (net now : NetState) (tally : TallyFields) (changed was_good : Bool) (cause : Cause) (step : Step) → DoesStep net now step → cause_of now.last ≡ Some cause → tally ≡ tallied changed was_good (event_of now.last) now.tally
+    → ◌≡◌ {A = NetState} (record now { tally = tally }) (record net { last = now.last })
+idle_stays net now tally changed was_good cause step does is tally_is =
+    let none : tally ≡ net.tally = tally_is ∙ ap (λ e. tallied changed was_good e now.tally) (idle_other now.last cause is) ∙ does.tally in
+    ap (λ (n : NetState). record n { tally = tally }) (does.idle cause is) ∙ ap (λ (t : TallyFields). record net { last = now.last; tally = t }) none
+
+-- a step that is idle has a cause
+idle_cause : (passed : Bool) (found : Option Cause) (cause : Cause) → (if passed then wents.Passed else went_by found) ≡ wents.Idle cause → found ≡ Some cause
+idle_cause true found cause is = absurd (cc)
+idle_cause false None cause is = absurd (cc)
+idle_cause false (Some why) cause is = cc
+
+pub went_cause : (entry : Entry) (cause : Cause) → went_of entry ≡ wents.Idle cause → cause_of entry ≡ Some cause
+went_cause entry cause is = idle_cause (is_passed entry) (cause_of entry) cause is

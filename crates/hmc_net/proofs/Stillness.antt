@@ -1,5 +1,5 @@
 -- A network holds no packet exactly where its journal is drained.
-use Rattle.std.proofs.Common.{◌≡◌, ◌<◌, ◌+◌, ◌*◌, ◌/◌, ◌%◌, ◌^◌, ◌↔◌, ◌∙◌, ◌==◌, ◌&&◌, ℕ, zero, suc, Bool, true, false, if◌then◌else◌, List, [], ◌∷◌, ◌++◌, length, map, drop, sum_by, refl, sym, ap, ap₂, subst, arith}
+use Rattle.std.proofs.Common.{◌≡◌, ◌<◌, ◌+◌, ◌*◌, ◌/◌, ◌%◌, ◌^◌, ◌↔◌, ◌∙◌, ◌==◌, ◌&&◌, ℕ, zero, suc, Bool, true, false, if◌then◌else◌, List, [], ◌∷◌, ◌++◌, length, map, drop, sum_by, refl, sym, ap, subst, arith}
 use Rattle.std.specs.Prelude.{slice_index_or, IsTrue, filter}
 use Rattle.std.specs.List.{All, list_all, flat_map, range_with_len}
 use Rattle.std.proofs.lemmas.Bool.Decides.{nat_tests}
@@ -8,7 +8,6 @@ use Rattle.std.proofs.lemmas.List.Sums.{sum_by-cons}
 use Rattle.hmc_codes.specs.Link.{LinkFields}
 use Rattle.hmc_codes.specs.Numbers.{upto}
 use Rattle.hmc_codes.specs.declared.lift.Lift.TheVariants as lifts
-use Rattle.hmc_packet.specs.Packet.{PacketFields}
 use Rattle.hmc_vault.specs.Vault.{VaultFields, bank_at, held_by}
 use Rattle.hmc_cube.specs.Cube.{CubeFields, vault_at, no_vault, held_in_cube}
 use Rattle.hmc_link.specs.Held.{LinkHeld}
@@ -237,7 +236,7 @@ drained_cube net setup past cube stands drained =
       sum_zero held_by no_vault x.vaults (λ i. still_vault (vault_at x i) (none (Vault cube i) tt) (λ bank. none (Bank cube i bank) tt) (none (Answers cube (lifts.Vault i)) tt)),
     )
 
-same_test : (result test : Bool) → (IsTrue result → test ≡ true) → (test ≡ true → IsTrue result) → result ≡ test
+pub same_test : (result test : Bool) → (IsTrue result → test ≡ true) → (test ≡ true → IsTrue result) → result ≡ test
 same_test true test forth back = sym (forth refl)
 same_test false false forth back = refl
 same_test false true forth back = back refl

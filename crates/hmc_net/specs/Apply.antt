@@ -1,11 +1,14 @@
 -- What an entry leaves of the parts of a network.
-use Rattle.std.specs.Prelude.{◌≡◌, ◌+◌, ◌<◌, ◌^◌, ℕ, false, List, length, slice_set, Option, None, Some}
-use Rattle.hmc_codes.specs.declared.lift.Lift.{Lift}
+use Rattle.std.specs.Prelude.{◌≡◌, ◌+◌, ◌<◌, ℕ, false, List, length, slice_set, Option, Some}
 use Rattle.hmc_codes.specs.declared.place.Place.TheVariants as places
 use Rattle.hmc_codes.specs.declared.unit.Unit.{Unit as RequestUnit}
 use Rattle.hmc_codes.specs.declared.unit.Unit.TheVariants as units
 use Rattle.hmc_packet.specs.declared.feed.Feed.TheVariants.{Waiting}
 use Rattle.hmc_packet.specs.Transactions.{request_packet}
+use Rattle.hmc_units.specs.Unit.{UnitFields}
+use Rattle.hmc_units.specs.Bench.{retired_slots}
+use Rattle.hmc_serial.specs.Machine.{cube_state_at}
+use Rattle.hmc_serial.specs.Perform.{perform_on}
 use Rattle.hmc_crossbar.specs.declared.to.To.{To}
 use Rattle.hmc_crossbar.specs.declared.to.To.TheVariants as tos
 use Rattle.hmc_vault.specs.declared.execute.Executed.TheVariants.{Ran}
@@ -22,13 +25,13 @@ use Rattle.hmc_journal.specs.declared.outcome.Cause.{Cause}
 use Rattle.hmc_journal.specs.declared.outcome.Goal.{Goal}
 use Rattle.hmc_journal.specs.declared.outcome.Goal.TheVariants as goals
 use Rattle.hmc_journal.specs.declared.entry.Entry.{Entry}
-use Rattle.hmc_journal.specs.declared.entry.Entry.TheVariants.{Gave, Sent, Landed, Shifted, Dropped, Spread, Executed, Lifted, Took, Discarded, Unlocked}
+use Rattle.hmc_journal.specs.declared.entry.Entry.TheVariants.{Gave, Sent, Landed, Shifted, Dropped, Spread, Executed, Lifted, Took, Discarded, Unlocked, Retired}
 use Rattle.hmc_journal.specs.Event.{is_passed, cause_of}
 use Rattle.hmc_journal.specs.Links.{link_sizes, landing_mask, put_on, handed_at, taken_at, handed_on}
 use Rattle.hmc_journal.specs.Next.{choice}
 use Rattle.hmc_journal.specs.Queues.{front_of, tag_number, queue_of}
 use Rattle.hmc_journal.specs.Queues.QueueId.{Port, Vault, Bank, Registers, Answers}
-use Rattle.hmc_journal.specs.Setup.{Topology}
+use Rattle.hmc_journal.specs.Setup.{Topology, unit_cube}
 use Rattle.hmc_journal.specs.StepView.{StepView}
 use Rattle.hmc_net.specs.LinkList.{LinksStandFor}
 use Rattle.hmc_net.specs.NetState.{NetState, cube_in, host_in, IsQueueOf}
@@ -49,12 +52,13 @@ abbrev pub with_host : ℕ → (HostFields → HostFields) → List HostFields �
 with_host host changed hosts = slice_set hosts host (changed (host_in hosts host))
 
 -- a unit executed the front of its queue
-abbrev pub after_unit : RequestUnit → Entry → List CubeFields → List CubeFields
-after_unit (units.Bank cube vault bank) (Executed unit host tag request answer) cubes =
-    with_cube cube (after_execute vault bank (Ran host (tag_number tag) request answer)) cubes
-after_unit (units.Registers cube) (Executed unit host tag request answer) cubes =
-    with_cube cube (after_registers (Ran host (tag_number tag) request answer)) cubes
-after_unit unit entry cubes = cubes
+abbrev pub after_unit : RequestUnit → Entry → List (Option UnitFields) → List CubeFields →
+    List CubeFields
+after_unit (units.Bank cube vault bank) (Executed unit host tag request answer) slots cubes =
+    with_cube cube (after_execute vault bank (Ran host (tag_number tag) request answer) slots) cubes
+after_unit (units.Registers cube) (Executed unit host tag request answer) slots cubes =
+    with_cube cube (after_registers (Ran host (tag_number tag) request answer) slots) cubes
+after_unit unit entry slots cubes = cubes
 
 -- the cubes after an entry, by what its step saw
 abbrev pub cubes_after : StepView → Entry → List CubeFields → List CubeFields
@@ -64,7 +68,7 @@ cubes_after view (Shifted cube port goal) cubes =
 cubes_after view (Spread cube vault bank) cubes =
     with_cube cube (after_spread vault (Moved bank)) cubes
 cubes_after view (Executed unit host tag request answer) cubes =
-    after_unit unit (Executed unit host tag request answer) cubes
+    after_unit unit (Executed unit host tag request answer) view.state.slots cubes
 cubes_after view (Lifted cube from port) cubes = with_cube cube (after_lift from) cubes
 cubes_after view _ cubes = cubes
 
@@ -93,6 +97,13 @@ hosts_after (Gave host tag poisoned request) hosts = with_host host (gave_one ta
 hosts_after (Took host tag answer) hosts =
     with_host host (after_settle (settles.Took tag answer)) hosts
 hosts_after _ hosts = hosts
+
+-- the logic units, by what the step saw
+abbrev pub slots_after : StepView → Entry → List (Option UnitFields) → List (Option UnitFields)
+slots_after view (Executed unit host tag request answer) slots =
+    (perform_on (cube_state_at view.state (unit_cube unit)) slots request).slots
+slots_after view (Retired slot) slots = retired_slots slots slot
+slots_after view _ slots = slots
 
 -- the entries of a link
 abbrev pub entries_after : Topology → StepView → Entry → (link : ℕ) → List LinkEntry
@@ -127,17 +138,19 @@ pub record IsAfter (view : StepView) (old new : NetState) : Type 0 where
   pub topology : new.topology ≡ old.topology
   pub cubes : new.cubes ≡ cubes_after view new.last old.cubes
   pub hosts : new.hosts ≡ hosts_after new.last old.hosts
+  pub slots : new.slots ≡ slots_after view new.last old.slots
   pub links : is_passed new.last ≡ false →
       LinksStandFor old.topology.links new.links (entries_after old.topology view new.last)
 
 -- What a step does: by what it sees, the last entry is the one that the journal's definition gives,
 -- and each part is left as this entry says. The entry is of parts that are there, and the sizes of
--- parts stay. An idle step changes nothing but the last entry.
+-- parts stay. It isn't counted yet. An idle step changes nothing but the last entry.
 pub record DoesStep (old new : NetState) (step : Step) : Type 0 where
   pub entry : (view : StepView) → Sees old view → new.last ≡ choice old.topology view step
   pub parts : (view : StepView) → Sees old view → IsAfter view old new
   pub there : IsEntryIn old.cubes new.last
   pub host : IsHostIn old.hosts new.last
   pub sized : IsSized new
+  pub tally : new.tally ≡ old.tally
   pub idle : (cause : Cause) → cause_of new.last ≡ Some cause →
       new ≡ record old { last = new.last }

@@ -1,3 +1,4 @@
+pub mod Tally
 pub mod NetState
 pub mod LinkList
 pub mod Wiring
@@ -12,3 +13,4 @@ pub mod Quiescent
 pub mod Went
 pub mod Gives
 pub mod Links
+pub mod Finished

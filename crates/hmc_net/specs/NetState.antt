@@ -1,5 +1,5 @@
 -- A network, as the contracts see it, and the packets in the queues of its cubes.
-use Rattle.std.specs.Prelude.{◌<◌, ℕ, List, [], length, map, slice_index_or}
+use Rattle.std.specs.Prelude.{◌<◌, ℕ, List, [], length, map, slice_index_or, Option}
 use Rattle.hmc_codes.specs.declared.lift.Lift.TheVariants as lifts
 use Rattle.hmc_packet.specs.Packet.{PacketFields}
 use Rattle.hmc_serial.specs.Machine.{State, no_cube_state}
@@ -8,18 +8,45 @@ use Rattle.hmc_cube.specs.Cube.{CubeFields, vault_at}
 use Rattle.hmc_cube.specs.Places.{answers_at}
 use Rattle.hmc_host.specs.Host.{HostFields}
 use Rattle.hmc_link.specs.Held.{LinkHeld}
+use Rattle.hmc_units.specs.Unit.{UnitFields}
 use Rattle.hmc_journal.specs.declared.entry.Entry.{Entry}
 use Rattle.hmc_journal.specs.Queues.{QueueId}
 use Rattle.hmc_journal.specs.Queues.QueueId.{Output, Port, Host, Vault, Bank, Registers, Answers}
 use Rattle.hmc_journal.specs.Setup.{Topology}
+use Rattle.hmc_net.specs.Tally.{TallyFields}
 
--- its cubes, hosts and links, each by its number, and the entry of the latest step
+-- its cubes, hosts and links, each by its number, the slots of its logic units, what is counted,
+-- and the entry of the latest step
 pub record NetState : Type 0 where
   pub topology : Topology
   pub cubes : List CubeFields
   pub hosts : List HostFields
+  pub slots : List (Option UnitFields)
   pub links : List LinkHeld
+  pub tally : TallyFields
   pub last : Entry
+
+-- the same with the bench itself, as a network keeps it
+pub record NetParts (B : Type 0) : Type 0 where
+  pub topology : Topology
+  pub cubes : List CubeFields
+  pub hosts : List HostFields
+  pub bench : B
+  pub links : List LinkHeld
+  pub tally : TallyFields
+  pub last : Entry
+
+-- the slots of a bench are those that its type shows
+abbrev pub net_of : {B : Type 0} → (slots : B → List (Option UnitFields)) → NetParts B → NetState
+net_of slots parts = record {
+  topology = parts.topology;
+  cubes = parts.cubes;
+  hosts = parts.hosts;
+  slots = slots parts.bench;
+  links = parts.links;
+  tally = parts.tally;
+  last = parts.last;
+}
 
 -- in place of a cube that isn't there: one without vaults
 abbrev pub no_cube : CubeFields
@@ -77,6 +104,6 @@ IsQueueOf cubes (Port c p) = Unit {0}
 IsQueueOf cubes (Host h) = Unit {0}
 IsQueueOf cubes r = (queue_cube r < length cubes) × IsIn (cube_in cubes (queue_cube r)) r
 
--- the plain machine of the cubes
-abbrev pub machine_of : List CubeFields → State
-machine_of cubes = record { cubes = map (λ cube. cube.state) cubes }
+-- the plain machine of the cubes and the logic units
+abbrev pub machine_of : List CubeFields → List (Option UnitFields) → State
+machine_of cubes slots = record { cubes = map (λ cube. cube.state) cubes; slots = slots }

@@ -38,7 +38,8 @@ pub record IsLandingIn (topology : Topology) (direction mask : ℕ) : Type 0 whe
   pub some_direction : direction < directions_in topology
   pub long : mask ≡ 16
 
--- a step of a part that is there; the steps through and retire are in no schedule yet
+-- a step of a part that is there, or a retirement of any slot; the step through is in no schedule
+-- yet
 abbrev pub IsStepFor : Topology → Step → Type 0
 IsStepFor topology (steps.Give host) = host < hosts_in topology
 IsStepFor topology (steps.Send direction) = direction < directions_in topology

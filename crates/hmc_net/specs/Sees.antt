@@ -1,10 +1,9 @@
 -- What a step sees of a network.
-use Rattle.std.specs.Prelude.{◌≡◌, ◌<◌, ◌/◌, ℕ, List, All, length, slice_index_or, drop, filter}
+use Rattle.std.specs.Prelude.{◌≡◌, ◌<◌, ◌/◌, ℕ, All, length, drop, filter}
 use Rattle.hmc_codes.specs.declared.lift.Lift.{Lift}
 use Rattle.hmc_packet.specs.declared.feed.Feed.TheVariants.{Waiting}
 use Rattle.hmc_case.specs.Setup.{CubeSetupFields}
 use Rattle.hmc_cube.specs.Cube.{CubeFields}
-use Rattle.hmc_host.specs.Host.{HostFields}
 use Rattle.hmc_send.specs.Entries.{under_way}
 use Rattle.hmc_send.specs.IsSender.{IsFed}
 use Rattle.hmc_send.specs.LinkEntries.{takes, accepted_packets}
@@ -13,7 +12,7 @@ use Rattle.hmc_send.specs.Places.{is_token}
 use Rattle.hmc_journal.specs.Links.{toward, sizes_on}
 use Rattle.hmc_journal.specs.QueueInvariant.{IsOnItsWay, IsCubeRequest, IsHostAnswer, IsAnswerFor}
 use Rattle.hmc_journal.specs.Queues.{QueueId, landing_buffer}
-use Rattle.hmc_journal.specs.Queues.QueueId.{Output, Port, Host, Vault, Bank, Registers, Answers}
+use Rattle.hmc_journal.specs.Queues.QueueId.{Output, Port, Host, Bank, Registers, Answers}
 use Rattle.hmc_journal.specs.Setup.{Topology, cubes_in, hosts_in, directions_in, cube_setup}
 use Rattle.hmc_journal.specs.StepView.{StepView}
 use Rattle.hmc_net.specs.LinkList.{LinksStandFor}
@@ -38,12 +37,12 @@ pub record IsSized (net : NetState) : Type 0 where
   pub fits : (cube : ℕ) → cube < length net.cubes →
       CubeFits (cube_setup net.topology cube) (cube_in net.cubes cube)
 
--- the packets in the queues of a network's cubes, its memories and registers, its hosts, and what
--- its links did, are those of a view
+-- the packets in the queues of a network's cubes, its memories, registers and logic units, its
+-- hosts, and what its links did, are those of a view
 pub record Shows (net : NetState) (view : StepView) : Type 0 where
   pub queues : (queue : QueueId) → IsCubeQueue queue →
       inside net.cubes queue ≡ view.inside queue
-  pub state : machine_of net.cubes ≡ view.state
+  pub state : machine_of net.cubes net.slots ≡ view.state
   pub hosts : (host : ℕ) → host < length net.hosts →
       host_in net.hosts host ≡ view.host host
   pub links : LinksStandFor net.topology.links net.links view.entries

@@ -1,5 +1,5 @@
 -- When a network stands for a case and the journal of its steps.
-use Rattle.std.specs.Prelude.{◌≡◌, ◌≤◌, ◌<◌, ℕ, false, List, All, length, slice_get, Some}
+use Rattle.std.specs.Prelude.{◌≡◌, ◌≤◌, ◌<◌, ◌^◌, ℕ, false, List, All, length, slice_get, Some}
 use Rattle.hmc_schedule.specs.declared.step.Step.{Step}
 use Rattle.hmc_journal.specs.declared.entry.Entry.{Entry}
 use Rattle.hmc_journal.specs.Hosts.{host_of}
@@ -13,10 +13,12 @@ use Rattle.hmc_net.specs.LinkList.{LinksStandFor}
 use Rattle.hmc_net.specs.NetState.{NetState, host_in, inside, machine_of}
 use Rattle.hmc_net.specs.Ready.{IsStepFor}
 use Rattle.hmc_net.specs.Sees.{IsCubeQueue, IsSized}
+use Rattle.hmc_net.specs.Tally.{IsWithin, tally_of}
 
 -- The parts of the network are as this journal says, which is a lawful journal of the case, and the
 -- steps of the case are steps of its parts. Each link stands for the entries that the journal has
--- of it. Nothing is said of the links once a landing passed.
+-- of it, and what is counted is what the journal counts: no more than its entries, which are fewer
+-- than 2 ^ 32. Nothing is said of the links and of the counts once a landing passed.
 pub record StandsFor (net : NetState) (setup : Setup) (past : List Entry) : Type 0 where
   pub network : IsNetwork setup
   pub steps : All (IsStepFor setup.topology) setup.schedule
@@ -27,12 +29,15 @@ pub record StandsFor (net : NetState) (setup : Setup) (past : List Entry) : Type
       inside net.cubes queue ≡ contents setup.topology past queue
   pub moves : (queue : QueueId) → IsCubeQueue queue →
       left past queue ≤ length (entered setup.topology past queue)
-  pub state : machine_of net.cubes ≡ state_of setup.topology past
+  pub state : machine_of net.cubes net.slots ≡ state_of setup past
   pub hosts : (host : ℕ) → host < length net.hosts →
       host_in net.hosts host ≡ host_of setup past host
   pub links : has_passed past ≡ false →
       LinksStandFor setup.topology.links net.links
       (λ link. link_entries setup.topology link past)
+  pub few : length setup.schedule < 2 ^ 32
+  pub within : IsWithin (length past) net.tally
+  pub tally : has_passed past ≡ false → net.tally ≡ tally_of setup.topology past
 
 -- and this is the next step of the case's schedule; no landing passed
 pub record IsNext (net : NetState) (setup : Setup) (past : List Entry)

@@ -11,19 +11,29 @@ ghost use Rattle.hmc_link.specs.StandsFor.{LinkStandsFor};
 ghost use Rattle.hmc_packet.specs.declared.feed.Feed.TheVariants.{Waiting};
 ghost use Rattle.hmc_send.specs.Choice.{choice};
 ghost use Rattle.hmc_send.specs.LinkCalls.{LinkCall, is_full, view_in};
-ghost use Rattle.hmc_send.specs.LinkEntries.{LinkEntry};
+ghost use Rattle.hmc_packet.specs.Landings.{mode};
+ghost use Rattle.hmc_send.specs.LinkEntries.{LinkEntry, receiver_entries};
 ghost use Rattle.hmc_send.specs.LinkLines.{line};
 ghost use Rattle.hmc_send.specs.LinkSenders.{tokens};
 ghost use Rattle.hmc_net.specs.LinkList.{sizes_by, AreGoing, LinksStandFor, called, IsDirection, IsRoom, IsFrontAt, MayHand, MaySend};
+ghost use Rattle.hmc_net.specs.Finished.{tokens_at};
 ghost use Rattle.hmc_net.specs.Quiescent.{IsQuietLink};
 
 use hmc_case::LinkRow;
 use hmc_codes::{Flit, LinkSetup, Memory, TokenRow};
 use hmc_crossbar::PortBuffer;
 use hmc_link::{Link, LinkLanded, LinkSent, Toward};
-use hmc_packet::{Feed, Packet};
+use hmc_packet::{Feed, Mode, Packet};
 use std::alloc::Global;
 use std::marker::Model;
+
+const NO_TOKENS: TokenRow = TokenRow {
+    held: 0,
+    transit: 0,
+    used: 0,
+    due: 0,
+    returning: 0,
+};
 
 // The buffers of hosts and of ports are of one kind.
 type NetLink = Link<PortBuffer, PortBuffer>;
@@ -102,9 +112,10 @@ impl LinkList {
         requires may { MaySend self.old direction }
         ensures answer { (rows : List LinkRow) (entries : ℕ → List LinkEntry) →
             LinksStandFor rows self.old entries → result
-            ≡ link_sent (is_full (sizes_by rows direction) (toward direction) (entries (direction / 2)))
-            (choice (sizes_by rows direction).profile
-            (view_in (sizes_by rows direction) (toward direction) (entries (direction / 2)) Waiting)) }
+            ≡ link_sent
+            (is_full (sizes_by rows direction) (toward direction) (entries (direction / 2)))
+            (choice (sizes_by rows direction).profile (view_in (sizes_by rows direction)
+            (toward direction) (entries (direction / 2)) Waiting)) }
         ensures stand { (rows : List LinkRow) (entries : ℕ → List LinkEntry) →
             LinksStandFor rows self.old entries → LinksStandFor rows self.new
             (called rows direction (λ d. LinkCall.send d Waiting) entries) }
@@ -120,7 +131,8 @@ impl LinkList {
         requires going { AreGoing self.old }
         ensures answer { (rows : List LinkRow) (entries : ℕ → List LinkEntry) →
             LinksStandFor rows self.old entries → result
-            ≡ link_landed (sizes_by rows direction) (toward direction) (entries (direction / 2)) mask.now
+            ≡ link_landed (sizes_by rows direction) (toward direction) (entries (direction / 2))
+            mask.now
             (slice_get (line (sizes_by rows direction).profile (toward direction)
             (entries (direction / 2))) 0) }
         ensures stand { (rows : List LinkRow) (entries : ℕ → List LinkEntry) →
@@ -153,6 +165,26 @@ impl LinkList {
             ≡ tokens (sizes_by rows direction) (toward direction) (entries (direction / 2)) }
     {
         self.links[usize::from(direction / 2)].tokens(toward_of(direction))
+    }
+
+    /// The five numbers of the tokens of a direction; zeros where there is no such direction.
+    pub fn row(&self, direction: u8) -> TokenRow
+        ensures { result ≡ tokens_at self.now direction }
+    {
+        match self.links.get(usize::from(direction / 2)) {
+            Some(link) => link.tokens(toward_of(direction)),
+            None => NO_TOKENS,
+        }
+    }
+
+    /// What the receiver of a direction waits for.
+    pub fn mode(&self, direction: u8) -> Mode
+        requires { IsDirection self.now direction }
+        ensures { (rows : List LinkRow) (entries : ℕ → List LinkEntry) →
+            LinksStandFor rows self.now entries → result
+            ≡ mode (receiver_entries (toward direction) (entries (direction / 2))) }
+    {
+        self.links[usize::from(direction / 2)].mode(toward_of(direction))
     }
 
     /// Whether no link holds a packet, and each packet that was begun was accepted.

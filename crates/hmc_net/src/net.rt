@@ -7,8 +7,8 @@ ghost use Rattle.hmc_journal.specs.Drained.{is_drained};
 ghost use Rattle.hmc_journal.specs.Lawful.{has_passed};
 ghost use Rattle.hmc_journal.specs.Next.{next};
 ghost use Rattle.hmc_journal.specs.Setup.{Setup, setup_of};
-ghost use Rattle.hmc_net.specs.Journaled.{NetStandsFor, IsNetNext};
-ghost use Rattle.hmc_net.specs.NetState.{cube_in, host_in};
+ghost use Rattle.hmc_net.specs.Journaled.{journaled_of, NetStandsFor, IsNetNext};
+ghost use Rattle.hmc_net.specs.NetState.{net_of, cube_in, host_in};
 ghost use Rattle.hmc_net.specs.Went.{went_of};
 
 use crate::{Network, Went};
@@ -17,34 +17,38 @@ use hmc_codes::{Memory, TokenRow};
 use hmc_cube::Cube;
 use hmc_journal::{Cause, Entry, Journal};
 use hmc_schedule::Step;
+use hmc_units::Workbench;
 use std::alloc::Global;
 use std::marker::Model;
+
+mod finished;
 
 /// A network and the journal of its steps, for those who read the entries afterwards. Where each
 /// entry is used as it comes, a [`Network`] takes memory for one of them alone.
 #[derive(Drop)]
-pub struct Net {
-    network: Network,
+pub struct Net<B: Workbench> {
+    network: Network<B>,
     journal: Journal,
 }
 
-impl Model for Net {
-    ghost use Rattle.hmc_net.specs.Journaled.{JournaledNet};
+impl<B: Workbench> Model for Net<B> {
+    ghost use Rattle.hmc_net.specs.Journaled.{JournaledParts};
 
-    ghost Value = { JournaledNet };
+    ghost Value = { JournaledParts B };
 
     ghost view = { λ n. record { network = n.network; journal = n.journal } };
 }
 
-impl Net {
+impl<B: Workbench> Net<B> {
     /// The network of a case, in which nothing happened yet. All memory that its steps will need is
     /// reserved. `Memory` if out of memory.
-    pub fn build(alloc: Global, case: &Case) -> Result<Self, Memory>
-        ensures stands { IfOk result (λ net. NetStandsFor net (setup_of case.now)) }
+    pub fn build(alloc: Global, case: &Case, bench: B) -> Result<Self, Memory>
+        ensures stands { IfOk result (λ net. NetStandsFor (journaled_of B.slots net)
+            (setup_of case.now (B.slots bench))) }
         ensures nothing { IfOk result (λ net. net.journal.past ≡ []) }
     {
         let journal = Journal::new(alloc, case.schedule().len())?;
-        let network = Network::build(alloc, case)?;
+        let network = Network::build(alloc, case, bench)?;
         Ok(Net { network, journal })
     }
 
@@ -53,21 +57,23 @@ impl Net {
     ///
     /// The network stands for some case whose next step this is, and no landing passed.
     pub fn step(&mut self, step: &Step) -> Went
-        requires { (setup : Setup) × IsNetNext self.old setup step.now }
+        requires { (setup : Setup) × IsNetNext (journaled_of B.slots self.old) setup step.now }
 
         // The network still stands for the case, with one more entry: the one that the journal's
         // definition gives.
-        ensures stands { (setup : Setup) → IsNetNext self.old setup step.now →
-            NetStandsFor self.new setup }
-        ensures past { (setup : Setup) → IsNetNext self.old setup step.now →
+        ensures stands { (setup : Setup) →
+            IsNetNext (journaled_of B.slots self.old) setup step.now →
+            NetStandsFor (journaled_of B.slots self.new) setup }
+        ensures past { (setup : Setup) → IsNetNext (journaled_of B.slots self.old) setup step.now →
             self.new.journal.past ≡ next setup self.old.journal.past step.now ∷
             self.old.journal.past }
 
         // Idle or passed exactly where the entry is; an idle step changes nothing else.
-        ensures went { (setup : Setup) → IsNetNext self.old setup step.now →
+        ensures went { (setup : Setup) → IsNetNext (journaled_of B.slots self.old) setup step.now →
             result ≡ went_of (next setup self.old.journal.past step.now) }
         ensures idle { (cause : Cause) → result ≡ Went.Idle cause →
-            self.new.network ≡ record self.old.network { last = self.new.network.last } }
+            net_of B.slots self.new.network
+            ≡ record (net_of B.slots self.old.network) { last = self.new.network.last } }
     {
         let went = self.network.step(step);
         self.journal.note(self.network.last().entry());
@@ -76,18 +82,18 @@ impl Net {
 
     /// Whether nothing is on its way. After a landing that passed this says nothing.
     pub fn drained(&self) -> bool
-        ensures { (setup : Setup) → NetStandsFor self.now setup →
+        ensures { (setup : Setup) → NetStandsFor (journaled_of B.slots self.now) setup →
             has_passed self.now.journal.past ≡ false →
             result ≡ is_drained setup.topology self.now.journal.past }
     {
         self.network.drained()
     }
 
-    /// The five numbers of the tokens of a direction: link i has the directions 2i and 2i + 1. After
-    /// a landing that passed they say nothing.
+    /// The five numbers of the tokens of a direction: link i has the directions 2i and 2i + 1.
+    /// After a landing that passed they say nothing.
     pub fn tokens(&self, direction: u8) -> TokenRow
         requires { direction < 2 * length self.now.network.links }
-        ensures { (setup : Setup) → NetStandsFor self.now setup →
+        ensures { (setup : Setup) → NetStandsFor (journaled_of B.slots self.now) setup →
             has_passed self.now.journal.past ≡ false →
             result ≡ token_counts setup.topology self.now.journal.past direction }
     {
@@ -110,7 +116,8 @@ impl Net {
         self.network.cube(number)
     }
 
-    /// How many tags of the host with this number, from 0, are out. The final line of a host has it.
+    /// How many tags of the host with this number, from 0, are out. The final line of a host has
+    /// it.
     pub fn tags_out(&self, number: u8) -> u16
         requires { number < length self.now.network.hosts }
         ensures { result ≡ number_out (host_in self.now.network.hosts number).tags }

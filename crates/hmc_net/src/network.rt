@@ -11,7 +11,7 @@ ghost use Rattle.hmc_journal.specs.Lawful.{has_passed};
 ghost use Rattle.hmc_journal.specs.Next.{next};
 ghost use Rattle.hmc_journal.specs.Setup.{Setup, setup_of, hosts_in};
 ghost use Rattle.hmc_net.specs.Apply.{DoesStep};
-ghost use Rattle.hmc_net.specs.NetState.{cube_in, host_in};
+ghost use Rattle.hmc_net.specs.NetState.{net_of, cube_in, host_in};
 ghost use Rattle.hmc_net.specs.Opening.{IsOpening};
 ghost use Rattle.hmc_net.specs.Quiescent.{IsQuiescent, IsEmptyCube};
 ghost use Rattle.hmc_net.specs.Ready.{IsStepFor};
@@ -22,6 +22,7 @@ ghost use Rattle.hmc_net.specs.Wiring.{IsLaidOut};
 
 use crate::Went;
 use crate::link_list::LinkList;
+use crate::tally::Tally;
 use crate::went::went_of;
 use crate::wiring::Wiring;
 use hmc_case::{Case, CubeSetup, LinkRow};
@@ -31,55 +32,66 @@ use hmc_host::Host;
 use hmc_journal::{Cause, LastEntry};
 use hmc_schedule::Step;
 use hmc_script::Script;
+use hmc_units::Workbench;
 use std::alloc::Global;
 use std::marker::Model;
 
+mod counting;
 mod cubes;
+mod finished;
 mod hosts;
 mod links;
 mod opening;
 mod ports;
+mod units;
 
-use opening::{new_cubes, new_hosts};
+use opening::{new_cubes, new_hosts, new_tally};
 
 /// A network of 1 to 8 cubes, 1 to 32 links and 1 to 8 hosts, and the entry of its latest step.
 #[derive(Drop)]
-pub struct Network {
+pub struct Network<B: Workbench> {
     wiring: Wiring,
     cubes: Vec<Cube>,
     hosts: Vec<Host>,
+    bench: B,
     links: LinkList,
+    tally: Tally,
     last: LastEntry,
 }
 
-impl Model for Network {
-    ghost use Rattle.hmc_net.specs.NetState.{NetState};
+impl<B: Workbench> Model for Network<B> {
+    ghost use Rattle.hmc_net.specs.NetState.{NetParts};
 
-    ghost Value = { NetState };
+    ghost Value = { NetParts B };
 
     ghost view = { λ n. record {
       topology = n.wiring;
       cubes = n.cubes.items;
       hosts = n.hosts.items;
+      bench = n.bench;
       links = n.links;
+      tally = n.tally;
       last = n.last;
     } };
 }
 
-impl Network {
+impl<B: Workbench> Network<B> {
     /// The network of a case, in which nothing happened yet. All memory that its steps will need is
     /// reserved. `Memory` if out of memory.
-    pub fn build(alloc: Global, case: &Case) -> Result<Self, Memory>
-        ensures { IfOk result (λ network. StandsFor network (setup_of case.now) []) }
+    pub fn build(alloc: Global, case: &Case, bench: B) -> Result<Self, Memory>
+        ensures { IfOk result (λ network. StandsFor (net_of B.slots network)
+            (setup_of case.now (B.slots bench)) []) }
     {
         case.invariant();
         case.script().invariant();
+        let _ = case.schedule().len();
         Self::opening(
             alloc,
             case.cubes(),
             case.links(),
             case.hosts(),
             case.script(),
+            bench,
         )
     }
 
@@ -90,14 +102,16 @@ impl Network {
         links: &[LinkRow],
         hosts: u8,
         script: &Script,
+        bench: B,
     ) -> Result<Self, Memory>
         requires laid_out { IsLaidOut (record { cubes = cubes.now; links = links.now }) }
         requires hosts { hosts ≡ hosts_in (record { cubes = cubes.now; links = links.now }) }
         requires few { hosts ≤ most_hosts }
-        ensures { IfOk result (λ network. IsOpening network
-            (record { cubes = cubes.now; links = links.now }) script.now) }
+        ensures { IfOk result (λ network. IsOpening (net_of B.slots network)
+            (record { cubes = cubes.now; links = links.now }) (B.slots bench) script.now) }
     {
         let wiring = Wiring::build(alloc, cubes, links)?;
+        let tally = new_tally(alloc, cubes, links, hosts)?;
         let cubes = new_cubes(alloc, cubes)?;
         let hosts = new_hosts(alloc, hosts, script)?;
         let links = LinkList::build(alloc, links)?;
@@ -105,7 +119,9 @@ impl Network {
             wiring,
             cubes,
             hosts,
+            bench,
             links,
+            tally,
             last: LastEntry::new(),
         })
     }
@@ -116,30 +132,36 @@ impl Network {
     /// The network stands for some case and the entries of its steps, this is the case's next step,
     /// and no landing passed.
     pub fn step(&mut self, step: &Step) -> Went
-        requires { (setup : Setup) × (past : List Entry) × IsNext self.old setup past step.now }
+        requires { (setup : Setup) × (past : List Entry) ×
+            IsNext (net_of B.slots self.old) setup past step.now }
 
         // The network still stands for the case, with one more entry: the one that the journal's
         // definition gives. The last entry is that one.
-        ensures stands { (setup : Setup) (past : List Entry) → IsNext self.old setup past step.now →
-            StandsFor self.new setup (next setup past step.now ∷ past) }
-        ensures last { (setup : Setup) (past : List Entry) → IsNext self.old setup past step.now →
+        ensures stands { (setup : Setup) (past : List Entry) →
+            IsNext (net_of B.slots self.old) setup past step.now →
+            StandsFor (net_of B.slots self.new) setup (next setup past step.now ∷ past) }
+        ensures last { (setup : Setup) (past : List Entry) →
+            IsNext (net_of B.slots self.old) setup past step.now →
             self.new.last ≡ next setup past step.now }
 
         // Idle or passed exactly where the entry is; an idle step changes nothing else.
-        ensures went { (setup : Setup) (past : List Entry) → IsNext self.old setup past step.now →
+        ensures went { (setup : Setup) (past : List Entry) →
+            IsNext (net_of B.slots self.old) setup past step.now →
             result ≡ went_of (next setup past step.now) }
         ensures idle { (cause : Cause) → result ≡ Went.Idle cause →
-            self.new ≡ record self.old { last = self.new.last } }
+            net_of B.slots self.new ≡ record (net_of B.slots self.old) { last = self.new.last } }
     {
+        let was_good = self.unlocks_good(step);
         self.act(step);
+        self.count(step, was_good);
         went_of(&self.last)
     }
 
     // What the step does.
     fn act(&mut self, step: &Step)
         requires there { IsStepFor self.old.topology step.now }
-        requires ready { IsReady self.old }
-        ensures { DoesStep self.old self.new step.now }
+        requires ready { IsReady (net_of B.slots self.old) }
+        ensures { DoesStep (net_of B.slots self.old) (net_of B.slots self.new) step.now }
     {
         match step {
             Step::Give(host) => self.give(*host),
@@ -153,7 +175,7 @@ impl Network {
             Step::Take(host) => self.take(*host),
             Step::Unlock(direction) => self.unlock(*direction),
             Step::Through(..) => self.last.idle(step, Cause::Empty),
-            Step::Retire(_) => self.last.idle(step, Cause::Empty),
+            Step::Retire(slot) => self.retire(*slot),
         }
     }
 
@@ -166,7 +188,8 @@ impl Network {
 
     /// Whether nothing is on its way. After a landing that passed this says nothing.
     pub fn drained(&self) -> bool
-        ensures { (setup : Setup) (past : List Entry) → StandsFor self.now setup past →
+        ensures { (setup : Setup) (past : List Entry) →
+            StandsFor (net_of B.slots self.now) setup past →
             has_passed past ≡ false → result ≡ is_drained setup.topology past }
     {
         self.is_quiescent()
@@ -174,18 +197,19 @@ impl Network {
 
     // Whether no part holds a packet.
     fn is_quiescent(&self) -> bool
-        ensures { IsTrue result ↔ IsQuiescent self.now }
+        ensures { IsTrue result ↔ IsQuiescent (net_of B.slots self.now) }
     {
         let links = self.links.are_quiet();
         let cubes = are_empty(&self.cubes);
         links && cubes
     }
 
-    /// The five numbers of the tokens of a direction: link i has the directions 2i and 2i + 1. After
-    /// a landing that passed they say nothing.
+    /// The five numbers of the tokens of a direction: link i has the directions 2i and 2i + 1.
+    /// After a landing that passed they say nothing.
     pub fn tokens(&self, direction: u8) -> TokenRow
         requires { direction < 2 * length self.now.links }
-        ensures { (setup : Setup) (past : List Entry) → StandsFor self.now setup past →
+        ensures { (setup : Setup) (past : List Entry) →
+            StandsFor (net_of B.slots self.now) setup past →
             has_passed past ≡ false → result ≡ token_counts setup.topology past direction }
     {
         self.links.tokens(direction)
@@ -199,7 +223,8 @@ impl Network {
         &self.cubes[usize::from(number)]
     }
 
-    /// How many tags of the host with this number, from 0, are out. The final line of a host has it.
+    /// How many tags of the host with this number, from 0, are out. The final line of a host has
+    /// it.
     pub fn tags_out(&self, number: u8) -> u16
         requires { number < length self.now.hosts }
         ensures { result ≡ number_out (host_in self.now.hosts number).tags }

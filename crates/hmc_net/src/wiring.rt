@@ -41,7 +41,8 @@ impl Model for Wiring {
     ghost view = { λ w. record { cubes = w.cubes.items; links = w.links.items } };
 
     ghost invariant = { λ w.
-        IsWiring (record { cubes = w.cubes.items; links = w.links.items }) w.hosts w.ports w.routes };
+        IsWiring (record { cubes = w.cubes.items; links = w.links.items })
+        w.hosts w.ports w.routes };
 }
 
 impl Wiring {

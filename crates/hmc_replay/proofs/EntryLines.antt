@@ -5,7 +5,7 @@ use Rattle.std.specs.Fmt.{decimal}
 use Rattle.hex.specs.Hex.{encode_lower}
 use Rattle.hmc_codes.specs.Text.{spaced_words, request_text, answer_text}
 use Rattle.hmc_journal.specs.declared.entry.Entry.{Entry}
-use Rattle.hmc_journal.specs.declared.entry.Entry.TheVariants.{Gave, Sent, Landed, Shifted, Dropped, Spread, Executed, Lifted, Took, Discarded, Unlocked, Passed, Idle}
+use Rattle.hmc_journal.specs.declared.entry.Entry.TheVariants.{Gave, Sent, Landed, Shifted, Dropped, Spread, Executed, Lifted, Took, Discarded, Through, Unlocked, Retired, Passed, Idle}
 use Rattle.hmc_journal.specs.Lines.{line_of, tag_text, request_words, unit_text, what_text, outcome_text, goal_text, lift_text, cause_text, step_words}
 use Rattle.hmc_report.proofs.SomeLemmas.{line-some}
 
@@ -21,6 +21,8 @@ line_of-some (Executed unit host tag request answer) = line-some (codes "execute
 line_of-some (Lifted cube from port) = line-some (codes "lifted" ∷ decimal cube ∷ lift_text from ∷ (codes "p" ++ decimal port) ∷ [])
 line_of-some (Took host tag answer) = line-some (codes "took" ∷ decimal host ∷ decimal tag ∷ answer_text answer ∷ [])
 line_of-some (Discarded host) = line-some (codes "discarded" ∷ decimal host ∷ [])
+line_of-some (Through cube port direction) = line-some (codes "through" ∷ decimal cube ∷ decimal port ∷ decimal direction ∷ [])
 line_of-some (Unlocked direction) = line-some (codes "unlocked" ∷ decimal direction ∷ [])
+line_of-some (Retired slot) = line-some (codes "retired" ∷ decimal slot ∷ [])
 line_of-some (Passed direction flit) = line-some (codes "passed" ∷ decimal direction ∷ encode_lower flit ∷ [])
 line_of-some (Idle step cause) = line-some (codes "idle" ∷ spaced_words (step_words step) ∷ cause_text cause ∷ [])

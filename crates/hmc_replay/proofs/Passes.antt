@@ -1,13 +1,12 @@
 -- A landing that passes is the last entry of its journal.
 use Rattle.std.proofs.Common.{◌≡◌, ◌∙◌, ◌||◌, Bool, true, false, List, [], ◌∷◌, refl, ap}
 use Rattle.std.specs.List.{list_any}
-use Rattle.hmc_case.specs.Case.{CaseFields}
 use Rattle.hmc_journal.specs.declared.entry.Entry.{Entry}
 use Rattle.hmc_journal.specs.Event.{is_passed}
 use Rattle.hmc_journal.specs.Lawful.{has_passed, Lawful, journal_of}
-use Rattle.hmc_journal.specs.Setup.{Setup, setup_of}
+use Rattle.hmc_journal.specs.Setup.{Setup}
 use Rattle.hmc_journal.proofs.Whole.{journal_is_whole}
-use Rattle.hmc_replay.specs.Top.{passes}
+use Rattle.hmc_replay.specs.Report.{passes}
 
 or_false : (b : Bool) → (b || false) ≡ b
 or_false true = refl
@@ -20,5 +19,5 @@ passed_is_last setup (entry ∷ past) lawful =
     let none : list_any is_passed past ≡ false = passed_is_last setup past lawful.2 ∙ lawful.0 in
     ap (λ (b : Bool). is_passed entry || b) none ∙ or_false (is_passed entry)
 
-pub passes_is : (case : CaseFields) → passes case ≡ has_passed (journal_of (setup_of case))
-passes_is case = passed_is_last (setup_of case) (journal_of (setup_of case)) (journal_is_whole (setup_of case)).lawful
+pub passes_is : (setup : Setup) → passes setup ≡ has_passed (journal_of setup)
+passes_is setup = passed_is_last setup (journal_of setup) (journal_is_whole setup).lawful

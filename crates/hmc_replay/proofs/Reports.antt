@@ -1,47 +1,131 @@
 -- The report of a case, from the network after the case's steps.
-use Rattle.std.specs.Prelude.{is_none}
-use Rattle.std.proofs.Common.{◌≡◌, ◌∙◌, ℕ, Bool, true, false, Option, Some, IfSome, List, [], ◌∷◌, ◌++◌, refl, sym, ap, subst, append-nil}
-use Rattle.hmc_case.specs.Case.{CaseFields}
+use Rattle.std.proofs.Common.{◌≡◌, ◌∙◌, ℕ, Bool, true, false, List, [], ◌∷◌, ◌++◌, Result, Ok, Err, IsErrAnd, refl, sym, ap, subst, append-nil, append_assoc}
 use Rattle.hmc_journal.specs.declared.entry.Entry.{Entry}
 use Rattle.hmc_journal.specs.declared.entry.Entry.TheVariants.{Passed}
 use Rattle.hmc_journal.specs.Final.{final_lines_of}
-use Rattle.hmc_journal.specs.Guarantees.{Guarantees}
 use Rattle.hmc_journal.specs.Lawful.{has_passed, journal_of}
 use Rattle.hmc_journal.specs.Lines.{line_of}
-use Rattle.hmc_journal.specs.Setup.{setup_of}
+use Rattle.hmc_journal.specs.Setup.{Setup}
 use Rattle.hmc_journal.specs.Text.{lines_of}
-use Rattle.hmc_outside.specs.Finish.{HandsOn}
+use Rattle.hmc_net.specs.Finished.{net_values}
+use Rattle.hmc_net.specs.NetState.{NetState}
+use Rattle.hmc_net.proofs.FinalStands.{final_lines-stands, ending_lines-stands}
+use Rattle.hmc_outside.specs.Finish.{HandsOn, FailsToHandOn}
+use Rattle.hmc_outside.specs.Lines.{WritesLines, BreaksOff}
 use Rattle.hmc_outside.specs.Views.{SinkView}
-use Rattle.hmc_replay.specs.Counting.{counts_of}
-use Rattle.hmc_replay.specs.declared.counts.StepCounts.{StepCounts}
-use Rattle.hmc_replay.specs.Top.{passes, lines_unless, report_of, EndsAtPass}
+use Rattle.hmc_outside.specs.declared.counts.Failed.{Failed}
+use Rattle.hmc_outside.proofs.LinesLemmas.{WritesLines-none, WritesLines-after, BreaksOff-after, BreaksOff-more}
+use Rattle.hmc_report.specs.Final.{final_lines, ending_lines}
+use Rattle.hmc_replay.specs.Output.{WritesReport, DeliversReport}
+use Rattle.hmc_replay.specs.Report.{passes, lines_unless, report_of, last_line, short_lines, short_report_of}
+use Rattle.hmc_replay.specs.Runs.{IsWritten}
+use Rattle.hmc_replay.specs.Steps.{TookAll}
+use Rattle.hmc_replay.specs.Top.{IsMade, IsMadeAtPass, EndsAtPass}
+use Rattle.hmc_replay.specs.declared.extent.Extent.TheVariants.{Whole, Short}
 use Rattle.hmc_replay.proofs.Passes.{passes_is}
 
--- the report by whether a landing passed
-report_by : (case : CaseFields) (passed : Bool) → passes case ≡ passed → lines_of (journal_of (setup_of case)) ++ lines_unless passed (final_lines_of (setup_of case).topology (journal_of (setup_of case))) ≡ report_of case
+-- ---- lines that are made one after another
+
+-- before the first
+pub lines-start : (all left : List (List ℕ)) (a : SinkView) → left ≡ all → (whole : List (List ℕ)) × (all ≡ whole ++ left) × WritesLines a a whole
+lines-start all left a is = ([], sym is, WritesLines-none a)
+
+-- one more was written
+pub lines-one : (a b c : SinkView) (all whole left left' : List (List ℕ)) (line : List ℕ) → all ≡ whole ++ left → left ≡ line ∷ left' → WritesLines a b whole → WritesLines b c (line ∷ [])
+    → (whole' : List (List ℕ)) × (all ≡ whole' ++ left') × WritesLines a c whole'
+lines-one a b c all whole left left' line parts next before here =
+    (whole ++ line ∷ [], parts ∙ ap (λ l. whole ++ l) next ∙ sym (append_assoc whole (line ∷ []) left'), WritesLines-after a b c whole (line ∷ []) before here)
+
+-- one broke off
+pub lines-broken : (a b c : SinkView) (all whole left left' : List (List ℕ)) (line : List ℕ) → all ≡ whole ++ left → left ≡ line ∷ left' → WritesLines a b whole → BreaksOff b c (line ∷ []) → BreaksOff a c all
+lines-broken a b c all whole left left' line parts next before here =
+    subst (BreaksOff a c) (append_assoc whole (line ∷ []) left' ∙ ap (λ l. whole ++ l) (sym next) ∙ sym parts) (BreaksOff-more a c (whole ++ line ∷ []) left' (BreaksOff-after a b c whole (line ∷ []) before here))
+
+-- none is left
+pub lines-all : (a b : SinkView) (all whole left : List (List ℕ)) → all ≡ whole ++ left → left ≡ [] → WritesLines a b whole → WritesLines a b all
+lines-all a b all whole left parts none written = subst (WritesLines a b) (sym (parts ∙ ap (λ l. whole ++ l) none ∙ append-nil whole)) written
+
+-- ---- the whole report
+
+-- by whether a landing passed
+report_by : (setup : Setup) (passed : Bool) → passes setup ≡ passed → lines_of (journal_of setup) ++ lines_unless passed (final_lines_of setup (journal_of setup)) ≡ report_of setup
 unfolding report_of
-report_by case passed is =
-    ap (λ (p : Bool). lines_of (journal_of (setup_of case)) ++ lines_unless p (final_lines_of (setup_of case).topology (journal_of (setup_of case)))) (sym is)
+report_by setup passed is = ap (λ (p : Bool). lines_of (journal_of setup) ++ lines_unless p (final_lines_of setup (journal_of setup))) (sym is)
 
--- where none passed, the lines of the journal, and the final lines, are the report
-pub report_is : (case : CaseFields) → passes case ≡ false → lines_of (journal_of (setup_of case)) ++ final_lines_of (setup_of case).topology (journal_of (setup_of case)) ≡ report_of case
-report_is case no_pass = report_by case false no_pass
+-- where none passed, the final lines are those of the network
+net_lines : (net : NetState) (setup : Setup) → TookAll net setup false → final_lines (net_values net) ≡ final_lines_of setup (journal_of setup)
+net_lines net setup took = final_lines-stands net setup (journal_of setup) took.stands (sym (passes_is setup) ∙ sym took.passed_is)
 
--- what was counted where none passed
-pub none_passes : (case : CaseFields) (taken : Option StepCounts) (counts : StepCounts) → taken ≡ Some counts → is_none taken ≡ passes case → passes case ≡ false
-none_passes case taken counts taken_is passed_is = sym passed_is ∙ ap is_none taken_is
-
-pub counted_is : (past : List Entry) (taken : Option StepCounts) (counts : StepCounts) → taken ≡ Some counts → IfSome taken (λ k. k ≡ counts_of past) → counts ≡ counts_of past
-counted_is past taken counts taken_is counted = subst (λ (o : Option StepCounts). IfSome o (λ k. k ≡ counts_of past)) taken_is counted
+report_is : (net : NetState) (setup : Setup) → TookAll net setup false → lines_of (journal_of setup) ++ final_lines (net_values net) ≡ report_of setup
+report_is net setup took = ap (λ l. lines_of (journal_of setup) ++ l) (net_lines net setup took) ∙ report_by setup false (sym took.passed_is)
 
 -- where one passed, the lines of the journal are the report
-pub report_passed : (case : CaseFields) → passes case ≡ true → lines_of (journal_of (setup_of case)) ≡ report_of case
-report_passed case passed = sym (append-nil (lines_of (journal_of (setup_of case)))) ∙ report_by case true passed
+pub report_passed : (setup : Setup) → passes setup ≡ true → lines_of (journal_of setup) ≡ report_of setup
+report_passed setup passed = sym (append-nil (lines_of (journal_of setup))) ∙ report_by setup true passed
 
 -- the report begins with the lines of the journal
-pub report_starts : (case : CaseFields) → (rest : List (List ℕ)) × (report_of case ≡ lines_of (journal_of (setup_of case)) ++ rest)
+report_starts : (setup : Setup) → (rest : List (List ℕ)) × (lines_of (journal_of setup) ++ rest ≡ report_of setup)
 unfolding report_of
-report_starts case = (lines_unless (passes case) (final_lines_of (setup_of case).topology (journal_of (setup_of case))), refl)
+report_starts setup = (lines_unless (passes setup) (final_lines_of setup (journal_of setup)), refl)
+
+pub whole-broken : (setup : Setup) (a b : SinkView) → BreaksOff a b (lines_of (journal_of setup)) → BreaksOff a b (report_of setup)
+whole-broken setup a b broken = let starts = report_starts setup in subst (BreaksOff a b) starts.1 (BreaksOff-more a b (lines_of (journal_of setup)) starts.0 broken)
+
+pub whole-passed : (net : NetState) (setup : Setup) (passed : Bool) (a b : SinkView) → passed ≡ true → TookAll net setup passed → WritesLines a b (lines_of (journal_of setup)) → WritesLines a b (report_of setup) × (passed ≡ passes setup)
+whole-passed net setup passed a b is took written = (subst (WritesLines a b) (report_passed setup (sym took.passed_is ∙ is)) written, took.passed_is)
+
+pub whole-written : (net : NetState) (setup : Setup) (passed : Bool) (a b c : SinkView) → passed ≡ false → TookAll net setup passed → WritesLines a b (lines_of (journal_of setup)) → WritesLines b c (final_lines (net_values net))
+    → WritesLines a c (report_of setup) × (passed ≡ passes setup)
+whole-written net setup passed a b c is took first rest =
+    let took' = subst (TookAll net setup) is took in
+    (subst (WritesLines a c) (report_is net setup took') (WritesLines-after a b c (lines_of (journal_of setup)) (final_lines (net_values net)) first rest), took.passed_is)
+
+pub whole-broken_late : (net : NetState) (setup : Setup) (passed : Bool) (a b c : SinkView) → passed ≡ false → TookAll net setup passed → WritesLines a b (lines_of (journal_of setup)) → BreaksOff b c (final_lines (net_values net))
+    → BreaksOff a c (report_of setup)
+whole-broken_late net setup passed a b c is took first rest =
+    let took' = subst (TookAll net setup) is took in
+    subst (BreaksOff a c) (report_is net setup took') (BreaksOff-after a b c (lines_of (journal_of setup)) (final_lines (net_values net)) first rest)
+
+-- ---- the short report
+
+short_by : (setup : Setup) (passed : Bool) → passes setup ≡ passed → short_lines passed setup (journal_of setup) ≡ short_report_of setup
+unfolding short_report_of
+short_by setup passed is = ap (λ (p : Bool). short_lines p setup (journal_of setup)) (sym is)
+
+-- where a landing passed, its line
+short_line : (net : NetState) (setup : Setup) (passed : Bool) (entry : Entry) → passed ≡ true → TookAll net setup passed → entry ≡ net.last → line_of entry ∷ [] ≡ short_report_of setup
+short_line net setup passed entry is took entry_is =
+    let last = took.last is in
+    ap (λ (e : Entry). line_of e ∷ []) entry_is ∙ sym (ap last_line last.1) ∙ short_by setup true (sym took.passed_is ∙ is)
+
+pub short-passed : (net : NetState) (setup : Setup) (passed : Bool) (entry : Entry) (a b : SinkView) → passed ≡ true → TookAll net setup passed → entry ≡ net.last → WritesLines a b (line_of entry ∷ []) → WritesLines a b (short_report_of setup) × (passed ≡ passes setup)
+short-passed net setup passed entry a b is took entry_is written = (subst (WritesLines a b) (short_line net setup passed entry is took entry_is) written, took.passed_is)
+
+pub short-broken : (net : NetState) (setup : Setup) (passed : Bool) (entry : Entry) (a b : SinkView) → passed ≡ true → TookAll net setup passed → entry ≡ net.last → BreaksOff a b (line_of entry ∷ []) → BreaksOff a b (short_report_of setup)
+short-broken net setup passed entry a b is took entry_is broken = subst (BreaksOff a b) (short_line net setup passed entry is took entry_is) broken
+
+-- else the final lines from those of tokens on
+short_ending : (net : NetState) (setup : Setup) (passed : Bool) → passed ≡ false → TookAll net setup passed → ending_lines (net_values net) ≡ short_report_of setup
+short_ending net setup passed is took =
+    ending_lines-stands net setup (journal_of setup) took.stands (sym (passes_is setup) ∙ sym took.passed_is ∙ is) ∙ short_by setup false (sym took.passed_is ∙ is)
+
+pub short-written : (net : NetState) (setup : Setup) (passed : Bool) (a b : SinkView) → passed ≡ false → TookAll net setup passed → WritesLines a b (ending_lines (net_values net)) → WritesLines a b (short_report_of setup) × (passed ≡ passes setup)
+short-written net setup passed a b is took written = (subst (WritesLines a b) (short_ending net setup passed is took) written, took.passed_is)
+
+pub short-broken_late : (net : NetState) (setup : Setup) (passed : Bool) (a b : SinkView) → passed ≡ false → TookAll net setup passed → BreaksOff a b (ending_lines (net_values net)) → BreaksOff a b (short_report_of setup)
+short-broken_late net setup passed a b is took broken = subst (BreaksOff a b) (short_ending net setup passed is took) broken
+
+-- ---- an error that is forwarded as it is
+
+pub forwarded : (a b : SinkView) (lines : List (List ℕ)) (passes : Bool) (error : Failed) (result : Result Bool Failed) → IsErrAnd result (λ told. told ≡ error) → BreaksOff a b lines → WritesReport result lines passes a b
+forwarded a b lines passes error (Ok done) told broken = absurd told
+forwarded a b lines passes error (Err cause) told broken = broken
+
+pub not_delivered : (a b : SinkView) (lines : List (List ℕ)) (passes : Bool) (error : Failed) (result : Result Bool Failed) → IsErrAnd result (λ told. told ≡ error) → FailsToHandOn a b lines → DeliversReport result lines passes a b
+not_delivered a b lines passes error (Ok done) told failed = absurd told
+not_delivered a b lines passes error (Err cause) told failed = failed
+
+-- ---- a report that ended at a landing that passed
 
 -- a journal whose last entry is a landing that passed
 record IsPassing (journal : List Entry) : Type 0 where
@@ -59,26 +143,40 @@ lines-last : (entry : Entry) (before : List Entry) → lines_of (entry ∷ befor
 unfolding lines_of
 lines-last entry before = refl
 
--- a report that ended with its line
-pub passes_there : (case : CaseFields) (a b : SinkView) → EndsAtPass case a b → passes case ≡ true
-passes_there case a b at = passes_is case ∙ ap has_passed at.last
+pub passes_there : (setup : Setup) (a b : SinkView) → EndsAtPass setup a b → passes setup ≡ true
+passes_there setup a b at = passes_is setup ∙ ap has_passed at.last
 
-pub passed_lines : (case : CaseFields) (a b : SinkView) → EndsAtPass case a b → HandsOn a b (report_of case)
-passed_lines case a b at =
-    let lines : lines_of at.before ++ line_of (Passed at.direction at.flit) ∷ [] ≡ report_of case =
-    sym (ap lines_of at.last ∙ lines-last (Passed at.direction at.flit) at.before) ∙ report_passed case (passes_there case a b at) in
+pub passed_lines : (setup : Setup) (a b : SinkView) → EndsAtPass setup a b → HandsOn a b (report_of setup)
+passed_lines setup a b at =
+    let lines : lines_of at.before ++ line_of (Passed at.direction at.flit) ∷ [] ≡ report_of setup =
+    sym (ap lines_of at.last ∙ lines-last (Passed at.direction at.flit) at.before) ∙ report_passed setup (passes_there setup a b at) in
     subst (HandsOn a b) lines at.written
 
--- and one that was written for a case of which a landing passes
-pub ends_at_pass : (case : CaseFields) (a b : SinkView) → passes case ≡ true → HandsOn a b (report_of case) → Guarantees (setup_of case) (journal_of (setup_of case)) → EndsAtPass case a b
-ends_at_pass case a b passed written guarantees =
-    let last = passing (journal_of (setup_of case)) (sym (passes_is case) ∙ passed) in
-    let lines : report_of case ≡ lines_of last.before ++ line_of (Passed last.direction last.flit) ∷ [] =
-    sym (report_passed case passed) ∙ ap lines_of last.is ∙ lines-last (Passed last.direction last.flit) last.before in record {
+-- and one that was written where a landing passes
+pub ends_at_pass : (setup : Setup) (a b : SinkView) → passes setup ≡ true → IsWritten Whole setup a b → EndsAtPass setup a b
+ends_at_pass setup a b passed report =
+    let last = passing (journal_of setup) (sym (passes_is setup) ∙ passed) in
+    let lines : report_of setup ≡ lines_of last.before ++ line_of (Passed last.direction last.flit) ∷ [] =
+    sym (report_passed setup passed) ∙ ap lines_of last.is ∙ lines-last (Passed last.direction last.flit) last.before in record {
       direction = last.direction;
       flit = last.flit;
       before = last.before;
       last = last.is;
-      written = subst (HandsOn a b) lines written;
-      guarantees = guarantees;
+      written = subst (HandsOn a b) lines report.written;
+      guarantees = report.guarantees;
     }
+
+pub made_at_pass : (setup : Setup) (a b : SinkView) → passes setup ≡ true → IsWritten Short setup a b → IsMadeAtPass setup a b
+made_at_pass setup a b passed report =
+    let last = passing (journal_of setup) (sym (passes_is setup) ∙ passed) in record {
+      direction = last.direction;
+      flit = last.flit;
+      before = last.before;
+      last = last.is;
+      written = subst (HandsOn a b) (sym (short_by setup true passed) ∙ ap last_line last.is) report.written;
+      guarantees = report.guarantees;
+    }
+
+pub made_whole : (setup : Setup) (a b : SinkView) → passes setup ≡ false → IsWritten Short setup a b → IsMade setup a b
+made_whole setup a b on report =
+    record { no_pass = on; written = subst (HandsOn a b) (sym (short_by setup false on)) report.written; guarantees = report.guarantees }

@@ -1,7 +1,9 @@
 pub mod Causes
-pub mod Counting
 pub mod Input
 pub mod Output
 pub mod Report
 pub mod Runs
+pub mod Steps
 pub mod Top
+pub mod Units
+pub mod Words

@@ -1,36 +1,52 @@
--- The final lines, part by part: in each, the lines of the cubes or hosts with the numbers below one
--- that is given.
-use Rattle.std.specs.Prelude.{ℕ, List, map, flat_map}
-use Rattle.hmc_codes.specs.Numbers.{upto}
-use Rattle.hmc_codes.specs.declared.counts.HostCounts.{HostCounts}
-use Rattle.hmc_codes.specs.declared.counts.CubeCounts.{CubeCounts}
-use Rattle.hmc_cube.specs.Cube.{CubeFields}
-use Rattle.hmc_host.specs.Host.{HostFields}
-use Rattle.hmc_host.specs.Tags.{number_out}
-use Rattle.hmc_report.specs.Lines.{memory_lines, register_lines, host_line, cube_line}
-use Rattle.hmc_net.specs.NetState.{cube_in, host_in}
-use Rattle.hmc_replay.specs.Counting.{host_at, cube_at}
+-- The lines that are written for a case and its logic units.
+use Rattle.std.specs.Prelude.{ℕ, if◌then◌else◌, Bool, true, false, List, [], ◌∷◌, ◌++◌}
+use Rattle.std.specs.List.{list_any}
+use Rattle.hmc_journal.specs.declared.entry.Entry.{Entry}
+use Rattle.hmc_journal.specs.Event.{is_passed}
+use Rattle.hmc_journal.specs.Final.{values_of, final_lines_of}
+use Rattle.hmc_journal.specs.Lawful.{journal_of}
+use Rattle.hmc_journal.specs.Lines.{line_of}
+use Rattle.hmc_journal.specs.Setup.{Setup}
+use Rattle.hmc_journal.specs.Text.{lines_of}
+use Rattle.hmc_report.specs.Final.{ending_lines}
+use Rattle.hmc_replay.specs.declared.extent.Extent.{Extent}
+use Rattle.hmc_replay.specs.declared.extent.Extent.TheVariants.{Whole, Short}
 
--- the lines of memories
-abbrev pub all_memory_lines : List CubeFields → (below : ℕ) → List (List ℕ)
-all_memory_lines cubes below =
-    flat_map (λ cube. memory_lines cube (cube_in cubes cube).state.memory) (upto below)
+-- some step is a landing that passes
+abbrev pub passes : Setup → Bool
+passes setup = list_any is_passed (journal_of setup)
 
--- of registers
-abbrev pub all_register_lines : List CubeFields → (below : ℕ) → List (List ℕ)
-all_register_lines cubes below =
-    flat_map (λ cube. register_lines cube (cube_in cubes cube).state.registers) (upto below)
+-- lines, or none where a landing passed
+abbrev pub lines_unless : (passed : Bool) → List (List ℕ) → List (List ℕ)
+lines_unless true lines = []
+lines_unless false lines = lines
 
--- what was counted of a host, with its tags that are out
-abbrev pub with_tags : List HostFields → List HostCounts → (host : ℕ) → HostCounts
-with_tags hosts counts host =
-    record (host_at counts host) { out = number_out (host_in hosts host).tags }
+-- the whole report: the lines of the journal, and the final lines; after a landing that passed
+-- there are no final lines
+unfoldable pub report_of : Setup → List (List ℕ)
+report_of setup =
+    lines_of (journal_of setup) ++
+    lines_unless (passes setup) (final_lines_of setup (journal_of setup))
 
--- of hosts
-abbrev pub host_lines : List HostFields → List HostCounts → (below : ℕ) → List (List ℕ)
-host_lines hosts counts below =
-    map (λ host. host_line host (with_tags hosts counts host)) (upto below)
+-- the line of the last entry, if there is one
+abbrev pub last_line : List Entry → List (List ℕ)
+last_line [] = []
+last_line (entry ∷ past) = line_of entry ∷ []
 
--- and of cubes
-abbrev pub cube_lines : List CubeCounts → (below : ℕ) → List (List ℕ)
-cube_lines counts below = map (λ cube. cube_line cube (cube_at counts cube)) (upto below)
+-- the final lines from those of tokens on; where a landing passed, its line alone
+abbrev pub short_lines : (passed : Bool) → Setup → List Entry → List (List ℕ)
+short_lines true setup journal = last_line journal
+short_lines false setup journal = ending_lines (values_of setup journal)
+
+-- the short report
+unfoldable pub short_report_of : Setup → List (List ℕ)
+short_report_of setup = short_lines (passes setup) setup (journal_of setup)
+
+-- one or the other
+abbrev pub lines_in : Extent → Setup → List (List ℕ)
+lines_in Whole setup = report_of setup
+lines_in Short setup = short_report_of setup
+
+-- the status with which either ends
+abbrev pub report_status : Setup → ℕ
+report_status setup = if passes setup then 7 else 0

@@ -1,14 +1,13 @@
 //! The top call `replay`: from words and input to a report and a status.
 //!
 //! Its contract is `Replayed` (specs/Top), a field a promise. The report of a case is `report_of`
-//! there: the lines of the case's one journal, and those of what the journal leaves and counts.
-//! What that journal guarantees is said in hmc_journal.
+//! (specs/Report): the lines of the case's one journal, and those of what the journal leaves and
+//! counts. What that journal guarantees is said in hmc_journal.
 #![tactic(auto)]
 
-mod counts;
-mod finals;
+mod extent;
+mod form;
 mod input;
-mod lines;
 mod output;
 mod report;
 mod run;

@@ -1,53 +1,115 @@
-//! The report of a run: the lines of its steps, and the final lines. A landing that passes ends it.
+//! The report of a case, in which nothing happened yet: whole or short.
 
-ghost use Rattle.std.specs.Prelude.{◌≡◌, [], IfOk, OnOk};
-ghost use Rattle.hmc_journal.specs.Lawful.{journal_of};
-ghost use Rattle.hmc_journal.specs.Setup.{setup_of};
+ghost use Rattle.std.specs.Prelude.{[], OnOk};
 ghost use Rattle.hmc_journal.specs.Guarantees.{Guarantees};
-ghost use Rattle.hmc_net.specs.Stands.{StandsFor};
-ghost use Rattle.hmc_replay.specs.Output.{Writes, Delivers};
-ghost use Rattle.hmc_replay.specs.Top.{passes, report_of};
+ghost use Rattle.hmc_journal.specs.Lawful.{journal_of};
+ghost use Rattle.hmc_journal.specs.Setup.{Setup};
+ghost use Rattle.hmc_net.specs.NetState.{net_of};
+ghost use Rattle.hmc_report.specs.Final.{lines_from};
+ghost use Rattle.hmc_replay.specs.Output.{Writes, WritesReport, DeliversReport};
+ghost use Rattle.hmc_replay.specs.Report.{passes, report_of, short_report_of, lines_in};
+ghost use Rattle.hmc_replay.specs.Steps.{IsAt};
 
-use crate::finals::write_final;
-use crate::output::finish;
-use crate::steps::write_steps;
-use hmc_case::Case;
+use crate::extent::Extent;
+use crate::output::{finish, write_line};
+use crate::steps::{take_steps, write_entry, write_steps};
 use hmc_codes::LineText;
 use hmc_journal::journal_guarantees;
 use hmc_net::Network;
 use hmc_outside::{Failed, Sink};
+use hmc_report::{Finished, Lines, Part};
+use hmc_schedule::Schedule;
+use hmc_units::Workbench;
 
-// Steps the network of a case, in which nothing happened yet, and writes the report. Returns
-// whether a landing passed.
-fn write_lines<O: Sink>(sink: &mut O, case: &Case, network: &mut Network) -> Result<bool, Failed>
-    requires { StandsFor network.old (setup_of case.now) [] }
-    ensures written { Writes result (O.shows sink.old) (O.shows sink.new) (report_of case.now) }
-    ensures passed { IfOk result (λ passed. passed ≡ passes case.now) }
+// Writes the final lines from this part on.
+fn write_final<O: Sink, N: Finished>(sink: &mut O, net: &N, from: Part) -> Result<(), Failed>
+    ensures { Writes result
+        (O.shows sink.old) (O.shows sink.new) (lines_from from (N.final_values net.now)) }
 {
-    let mut text = LineText::new();
-    let taken = write_steps(sink, &mut text, case, network)?;
-    let Some(counts) = taken else {
-        return Ok(true);
-    };
-    write_final(sink, &mut text, case, network, &counts)?;
-    Ok(false)
+    let mut lines = Lines::new(net, from);
+    'lines: while let Some(line) = lines.next() {
+        match write_line(sink, line.as_str()) {
+            Ok(()) => {}
+            Err(failed) => return Err(failed),
+        }
+    }
+    Ok(())
 }
 
-/// Steps the network of a case, in which nothing happened yet, writes the report and hands it on.
-/// Returns whether a landing passed: then the report has no final lines.
-pub fn write_report<O: Sink>(
+// In what follows the network is stepped to its end. Returned is whether a landing passed.
+
+fn write_whole<O: Sink, B: Workbench>(
     sink: &mut O,
-    case: &Case,
-    network: &mut Network,
+    network: &mut Network<B>,
+    schedule: &Schedule,
 ) -> Result<bool, Failed>
-    requires { StandsFor network.old (setup_of case.now) [] }
-    ensures written { Delivers result (O.shows sink.old) (O.shows sink.new) (report_of case.now) }
-    ensures passed { IfOk result (λ passed. passed ≡ passes case.now) }
-    ensures guarantees { OnOk result
-        (Guarantees (setup_of case.now) (journal_of (setup_of case.now))) }
+    requires { (setup : Setup) × IsAt (net_of B.slots network.old) setup schedule.now [] 0 }
+    ensures { (setup : Setup) → IsAt (net_of B.slots network.old) setup schedule.now [] 0 →
+        WritesReport result (report_of setup) (passes setup) (O.shows sink.old) (O.shows sink.new) }
+{
+    let mut text = LineText::new();
+    let passed = write_steps(sink, &mut text, network, schedule)?;
+    if !passed {
+        write_final(sink, network, Part::Memory)?;
+    }
+    Ok(passed)
+}
+
+fn write_short<O: Sink, B: Workbench>(
+    sink: &mut O,
+    network: &mut Network<B>,
+    schedule: &Schedule,
+) -> Result<bool, Failed>
+    requires { (setup : Setup) × IsAt (net_of B.slots network.old) setup schedule.now [] 0 }
+    ensures { (setup : Setup) → IsAt (net_of B.slots network.old) setup schedule.now [] 0 →
+        WritesReport result (short_report_of setup) (passes setup)
+        (O.shows sink.old) (O.shows sink.new) }
+{
+    let passed = take_steps(network, schedule);
+    if passed {
+        let mut text = LineText::new();
+        write_entry(sink, &mut text, network.last())?;
+    } else {
+        write_final(sink, network, Part::Tokens)?;
+    }
+    Ok(passed)
+}
+
+fn write_lines<O: Sink, B: Workbench>(
+    sink: &mut O,
+    extent: Extent,
+    network: &mut Network<B>,
+    schedule: &Schedule,
+) -> Result<bool, Failed>
+    requires { (setup : Setup) × IsAt (net_of B.slots network.old) setup schedule.now [] 0 }
+    ensures { (setup : Setup) → IsAt (net_of B.slots network.old) setup schedule.now [] 0 →
+        WritesReport result (lines_in extent setup) (passes setup)
+        (O.shows sink.old) (O.shows sink.new) }
+{
+    match extent {
+        Extent::Whole => write_whole(sink, network, schedule),
+        Extent::Short => write_short(sink, network, schedule),
+    }
+}
+
+/// Steps the network by this schedule, writes the report and hands it on. Returns whether a landing
+/// passed.
+pub fn write_report<O: Sink, B: Workbench>(
+    sink: &mut O,
+    extent: Extent,
+    network: &mut Network<B>,
+    schedule: &Schedule,
+) -> Result<bool, Failed>
+    requires { (setup : Setup) × IsAt (net_of B.slots network.old) setup schedule.now [] 0 }
+    ensures written { (setup : Setup) → IsAt (net_of B.slots network.old) setup schedule.now [] 0 →
+        DeliversReport result (lines_in extent setup) (passes setup)
+        (O.shows sink.old) (O.shows sink.new) }
+    ensures guarantees { (setup : Setup) →
+        IsAt (net_of B.slots network.old) setup schedule.now [] 0 →
+        OnOk result (Guarantees setup (journal_of setup)) }
 {
     journal_guarantees();
-    let passed = write_lines(sink, case, network)?;
+    let passed = write_lines(sink, extent, network, schedule)?;
     finish(sink)?;
     Ok(passed)
 }

@@ -1,19 +1,28 @@
-//! From input to output.
+//! From input, or from a number, to output.
 
-ghost use Rattle.std.specs.Prelude.{◌≡◌, ◌<◌, ◌∷◌, [], length, IfOk, string_bytes};
+ghost use Rattle.std.specs.Prelude.{◌≡◌, ◌≤◌, ◌<◌, ◌∷◌, [], length, IfOk, vec_len};
+ghost use Rattle.hmc_journal.specs.Setup.{setup_of};
+ghost use Rattle.hmc_make.specs.Numbered.{case_of_number};
+ghost use Rattle.hmc_net.specs.NetState.{net_of};
+ghost use Rattle.hmc_net.specs.Stands.{StandsFor};
+ghost use Rattle.hmc_units.specs.Bench.{most_units};
+ghost use Rattle.hmc_units.specs.Slots.{units_in};
 ghost use Rattle.hmc_replay.specs.Causes.{cause_of_input};
 ghost use Rattle.hmc_replay.specs.Output.{Delivers};
 ghost use Rattle.hmc_replay.specs.Runs.{Refuses, Reports, Answers, Runs};
-ghost use Rattle.hmc_replay.specs.Top.{bad_line};
+ghost use Rattle.hmc_replay.specs.Units.{slots_of};
 ghost use Rattle.hmc_replay.specs.declared.run.RunError.TheVariants.{Memory, WriteFault};
 
+use crate::extent::Extent;
 use crate::input::{InputError, read_input};
 use crate::output::{finish, write_line};
 use crate::report::write_report;
-use hmc_case::{Case, CaseFault, CaseKind, Section};
-use hmc_codes::Memory;
+use hmc_case::{Case, CaseFault, CaseKind, Section, bad_line};
+use hmc_codes::{LineText, Memory};
+use hmc_make::make;
 use hmc_net::Network;
 use hmc_outside::{Failed, Sink, Source};
+use hmc_units::{LogicUnit, Slots};
 use std::alloc::Global;
 
 /// Why a run ended early.
@@ -61,15 +70,6 @@ impl From<Failed> for RunError {
     }
 }
 
-// The line for what is not a valid case.
-#[tactic(auto, unfolding(crate::specs::Top::bad_line))]
-fn bad_line(alloc: Global, section: Section, line: u32, kind: CaseKind) -> Result<String, Memory>
-    ensures { IfOk result (λ text.
-        string_bytes text ≡ bad_line (record { section = section; line = line; kind = kind })) }
-{
-    Ok(format!(in alloc; "bad {section} {line} {kind}\n")?)
-}
-
 // Writes a line, and hands it on.
 fn write_only<O: Sink>(sink: &mut O, line: &str) -> Result<(), Failed>
     requires { 0 < length line.now }
@@ -79,33 +79,48 @@ fn write_only<O: Sink>(sink: &mut O, line: &str) -> Result<(), Failed>
     finish(sink)
 }
 
-// Writes the line for what is not a valid case, and hands it on. Out of memory it writes nothing.
-fn refuse<O: Sink>(
-    alloc: Global,
-    sink: &mut O,
-    section: Section,
-    line: u32,
-    kind: CaseKind,
-) -> RunError
+// Writes the line for what is not a valid case, and hands it on.
+fn refuse<O: Sink>(sink: &mut O, section: Section, line: u32, kind: CaseKind) -> RunError
     ensures { Refuses (record { section = section; line = line; kind = kind })
         result O.shows sink.old sink.new }
 {
-    let Ok(text) = bad_line(alloc, section, line, kind) else {
-        return RunError::Memory;
-    };
+    let mut text = LineText::new();
+    bad_line(&mut text, section, line, kind);
     match write_only(sink, text.as_str()) {
         Ok(()) => RunError::BadCase,
         Err(_) => RunError::WriteFault,
     }
 }
 
-// Steps the network of a case, and writes the report. Out of memory it writes nothing.
-// `Passed` where a landing passed; the report then ends with its line.
-fn report<O: Sink>(alloc: Global, sink: &mut O, case: &Case) -> Result<(), RunError>
-    ensures { Reports case.now result O.shows sink.old sink.new }
+// The network of a case and of units, in which nothing happened yet.
+fn network_of<U: LogicUnit>(
+    alloc: Global,
+    case: &Case,
+    units: Vec<U>,
+) -> Result<Network<Slots<U>>, Memory>
+    requires { vec_len units ≤ most_units }
+    ensures { IfOk result (λ network. StandsFor (net_of (units_in U.meaning) network)
+        (setup_of case.now (slots_of U.meaning units.items)) []) }
 {
-    let mut network = Network::build(alloc, case)?;
-    let passed = write_report(sink, case, &mut network)?;
+    let bench = Slots::new(alloc, units)?;
+    Network::build(alloc, case, bench)
+}
+
+// Steps the network of a case and of units, and writes the report. Out of memory it writes nothing.
+// `Passed` where a landing passed; the report then ends with its line.
+fn report<O: Sink, U: LogicUnit>(
+    alloc: Global,
+    sink: &mut O,
+    extent: Extent,
+    case: &Case,
+    units: Vec<U>,
+) -> Result<(), RunError>
+    requires { vec_len units ≤ most_units }
+    ensures { Reports extent (setup_of case.now (slots_of U.meaning units.items))
+        result O.shows sink.old sink.new }
+{
+    let mut network = network_of(alloc, case, units)?;
+    let passed = write_report(sink, extent, &mut network, case.schedule())?;
     if passed {
         return Err(RunError::Passed);
     }
@@ -113,11 +128,18 @@ fn report<O: Sink>(alloc: Global, sink: &mut O, case: &Case) -> Result<(), RunEr
 }
 
 // Writes what is to be written for an input.
-fn answer<O: Sink>(alloc: Global, sink: &mut O, input: &[u8]) -> Result<(), RunError>
-    ensures { Answers input.now result O.shows sink.old sink.new }
+fn answer<O: Sink, U: LogicUnit>(
+    alloc: Global,
+    sink: &mut O,
+    input: &[u8],
+    units: Vec<U>,
+) -> Result<(), RunError>
+    requires { vec_len units ≤ most_units }
+    ensures { Answers (slots_of U.meaning units.items) input.now
+        result O.shows sink.old sink.new }
 {
     match Case::read(alloc, input) {
-        Ok(case) => report(alloc, sink, &case),
+        Ok(case) => report(alloc, sink, Extent::Whole, &case, units),
         Err(CaseFault::Memory) => Err(RunError::Memory),
         Err(
             CaseFault::Bad {
@@ -125,14 +147,37 @@ fn answer<O: Sink>(alloc: Global, sink: &mut O, input: &[u8]) -> Result<(), RunE
                 line,
                 kind,
             },
-        ) => Err(refuse(alloc, sink, section, line, kind)),
+        ) => Err(refuse(sink, section, line, kind)),
     }
 }
 
-/// Reads the source to its end, and writes what is to be written for its bytes.
-pub fn run<S: Source, O: Sink>(alloc: Global, source: &mut S, sink: &mut O) -> Result<(), RunError>
-    ensures { Runs S.shows O.shows source.old source.new sink.old sink.new result }
+/// Reads the source to its end, and writes what is to be written for its bytes and these units.
+pub fn run<S: Source, O: Sink, U: LogicUnit>(
+    alloc: Global,
+    source: &mut S,
+    sink: &mut O,
+    units: Vec<U>,
+) -> Result<(), RunError>
+    requires { vec_len units ≤ most_units }
+    ensures { Runs (slots_of U.meaning units.items)
+        S.shows O.shows source.old source.new sink.old sink.new result }
 {
     let input = read_input(alloc, source)?;
-    answer(alloc, sink, &input)
+    answer(alloc, sink, &input, units)
+}
+
+/// Makes the case of a number, and writes its short report with these units.
+pub fn run_made<O: Sink, U: LogicUnit>(
+    alloc: Global,
+    sink: &mut O,
+    number: u64,
+    units: Vec<U>,
+) -> Result<(), RunError>
+    requires { vec_len units ≤ most_units }
+    ensures { Reports Extent.Short
+        (setup_of (case_of_number number) (slots_of U.meaning units.items))
+        result O.shows sink.old sink.new }
+{
+    let case = make(alloc, number)?;
+    report(alloc, sink, Extent::Short, &case, units)
 }

@@ -1,26 +1,59 @@
 //! The steps of a case, one after another, and the line of each.
+//!
+//! In the network that is handed in nothing happened yet. No step is taken after a landing that
+//! passed.
 
-ghost use Rattle.std.specs.Prelude.{◌≡◌, [], ◌∷◌, is_none, IfOk, IfSome, OnErr};
-ghost use Rattle.hmc_journal.specs.Lawful.{journal_of};
+ghost use Rattle.std.specs.Prelude.{◌≡◌, ◌<◌, [], ◌∷◌, List, length};
+ghost use Rattle.hmc_journal.specs.declared.entry.Entry.{Entry};
 ghost use Rattle.hmc_journal.specs.Lines.{line_of};
-ghost use Rattle.hmc_journal.specs.Setup.{setup_of};
-ghost use Rattle.hmc_journal.specs.Text.{lines_of};
-ghost use Rattle.hmc_net.specs.Stands.{StandsFor};
-ghost use Rattle.hmc_outside.specs.Lines.{WritesLines, BreaksOff};
-ghost use Rattle.hmc_replay.specs.Counting.{counts_of};
+ghost use Rattle.hmc_journal.specs.Setup.{Setup};
+ghost use Rattle.hmc_net.specs.NetState.{net_of};
 ghost use Rattle.hmc_replay.specs.Output.{Writes};
-ghost use Rattle.hmc_replay.specs.Top.{passes};
+ghost use Rattle.hmc_replay.specs.Steps.{IsAt, IsAfter, TookAll, WroteAll};
 
-use crate::counts::StepCounts;
 use crate::output::write_line;
-use hmc_case::Case;
 use hmc_codes::LineText;
 use hmc_journal::LastEntry;
 use hmc_net::Network;
 use hmc_outside::{Failed, Sink};
+use hmc_schedule::Schedule;
+use hmc_units::Workbench;
 
-// Writes the line of an entry. What the text had before is gone.
-fn write_entry<O: Sink>(sink: &mut O, text: &mut LineText, entry: &LastEntry) -> Result<(), Failed>
+// Takes the step at this place, before which all others were taken. Returns whether it is a landing
+// that passed.
+fn take_step<B: Workbench>(network: &mut Network<B>, schedule: &Schedule, at: u32) -> bool
+    requires inside { at < length schedule.now }
+    requires there { (setup : Setup) × (past : List Entry) ×
+        IsAt (net_of B.slots network.old) setup schedule.now past at }
+    ensures { (setup : Setup) (past : List Entry) →
+        IsAt (net_of B.slots network.old) setup schedule.now past at →
+        IsAfter (net_of B.slots network.new) setup past result }
+{
+    let due = schedule.step(at);
+    let _ = network.step(&due);
+    network.last().has_passed()
+}
+
+/// Takes all steps. Returns whether a landing passed.
+pub fn take_steps<B: Workbench>(network: &mut Network<B>, schedule: &Schedule) -> bool
+    requires { (setup : Setup) × IsAt (net_of B.slots network.old) setup schedule.now [] 0 }
+    ensures { (setup : Setup) → IsAt (net_of B.slots network.old) setup schedule.now [] 0 →
+        TookAll (net_of B.slots network.new) setup result }
+{
+    'steps: for at in 0..schedule.len() {
+        if take_step(network, schedule, at) {
+            return true;
+        }
+    }
+    false
+}
+
+/// Writes the line of an entry. `text` is where it is made: what it had before is gone.
+pub fn write_entry<O: Sink>(
+    sink: &mut O,
+    text: &mut LineText,
+    entry: &LastEntry,
+) -> Result<(), Failed>
     ensures { Writes result (O.shows sink.old) (O.shows sink.new) (line_of entry.now ∷ []) }
 {
     text.clear();
@@ -28,46 +61,28 @@ fn write_entry<O: Sink>(sink: &mut O, text: &mut LineText, entry: &LastEntry) ->
     write_line(sink, text.as_str())
 }
 
-/// Takes the steps of a case, and writes the line of each before the next one. Returns what was
-/// counted; `None` where a landing passed, after which no step is taken. `text` is where a line is
-/// made.
-///
-/// In the network nothing happened yet.
-pub fn write_steps<O: Sink>(
+/// Takes all steps, and writes the line of each before the next one. Returns whether a landing
+/// passed. `text` is where a line is made.
+pub fn write_steps<O: Sink, B: Workbench>(
     sink: &mut O,
     text: &mut LineText,
-    case: &Case,
-    network: &mut Network,
-) -> Result<Option<StepCounts>, Failed>
-    requires { StandsFor network.old (setup_of case.now) [] }
-
-    // Where no write fails: the lines of the case's one journal, which the network then stands for.
-    ensures written { IfOk result (λ _. WritesLines (O.shows sink.old) (O.shows sink.new)
-        (lines_of (journal_of (setup_of case.now)))) }
-    ensures passed { IfOk result (λ counts. is_none counts ≡ passes case.now) }
-    ensures stands { IfOk result (λ _.
-        StandsFor network.new (setup_of case.now) (journal_of (setup_of case.now))) }
-    ensures counted { IfOk result (λ counts. IfSome counts (λ c.
-        c ≡ counts_of (journal_of (setup_of case.now)))) }
-
-    // Else these lines, broken off.
-    ensures broken { OnErr result (BreaksOff (O.shows sink.old) (O.shows sink.new)
-        (lines_of (journal_of (setup_of case.now)))) }
+    network: &mut Network<B>,
+    schedule: &Schedule,
+) -> Result<bool, Failed>
+    requires { (setup : Setup) × IsAt (net_of B.slots network.old) setup schedule.now [] 0 }
+    ensures { (setup : Setup) → IsAt (net_of B.slots network.old) setup schedule.now [] 0 →
+        WroteAll result (net_of B.slots network.new) setup
+        (O.shows sink.old) (O.shows sink.new) }
 {
-    let mut counts = StepCounts::new();
-    let schedule = case.schedule();
     'steps: for at in 0..schedule.len() {
-        let due = schedule.step(at);
-        let _ = network.step(&due);
-        let last = network.last();
-        counts.add(last.event());
-        match write_entry(sink, text, last) {
+        let passed = take_step(network, schedule, at);
+        match write_entry(sink, text, network.last()) {
             Ok(()) => {}
             Err(failed) => return Err(failed),
         }
-        if last.has_passed() {
-            return Ok(None);
+        if passed {
+            return Ok(true);
         }
     }
-    Ok(Some(counts))
+    Ok(false)
 }

@@ -1,18 +1,16 @@
 //! The top call.
 
-ghost use Rattle.std.specs.Prelude.{◌≡◌, map, string_bytes};
+ghost use Rattle.std.specs.Prelude.{◌≡◌, ◌≤◌, map, string_bytes, vec_len};
+ghost use Rattle.hmc_units.specs.Bench.{most_units};
 ghost use Rattle.hmc_replay.specs.Causes.{status_of};
-ghost use Rattle.hmc_replay.specs.Top.{is_run, Replayed};
+ghost use Rattle.hmc_replay.specs.Top.{Replayed};
+ghost use Rattle.hmc_replay.specs.Units.{slots_of};
 
-use crate::run::{RunError, run};
+use crate::form::{Form, form_of};
+use crate::run::{RunError, run, run_made};
 use hmc_outside::{Sink, Source};
+use hmc_units::LogicUnit;
 use std::alloc::Global;
-
-fn is_run(words: &[String]) -> bool
-    ensures { result ≡ is_run (map string_bytes words.now) }
-{
-    matches!(words, [word] if word.as_str() == "run")
-}
 
 fn status_of(run: Result<(), RunError>) -> u8
     ensures { result ≡ status_of run }
@@ -28,14 +26,41 @@ fn status_of(run: Result<(), RunError>) -> u8
     }
 }
 
-/// Replays the input that the source gives, and writes its report to the sink, each line by one
-/// write. After the last line the sink is finished, once. `words` are those after the program's
-/// name: the one form is `run`.
+// The same for units of any one kind.
+fn replay_with<S: Source, O: Sink, U: LogicUnit>(
+    alloc: Global,
+    words: &[String],
+    source: &mut S,
+    sink: &mut O,
+    units: Vec<U>,
+) -> u8
+    requires { vec_len units ≤ most_units }
+    ensures { Replayed S.shows O.shows (map string_bytes words.now)
+        (slots_of U.meaning units.items) source.old source.new sink.old sink.new result }
+{
+    match form_of(words) {
+        Some(Form::Run) => status_of(run(alloc, source, sink, units)),
+        Some(Form::Make(number)) => status_of(run_made(alloc, sink, number, units)),
+        None => 2,
+    }
+}
+
+/// Replays a case with logic units, and writes its report to the sink, each line by one write.
+/// After the last line the sink is finished, once. `words` are those after the program's name:
+///
+/// | Words | Case | Report |
+/// |---|---|---|
+/// | `run` | what the source gives | the line of each step, and all final lines |
+/// | `make N` | that of the number N | the final lines from those of tokens on |
+///
+/// N has one to twenty decimal digits and is below 2^64, and `make` reads nothing. There are at most
+/// eight units: the one at place i is in slot i.
 ///
 /// A source may show the bytes that are left, and a sink the pieces that were written, as those in
 /// memory do; standard input and output don't. What is said of bytes holds where they are shown.
 ///
-/// Gives the exit status, 0 to 7:
+/// Gives the exit status, 0 to 7. `make` gives 0, 1, 4 or 7, and with 7 it writes the line of the
+/// landing that passed alone.
 ///
 /// | Status | Meaning | Written |
 /// |---|---|---|
@@ -46,7 +71,7 @@ fn status_of(run: Result<(), RunError>) -> u8
 /// | 4 | the sink failed: a write, or the finish | whole lines, and a prefix of the next; or all |
 /// | 5 | the input is longer than 4,194,304 bytes | nothing |
 /// | 6 | the input is not a valid case | a line with its first fault |
-/// | 7 | a check succeeded over flits that masks changed | the lines of the steps up to there |
+/// | 7 | a check succeeded over flits that masks changed | the lines up to there, or the last |
 ///
 /// specs/Top has the contract, `Replayed`, with a comment for each promise. docs/case.md has the
 /// form of a case, and docs/report.md that of a report.
@@ -55,12 +80,12 @@ pub fn replay<S: Source, O: Sink>(
     words: &[String],
     source: &mut S,
     sink: &mut O,
+    units: Vec<Box<dyn LogicUnit>>,
 ) -> u8
-    ensures { Replayed S.shows O.shows
-        (map string_bytes words.now) source.old source.new sink.old sink.new result }
+    requires { vec_len units ≤ most_units }
+    ensures { Replayed S.shows O.shows (map string_bytes words.now)
+        (slots_of ⟦<Box<dyn LogicUnit> as LogicUnit>⟧.meaning units.items)
+        source.old source.new sink.old sink.new result }
 {
-    if !is_run(words) {
-        return 2;
-    }
-    status_of(run(alloc, source, sink))
+    replay_with(alloc, words, source, sink, units)
 }

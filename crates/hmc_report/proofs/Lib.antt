@@ -1,2 +1,4 @@
 pub mod SomeLemmas
+pub mod LeftLemmas
+pub mod FinishLemmas
 mod Worked

@@ -7,7 +7,9 @@ use Rattle.hex.specs.Hex.{encode_lower}
 use Rattle.hmc_codes.specs.Text.{line, hex_number}
 use Rattle.hmc_codes.specs.declared.counts.HostCounts.{HostCounts}
 use Rattle.hmc_codes.specs.declared.counts.CubeCounts.{CubeCounts}
-use Rattle.hmc_report.specs.Lines.{memory_line, register_line, host_line, cube_line, state_line, state_word}
+use Rattle.hmc_codes.specs.declared.counts.Counters.{Counters}
+use Rattle.hmc_codes.specs.declared.counts.TokenRow.{TokenRow}
+use Rattle.hmc_report.specs.Lines.{memory_line, register_line, advertised, token_line, counter_line, host_line, cube_line, state_line, state_word}
 
 some-before : (word : List ℕ) (byte : ℕ) (rest : List ℕ) → 0 < length (word ++ (byte ∷ rest))
 some-before word byte rest = omega (arith, length-append word (byte ∷ rest))
@@ -25,6 +27,16 @@ memory_line-some cube block bytes = line-some (codes "memory" ∷ decimal cube �
 pub register_line-some : (cube register value : ℕ) → 0 < length (register_line cube register value)
 unfolding register_line
 register_line-some cube register value = line-some (codes "register" ∷ decimal cube ∷ decimal register ∷ encode_lower (to_be_bytes w32 value) ∷ [])
+
+pub token_line-some : (direction : ℕ) (row : TokenRow) → 0 < length (token_line direction row)
+unfolding token_line
+token_line-some direction row =
+    line-some (codes "tokens" ∷ decimal direction ∷ decimal row.held ∷ decimal row.transit ∷ decimal row.used ∷ decimal row.due ∷ decimal row.returning ∷ decimal (advertised row) ∷ [])
+
+pub counter_line-some : (direction : ℕ) (counters : Counters) → 0 < length (counter_line direction counters)
+unfolding counter_line
+counter_line-some direction counters =
+    line-some (codes "counters" ∷ decimal direction ∷ decimal counters.sent ∷ decimal counters.landed ∷ decimal counters.changed ∷ decimal counters.accepted ∷ decimal counters.repeats ∷ decimal counters.aborts ∷ [])
 
 pub host_line-some : (host : ℕ) (counts : HostCounts) → 0 < length (host_line host counts)
 unfolding host_line

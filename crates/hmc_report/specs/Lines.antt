@@ -7,6 +7,8 @@ use Rattle.hex.specs.Hex.{encode_lower}
 use Rattle.hmc_codes.specs.Text.{line, hex_number}
 use Rattle.hmc_codes.specs.declared.counts.HostCounts.{HostCounts}
 use Rattle.hmc_codes.specs.declared.counts.CubeCounts.{CubeCounts}
+use Rattle.hmc_codes.specs.declared.counts.Counters.{Counters}
+use Rattle.hmc_codes.specs.declared.counts.TokenRow.{TokenRow}
 
 -- all bytes are zero
 abbrev pub is_zero : List ℕ → Bool
@@ -59,6 +61,23 @@ lines_of_registers cube registers (suc n) =
 -- the lines of a cube's registers
 abbrev pub register_lines : (cube : ℕ) → List ℕ → List (List ℕ)
 register_lines cube registers = lines_of_registers cube registers scratch_registers
+
+-- the tokens that a direction's receiving end advertises
+abbrev pub advertised : TokenRow → ℕ
+advertised row = row.held + row.transit + row.used + row.due + row.returning
+
+-- the line of a direction's tokens: where they are, and how many there are
+unfoldable pub token_line : (direction : ℕ) → TokenRow → List ℕ
+token_line direction row = line (codes "tokens" ∷ decimal direction ∷
+    decimal row.held ∷ decimal row.transit ∷ decimal row.used ∷ decimal row.due ∷
+    decimal row.returning ∷ decimal (advertised row) ∷ [])
+
+-- the line of what is counted of a direction: flits sent, landed and changed, packets accepted and
+-- repeated, and aborts
+unfoldable pub counter_line : (direction : ℕ) → Counters → List ℕ
+counter_line direction counters = line (codes "counters" ∷ decimal direction ∷
+    decimal counters.sent ∷ decimal counters.landed ∷ decimal counters.changed ∷
+    decimal counters.accepted ∷ decimal counters.repeats ∷ decimal counters.aborts ∷ [])
 
 -- the line of a host: requests given, answers taken, tags out
 unfoldable pub host_line : (host : ℕ) → HostCounts → List ℕ

@@ -1,18 +1,32 @@
 //! The final lines of a report: a line for each block of memory and each register that isn't zero,
-//! the counts of each host and each cube, and whether the network drained.
+//! the tokens and the counts of each direction, the counts of each host and each cube, and whether
+//! the network drained.
 //!
-//! Each function writes one line into an empty text, with a line feed at its end, and takes no
-//! memory. Every line is shorter than 2,048 bytes. specs/Lines has the lines, and how those of a
+//! A network shows what the lines say by the trait [`Finished`]. [`Lines`] makes one line after
+//! another and takes no memory; [`finish`] appends them to a text. specs/Final has all final lines
+//! in order.
+//!
+//! Each other function writes one line into an empty text, with a line feed at its end, and takes
+//! no memory. Every line is shorter than 2,048 bytes. specs/Lines has the lines, and how those of a
 //! memory and of registers are put together.
 #![tactic(auto)]
 
-ghost use Rattle.std.specs.Prelude.{◌≡◌, ◌<◌, ◌*◌, ◌^◌, [], length};
-ghost use Rattle.hmc_report.specs.Lines.{is_zero, memory_line, register_line, host_line, cube_line, state_line};
+mod finished;
+mod finishing;
+mod lines;
+mod part;
 
+ghost use Rattle.std.specs.Prelude.{◌≡◌, ◌<◌, ◌*◌, ◌^◌, [], length};
+ghost use Rattle.hmc_report.specs.Lines.{is_zero, memory_line, register_line, advertised, token_line, counter_line, host_line, cube_line, state_line};
+
+pub use finished::Finished;
+pub use finishing::finish;
 use hmc_codes::{
-    CubeCounts, HostCounts, LineText, append_bytes, append_hex_number, append_sixteen,
-    append_spaced,
+    Counters, CubeCounts, HostCounts, LineText, TokenRow, append_bytes, append_hex_number,
+    append_sixteen, append_spaced,
 };
+pub use lines::Lines;
+pub use part::Part;
 
 /// How many bytes a line of memory has.
 pub const BLOCK: u64 = 16;
@@ -61,6 +75,54 @@ pub fn register_line(into: &mut LineText, cube: u8, register: u64, value: u32)
     append_spaced(into, register);
     into.push_str(" ");
     append_bytes(into, &bytes);
+    into.push_str("\n");
+}
+
+// The sum of a row. Five numbers below 2^32 don't pass 64 bits.
+fn advertised(row: &TokenRow) -> u64
+    ensures { result ≡ advertised row.now }
+{
+    u64::from(row.held)
+        + u64::from(row.transit)
+        + u64::from(row.used)
+        + u64::from(row.due)
+        + u64::from(row.returning)
+}
+
+/// The line of a direction's tokens. Its last number is their sum, which the receiving end
+/// advertises.
+#[tactic(auto, unfolding(crate::specs::Lines::token_line))]
+pub fn token_line(into: &mut LineText, direction: u8, row: &TokenRow)
+    requires empty { into.old.bytes ≡ [] }
+    ensures text { into.new.bytes ≡ token_line direction row.now }
+    ensures short { length into.new.bytes < 2048 }
+{
+    into.push_str("tokens");
+    append_spaced(into, u64::from(direction));
+    append_spaced(into, u64::from(row.held));
+    append_spaced(into, u64::from(row.transit));
+    append_spaced(into, u64::from(row.used));
+    append_spaced(into, u64::from(row.due));
+    append_spaced(into, u64::from(row.returning));
+    append_spaced(into, advertised(row));
+    into.push_str("\n");
+}
+
+/// The line of what is counted of a direction.
+#[tactic(auto, unfolding(crate::specs::Lines::counter_line))]
+pub fn counter_line(into: &mut LineText, direction: u8, counters: &Counters)
+    requires empty { into.old.bytes ≡ [] }
+    ensures text { into.new.bytes ≡ counter_line direction counters.now }
+    ensures short { length into.new.bytes < 2048 }
+{
+    into.push_str("counters");
+    append_spaced(into, u64::from(direction));
+    append_spaced(into, u64::from(counters.sent));
+    append_spaced(into, u64::from(counters.landed));
+    append_spaced(into, u64::from(counters.changed));
+    append_spaced(into, u64::from(counters.accepted));
+    append_spaced(into, u64::from(counters.repeats));
+    append_spaced(into, u64::from(counters.aborts));
     into.push_str("\n");
 }
 

@@ -1,4 +1,4 @@
--- Routes, as lists of hops. A hop is named by the place that it leaves: a host, or a port of a cube.
+-- Routes, as lists of hops. A hop is named by the place that it leaves: a host, or a cube's port.
 use Rattle.std.specs.Prelude.{ℕ, zero, suc, List, [], ◌∷◌, Option, option_and_then}
 use Rattle.std.specs.Option.{option_map_or}
 use Rattle.hmc_codes.specs.Graph.{GraphFields}

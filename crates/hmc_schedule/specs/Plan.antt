@@ -90,11 +90,10 @@ IsStepOf plan (steps.Through cube port) = IsPortOf plan cube port
 IsStepOf plan (steps.Unlock direction) = direction < plan.directions
 IsStepOf plan (steps.Retire slot) = slot < slots
 
--- a step that is built so far: it doesn't go through or retire, and each mask has 16 bytes
+-- a step that is built so far: it doesn't go through, and each mask has 16 bytes
 abbrev pub IsBuilt : Step → Type 0
 IsBuilt (steps.Land direction mask) = length mask ≡ 16
 IsBuilt (steps.Through cube port) = ⊥
-IsBuilt (steps.Retire slot) = ⊥
 IsBuilt step = Unit {0}
 
 -- a step of the plan that is built so far

@@ -182,7 +182,7 @@ impl Schedule {
         ensures few { IfOk result (λ schedule. length schedule ≤ most_steps) }
         ensures within { IfOk result (All (IsStepOf plan.now)) }
 
-        // So far no step goes through or retires. Each mask has 16 bytes.
+        // So far no step goes through. Each mask has 16 bytes.
         ensures built { IfOk result (All IsBuilt) }
     {
         let mut written = Written::new(alloc);

@@ -60,7 +60,7 @@ impl Verb {
         ensures { result ≡ verb_if_built self }
     {
         match self {
-            Verb::Through | Verb::Retire => None,
+            Verb::Through => None,
             _ => Some(self),
         }
     }

@@ -9,4 +9,5 @@ pub mod LawLemmas
 pub mod PayloadLemmas
 pub mod StoredLemmas
 pub mod OwnLemmas
+pub mod TakenLemmas
 mod Worked

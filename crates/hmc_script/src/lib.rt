@@ -17,10 +17,13 @@ mod meaning;
 mod parse;
 mod payload;
 mod print;
+mod request;
 mod script;
 mod stored;
 
 pub use fault::{ScriptFault, ScriptKind};
 pub use item::{Item, Outline};
 pub use laws::printed_is_read;
+pub use payload::hex_payload;
+pub use request::take_request;
 pub use script::Script;

@@ -55,8 +55,9 @@ fn value_payload(word: &[u8]) -> Option<Payload>
     made(&value_bytes(value))
 }
 
-// The payload with these digits, two a byte.
-fn hex_payload(len: usize, word: &[u8]) -> Option<Payload>
+/// The payload of `len` bytes, at most 256, with these digits: two hexadecimal digits a byte, in
+/// either case. None if the word is anything else.
+pub fn hex_payload(len: usize, word: &[u8]) -> Option<Payload>
     requires { len ≤ 256 }
     ensures value { result ≡ result_ok (decode_sized word.now len) }
     ensures length { IfSome result (λ payload. length payload ≡ len) }
@@ -70,9 +71,9 @@ fn hex_payload(len: usize, word: &[u8]) -> Option<Payload>
     made(bytes)
 }
 
-// The payload that a word represents.
+/// The payload that a word represents, or None if it is no payload of the command.
 #[tactic(auto, unfolding(crate::specs::Payload::payload_of))]
-fn payload(command: Command, word: &[u8]) -> Option<Payload>
+pub fn payload(command: Command, word: &[u8]) -> Option<Payload>
     ensures value { result ≡ payload_of command word.now }
     ensures fits { IfSome result (IsPayload command) }
 {

@@ -1,13 +1,15 @@
 -- A response can carry the answer to a request.
 use Rattle.std.proofs.Common.{◌≡◌, ◌≤◌, ◌<◌, ◌∙◌, ◌+◌, ◌-◌, ◌^◌, ℕ, Bool, true, false, List, ◌++◌, length, take, drop, Option, Some, None, refl, sym, ap, subst, arith, lit<, length-append}
 use Rattle.std.specs.Prelude.{slice_range, replicate, is_none, if◌then◌else◌}
+use Rattle.std.specs.List.{list_any}
 use Rattle.std.proofs.lemmas.List.{length-take, length-drop, length-replicate}
 use Rattle.hmc_codes.specs.Bytes.{IsBytes, padded_bytes}
 use Rattle.hmc_codes.proofs.BytesLemmas.{IsBytes-append, IsBytes-take, IsBytes-drop, IsBytes-zeros}
-use Rattle.hmc_codes.specs.Commands.{family_of, reply_of, is_posted}
+use Rattle.hmc_codes.specs.Commands.{reply_of, is_posted}
 use Rattle.hmc_codes.specs.Request.{RequestFields, IsRequest}
+use Rattle.hmc_units.specs.Unit.{IsBlock, UnitFields}
+use Rattle.hmc_units.specs.Bench.{serves, bench_acted, worked_slots}
 use Rattle.hmc_codes.specs.Shape.{ShapeFields}
-use Rattle.hmc_codes.specs.declared.family.Family.TheVariants as families
 use Rattle.hmc_codes.specs.declared.command.Command.{Command}
 use Rattle.hmc_codes.specs.declared.command.Command.TheVariants as commands
 use Rattle.hmc_codes.specs.declared.answer.Answer.{Answer}
@@ -24,11 +26,13 @@ use Rattle.hmc_serial.specs.declared.action.Action.TheVariants.{Read, Write, Rea
 use Rattle.hmc_serial.specs.Actions.{action_of}
 use Rattle.hmc_serial.specs.Cube.{CubeState, IsCube}
 use Rattle.hmc_serial.specs.Errors.{memory_error, register_error, register_write_error, unit_error, acted_size, error_of}
-use Rattle.hmc_serial.specs.Perform.{answer_unless_posted, unless_error, acted_answer, acted_at, block_start, is_high, carry_out, perform_action, perform_on}
+use Rattle.hmc_serial.specs.Perform.{answer_unless_posted, unless_error, acted_answer, acted_at, block_at, block_start, is_high, leaves_worked, carry_out, perform_action, perform_on}
 use Rattle.hmc_memory.proofs.KeptLemmas.{block_below}
 use Rattle.hmc_serial.proofs.Errorless.{errorless, inside_capacity}
 use Rattle.hmc_serial.proofs.Fine.{some_bytes}
-use Rattle.hmc_serial.proofs.CommandLemmas.{asks_for_something, read_of, read_of_register, write_of_register, posted_is_unanswered, IsActedReply, acted_reply}
+use Rattle.hmc_serial.proofs.CommandLemmas.{asks_for_something, read_of, read_of_register, write_of_register, posted_is_unanswered, IsActedReply, acted_reply, unit_reply}
+use Rattle.hmc_serial.proofs.Payloads.{unit_payload}
+use Rattle.hmc_serial.proofs.WorkLemmas.{IsWorked, IsWorked-served, IsBlock-padded}
 
 -- an answer is silent where the request is posted, and else can be carried
 pub record IsCarried (posted : Bool) (answer : Answer) : Type 0 where
@@ -65,23 +69,36 @@ memory_number : (shape : ShapeFields) (size : ℕ) (halves : Bool) (address e : 
 unfolding memory_error
 memory_number shape size halves address e is = three_numbers _ _ _ e is
 
-unit_number : (before : Option ℕ) (e : ℕ) → ((k : ℕ) → before ≡ Some k → k < 7) → unit_error before ≡ Some e → e < 7
-unit_number (Some k) e small is = small e is
-unit_number None e small is = let same : 6 ≡ e = cc in subst (λ n. n < 7) same (lit< tt)
+unit_number : (before : Option ℕ) (slots : List (Option UnitFields)) (cube code e : ℕ) → ((k : ℕ) → before ≡ Some k → k < 7) → unit_error before slots cube code ≡ Some e → e < 7
+unit_number (Some k) slots cube code e small is = small e is
+unit_number None slots cube code e small is =
+    (elim (list_any (serves cube code) slots) as (λ b. (if b then None else Some 6) ≡ Some e → e < 7) [
+      | true ↦ λ none. absurd (cc)
+      | false ↦ λ six. let same : 6 ≡ e = cc in subst (λ n. n < 7) same (lit< tt)
+    ]) is
 
-error_number : (action : Action) (shape : ShapeFields) (address len e : ℕ) → error_of action shape address len ≡ Some e → e < 7
+error_number : (action : Action) (shape : ShapeFields) (slots : List (Option UnitFields)) (request : RequestFields) (e : ℕ) → error_of action shape slots request ≡ Some e → e < 7
 unfolding register_error register_write_error
-error_number (Read size) shape address len e is = memory_number shape size false address e is
-error_number Write shape address len e is = memory_number shape len false address e is
-error_number ReadRegister shape address len e is = one_number _ e is
-error_number WriteRegister shape address len e is = two_numbers _ _ e is
-error_number (Act op) shape address len e is = memory_number shape (acted_size (by_halves op)) (by_halves op) address e is
-error_number (Work code) shape address len e is = unit_number (memory_error shape 16 false address) e (λ k. memory_number shape 16 false address k) is
+error_number (Read size) shape slots request e is = memory_number shape size false request.address e is
+error_number Write shape slots request e is = memory_number shape (length request.payload) false request.address e is
+error_number ReadRegister shape slots request e is = one_number _ e is
+error_number WriteRegister shape slots request e is = two_numbers _ _ e is
+error_number (Act op) shape slots request e is = memory_number shape (acted_size (by_halves op)) (by_halves op) request.address e is
+error_number (Work code) shape slots request e is =
+    unit_number (memory_error shape 16 false request.address) slots request.cube code e (λ k. memory_number shape 16 false request.address k) is
 
--- a unit is never without an error
-some_unit_error : (before : Option ℕ) → unit_error before ≡ None → ⊥
-some_unit_error (Some k) is = cc
-some_unit_error None is = cc
+abbrev unserved : Bool → Option ℕ
+unserved b = (if b then None else Some 6)
+
+served_test : (b : Bool) → unserved b ≡ None → b ≡ true
+served_test true is = refl
+served_test false is = absurd (cc)
+
+-- a unit command has no error only where the memory has none, and a unit serves
+no_unit_error : (before : Option ℕ) (slots : List (Option UnitFields)) (cube code : ℕ) → unit_error before slots cube code ≡ None → (before ≡ None) × (list_any (serves cube code) slots ≡ true)
+no_unit_error (Some k) slots cube code is = absurd (cc)
+no_unit_error None slots cube code is =
+    (refl, served_test (list_any (serves cube code) slots) is)
 
 -- Bytes that are read.
 pub length-range : (xs : List ℕ) (at size : ℕ) → at + size ≤ length xs → length (slice_range xs at (at + size)) ≡ size
@@ -101,11 +118,14 @@ pub block_inside : (cube : CubeState) (address : ℕ) → IsCube cube → addres
 block_inside cube address kept below =
     omega (arith, kept.capacity, block_below cube.shape (block_start address) kept.is_shape (omega arith) (omega (arith, kept.capacity)))
 
--- what an atomic command answers is a block of bytes
-pub record IsBlock (bytes : List ℕ) : Type 0 where
-  pub sixteen : length bytes ≡ 16
-  pub are_bytes : IsBytes bytes
+-- that block is a block of bytes
+pub IsBlock-at : (cube : CubeState) (address : ℕ) → IsCube cube → address < length cube.memory → IsBlock (block_at cube.memory address)
+IsBlock-at cube address kept below = record {
+  sixteen = length-range cube.memory (block_start address) 16 (block_inside cube address kept below);
+  are_bytes = IsBytes-range cube.memory (block_start address) (block_start address + 16) kept.bytes;
+}
 
+-- what an atomic command answers is a block of bytes
 IsBlock-half : (high : Bool) (block : List ℕ) → IsBlock block → IsBlock (block_half high block ++ replicate 8 0)
 IsBlock-half true block is = record {
   sixteen = omega (arith, length-append (drop 8 block) (replicate 8 0), length-drop 8 block, is.sixteen, length-replicate {A = ℕ} 8 0);
@@ -131,55 +151,84 @@ by_reply (Some commands.RdRs) acted is block = answered false _ refl (data_carri
 by_reply (Some commands.WrRs) acted is block = answered false _ refl tt tt
 by_reply (Some _) acted is block = absurd is
 
--- a request that asks for this of a cube
-pub record IsAsked (cube : CubeState) (request : RequestFields) (action : Action) : Type 0 where
+-- a request that asks for this of a cube, with these logic units
+pub record IsAsked (cube : CubeState) (slots : List (Option UnitFields)) (request : RequestFields) (action : Action) : Type 0 where
   pub kept : IsCube cube
-  pub asks : family_of request.command ≡ families.Ask
+  pub is : IsRequest request
   pub asked : action_of request.command ≡ Some action
-  pub no_error : error_of action cube.shape request.address (length request.payload) ≡ None
+  pub no_error : error_of action cube.shape slots request ≡ None
 
 -- the answer where there is no error
-abbrev done : CubeState → RequestFields → Action → Type 0
-done cube request action = IsCarried (is_posted request.command) (carry_out action cube request).answer
+abbrev done : CubeState → List (Option UnitFields) → RequestFields → Action → Type 0
+done cube slots request action = IsCarried (is_posted request.command) (carry_out action cube slots request).answer
 
-read_done : (cube : CubeState) (request : RequestFields) (size : ℕ) → IsAsked cube request (Read size) → done cube request (Read size)
-read_done cube request size is =
+read_done : (cube : CubeState) (slots : List (Option UnitFields)) (request : RequestFields) (size : ℕ) → IsAsked cube slots request (Read size) → done cube slots request (Read size)
+read_done cube slots request size is =
     let read = read_of request.command size is.asked in
     answered _ _ read.answered
     (data_carried false _ size (length-range cube.memory request.address size (inside cube size false request.address is.kept is.no_error)) read.returned)
     (IsBytes-range cube.memory request.address (request.address + size) is.kept.bytes)
 
-acted_done : (cube : CubeState) (request : RequestFields) (op : Atomic) → IsAsked cube request (Act op) → done cube request (Act op)
-acted_done cube request op is =
-    let first : request.address < length cube.memory = omega (arith, some_bytes (by_halves op), inside cube (acted_size (by_halves op)) (by_halves op) request.address is.kept is.no_error) in
-    let there = block_inside cube request.address is.kept first in
-    let block : IsBlock (slice_range cube.memory (block_start request.address) (block_start request.address + 16)) =
-    record { sixteen = length-range cube.memory (block_start request.address) 16 there; are_bytes = IsBytes-range cube.memory (block_start request.address) (block_start request.address + 16) is.kept.bytes } in
-    subst (λ b. IsCarried b (acted_answer (reply_of request.command) (acted_at op cube.memory request.address request.payload))) (sym (posted_is_unanswered request.command is.asks))
-    (by_reply (reply_of request.command) (acted_at op cube.memory request.address request.payload) (acted_reply request.command op is.asked) (IsBlock-acted op (is_high request.address) _ (padded_bytes 16 request.payload) block))
+-- the answer to a command that acts on a block
+reply_done : (request : RequestFields) (acted : Acted) → IsRequest request → IsActedReply (reply_of request.command) → IsBlock acted.answer → IsCarried (is_posted request.command) (acted_answer (reply_of request.command) acted)
+reply_done request acted kept is block =
+    subst (λ b. IsCarried b (acted_answer (reply_of request.command) acted)) (sym (posted_is_unanswered request.command kept.asks))
+    (by_reply (reply_of request.command) acted is block)
 
-all_done : (action : Action) (cube : CubeState) (request : RequestFields) → IsAsked cube request action → done cube request action
-all_done (Read size) cube request is = read_done cube request size is
-all_done Write cube request is = unless request.command (answers.Done false) tt tt
-all_done ReadRegister cube request is = answered _ _ (read_of_register request.command is.asked) tt (is.kept.are_registers.small request.address)
-all_done WriteRegister cube request is = answered _ _ (write_of_register request.command is.asked) tt tt
-all_done (Act op) cube request is = acted_done cube request op is
-all_done (Work code) cube request is = absurd (some_unit_error (memory_error cube.shape 16 false request.address) is.no_error)
+acted_done : (cube : CubeState) (slots : List (Option UnitFields)) (request : RequestFields) (op : Atomic) → IsAsked cube slots request (Act op) → done cube slots request (Act op)
+acted_done cube slots request op is =
+    let first : request.address < length cube.memory = omega (arith, some_bytes (by_halves op), inside cube (acted_size (by_halves op)) (by_halves op) request.address is.kept is.no_error) in
+    reply_done request (acted_at op cube.memory request.address request.payload) is.is (acted_reply request.command op is.asked)
+    (IsBlock-acted op (is_high request.address) (block_at cube.memory request.address) (padded_bytes 16 request.payload) (IsBlock-at cube request.address is.kept first))
+
+-- a unit command without an error has its block in the memory
+pub unit_address : (cube : CubeState) (slots : List (Option UnitFields)) (request : RequestFields) (code : ℕ) → IsAsked cube slots request (Work code) → request.address < length cube.memory
+unit_address cube slots request code is =
+    let none = no_unit_error (memory_error cube.shape 16 false request.address) slots request.cube code is.no_error in
+    omega (arith, inside cube 16 false request.address is.kept none.0)
+
+-- it is served, and its unit makes blocks
+pub unit_worked : (cube : CubeState) (slots : List (Option UnitFields)) (request : RequestFields) (code : ℕ) → IsAsked cube slots request (Work code)
+    → IsWorked (bench_acted slots request.cube code (block_at cube.memory request.address) (padded_bytes 16 request.payload))
+unit_worked cube slots request code is =
+    let none = no_unit_error (memory_error cube.shape 16 false request.address) slots request.cube code is.no_error in
+    let short : length request.payload ≤ 16 = omega (arith, is.is.payload, unit_payload request.command code is.asked) in
+    IsWorked-served request.cube code (block_at cube.memory request.address) (padded_bytes 16 request.payload) slots
+    (IsBlock-at cube request.address is.kept (unit_address cube slots request code is)) (IsBlock-padded request.payload short is.is.bytes) none.1
+
+by_worked : (cube : CubeState) (slots : List (Option UnitFields)) (request : RequestFields) (worked : Option Acted) → IsRequest request → IsActedReply (reply_of request.command) → IsWorked worked
+    → IsCarried (is_posted request.command) (leaves_worked cube slots request worked).answer
+by_worked cube slots request None kept is worked = absurd worked
+by_worked cube slots request (Some acted) kept is worked = reply_done request acted kept is worked.answer
+
+worked_done : (cube : CubeState) (slots : List (Option UnitFields)) (request : RequestFields) (code : ℕ) → IsAsked cube slots request (Work code) → done cube slots request (Work code)
+worked_done cube slots request code is =
+    let block = block_at cube.memory request.address in
+    let operand = padded_bytes 16 request.payload in
+    by_worked cube (worked_slots slots request.cube code block operand) request (bench_acted slots request.cube code block operand) is.is (unit_reply request.command code is.asked) (unit_worked cube slots request code is)
+
+all_done : (action : Action) (cube : CubeState) (slots : List (Option UnitFields)) (request : RequestFields) → IsAsked cube slots request action → done cube slots request action
+all_done (Read size) cube slots request is = read_done cube slots request size is
+all_done Write cube slots request is = unless request.command (answers.Done false) tt tt
+all_done ReadRegister cube slots request is = answered _ _ (read_of_register request.command is.asked) tt (is.kept.are_registers.small request.address)
+all_done WriteRegister cube slots request is = answered _ _ (write_of_register request.command is.asked) tt tt
+all_done (Act op) cube slots request is = acted_done cube slots request op is
+all_done (Work code) cube slots request is = worked_done cube slots request code is
 
 -- with an error or without one
-by_error : (error : Option ℕ) (action : Action) (cube : CubeState) (request : RequestFields) → IsCube cube → family_of request.command ≡ families.Ask → action_of request.command ≡ Some action →
-    error_of action cube.shape request.address (length request.payload) ≡ error → IsCarried (is_posted request.command) (unless_error error cube request.command (carry_out action cube request)).answer
-by_error None action cube request kept asks asked is = all_done action cube request (record { kept = kept; asks = asks; asked = asked; no_error = is })
-by_error (Some errstat) action cube request kept asks asked is =
-    let small : errstat < 2 ^ 7 = omega (arith, error_number action cube.shape request.address (length request.payload) errstat is) in
+by_error : (error : Option ℕ) (action : Action) (cube : CubeState) (slots : List (Option UnitFields)) (request : RequestFields) → IsCube cube → IsRequest request → action_of request.command ≡ Some action →
+    error_of action cube.shape slots request ≡ error → IsCarried (is_posted request.command) (unless_error error cube slots request.command (carry_out action cube slots request)).answer
+by_error None action cube slots request kept is asked none = all_done action cube slots request (record { kept = kept; is = is; asked = asked; no_error = none })
+by_error (Some errstat) action cube slots request kept is asked some =
+    let small : errstat < 2 ^ 7 = omega (arith, error_number action cube.shape slots request errstat some) in
     unless request.command (answers.Refused errstat) small tt
 
-by_action : (action : Option Action) (cube : CubeState) (request : RequestFields) → IsCube cube → family_of request.command ≡ families.Ask → action_of request.command ≡ action →
-    IsCarried (is_posted request.command) (perform_action action cube request).answer
-by_action None cube request kept asks asked = absurd (asks_for_something request.command asked asks)
-by_action (Some action) cube request kept asks asked = by_error _ action cube request kept asks asked refl
+by_action : (action : Option Action) (cube : CubeState) (slots : List (Option UnitFields)) (request : RequestFields) → IsCube cube → IsRequest request → action_of request.command ≡ action →
+    IsCarried (is_posted request.command) (perform_action action cube slots request).answer
+by_action None cube slots request kept is asked = absurd (asks_for_something request.command asked is.asks)
+by_action (Some action) cube slots request kept is asked = by_error _ action cube slots request kept is asked refl
 
 -- the answer to any request
-pub performed_is_carried : (cube : CubeState) (request : RequestFields) → IsCube cube → IsRequest request → IsCarried (is_posted request.command) (perform_on cube request).answer
+pub performed_is_carried : (cube : CubeState) (slots : List (Option UnitFields)) (request : RequestFields) → IsCube cube → IsRequest request → IsCarried (is_posted request.command) (perform_on cube slots request).answer
 unfolding perform_on
-performed_is_carried cube request kept is = by_action (action_of request.command) cube request kept is.asks refl
+performed_is_carried cube slots request kept is = by_action (action_of request.command) cube slots request kept is refl

@@ -11,7 +11,7 @@ use Rattle.hmc_codes.specs.declared.command.Command.TheVariants as commands
 use Rattle.hmc_atomics.specs.declared.atomic.Atomic.{Atomic}
 use Rattle.hmc_atomics.specs.Operations.{atomic_of}
 use Rattle.hmc_codes.specs.Answer.{is_returned}
-use Rattle.hmc_serial.specs.declared.action.Action.TheVariants.{Read, ReadRegister, WriteRegister, Act}
+use Rattle.hmc_serial.specs.declared.action.Action.TheVariants.{Read, ReadRegister, WriteRegister, Act, Work}
 use Rattle.hmc_serial.specs.Actions.{action_of}
 
 -- every request has an action
@@ -92,3 +92,15 @@ acted_reply commands.Caszero16 op is = tt
 acted_reply commands.Eq8 op is = tt
 acted_reply commands.Eq16 op is = tt
 acted_reply _ op is = absurd (cc)
+
+pub unit_reply : (command : Command) (code : ℕ) → action_of command ≡ Some (Work code) → IsActedReply (reply_of command)
+unfolding action_of atomic_of table_line
+unit_reply commands.Unit0 code is = tt
+unit_reply commands.Unit1 code is = tt
+unit_reply commands.Unit2 code is = tt
+unit_reply commands.Unit3 code is = tt
+unit_reply commands.Unit4 code is = tt
+unit_reply commands.Unit5 code is = tt
+unit_reply commands.Unit6 code is = tt
+unit_reply commands.Unit7 code is = tt
+unit_reply _ code is = absurd (cc)

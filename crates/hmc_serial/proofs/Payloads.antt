@@ -6,7 +6,7 @@ use Rattle.hmc_codes.specs.declared.command.Command.{Command}
 use Rattle.hmc_codes.specs.declared.command.Command.TheVariants as commands
 use Rattle.hmc_atomics.specs.declared.atomic.Atomic.{Atomic}
 use Rattle.hmc_atomics.specs.Operations.{atomic_of}
-use Rattle.hmc_serial.specs.declared.action.Action.TheVariants.{Read, WriteRegister, Act}
+use Rattle.hmc_serial.specs.declared.action.Action.TheVariants.{Read, WriteRegister, Act, Work}
 use Rattle.hmc_serial.specs.Actions.{action_of}
 
 -- a number of bytes that a read command asks for
@@ -61,3 +61,16 @@ acted_payload commands.Caszero16 op is = lit≤ tt
 acted_payload commands.Eq8 op is = lit≤ tt
 acted_payload commands.Eq16 op is = lit≤ tt
 acted_payload _ op is = absurd (cc)
+
+-- that of a unit command is 16 bytes
+pub unit_payload : (command : Command) (code : ℕ) → action_of command ≡ Some (Work code) → payload_len_of command ≡ 16
+unfolding action_of atomic_of table_line
+unit_payload commands.Unit0 code is = refl
+unit_payload commands.Unit1 code is = refl
+unit_payload commands.Unit2 code is = refl
+unit_payload commands.Unit3 code is = refl
+unit_payload commands.Unit4 code is = refl
+unit_payload commands.Unit5 code is = refl
+unit_payload commands.Unit6 code is = refl
+unit_payload commands.Unit7 code is = refl
+unit_payload _ code is = absurd (cc)

@@ -1,10 +1,11 @@
 -- One cube of the plain machine.
-use Rattle.std.specs.Prelude.{◌≡◌, ℕ, List, length, replicate}
+use Rattle.std.specs.Prelude.{◌≡◌, ℕ, List, length, replicate, Option}
 use Rattle.hmc_codes.specs.Bytes.{IsBytes}
 use Rattle.hmc_codes.specs.Shape.{ShapeFields, IsShape, capacity_of}
 use Rattle.hmc_codes.specs.declared.answer.Answer.{Answer}
 use Rattle.hmc_memory.specs.Banks.{BanksFields}
 use Rattle.hmc_registers.specs.Registers.{IsRegisters, opening_registers}
+use Rattle.hmc_units.specs.Unit.{UnitFields}
 
 -- all bytes in address order, and sixteen registers
 pub record CubeState : Type 0 where
@@ -12,9 +13,10 @@ pub record CubeState : Type 0 where
   pub memory : List ℕ
   pub registers : List ℕ
 
--- what a request leaves of its cube, and its answer
+-- what a request leaves of its cube and of the slots of logic units, and its answer
 pub record Outcome : Type 0 where
   pub cube : CubeState
+  pub slots : List (Option UnitFields)
   pub answer : Answer
 
 -- at first all bytes are zero
@@ -38,7 +40,7 @@ abbrev pub cube_state_of : BanksFields → List ℕ → CubeState
 cube_state_of banks registers =
     record { shape = banks.shape; memory = banks.bytes; registers = registers }
 
--- a cube of this memory and these registers, and this answer
-abbrev pub outcome_of_parts : BanksFields → List ℕ → Answer → Outcome
-outcome_of_parts banks registers answer =
-    record { cube = cube_state_of banks registers; answer = answer }
+-- a cube of this memory and these registers, these slots, and this answer
+abbrev pub outcome_of_parts : BanksFields → List ℕ → List (Option UnitFields) → Answer → Outcome
+outcome_of_parts banks registers slots answer =
+    record { cube = cube_state_of banks registers; slots = slots; answer = answer }

@@ -1,7 +1,11 @@
 -- The errors of requests, by their numbers, in the order of the tests.
-use Rattle.std.specs.Prelude.{ℕ, ◌+◌, ◌/◌, ◌%◌, Bool, false, not, ◌==◌, ◌||◌, ◌&&◌, nat_lt, nat_le, if◌then◌else◌, Option, Some, None}
+use Rattle.std.specs.Prelude.{ℕ, ◌+◌, ◌/◌, ◌%◌, Bool, false, not, ◌==◌, ◌||◌, ◌&&◌, nat_lt, nat_le, if◌then◌else◌, List, length, Option, Some, None}
+use Rattle.std.specs.List.{list_any}
+use Rattle.hmc_codes.specs.Request.{RequestFields}
 use Rattle.hmc_codes.specs.Shape.{ShapeFields, offset_of, row_of}
 use Rattle.hmc_atomics.specs.Operations.{by_halves}
+use Rattle.hmc_units.specs.Unit.{UnitFields}
+use Rattle.hmc_units.specs.Bench.{serves}
 use Rattle.hmc_serial.specs.declared.action.Action.{Action}
 use Rattle.hmc_serial.specs.declared.action.Action.TheVariants.{Read, Write, ReadRegister, WriteRegister, Act, Work}
 
@@ -27,21 +31,23 @@ register_write_error address =
     (if nat_le 16 address then Some 4 else
     (if nat_lt address 4 then Some 5 else None))
 
--- 6, if there is no error before it: there is no logic unit
-abbrev pub unit_error : Option ℕ → Option ℕ
-unit_error (Some errstat) = Some errstat
-unit_error None = Some 6
+-- 6, if there is no error before it: no live logic unit has this cube and this code
+abbrev pub unit_error : Option ℕ → List (Option UnitFields) → (cube code : ℕ) → Option ℕ
+unit_error (Some errstat) slots cube code = Some errstat
+unit_error None slots cube code = (if list_any (serves cube code) slots then None else Some 6)
 
 -- the bytes that an atomic command touches
 abbrev pub acted_size : Bool → ℕ
 acted_size halves = (if halves then 8 else 16)
 
--- the error of a request at an address, with a payload of this length
-abbrev pub error_of : Action → ShapeFields → (address len : ℕ) → Option ℕ
-error_of (Read size) shape address len = memory_error shape size false address
-error_of Write shape address len = memory_error shape len false address
-error_of ReadRegister shape address len = register_error address
-error_of WriteRegister shape address len = register_write_error address
-error_of (Act op) shape address len =
-    memory_error shape (acted_size (by_halves op)) (by_halves op) address
-error_of (Work code) shape address len = unit_error (memory_error shape 16 false address)
+-- the error of a request to a cube of this shape, with these logic units
+abbrev pub error_of : Action → ShapeFields → List (Option UnitFields) → RequestFields → Option ℕ
+error_of (Read size) shape slots request = memory_error shape size false request.address
+error_of Write shape slots request =
+    memory_error shape (length request.payload) false request.address
+error_of ReadRegister shape slots request = register_error request.address
+error_of WriteRegister shape slots request = register_write_error request.address
+error_of (Act op) shape slots request =
+    memory_error shape (acted_size (by_halves op)) (by_halves op) request.address
+error_of (Work code) shape slots request =
+    unit_error (memory_error shape 16 false request.address) slots request.cube code

@@ -1,14 +1,17 @@
 //! Bytes of a memory, in blocks of 16.
 
-ghost use Rattle.std.specs.Prelude.{◌≡◌, ◌<◌, ◌≤◌, ◌+◌, ◌%◌, ◌^◌, length, slice_range};
+ghost use Rattle.std.specs.Prelude.{◌≡◌, ◌<◌, ◌≤◌, ◌+◌, ◌%◌, ◌^◌, ◌↔◌, false, IsNone, IfNone, IfSome, length, slice_range};
+ghost use Rattle.std.specs.List.{list_any};
 ghost use Rattle.hmc_codes.specs.Bytes.{padded_bytes};
 ghost use Rattle.hmc_codes.specs.Shape.{capacity_of};
 ghost use Rattle.hmc_memory.specs.Banks.{written_bytes};
-ghost use Rattle.hmc_serial.specs.Perform.{acted_at, block_start};
+ghost use Rattle.hmc_units.specs.Bench.{serves, bench_acted, worked_slots};
+ghost use Rattle.hmc_serial.specs.Perform.{acted_at, block_at, block_start};
 
 use hmc_atomics::{Atomic, act};
-use hmc_codes::{Acted, Payload};
+use hmc_codes::{Acted, Payload, Request};
 use hmc_memory::Banks;
+use hmc_units::Workbench;
 
 // The bytes of a block.
 const BLOCK: usize = 16;
@@ -48,7 +51,7 @@ pub fn write(banks: &mut Banks, address: u64, bytes: &[u8])
     }
 }
 
-// The operand of an atomic command: its payload, or zeros.
+// The operand of a command: its payload, or zeros.
 fn operand(payload: &[u8]) -> [u8; 16]
     requires { length payload.now ≤ 16 }
     ensures { result ≡ padded_bytes 16 payload.now }
@@ -72,4 +75,33 @@ pub fn act_at(op: Atomic, banks: &mut Banks, address: u64, payload: &[u8]) -> Ac
     let acted = act(op, high, banks.get16(start), operand(payload));
     banks.put16(start, acted.block);
     acted
+}
+
+/// The unit of the request's cube with this code works on the block that holds the address. `None`
+/// exactly where no live unit is one, and then nothing changes.
+pub fn work_at<B: Workbench>(
+    bench: &mut B,
+    code: u8,
+    banks: &mut Banks,
+    request: &Request,
+) -> Option<Acted>
+    requires short { length request.now.payload ≤ 16 }
+    requires inside { request.now.address < capacity_of banks.old.shape }
+    ensures shape { banks.new.shape ≡ banks.old.shape }
+    ensures acted { result ≡ bench_acted (B.slots bench.old) request.now.cube code
+        (block_at banks.old.bytes request.now.address) (padded_bytes 16 request.now.payload) }
+    ensures slots { B.slots bench.new ≡ worked_slots (B.slots bench.old) request.now.cube code
+        (block_at banks.old.bytes request.now.address) (padded_bytes 16 request.now.payload) }
+    ensures some { IfSome result (λ acted. banks.new.bytes
+        ≡ written_bytes banks.old.bytes (block_start request.now.address) acted.block) }
+    ensures none { IsNone result
+        ↔ (list_any (serves request.now.cube code) (B.slots bench.old) ≡ false) }
+    ensures unchanged { IfNone result ((banks.new.bytes ≡ banks.old.bytes)
+        × (B.slots bench.new ≡ B.slots bench.old)) }
+{
+    let start = request.address - request.address % 16;
+    let operand = operand(request.payload.as_slice());
+    let worked = bench.work(request.cube, code, banks.get16(start), operand)?;
+    banks.put16(start, worked.block);
+    Some(worked)
 }

@@ -1,49 +1,58 @@
 //! A request performed on a cube.
 
-ghost use Rattle.std.specs.Prelude.{◌≡◌, ◌<◌, ◌≤◌, length, slice_index, slice_set};
+ghost use Rattle.std.specs.Prelude.{◌≡◌, ◌<◌, ◌≤◌, None, length, slice_index, slice_set};
 ghost use Rattle.hmc_codes.specs.Text.{value_in};
 ghost use Rattle.hmc_serial.specs.Actions.{action_of};
 ghost use Rattle.hmc_serial.specs.Cube.{cube_state_of, outcome_of_parts};
-ghost use Rattle.hmc_serial.specs.Errors.{error_of};
-ghost use Rattle.hmc_serial.specs.Perform.{carry_out, perform_on};
+ghost use Rattle.hmc_serial.specs.Perform.{carry_out, perform_on, unless_error};
+ghost use Rattle.hmc_serial.specs.Tested.{bench_error, cube_error};
 
 use crate::Action;
 use crate::answers::{acted_answer, answer_unless_posted};
-use crate::blocks::{act_at, read, write};
+use crate::blocks::{act_at, read, work_at, write};
 use crate::errors::error;
 use hmc_codes::{Answer, Request};
 use hmc_memory::Banks;
 use hmc_registers::Registers;
+use hmc_units::Workbench;
 
-/// Performs a request on the memory and the registers of its cube. Returns its answer.
-pub fn perform(banks: &mut Banks, registers: &mut Registers, request: &Request) -> Answer
-    ensures outcome { outcome_of_parts banks.new registers.new result
-        ≡ perform_on (cube_state_of banks.old registers.old) request.now }
+/// Performs a request on the memory and the registers of its cube. Only a unit command asks the
+/// bench of logic units. Returns the answer.
+pub fn perform<B: Workbench>(
+    banks: &mut Banks,
+    registers: &mut Registers,
+    bench: &mut B,
+    request: &Request,
+) -> Answer
+    ensures outcome { outcome_of_parts banks.new registers.new (B.slots bench.new) result
+        ≡ perform_on (cube_state_of banks.old registers.old) (B.slots bench.old) request.now }
     ensures shape { banks.new.shape ≡ banks.old.shape }
 {
     request.invariant();
     let Some(action) = Action::of(request.command) else {
         return Answer::Silent;
     };
-    let payload = request.payload.as_slice();
-    match error(action, &banks.shape(), request.address, payload.len()) {
+    match error(action, &banks.shape(), request) {
         Some(errstat) => answer_unless_posted(request.command, Answer::Refused { errstat }),
-        None => carry_out(action, banks, registers, request),
+        None => carry_out(action, banks, registers, bench, request),
     }
 }
 
-// Performs a request that has no error.
-fn carry_out(
+// Performs a request that has none of the errors 1 to 5.
+fn carry_out<B: Workbench>(
     action: Action,
     banks: &mut Banks,
     registers: &mut Registers,
+    bench: &mut B,
     request: &Request,
 ) -> Answer
     requires action { action_of request.now.command ≡ Some action }
-    requires no_error { error_of action banks.old.shape request.now.address
-        (length request.now.payload) ≡ None }
-    ensures outcome { outcome_of_parts banks.new registers.new result
-        ≡ carry_out action (cube_state_of banks.old registers.old) request.now }
+    requires no_error { cube_error action banks.old.shape request.now ≡ None }
+    ensures outcome { let cube = cube_state_of banks.old registers.old in
+        outcome_of_parts banks.new registers.new (B.slots bench.new) result
+        ≡ unless_error (bench_error action (B.slots bench.old) request.now)
+        cube (B.slots bench.old) request.now.command
+        (carry_out action cube (B.slots bench.old) request.now) }
     ensures shape { banks.new.shape ≡ banks.old.shape }
 {
     request.invariant();
@@ -66,7 +75,10 @@ fn carry_out(
             let acted = act_at(op, banks, address, request.payload.as_slice());
             acted_answer(request.command, &acted)
         }
-        Action::Work(_) => Answer::Silent,
+        Action::Work(code) => match work_at(bench, code, banks, request) {
+            Some(acted) => acted_answer(request.command, &acted),
+            None => answer_unless_posted(request.command, Answer::Refused { errstat: 6 }),
+        },
     }
 }
 

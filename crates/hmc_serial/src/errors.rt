@@ -1,10 +1,11 @@
 //! The errors of requests.
 
-ghost use Rattle.std.specs.Prelude.{◌≡◌, ◌<◌, ◌≤◌, ◌^◌};
-ghost use Rattle.hmc_serial.specs.Errors.{is_misaligned, memory_error, register_error, register_write_error, error_of};
+ghost use Rattle.std.specs.Prelude.{◌≡◌, ◌<◌, ◌^◌};
+ghost use Rattle.hmc_serial.specs.Errors.{is_misaligned, memory_error, register_error, register_write_error};
+ghost use Rattle.hmc_serial.specs.Tested.{cube_error};
 
 use crate::Action;
-use hmc_codes::Shape;
+use hmc_codes::{Request, Shape};
 use hmc_registers::{FIRST_SCRATCH, REGISTERS};
 
 fn is_misaligned(halves: bool, address: u64) -> bool
@@ -53,20 +54,24 @@ fn register_write_error(address: u64) -> Option<u8>
     }
 }
 
-/// The number of a request's error, or `None` if it has none.
-pub fn error(action: Action, shape: &Shape, address: u64, len: usize) -> Option<u8>
-    requires { len ≤ 256 }
-    ensures { result ≡ error_of action shape.now address len }
+/// The number of a request's error, 1 to 5, or `None` if it has none of these. Whether a unit
+/// command has error 6 is known once the bench was asked.
+pub fn error(action: Action, shape: &Shape, request: &Request) -> Option<u8>
+    ensures { result ≡ cube_error action shape.now request.now }
 {
+    let address = request.address;
     match action {
         Action::Read(size) => memory_error(shape, u64::from(size), false, address),
-        Action::Write => memory_error(shape, len as u64, false, address),
+        Action::Write => {
+            let payload = request.payload.as_slice();
+            memory_error(shape, payload.len() as u64, false, address)
+        }
         Action::ReadRegister => register_error(address),
         Action::WriteRegister => register_write_error(address),
         Action::Act(op) => {
             let halves = op.by_halves();
             memory_error(shape, if halves { 8 } else { 16 }, halves, address)
         }
-        Action::Work(_) => memory_error(shape, 16, false, address).or(Some(6)),
+        Action::Work(_) => memory_error(shape, 16, false, address),
     }
 }

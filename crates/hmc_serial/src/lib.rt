@@ -1,9 +1,10 @@
 //! What a request does to a cube, and a plain machine of several cubes.
 //!
 //! A cube is its shape, one list of bytes in address order and a list of sixteen registers. A
-//! machine is a list of cubes. `perform_on` is the one definition of what a request leaves of its
-//! cube and of its answer, case by case as in the table of commands. `unit_of` is the unit that
-//! executes a request. The layers above state their results by these definitions.
+//! machine is a list of cubes and the slots of its logic units. `perform_on` is the one definition
+//! of what a request leaves of its cube and of the slots, and of its answer, case by case as in the
+//! table of commands. `unit_of` is the unit that executes a request. The layers above state their
+//! results by these definitions.
 #![tactic(auto)]
 
 mod action;

@@ -3,6 +3,7 @@
 use hmc_case::{Case, CaseFault, CaseKind, Section};
 use hmc_codes::{Join, LinkSetup, Place, Profile, Shape};
 use hmc_net::Net;
+use hmc_units::{Reverse, Slots};
 use std::test::Fail;
 
 const TEXT: &str = "profile = 1
@@ -101,7 +102,9 @@ fn the_first_fault_is_reported(rt: HostRuntime) -> Result<(), Fail> {
 #[test]
 fn nothing_has_happened_in_a_network_that_was_built(rt: HostRuntime) -> Result<(), Fail> {
     let case = Case::read(rt.alloc(), TEXT.as_bytes()).map_err(|_| "the text is a case")?;
-    let net = Net::build(rt.alloc(), &case)?;
+    let units: Vec<Reverse> = Vec::new(rt.alloc());
+    let bench = Slots::new(rt.alloc(), units)?;
+    let net = Net::build(rt.alloc(), &case, bench)?;
     assert!(rt; net.journal().is_empty(), "entries");
     assert!(rt; net.tags_out(0) == 0, "tags");
     assert!(rt; net.cube(0).capacity() == 8192, "bytes");

@@ -3,6 +3,7 @@
 use hmc_codes::MOST_INPUT;
 use hmc_outside::{MemorySink, MemorySource};
 use hmc_replay::replay;
+use hmc_units::LogicUnit;
 use std::alloc::Global;
 use std::test::Fail;
 
@@ -27,7 +28,15 @@ output = 4
 
 const BYTES: &str = "000102030405060708090a0b0c0d0e0f";
 
-const NOTHING: &str = "host 0 0 0 0\ncube 0 0 0\nstate drained\n";
+/// The report of a case without requests and steps.
+const NOTHING: &str = "tokens 0 0 0 0 34 0 34
+tokens 1 0 0 0 34 0 34
+counters 0 0 0 0 0 0 0
+counters 1 0 0 0 0 0 0
+host 0 0 0 0
+cube 0 0 0
+state drained
+";
 
 fn case_on(alloc: Global, script: &str, schedule: &str) -> Result<String, Fail> {
     let texts = format!(in alloc; "script = '''\n{script}'''\nschedule = '''\n{schedule}'''\n")?;
@@ -69,7 +78,8 @@ impl<'a> Run<'a> {
         let words = words_of(alloc, self.words)?;
         let mut source = MemorySource::new(alloc, self.input, self.reads)?;
         let mut sink = MemorySink::new(alloc, self.room, self.writes)?;
-        let status = replay(alloc, &words, &mut source, &mut sink);
+        let units: Vec<Box<dyn LogicUnit>> = Vec::new(alloc);
+        let status = replay(alloc, &words, &mut source, &mut sink, units);
         let text = str::from_utf8(sink.as_slice()).map_err(|_| "a report is text")?;
         Ok((status, String::from_str(alloc, text)?))
     }
@@ -84,10 +94,38 @@ impl<'a> Run<'a> {
 #[test]
 fn other_words_are_no_form(rt: HostRuntime) -> Result<(), Fail> {
     let case = case_on(rt.alloc(), "", "")?;
-    for words in &[&[] as &[&str], &["run", "run"], &["Run"]] {
+    for words in &[
+        &[] as &[&str],
+        &["run", "run"],
+        &["Run"],
+        &["make"],
+        &["make", "-1"],
+        &["make", "18446744073709551616"],
+    ] {
         let run = Run::of(words, case.as_bytes());
         assert!(rt; run.answers(rt.alloc(), 2, "")?, "{} words", words.len());
     }
+    Ok(())
+}
+
+/// The short report of the case of 0.
+const MADE: &str = "tokens 0 64 0 0 0 0 64
+tokens 1 64 0 0 0 0 64
+counters 0 6000 6000 2 203 0 2
+counters 1 6000 6000 1 214 0 1
+host 0 200 200 0
+cube 0 200 0
+state drained
+";
+
+// The source would fail at its first read.
+#[test]
+fn a_case_is_made_and_nothing_is_read(rt: HostRuntime) -> Result<(), Fail> {
+    let run = Run {
+        reads: &[1],
+        ..Run::of(&["make", "0"], &[])
+    };
+    assert!(rt; run.answers(rt.alloc(), 0, MADE)?, "short report");
     Ok(())
 }
 
@@ -115,6 +153,17 @@ fn each_line_is_one_write(alloc: Global, input: &[u8], report: &str) -> Result<b
     Ok(before.as_str() == report && run.answers(alloc, 0, report)?)
 }
 
+/// The last lines of a write and of an access to a register, after 78 rounds.
+const TWO_END: &str = "register 0 4 00000005
+tokens 0 34 0 0 0 0 34
+tokens 1 33 0 0 1 0 34
+counters 0 78 78 0 4 0 0
+counters 1 78 78 0 4 0 0
+host 0 2 2 0
+cube 0 2 0
+state drained
+";
+
 #[test]
 fn each_line_of_a_report_is_one_write(rt: HostRuntime) -> Result<(), Fail> {
     let alloc = rt.alloc();
@@ -122,13 +171,12 @@ fn each_line_of_a_report_is_one_write(rt: HostRuntime) -> Result<(), Fail> {
     let case = case_on(alloc, &script, "round 78\n")?;
     let (status, report) = Run::of(&["run"], case.as_bytes()).gives(alloc)?;
     assert!(rt; status == 0, "status");
-    let last = "register 0 4 00000005\nhost 0 2 2 0\ncube 0 2 0\nstate drained\n";
-    assert!(rt; report.ends_with(last), "last lines");
+    assert!(rt; report.ends_with(TWO_END), "last lines");
     assert!(rt;
         report.contains(&*format!(in alloc; "memory 0 0x0 {BYTES}\n")?),
         "memory"
     );
-    assert!(rt; report.lines().count() == 941, "lines");
+    assert!(rt; report.lines().count() == 945, "lines");
     assert!(rt;
         each_line_is_one_write(alloc, case.as_bytes(), &report)?,
         "writes"
@@ -177,6 +225,18 @@ output = 4
 /// The last lines of two requests, each to the other cube.
 const ROW_ENDS: &str = "memory 1 0x0 000102030405060708090a0b0c0d0e0f
 register 0 4 00000005
+tokens 0 34 0 0 0 0 34
+tokens 1 34 0 0 0 0 34
+tokens 2 34 0 0 0 0 34
+tokens 3 34 0 0 0 0 34
+tokens 4 34 0 0 0 0 34
+tokens 5 34 0 0 0 0 34
+counters 0 82 82 0 3 0 0
+counters 1 82 82 0 4 0 0
+counters 2 82 82 0 5 0 0
+counters 3 82 82 0 5 0 0
+counters 4 82 82 0 3 0 0
+counters 5 82 82 0 4 0 0
 host 0 1 1 0
 host 1 1 1 0
 cube 0 1 0

@@ -2,15 +2,19 @@ ghost use Rattle.std.specs.Prelude.{◌≡◌, ◌<◌, ◌^◌, IfOk, length};
 ghost use Rattle.hmc_vault.specs.Packets.{IsForBanks};
 ghost use Rattle.hmc_cube.specs.Places.{IsForRegisters};
 
+use crate::bench::NoUnits;
 use hmc_codes::{Answer, Command, Lift, Memory, Payload, Request, Shape};
 use hmc_crossbar::To;
 use hmc_cube::{Cube, Executed, Spread};
 use hmc_packet::{Packet, answer_of, ask};
+use hmc_units::{Reverse, Slots, Workbench};
 use std::alloc::Global;
 use std::process::Abort;
 use std::test::Fail;
 
 const BYTES: [u8; 16] = [1, 2, 3, 4, 5, 6, 7, 8, 9, 10, 11, 12, 13, 14, 15, 16];
+
+const REVERSED: [u8; 16] = [16, 15, 14, 13, 12, 11, 10, 9, 8, 7, 6, 5, 4, 3, 2, 1];
 
 // A posted write of host 1 to the second vault.
 #[tactic(auto, unfolding(hmc_codes::specs::Table::table_line, hmc_packet::specs::Transactions::request_packet))]
@@ -37,6 +41,21 @@ fn read() -> Packet
         cube: 6,
         address: 0x100,
         payload: Payload::empty(),
+    };
+    ask(&request, 9, 1, false)
+}
+
+// A unit command of host 1 to the second vault.
+#[tactic(auto, unfolding(hmc_codes::specs::Table::table_line, hmc_packet::specs::Transactions::request_packet))]
+fn reverse(payload: Payload) -> Packet
+    requires { length payload ≡ 16 }
+    ensures { IsForBanks result }
+{
+    let request = Request {
+        command: Command::Unit1,
+        cube: 6,
+        address: 0x100,
+        payload,
     };
     ask(&request, 9, 1, false)
 }
@@ -138,11 +157,11 @@ fn spread(cube: &mut Cube) -> Spread
     cube.spread(1)
 }
 
-fn execute(cube: &mut Cube) -> Executed
+fn execute<B: Workbench>(cube: &mut Cube, bench: &mut B) -> Executed
     requires { 1 < 2 ^ cube.old.state.shape.vault_bits }
     ensures { 1 < 2 ^ cube.new.state.shape.vault_bits }
 {
-    cube.execute(1, 0)
+    cube.execute(1, 0, bench)
 }
 
 fn lift(cube: &mut Cube) -> Option<Packet>
@@ -160,14 +179,15 @@ fn block(cube: &Cube, place: u64) -> Option<[u8; 16]> {
     }
 }
 
-// A posted write and a read fill the second vault, and go to its bank.
-fn assert_spread(rt: &impl Abort, cube: &mut Cube, payload: Payload)
+// A posted write and a second request fill the second vault, and go to its bank.
+fn assert_spread(rt: &impl Abort, cube: &mut Cube, payload: Payload, second: Packet)
     requires vaults { 1 < 2 ^ cube.old.state.shape.vault_bits }
     requires bytes { length payload ≡ 16 }
+    requires second { IsForBanks second }
     ensures { 1 < 2 ^ cube.new.state.shape.vault_bits }
 {
     assert!(rt; enter(cube, posted_write(payload)), "the write enters");
-    assert!(rt; enter(cube, read()), "the read enters");
+    assert!(rt; enter(cube, second), "the second enters");
     assert!(rt; is_second_full(cube), "full");
     assert!(rt;
         spread(cube) == Spread::Moved { bank: 0 },
@@ -175,17 +195,17 @@ fn assert_spread(rt: &impl Abort, cube: &mut Cube, payload: Payload)
     );
     assert!(rt;
         spread(cube) == Spread::Moved { bank: 0 },
-        "spread of the read"
+        "spread of the second"
     );
 }
 
-// Both run, and the read has the bytes that were written.
-fn assert_executed(rt: &impl Abort, cube: &mut Cube)
+// Both run, and the reply has the bytes that were written.
+fn assert_executed<B: Workbench>(rt: &impl Abort, cube: &mut Cube, bench: &mut B)
     requires { 1 < 2 ^ cube.old.state.shape.vault_bits }
 {
-    assert!(rt; is_silent(&execute(cube)), "write");
+    assert!(rt; is_silent(&execute(cube, bench)), "write");
     assert!(rt; block(cube, 0x100) == Some(BYTES), "written");
-    assert!(rt; is_run(&execute(cube), 1, 9), "read");
+    assert!(rt; is_run(&execute(cube, bench), 1, 9), "second");
     assert!(rt; has_bytes(lift(cube)), "reply");
     assert!(rt; cube.held() == 0, "held");
 }
@@ -195,8 +215,24 @@ fn assert_executed(rt: &impl Abort, cube: &mut Cube)
 fn memory(rt: HostRuntime) -> Result<(), Fail> {
     let payload = Payload::from_slice(&BYTES).expect(&rt, "refused");
     let mut cube = two_vaults(rt.alloc())?;
-    assert_spread(&rt, &mut cube, payload);
-    assert_executed(&rt, &mut cube);
+    assert_spread(&rt, &mut cube, payload, read());
+    assert_executed(&rt, &mut cube, &mut NoUnits);
+    assert!(rt; block(&cube, 0x100) == Some(BYTES), "the bytes stay");
+    Ok(())
+}
+
+// A posted write and a unit command: the reply has the old bytes, and the block is reversed.
+#[test]
+fn unit_command(rt: HostRuntime) -> Result<(), Fail> {
+    let payload = Payload::from_slice(&BYTES).expect(&rt, "refused");
+    let operand = Payload::from_slice(&REVERSED).expect(&rt, "refused");
+    let mut cube = two_vaults(rt.alloc())?;
+    let mut units = Vec::new(rt.alloc());
+    units.push(Reverse::new(6, 1))?;
+    let mut bench = Slots::new(rt.alloc(), units)?;
+    assert_spread(&rt, &mut cube, payload, reverse(operand));
+    assert_executed(&rt, &mut cube, &mut bench);
+    assert!(rt; block(&cube, 0x100) == Some(REVERSED), "reversed");
     Ok(())
 }
 
@@ -228,7 +264,7 @@ fn lift_register(cube: &mut Cube) -> Option<Packet> {
 fn assert_number(rt: &impl Abort, cube: &mut Cube) {
     assert!(rt; fills_registers(cube), "full");
     assert!(rt; cube.held() == 1, "held");
-    assert!(rt; is_run(&cube.registers(), 2, 2047), "read");
+    assert!(rt; is_run(&cube.registers(&mut NoUnits), 2, 2047), "read");
     assert!(rt; cube.register(0) == Some(6), "number");
     assert!(rt; has_number(lift_register(cube)), "reply");
     assert!(rt; cube.lift_front(Lift::Registers).is_none(), "lifted");

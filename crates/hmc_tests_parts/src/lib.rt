@@ -1,7 +1,9 @@
-//! Tests of the texts of a case, of the lines of a report, of routes, and of the parts of a network.
+//! Tests of the texts of a case, of the lines of a report, of routes, and of parts of a network.
 //! All are tests of public calls. A crate with tests is proved twice: with them, and without.
 #![tactic(auto)]
 
+#[cfg(test)]
+mod bench;
 #[cfg(test)]
 mod cube;
 #[cfg(test)]

@@ -1,6 +1,7 @@
 ghost use Rattle.std.specs.Prelude.{◌≡◌, IfOk, length};
 ghost use Rattle.hmc_vault.specs.Packets.{IsForBanks};
 
+use crate::bench::NoUnits;
 use hmc_codes::{Answer, Command, Memory, Payload, Request, Shape};
 use hmc_memory::Banks;
 use hmc_packet::{Packet, answer_of, ask};
@@ -106,7 +107,7 @@ fn execute(vault: &mut Vault, banks: &mut Banks, registers: &mut Registers) -> E
     requires { length vault.old.banks ≡ 2 }
     ensures { length vault.new.banks ≡ 2 }
 {
-    vault.execute(1, banks, registers)
+    vault.execute(1, banks, registers, &mut NoUnits)
 }
 
 fn lift(vault: &mut Vault) -> Option<Packet>

@@ -16,8 +16,12 @@ mod outside;
 #[cfg(test)]
 mod registers;
 #[cfg(test)]
+mod report_lines;
+#[cfg(test)]
 mod request;
 #[cfg(test)]
 mod serial;
 #[cfg(test)]
 mod units;
+#[cfg(test)]
+mod work;

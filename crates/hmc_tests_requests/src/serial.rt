@@ -1,8 +1,11 @@
 //! Answers and effects of requests, by the table of commands.
 
+ghost use Rattle.std.specs.Prelude.{[]};
+
 use crate::request::{register_write, request};
-use hmc_codes::{Answer, Command, Memory, Request, Shape};
+use hmc_codes::{Acted, Answer, Command, Memory, Request, Shape};
 use hmc_serial::Plain;
+use hmc_units::Workbench;
 use std::alloc::Global;
 use std::process::Abort;
 use std::test::Fail;
@@ -10,11 +13,33 @@ use std::test::Fail;
 // A block of fives, with one added to its high half.
 const RAISED: [u8; 16] = [5, 5, 5, 5, 5, 5, 5, 5, 6, 5, 5, 5, 5, 5, 5, 5];
 
+// A bench that has no unit.
+#[derive(Drop)]
+struct NoUnits;
+
+impl Workbench for NoUnits {
+    ghost slots = { λ bench. [] };
+
+    fn work(
+        &mut self,
+        _cube: u8,
+        _code: u8,
+        _block: [u8; 16],
+        _operand: [u8; 16],
+    ) -> Option<Acted> {
+        None
+    }
+
+    fn retire(&mut self, _slot: u8) -> bool {
+        false
+    }
+}
+
 // Applies a request, if there is one and its cube exists.
 fn apply(plain: &mut Plain, request: Option<Request>) -> Option<Answer> {
     let request = request?;
     if usize::from(request.cube) < plain.cubes() {
-        Some(plain.apply(&request))
+        Some(plain.apply(&request, &mut NoUnits))
     } else {
         None
     }

@@ -70,11 +70,18 @@ fn shipped_bench(rt: HostRuntime) -> Result<(), Fail> {
     Ok(())
 }
 
-// A unit that writes the operand and answers the block, or the other way round, in turns. So its
-// answer depends on how often it worked.
+/// A unit that writes the operand and answers the block, or the other way round, in turns. So its
+/// answer depends on how often it worked.
 #[derive(Drop)]
-struct Turns {
+pub struct Turns {
     count: u8,
+}
+
+impl Turns {
+    /// A unit of cube 2 and code 7 that never worked.
+    pub fn new() -> Self {
+        Turns { count: 0 }
+    }
 }
 
 impl LogicUnit for Turns {

@@ -1,5 +1,5 @@
 -- Executions.
-use Rattle.std.proofs.Common.{◌≡◌, ◌≤◌, ◌<◌, ◌∙◌, ◌+◌, ℕ, Bool, false, not, List, [], ◌∷◌, length, drop, set, leb, sum_by, Some, refl, sym, ap, subst, arith}
+use Rattle.std.proofs.Common.{◌≡◌, ◌≤◌, ◌<◌, ◌∙◌, ◌+◌, ℕ, Bool, false, not, List, [], ◌∷◌, length, drop, set, leb, sum_by, Option, Some, refl, sym, ap, subst, arith}
 use Rattle.std.specs.Prelude.{◌&&◌, nat_le, slice_get}
 use Rattle.std.specs.List.{All}
 use Rattle.std.proofs.lemmas.List.{length-set}
@@ -12,6 +12,7 @@ use Rattle.hmc_memory.specs.Banks.{BanksFields, IsBanks}
 use Rattle.hmc_registers.specs.Registers.{IsRegisters}
 use Rattle.hmc_packet.specs.Packet.{PacketFields}
 use Rattle.hmc_codes.specs.Answer.{CanReply}
+use Rattle.hmc_units.specs.Unit.{UnitFields}
 use Rattle.hmc_serial.specs.Cube.{Outcome, IsCube, cube_state_of, outcome_of_parts}
 use Rattle.hmc_serial.specs.Perform.{perform_on}
 use Rattle.hmc_tokens.specs.Queue.{one, all_cost_one}
@@ -40,10 +41,10 @@ pub cube_is : (banks : BanksFields) (registers : List ℕ) → IsBanks banks →
 cube_is banks registers kept are = record { is_shape = kept.shape; capacity = kept.capacity; bytes = kept.bytes; are_registers = are }
 
 -- the answer to a request that is not posted can be carried
-pub answer_carried : (banks banks' : BanksFields) (registers registers' : List ℕ) (request : RequestFields) (answer : Answer) → IsBanks banks → IsRegisters registers → IsRequest request →
-    outcome_of_parts banks' registers' answer ≡ perform_on (cube_state_of banks registers) request → is_posted request.command ≡ false → CanReply answer
-answer_carried banks banks' registers registers' request answer kept are is outcome answered =
-    subst CanReply (sym (ap (λ (o : Outcome). o.answer) outcome)) ((performed_is_carried (cube_state_of banks registers) request (cube_is banks registers kept are) is).carried answered)
+pub answer_carried : (banks banks' : BanksFields) (registers registers' : List ℕ) (slots slots' : List (Option UnitFields)) (request : RequestFields) (answer : Answer) → IsBanks banks → IsRegisters registers → IsRequest request →
+    outcome_of_parts banks' registers' slots' answer ≡ perform_on (cube_state_of banks registers) slots request → is_posted request.command ≡ false → CanReply answer
+answer_carried banks banks' registers registers' slots slots' request answer kept are is outcome answered =
+    subst CanReply (sym (ap (λ (o : Outcome). o.answer) outcome)) ((performed_is_carried (cube_state_of banks registers) slots request (cube_is banks registers kept are) is).carried answered)
 
 -- what holds of all that wait holds of those that are left
 pub waiting_all : (P : PacketFields → Type 0) (result : Executed) (waiting waiting' : List PacketFields) → waiting' ≡ waiting_after result waiting → All P waiting → All P waiting'

@@ -1,16 +1,18 @@
 -- Definitions computed at a cube of two vaults of two banks of one row, whose number is 6.
-use Rattle.std.proofs.Common.{◌≡◌, ℕ, List, [], ◌∷◌, true, false, refl}
+use Rattle.std.proofs.Common.{◌≡◌, ℕ, List, [], ◌∷◌, Some, true, false, refl}
 use Rattle.std.specs.Prelude.{map, replicate}
 use Rattle.hmc_codes.specs.Shape.{ShapeFields}
 use Rattle.hmc_codes.specs.Request.{RequestFields}
 use Rattle.hmc_codes.specs.Table.{table_line}
 use Rattle.hmc_codes.specs.declared.answer.Answer.TheVariants as answers
 use Rattle.hmc_codes.specs.declared.command.Command.{Command}
-use Rattle.hmc_codes.specs.declared.command.Command.TheVariants.{Rd16, Pinc8, Mdrd, WrRs}
+use Rattle.hmc_codes.specs.declared.command.Command.TheVariants.{Rd16, Pinc8, Mdrd, WrRs, Unit1}
 use Rattle.hmc_packet.specs.Packet.{PacketFields, null_packet}
 use Rattle.hmc_packet.specs.Transactions.{reply_packet, payload_of, request_in}
 use Rattle.hmc_atomics.specs.Operations.{atomic_of}
 use Rattle.hmc_atomics.specs.Act.{acted_of}
+use Rattle.hmc_codes.specs.Bytes.{padded_bytes}
+use Rattle.hmc_units.specs.Shipped.{stamp_unit}
 use Rattle.hmc_serial.specs.Actions.{action_of}
 use Rattle.hmc_serial.specs.Cube.{CubeState}
 use Rattle.hmc_serial.specs.Errors.{memory_error, register_error}
@@ -19,7 +21,7 @@ use Rattle.hmc_vault.specs.declared.spread.Spread.TheVariants as spreads
 use Rattle.hmc_vault.specs.declared.execute.Executed.TheVariants.{Empty, Full, Ran}
 use Rattle.hmc_vault.specs.Vault.{VaultFields, opening_vault, held_by}
 use Rattle.hmc_vault.specs.Spread.{spread_says, spread_gives}
-use Rattle.hmc_vault.specs.Execute.{must_wait, execute_says, replies_to, waiting_after, answers_after, execute_gives}
+use Rattle.hmc_vault.specs.Execute.{must_wait, execute_says, replies_to, waiting_after, answers_after, slots_after, execute_gives}
 
 abbrev two_banks : ShapeFields
 two_banks = record { vault_bits = 1; bank_bits = 1; rows = 1; block = 256 }
@@ -89,19 +91,19 @@ unfolding table_line
 must_wait-posted = refl
 
 -- nothing waits, also where the answers are full
-execute_says-empty : execute_says [] (done 1 ∷ []) 1 cube ≡ Empty
+execute_says-empty : execute_says [] (done 1 ∷ []) 1 cube [] ≡ Empty
 execute_says-empty = refl
 
-execute_says-full : execute_says (read_at 0 ∷ []) (done 1 ∷ []) 1 cube ≡ Full
+execute_says-full : execute_says (read_at 0 ∷ []) (done 1 ∷ []) 1 cube [] ≡ Full
 unfolding request_in payload_of table_line
 execute_says-full = refl
 
 -- the host and the tag are those of the front
-execute_says-register : execute_says (packet_with Mdrd 0 ∷ read_at 0 ∷ []) [] 1 cube ≡ Ran 5 3 (request_with Mdrd 0) (answers.Register 6)
+execute_says-register : execute_says (packet_with Mdrd 0 ∷ read_at 0 ∷ []) [] 1 cube [] ≡ Ran 5 3 (request_with Mdrd 0) (answers.Register 6)
 unfolding request_in payload_of table_line perform_on action_of register_error
 execute_says-register = refl
 
-execute_says-posted : execute_says (packet_with Pinc8 0 ∷ []) (done 1 ∷ []) 1 cube ≡ Ran 5 3 (request_with Pinc8 0) answers.Silent
+execute_says-posted : execute_says (packet_with Pinc8 0 ∷ []) (done 1 ∷ []) 1 cube [] ≡ Ran 5 3 (request_with Pinc8 0) answers.Silent
 unfolding request_in payload_of table_line perform_on action_of atomic_of memory_error acted_of
 execute_says-posted = refl
 
@@ -131,3 +133,24 @@ answers_after-each : map (λ executed. answers_after executed (done 1 ∷ [])) (
     (done 1 ∷ []) ∷ (done 1 ∷ done 3 ∷ []) ∷ (done 1 ∷ []) ∷ []
 unfolding table_line reply_packet
 answers_after-each = refl
+
+-- a unit command of host 5, and its request
+abbrev unit_packet : PacketFields
+unit_packet = record (packet_with Unit1 0x10) { payload = replicate 16 9 }
+
+abbrev unit_request : RequestFields
+unit_request = record (request_with Unit1 0x10) { payload = replicate 16 9 }
+
+-- the unit answers the old block, and has worked; without one the request is refused
+execute_says-unit : execute_says (unit_packet ∷ []) [] 1 cube (Some (stamp_unit 6 1 3) ∷ []) ≡ Ran 5 3 unit_request (answers.Read false (replicate 16 0))
+unfolding request_in payload_of table_line perform_on action_of memory_error padded_bytes stamp_unit
+execute_says-unit = refl
+
+execute_says-no_unit : execute_says (unit_packet ∷ []) [] 1 cube (Some (stamp_unit 5 1 3) ∷ []) ≡ Ran 5 3 unit_request (answers.Refused 6)
+unfolding request_in payload_of table_line perform_on action_of memory_error stamp_unit
+execute_says-no_unit = refl
+
+slots_after-each : map (λ executed. slots_after executed cube (Some (stamp_unit 6 1 3) ∷ [])) (Empty ∷ Full ∷ Ran 5 3 (request_with Rd16 0) (answers.Done false) ∷ Ran 5 3 unit_request (answers.Done false) ∷ []) ≡
+    (Some (stamp_unit 6 1 3) ∷ []) ∷ (Some (stamp_unit 6 1 3) ∷ []) ∷ (Some (stamp_unit 6 1 3) ∷ []) ∷ (Some (stamp_unit 6 1 4) ∷ []) ∷ []
+unfolding table_line perform_on action_of memory_error padded_bytes stamp_unit
+slots_after-each = refl

@@ -5,6 +5,7 @@ use Rattle.hmc_codes.specs.Request.{RequestFields}
 use Rattle.hmc_codes.specs.declared.answer.Answer.{Answer}
 use Rattle.hmc_packet.specs.Packet.{PacketFields}
 use Rattle.hmc_packet.specs.Transactions.{reply_packet, request_in}
+use Rattle.hmc_units.specs.Unit.{UnitFields}
 use Rattle.hmc_serial.specs.Cube.{CubeState}
 use Rattle.hmc_serial.specs.Perform.{perform_on}
 use Rattle.hmc_vault.specs.declared.execute.Executed.{Executed}
@@ -17,23 +18,24 @@ must_wait request answers size = not (is_posted request.command) && nat_le size 
 
 -- a request of a host and under a tag runs, unless it must wait
 abbrev pub runs : PacketFields → RequestFields →
-    (answers : List PacketFields) → (size : ℕ) → CubeState → Executed
-runs front request answers size cube =
+    (answers : List PacketFields) → (size : ℕ) → CubeState → List (Option UnitFields) → Executed
+runs front request answers size cube slots =
     (if must_wait request answers size then Full else
-    Ran front.slid front.tag request (perform_on cube request).answer)
+    Ran front.slid front.tag request (perform_on cube slots request).answer)
 
 -- the request that the front carries runs
 abbrev pub carried_runs : PacketFields → Option RequestFields →
-    (answers : List PacketFields) → (size : ℕ) → CubeState → Executed
-carried_runs front None answers size cube = Empty
-carried_runs front (Some request) answers size cube = runs front request answers size cube
+    (answers : List PacketFields) → (size : ℕ) → CubeState → List (Option UnitFields) → Executed
+carried_runs front None answers size cube slots = Empty
+carried_runs front (Some request) answers size cube slots =
+    runs front request answers size cube slots
 
 -- what an execution returns where these requests wait, with these answers before theirs
 abbrev pub execute_says : (waiting answers : List PacketFields) → (size : ℕ) →
-    CubeState → Executed
-execute_says [] answers size cube = Empty
-execute_says (front ∷ rest) answers size cube =
-    carried_runs front (request_in front) answers size cube
+    CubeState → List (Option UnitFields) → Executed
+execute_says [] answers size cube slots = Empty
+execute_says (front ∷ rest) answers size cube slots =
+    carried_runs front (request_in front) answers size cube slots
 
 -- the reply to a request, or none where it is posted
 abbrev pub replies_to : RequestFields → Answer → (host tag : ℕ) → List PacketFields
@@ -51,9 +53,15 @@ answers_after (Ran host tag request answer) answers = answers ++ replies_to requ
 answers_after _ answers = answers
 
 -- what it leaves of the cube
-abbrev pub cube_after : Executed → CubeState → CubeState
-cube_after (Ran host tag request answer) cube = (perform_on cube request).cube
-cube_after _ cube = cube
+abbrev pub cube_after : Executed → CubeState → List (Option UnitFields) → CubeState
+cube_after (Ran host tag request answer) cube slots = (perform_on cube slots request).cube
+cube_after _ cube slots = cube
+
+-- and of the logic units
+abbrev pub slots_after : Executed → CubeState → List (Option UnitFields) →
+    List (Option UnitFields)
+slots_after (Ran host tag request answer) cube slots = (perform_on cube slots request).slots
+slots_after _ cube slots = slots
 
 -- what an execution by a bank leaves of the vault
 abbrev pub execute_gives : (bank : ℕ) → Executed → VaultFields → VaultFields

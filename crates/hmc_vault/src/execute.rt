@@ -8,7 +8,7 @@ ghost use Rattle.hmc_serial.specs.Cube.{cube_state_of, outcome_of_parts};
 ghost use Rattle.hmc_serial.specs.Perform.{perform_on};
 ghost use Rattle.hmc_tokens.specs.Queue.{packets_of, size_of};
 ghost use Rattle.hmc_vault.specs.Packets.{CarriesRequest};
-ghost use Rattle.hmc_vault.specs.Execute.{must_wait, execute_says, replies_to, waiting_after, answers_after, cube_after};
+ghost use Rattle.hmc_vault.specs.Execute.{must_wait, execute_says, replies_to, waiting_after, answers_after, cube_after, slots_after};
 
 use hmc_codes::{Answer, Request};
 use hmc_memory::Banks;
@@ -16,6 +16,7 @@ use hmc_packet::{Packet, reply, request_of};
 use hmc_registers::Registers;
 use hmc_serial::perform;
 use hmc_tokens::{Intake, Queue};
+use hmc_units::Workbench;
 
 /// What an execution did.
 #[derive(Clone, Copy)]
@@ -35,20 +36,23 @@ pub enum Executed {
     },
 }
 
-/// Performs the request at the front of a queue. Unless the request is posted, the reply enters an
-/// answers queue.
-pub fn execute_front(
+/// Performs the request at the front of a queue. Only a unit command asks the bench of logic units.
+/// Unless the request is posted, the reply enters an answers queue.
+pub fn execute_front<B: Workbench>(
     waiting: &mut Queue,
     answers: &mut Queue,
     banks: &mut Banks,
     registers: &mut Registers,
+    bench: &mut B,
 ) -> Executed
     requires { ForSome (slice_get (packets_of waiting.old) 0) CarriesRequest }
     ensures answer { result ≡ execute_says (packets_of waiting.old) (packets_of answers.old)
-        (size_of answers.old) (cube_state_of banks.old registers.old) }
+        (size_of answers.old) (cube_state_of banks.old registers.old) (B.slots bench.old) }
     ensures empty { (result ≡ Executed.Empty) ↔ (packets_of waiting.old ≡ []) }
     ensures cube { cube_state_of banks.new registers.new
-        ≡ cube_after result (cube_state_of banks.old registers.old) }
+        ≡ cube_after result (cube_state_of banks.old registers.old) (B.slots bench.old) }
+    ensures slots { B.slots bench.new
+        ≡ slots_after result (cube_state_of banks.old registers.old) (B.slots bench.old) }
     ensures shape { banks.new.shape ≡ banks.old.shape }
     ensures waiting { packets_of waiting.new ≡ waiting_after result (packets_of waiting.old) }
     ensures answers { packets_of answers.new ≡ answers_after result (packets_of answers.old) }
@@ -65,7 +69,7 @@ pub fn execute_front(
         return Executed::Full;
     }
     let _ = waiting.take_out();
-    let answer = answer_to(&request, banks, registers);
+    let answer = answer_to(&request, banks, registers, bench);
     put_reply(answers, &front, &request, &answer);
     Executed::Ran {
         host: front.slid,
@@ -83,16 +87,21 @@ fn must_wait(request: &Request, answers: &Queue) -> bool
 }
 
 // Performs a request. A response can carry the answer, unless the request is posted.
-fn answer_to(request: &Request, banks: &mut Banks, registers: &mut Registers) -> Answer
-    ensures outcome { outcome_of_parts banks.new registers.new result
-        ≡ perform_on (cube_state_of banks.old registers.old) request.now }
+fn answer_to<B: Workbench>(
+    request: &Request,
+    banks: &mut Banks,
+    registers: &mut Registers,
+    bench: &mut B,
+) -> Answer
+    ensures outcome { outcome_of_parts banks.new registers.new (B.slots bench.new) result
+        ≡ perform_on (cube_state_of banks.old registers.old) (B.slots bench.old) request.now }
     ensures shape { banks.new.shape ≡ banks.old.shape }
     ensures carried { is_posted request.now.command ≡ false → CanReply result }
 {
     request.invariant();
     banks.invariant();
     registers.invariant();
-    perform(banks, registers, request)
+    perform(banks, registers, bench, request)
 }
 
 // Puts the reply to the request of a packet into the answers, unless the request is posted.

@@ -8,7 +8,7 @@ ghost use Rattle.hmc_vault.specs.Packets.{IsForBanks};
 ghost use Rattle.hmc_vault.specs.Kept.{IsOpening, held_in};
 ghost use Rattle.hmc_vault.specs.Vault.{IsVault, opening_vault, bank_at, held_by};
 ghost use Rattle.hmc_vault.specs.Spread.{spread_says, spread_gives, spread_of_move};
-ghost use Rattle.hmc_vault.specs.Execute.{execute_says, execute_gives, cube_after};
+ghost use Rattle.hmc_vault.specs.Execute.{execute_says, execute_gives, cube_after, slots_after};
 
 use crate::{Executed, Spread, execute_front};
 use hmc_codes::{Memory, Shape};
@@ -16,6 +16,7 @@ use hmc_memory::Banks;
 use hmc_packet::Packet;
 use hmc_registers::Registers;
 use hmc_tokens::{Intake, Moved, Queue, move_one};
+use hmc_units::Workbench;
 use std::alloc::Global;
 use std::marker::Model;
 
@@ -114,14 +115,22 @@ impl Vault {
     }
 
     /// Performs the request at the front of a bank's queue on the memory and the registers of the
-    /// cube.
-    pub fn execute(&mut self, bank: u8, banks: &mut Banks, registers: &mut Registers) -> Executed
+    /// cube. Only a unit command asks the bench of logic units.
+    pub fn execute<B: Workbench>(
+        &mut self,
+        bank: u8,
+        banks: &mut Banks,
+        registers: &mut Registers,
+        bench: &mut B,
+    ) -> Executed
         requires { bank < length self.old.banks }
         ensures answer { result ≡ execute_says (bank_at self.old bank) self.old.answers
-            self.old.size (cube_state_of banks.old registers.old) }
+            self.old.size (cube_state_of banks.old registers.old) (B.slots bench.old) }
         ensures gives { self.new ≡ execute_gives bank result self.old }
         ensures cube { cube_state_of banks.new registers.new
-            ≡ cube_after result (cube_state_of banks.old registers.old) }
+            ≡ cube_after result (cube_state_of banks.old registers.old) (B.slots bench.old) }
+        ensures slots { B.slots bench.new
+            ≡ slots_after result (cube_state_of banks.old registers.old) (B.slots bench.old) }
         ensures shape { banks.new.shape ≡ banks.old.shape }
         ensures empty { (result ≡ Executed.Empty) ↔ (bank_at self.old bank ≡ []) }
 
@@ -130,7 +139,7 @@ impl Vault {
         ensures size { self.new.size ≡ self.old.size }
     {
         let waiting = &mut self.banks[usize::from(bank)];
-        execute_front(waiting, &mut self.answers, banks, registers)
+        execute_front(waiting, &mut self.answers, banks, registers, bench)
     }
 
     /// Whether the queue of a bank is empty, and an execution by it would do nothing.

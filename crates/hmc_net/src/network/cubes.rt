@@ -5,6 +5,7 @@ ghost use Rattle.hmc_codes.specs.Commands.{is_posted};
 ghost use Rattle.hmc_journal.specs.Answers.{spread_entry, tag_of, ran_entry};
 ghost use Rattle.hmc_journal.specs.Setup.{cubes_in};
 ghost use Rattle.hmc_net.specs.Apply.{DoesStep};
+ghost use Rattle.hmc_net.specs.NetState.{net_of};
 ghost use Rattle.hmc_net.specs.Ready.{IsVaultIn, IsBankIn};
 ghost use Rattle.hmc_net.specs.Sees.{IsReady};
 
@@ -13,13 +14,15 @@ use hmc_codes::{Command, Unit};
 use hmc_cube::{Executed, Spread};
 use hmc_journal::{Cause, LastEntry};
 use hmc_schedule::Step;
+use hmc_units::Workbench;
 
-impl Network {
+impl<B: Workbench> Network<B> {
     // The front of a vault's queue goes to its bank.
     pub(crate) fn spread(&mut self, cube: u8, vault: u8)
         requires there { IsVaultIn self.old.topology cube vault }
-        requires ready { IsReady self.old }
-        ensures { DoesStep self.old self.new (Step.Spread cube vault) }
+        requires ready { IsReady (net_of B.slots self.old) }
+        ensures { DoesStep (net_of B.slots self.old) (net_of B.slots self.new)
+            (Step.Spread cube vault) }
     {
         let owner = &mut self.cubes[usize::from(cube)];
         owner.invariant();
@@ -30,8 +33,9 @@ impl Network {
     // A bank executes the front of its queue.
     pub(crate) fn bank(&mut self, cube: u8, vault: u8, bank: u8)
         requires there { IsBankIn self.old.topology cube vault bank }
-        requires ready { IsReady self.old }
-        ensures { DoesStep self.old self.new (Step.Bank cube vault bank) }
+        requires ready { IsReady (net_of B.slots self.old) }
+        ensures { DoesStep (net_of B.slots self.old) (net_of B.slots self.new)
+            (Step.Bank cube vault bank) }
     {
         if self.cubes[usize::from(cube)].bank_is_empty(vault, bank) {
             self.last.idle(&Step::Bank(cube, vault, bank), Cause::Empty);
@@ -43,21 +47,23 @@ impl Network {
     // The same. Where the queue is empty, no request is to be moved.
     fn bank_front(&mut self, cube: u8, vault: u8, bank: u8)
         requires there { IsBankIn self.old.topology cube vault bank }
-        requires ready { IsReady self.old }
-        ensures { DoesStep self.old self.new (Step.Bank cube vault bank) }
+        requires ready { IsReady (net_of B.slots self.old) }
+        ensures { DoesStep (net_of B.slots self.old) (net_of B.slots self.new)
+            (Step.Bank cube vault bank) }
     {
         let unit = Unit::Bank { cube, vault, bank };
         let owner = &mut self.cubes[usize::from(cube)];
         owner.invariant();
-        let ran = owner.execute(vault, bank);
+        let ran = owner.execute(vault, bank, &mut self.bench);
         note_ran(&mut self.last, unit, &Step::Bank(cube, vault, bank), &ran);
     }
 
     // The registers execute the front of their queue.
     pub(crate) fn registers(&mut self, cube: u8)
         requires there { cube < cubes_in self.old.topology }
-        requires ready { IsReady self.old }
-        ensures { DoesStep self.old self.new (Step.Registers cube) }
+        requires ready { IsReady (net_of B.slots self.old) }
+        ensures { DoesStep (net_of B.slots self.old) (net_of B.slots self.new)
+            (Step.Registers cube) }
     {
         if self.cubes[usize::from(cube)].register_queue_is_empty() {
             self.last.idle(&Step::Registers(cube), Cause::Empty);
@@ -69,12 +75,13 @@ impl Network {
     // The same. Where the queue is empty, no request is to be moved.
     fn registers_front(&mut self, cube: u8)
         requires there { cube < cubes_in self.old.topology }
-        requires ready { IsReady self.old }
-        ensures { DoesStep self.old self.new (Step.Registers cube) }
+        requires ready { IsReady (net_of B.slots self.old) }
+        ensures { DoesStep (net_of B.slots self.old) (net_of B.slots self.new)
+            (Step.Registers cube) }
     {
         let unit = Unit::Registers { cube };
         let owner = &mut self.cubes[usize::from(cube)];
-        let ran = owner.registers();
+        let ran = owner.registers(&mut self.bench);
         note_ran(&mut self.last, unit, &Step::Registers(cube), &ran);
     }
 }

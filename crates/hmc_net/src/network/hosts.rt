@@ -13,6 +13,7 @@ ghost use Rattle.hmc_send.specs.LinkEntries.{LinkEntry};
 ghost use Rattle.hmc_net.specs.Apply.{DoesStep};
 ghost use Rattle.hmc_net.specs.Gives.{IsGiven, IsRequested, given_to, cause_by};
 ghost use Rattle.hmc_net.specs.LinkList.{LinksStandFor, IsDirection, IsRoom};
+ghost use Rattle.hmc_net.specs.NetState.{net_of};
 ghost use Rattle.hmc_net.specs.Sees.{IsReady};
 
 use crate::Network;
@@ -20,13 +21,14 @@ use crate::link_list::LinkList;
 use hmc_host::{Given, Hindrance, Settled};
 use hmc_journal::{Cause, LastEntry};
 use hmc_schedule::Step;
+use hmc_units::Workbench;
 
-impl Network {
+impl<B: Workbench> Network<B> {
     // The host gives its next request to its link.
     pub(crate) fn give(&mut self, host: u8)
         requires there { host < hosts_in self.old.topology }
-        requires ready { IsReady self.old }
-        ensures { DoesStep self.old self.new (Step.Give host) }
+        requires ready { IsReady (net_of B.slots self.old) }
+        ensures { DoesStep (net_of B.slots self.old) (net_of B.slots self.new) (Step.Give host) }
     {
         let direction = self.wiring.from_host(host);
         let room = self.links.room(direction);
@@ -40,10 +42,10 @@ impl Network {
     // The same. Where nothing is given, no packet is to be moved.
     fn give_next(&mut self, host: u8, direction: u8, room: bool)
         requires there { host < hosts_in self.old.topology }
-        requires ready { IsReady self.old }
+        requires ready { IsReady (net_of B.slots self.old) }
         requires from { direction_from self.old.topology (places.Host host) ≡ Some direction }
         requires room { IsRoom self.old.links direction room }
-        ensures { DoesStep self.old self.new (Step.Give host) }
+        ensures { DoesStep (net_of B.slots self.old) (net_of B.slots self.new) (Step.Give host) }
     {
         let giver = &mut self.hosts[usize::from(host)];
         let given = giver.give(room);
@@ -54,8 +56,8 @@ impl Network {
     // The host takes the answer of the packet that came first, or drops that.
     pub(crate) fn take(&mut self, host: u8)
         requires there { host < hosts_in self.old.topology }
-        requires ready { IsReady self.old }
-        ensures { DoesStep self.old self.new (Step.Take host) }
+        requires ready { IsReady (net_of B.slots self.old) }
+        ensures { DoesStep (net_of B.slots self.old) (net_of B.slots self.new) (Step.Take host) }
     {
         let direction = self.wiring.to_host(host);
         let Some(front) = self.links.front(direction) else {

@@ -5,6 +5,7 @@ ghost use Rattle.hmc_journal.specs.Setup.{directions_in};
 ghost use Rattle.hmc_net.specs.Apply.{DoesStep};
 ghost use Rattle.hmc_net.specs.Links.{sent_by, landed_by, outcome_of, IsCameFlit};
 ghost use Rattle.hmc_net.specs.Ready.{IsLandingIn};
+ghost use Rattle.hmc_net.specs.NetState.{net_of};
 ghost use Rattle.hmc_net.specs.Sees.{IsReady};
 
 use crate::Network;
@@ -13,13 +14,15 @@ use hmc_journal::{Cause, LastEntry};
 use hmc_link::{LinkLanded, LinkSent};
 use hmc_packet::{Landed, Outcome, constant_flits};
 use hmc_schedule::Step;
+use hmc_units::Workbench;
 
-impl Network {
+impl<B: Workbench> Network<B> {
     // A flit is sent in a direction.
     pub(crate) fn send(&mut self, direction: u8)
         requires there { direction < directions_in self.old.topology }
-        requires ready { IsReady self.old }
-        ensures { DoesStep self.old self.new (Step.Send direction) }
+        requires ready { IsReady (net_of B.slots self.old) }
+        ensures { DoesStep (net_of B.slots self.old) (net_of B.slots self.new)
+            (Step.Send direction) }
     {
         let sent = self.links.send(direction);
         note_sent(&mut self.last, direction, &sent);
@@ -28,8 +31,9 @@ impl Network {
     // The next flit of a direction lands under a mask.
     pub(crate) fn land(&mut self, direction: u8, mask: &Flit)
         requires there { IsLandingIn self.old.topology direction (length mask.now) }
-        requires ready { IsReady self.old }
-        ensures { DoesStep self.old self.new (Step.Land direction mask.now) }
+        requires ready { IsReady (net_of B.slots self.old) }
+        ensures { DoesStep (net_of B.slots self.old) (net_of B.slots self.new)
+            (Step.Land direction mask.now) }
     {
         let landed = self.links.land(direction, mask);
         note_landed(&mut self.last, direction, &landed);
@@ -38,8 +42,9 @@ impl Network {
     // The receiver of a direction loses its framing.
     pub(crate) fn unlock(&mut self, direction: u8)
         requires there { direction < directions_in self.old.topology }
-        requires ready { IsReady self.old }
-        ensures { DoesStep self.old self.new (Step.Unlock direction) }
+        requires ready { IsReady (net_of B.slots self.old) }
+        ensures { DoesStep (net_of B.slots self.old) (net_of B.slots self.new)
+            (Step.Unlock direction) }
     {
         self.links.unlock(direction);
         self.last.unlocked(direction);

@@ -1,10 +1,12 @@
-//! New cubes and hosts.
+//! New cubes and hosts, and their counts.
 
-ghost use Rattle.std.specs.Prelude.{◌≡◌, ◌≤◌, ◌<◌, ℕ, IfOk, length};
-ghost use Rattle.hmc_codes.specs.Limits.{most_cubes, most_hosts};
+ghost use Rattle.std.specs.Prelude.{◌≡◌, ◌≤◌, ◌<◌, ◌*◌, IfOk, length, replicate};
+ghost use Rattle.hmc_codes.specs.Limits.{most_cubes, most_hosts, most_links};
 ghost use Rattle.hmc_net.specs.Opening.{AreNewCubes, AreNewHosts};
+ghost use Rattle.hmc_net.specs.Tally.{no_counters, no_host_steps, no_cube_counts};
 
-use hmc_case::CubeSetup;
+use crate::tally::Tally;
+use hmc_case::{CubeSetup, LinkRow};
 use hmc_codes::Memory;
 use hmc_cube::Cube;
 use hmc_host::Host;
@@ -33,4 +35,24 @@ pub fn new_hosts(alloc: Global, count: u8, script: &Script) -> Result<Vec<Host>,
         hosts.push(Host::new(alloc, number, script)?)?;
     }
     Ok(hosts)
+}
+
+/// Counts of two directions for each link, of so many hosts and of these cubes, before the first
+/// step.
+pub fn new_tally(
+    alloc: Global,
+    cubes: &[CubeSetup],
+    links: &[LinkRow],
+    hosts: u8,
+) -> Result<Tally, Memory>
+    requires cubes { length cubes.now ≤ most_cubes }
+    requires links { length links.now ≤ most_links }
+    ensures { IfOk result (λ tally. tally ≡ record {
+      directions = replicate (2 * length links.now) no_counters;
+      hosts = replicate hosts no_host_steps;
+      cubes = replicate (length cubes.now) no_cube_counts;
+    }) }
+{
+    let directions = 2 * links.len() as u8;
+    Tally::build(alloc, directions, hosts, cubes.len() as u8)
 }

@@ -4,6 +4,7 @@ ghost use Rattle.std.specs.Prelude.{◌≡◌, ◌<◌};
 ghost use Rattle.hmc_journal.specs.Setup.{cubes_in};
 ghost use Rattle.hmc_net.specs.Apply.{DoesStep, to_of};
 ghost use Rattle.hmc_net.specs.Ports.{IsShifting, IsInner, IsWayOut};
+ghost use Rattle.hmc_net.specs.NetState.{net_of};
 ghost use Rattle.hmc_net.specs.Ready.{IsPortIn, IsLiftIn};
 ghost use Rattle.hmc_net.specs.Sees.{IsReady};
 
@@ -13,13 +14,15 @@ use hmc_crossbar::To;
 use hmc_journal::{Cause, Goal};
 use hmc_packet::Packet;
 use hmc_schedule::Step;
+use hmc_units::Workbench;
 
-impl Network {
+impl<B: Workbench> Network<B> {
     // The front of a port's buffer goes on, or is dropped.
     pub(crate) fn shift(&mut self, cube: u8, port: u8)
         requires there { IsPortIn self.old.topology cube port }
-        requires ready { IsReady self.old }
-        ensures { DoesStep self.old self.new (Step.Shift cube port) }
+        requires ready { IsReady (net_of B.slots self.old) }
+        ensures { DoesStep (net_of B.slots self.old) (net_of B.slots self.new)
+            (Step.Shift cube port) }
     {
         let direction = self.wiring.to_port(cube, port);
         let Some(front) = self.links.front(direction) else {
@@ -41,10 +44,11 @@ impl Network {
     // The front of a port's buffer goes into the cube, to this goal.
     fn shift_in(&mut self, cube: u8, port: u8, direction: u8, goal: Goal, front: Packet)
         requires there { IsPortIn self.old.topology cube port }
-        requires ready { IsReady self.old }
-        requires front { IsShifting self.old cube port direction front goal }
+        requires ready { IsReady (net_of B.slots self.old) }
+        requires front { IsShifting (net_of B.slots self.old) cube port direction front goal }
         requires inner { IsInner goal }
-        ensures { DoesStep self.old self.new (Step.Shift cube port) }
+        ensures { DoesStep (net_of B.slots self.old) (net_of B.slots self.new)
+            (Step.Shift cube port) }
     {
         let to = to_of(goal);
         if !self.cubes[usize::from(cube)].room(to) {
@@ -61,9 +65,11 @@ impl Network {
     // The front of a port's buffer goes on through another port.
     fn shift_out(&mut self, cube: u8, port: u8, direction: u8, out: u8, front: Packet)
         requires there { IsPortIn self.old.topology cube port }
-        requires ready { IsReady self.old }
-        requires front { IsShifting self.old cube port direction front (Goal.Port out) }
-        ensures { DoesStep self.old self.new (Step.Shift cube port) }
+        requires ready { IsReady (net_of B.slots self.old) }
+        requires front { IsShifting (net_of B.slots self.old)
+            cube port direction front (Goal.Port out) }
+        ensures { DoesStep (net_of B.slots self.old) (net_of B.slots self.new)
+            (Step.Shift cube port) }
     {
         let Some(onward) = self.room_through(cube, out) else {
             self.last.idle(&Step::Shift(cube, port), Cause::Full);
@@ -77,8 +83,8 @@ impl Network {
     // The direction that starts at a port, if its output queue has room.
     fn room_through(&self, cube: u8, port: u8) -> Option<u8>
         requires there { cube < cubes_in self.now.topology }
-        requires ready { IsReady self.now }
-        ensures { IsWayOut self.now cube port result }
+        requires ready { IsReady (net_of B.slots self.now) }
+        ensures { IsWayOut (net_of B.slots self.now) cube port result }
     {
         let direction = self.wiring.from_port(cube, port)?;
         if self.links.room(direction) {
@@ -91,8 +97,9 @@ impl Network {
     // An answer goes to the output queue of the port towards its host.
     pub(crate) fn lift(&mut self, cube: u8, from: Lift)
         requires there { IsLiftIn self.old.topology cube from }
-        requires ready { IsReady self.old }
-        ensures { DoesStep self.old self.new (Step.Lift cube from) }
+        requires ready { IsReady (net_of B.slots self.old) }
+        ensures { DoesStep (net_of B.slots self.old) (net_of B.slots self.new)
+            (Step.Lift cube from) }
     {
         if self.cubes[usize::from(cube)].answers_are_empty(from) {
             self.last.idle(&Step::Lift(cube, from), Cause::Empty);
@@ -104,8 +111,9 @@ impl Network {
     // The same. Where there is no answer, no packet is to be moved.
     fn lift_answer(&mut self, cube: u8, from: Lift)
         requires there { IsLiftIn self.old.topology cube from }
-        requires ready { IsReady self.old }
-        ensures { DoesStep self.old self.new (Step.Lift cube from) }
+        requires ready { IsReady (net_of B.slots self.old) }
+        ensures { DoesStep (net_of B.slots self.old) (net_of B.slots self.new)
+            (Step.Lift cube from) }
     {
         let Some(front) = self.cubes[usize::from(cube)].lift_front(from) else {
             self.last.idle(&Step::Lift(cube, from), Cause::Empty);

@@ -148,6 +148,12 @@ fn moves_in_a_cube(rt: HostRuntime) -> Result<(), Fail> {
         lifted(Lift::Vault(17)),
         lifted(Lift::Registers),
         Entry::Discarded { host: 6 },
+        Entry::Through {
+            cube: 1,
+            port: 2,
+            direction: 5,
+        },
+        Entry::Retired { slot: 7 },
     ];
     let lines = "shifted 5 2 v0\n\
         shifted 5 2 v31\n\
@@ -157,7 +163,9 @@ fn moves_in_a_cube(rt: HostRuntime) -> Result<(), Fail> {
         spread 4 31 15\n\
         lifted 5 17 p1\n\
         lifted 5 r p1\n\
-        discarded 6\n";
+        discarded 6\n\
+        through 1 2 5\n\
+        retired 7\n";
     assert!(rt; are_lines(rt.alloc(), &entries, lines)?, "lines");
     Ok(())
 }
@@ -271,8 +279,8 @@ fn idle_steps(rt: HostRuntime) -> Result<(), Fail> {
         idle(Step::Lift(5, Lift::Vault(20)), Cause::Full),
         idle(Step::Lift(6, Lift::Registers), Cause::Empty),
         idle(Step::Take(3), Cause::Empty),
-        idle(Step::Through(7, 2), Cause::Empty),
-        idle(Step::Unlock(11), Cause::Empty),
+        idle(Step::Through(7, 2), Cause::NoPacket),
+        idle(Step::Unlock(11), Cause::Busy),
         idle(Step::Retire(6), Cause::Empty),
     ];
     let lines = "idle give 0 ended\n\
@@ -288,8 +296,8 @@ fn idle_steps(rt: HostRuntime) -> Result<(), Fail> {
         idle lift 5 20 full\n\
         idle lift 6 r empty\n\
         idle take 3 empty\n\
-        idle through 7 2 empty\n\
-        idle unlock 11 empty\n\
+        idle through 7 2 nopacket\n\
+        idle unlock 11 busy\n\
         idle retire 6 empty\n";
     assert!(rt; are_lines(rt.alloc(), &entries, lines)?, "lines");
     Ok(())

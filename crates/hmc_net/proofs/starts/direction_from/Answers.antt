@@ -1,5 +1,5 @@
 -- The join that is looked at, or none.
-use Rattle.std.proofs.Common.{◌≡◌, ◌∙◌, sym, arith}
+use Rattle.std.proofs.Common.{◌∙◌, sym}
 use Rattle.hmc_net.proofs.Firsts.{starts_a, starts_b, starts_on, starts_none}
 use Rattle.hmc_net.proofs.starts.direction_from.Goals as goal
 

@@ -1,5 +1,5 @@
 -- One host more.
-use Rattle.std.proofs.Common.{◌∙◌, None, slice_index_or, length-set, arith}
+use Rattle.std.proofs.Common.{◌∙◌, None, length-set, arith}
 use Rattle.std.proofs.lemmas.List.Edits.{fill_by_more}
 use Rattle.hmc_codes.specs.declared.place.Place.TheVariants as places
 use Rattle.hmc_routes.specs.Directions.{direction_from}

@@ -1,14 +1,24 @@
--- By whether a landing passed, or a write failed.
-use Rattle.std.proofs.Common.{◌∙◌, sym}
-use Rattle.hmc_replay.proofs.FailedReports.{failed_report}
-use Rattle.hmc_replay.proofs.Reports.{ends_at_pass}
+-- By whether a landing passed.
+use Rattle.std.proofs.Common.{◌∙◌, [], sym, refl}
+use Rattle.hmc_journal.specs.Setup.{setup_of}
+use Rattle.hmc_net.specs.NetState.{net_of}
+use Rattle.hmc_units.specs.Slots.{units_in}
+use Rattle.hmc_replay.specs.Steps.{IsAt}
+use Rattle.hmc_replay.specs.Units.{slots_of}
 use Rattle.hmc_replay.proofs.run.report.Goals as goal
 
-pub returns-in_err-passed : goal.returns-in_err-passed
-returns-in_err-passed g c = failed_report g.O.Sink.shows c.args.sink.now c.write_report.new.sink c.args.case.now c.from_residual-in_err-passed.result c.from_residual-in_err-passed.ensures.1 c.in_err-passed.ensures.written
-
 pub returns-then-passed : goal.returns-then-passed
-returns-then-passed g c = ends_at_pass _ _ _ (sym c.in_ok-passed.ensures.passed ∙ c.if-passed.true) c.in_ok-passed.ensures.written c.in_ok-passed.ensures.guarantees
+returns-then-passed g c =
+    let setup = setup_of c.args.case.now (slots_of g.U.LogicUnit.meaning c.args.units.items) in
+    let at : IsAt (net_of (units_in g.U.LogicUnit.meaning) c.in_ok-network.network) setup c.schedule.result.now [] 0 =
+    record { stands = c.in_ok-network.ensures; schedule = sym c.schedule.ensures; done = refl; goes_on = refl } in
+    let wrote = c.in_ok-passed.ensures.written setup at in
+    (sym wrote.1 ∙ c.if-passed.true, record { written = wrote.0; guarantees = c.in_ok-passed.ensures.guarantees setup at })
 
 pub returns : goal.returns
-returns g c = (sym c.in_ok-passed.ensures.passed ∙ c.if-passed.false, c.in_ok-passed.ensures.written, c.in_ok-passed.ensures.guarantees)
+returns g c =
+    let setup = setup_of c.args.case.now (slots_of g.U.LogicUnit.meaning c.args.units.items) in
+    let at : IsAt (net_of (units_in g.U.LogicUnit.meaning) c.in_ok-network.network) setup c.schedule.result.now [] 0 =
+    record { stands = c.in_ok-network.ensures; schedule = sym c.schedule.ensures; done = refl; goes_on = refl } in
+    let wrote = c.in_ok-passed.ensures.written setup at in
+    (sym wrote.1 ∙ c.if-passed.false, record { written = wrote.0; guarantees = c.in_ok-passed.ensures.guarantees setup at })

@@ -1,10 +1,13 @@
-use Rattle.std.proofs.Common.{◌≡◌, false, List}
+use Rattle.std.proofs.Common.{[], List}
 use Rattle.hmc_journal.specs.declared.entry.Entry.{Entry}
-use Rattle.hmc_journal.specs.Lawful.{has_passed}
-use Rattle.hmc_journal.specs.Setup.{setup_of}
-use Rattle.hmc_replay.proofs.SoFar.{IsSoFar}
+use Rattle.hmc_journal.specs.Setup.{Setup}
+use Rattle.hmc_journal.specs.Text.{lines_of}
+use Rattle.hmc_net.specs.NetState.{net_of}
+use Rattle.hmc_outside.specs.Lines.{WritesLines}
+use Rattle.hmc_replay.specs.Steps.{IsAt}
 use Rattle.hmc_replay.proofs.steps.write_steps.Given as goal
 
 abbrev pub invariant-steps : goal.invariant-steps
 invariant-steps g l =
-    (past : List Entry) × IsSoFar (setup_of l.case) past l.network (g.O.Sink.shows l.initial.sink) (g.O.Sink.shows l.sink) l.counts l.at × (has_passed past ≡ false)
+    (setup : Setup) → IsAt (net_of g.B.Workbench.slots l.initial.network) setup l.schedule [] 0 →
+    (past : List Entry) × IsAt (net_of g.B.Workbench.slots l.network) setup l.schedule past l.at × WritesLines (g.O.Sink.shows l.initial.sink) (g.O.Sink.shows l.sink) (lines_of past)

@@ -6,10 +6,10 @@ use Rattle.hmc_cube.proofs.CubeLemmas.{registers_ask, kept_queues}
 use Rattle.hmc_cube.proofs.cube.Cube.registers.Goals as goal
 
 pub execute_front-requires : goal.execute_front-requires
-execute_front-requires c = λ front is. registers_ask front (front_is IsForRegisters (packets_of c.self.inside.register_queue) front c.self.invariant.requests is)
+execute_front-requires g c = λ front is. registers_ask front (front_is IsForRegisters (packets_of c.self.inside.register_queue) front c.self.invariant.requests is)
 
 pub invariant_of-self : goal.invariant_of-self
-invariant_of-self c =
+invariant_of-self g c =
     kept_queues c.self.inside.banks.shape c.execute_front.new.banks.shape c.self.inside.vaults.items c.self.inside.register_queue c.execute_front.new.waiting c.self.inside.answers c.execute_front.new.answers c.self.invariant
     c.execute_front.ensures.shape c.execute_front.ensures.waiting_size c.execute_front.ensures.answers_size
     (waiting_all IsForRegisters c.execute_front.result (packets_of c.self.inside.register_queue) (packets_of c.execute_front.new.waiting) c.execute_front.ensures.waiting c.self.invariant.requests)

@@ -1,7 +1,7 @@
 -- A flit of one link lands.
 use Rattle.std.proofs.Common.{◌∙◌, not, ap}
 use Rattle.hmc_send.specs.LinkCalls.{LinkCall}
-use Rattle.hmc_net.proofs.LinkCalls.{called_at, put_back}
+use Rattle.hmc_net.proofs.LinkCalls.{called_at}
 use Rattle.hmc_net.proofs.link_list.LinkList.land.Goals as goal
 
 pub returns-clause-stand : goal.returns-clause-stand

@@ -1,7 +1,4 @@
 -- One link sends a flit.
-use Rattle.std.proofs.Common.{◌≡◌, ◌∙◌, ap}
-use Rattle.std.specs.Prelude.{List, slice_set}
-use Rattle.hmc_link.specs.Held.{LinkHeld}
 use Rattle.hmc_packet.specs.declared.feed.Feed.TheVariants.{Waiting}
 use Rattle.hmc_send.specs.LinkCalls.{LinkCall}
 use Rattle.hmc_net.proofs.LinkCalls.{called_at, put_back}

@@ -3,6 +3,7 @@ use Rattle.std.proofs.Common.{◌≡◌, ◌≤◌, ◌∙◌, ℕ, ap, sym, sub
 use Rattle.std.proofs.lemmas.Grind.{common_steps}
 use Rattle.hmc_journal.specs.Journal.{JournalFields}
 use Rattle.hmc_journal.specs.Setup.{setup_of}
+use Rattle.hmc_net.specs.NetState.{net_of}
 use Rattle.hmc_net.specs.Stands.{StandsFor}
 use Rattle.hmc_net.proofs.net.Net.build.Goals as goal
 
@@ -10,7 +11,7 @@ enough : (steps counted most : ℕ) → counted ≡ steps → most ≡ counted �
 enough steps counted most a b = grind (arith, common_steps)
 
 pub returns-clause-stands : goal.returns-clause-stands
-returns-clause-stands c = record {
-  stands = subst (λ past. StandsFor c.in_ok-network.network (setup_of c.args.case.now) past) (sym (ap (λ (j : JournalFields). j.past) c.in_ok-journal.ensures)) c.in_ok-network.ensures;
+returns-clause-stands g c = record {
+  stands = subst (λ past. StandsFor (net_of g.B.Workbench.slots c.in_ok-network.network) (setup_of c.args.case.now (g.B.Workbench.slots c.args.bench)) past) (sym (ap (λ (j : JournalFields). j.past) c.in_ok-journal.ensures)) c.in_ok-network.ensures;
   most = enough (length c.args.case.now.schedule) c.len.result c.in_ok-journal.journal.most (c.len.ensures ∙ ap length c.schedule.ensures) (ap (λ (j : JournalFields). j.most) c.in_ok-journal.ensures);
 }

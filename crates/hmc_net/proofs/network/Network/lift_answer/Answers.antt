@@ -1,5 +1,5 @@
 -- An answer that is lifted is an entry.
-use Rattle.std.proofs.Common.{◌≡◌, ◌∙◌, ◌<◌, Some, None, ap, sym, subst}
+use Rattle.std.proofs.Common.{◌≡◌, ◌∙◌, ◌<◌, Some, ap, sym, subst}
 use Rattle.std.specs.Prelude.{slice_get}
 use Rattle.hmc_codes.specs.declared.place.Place.TheVariants as places
 use Rattle.hmc_packet.specs.Packet.{PacketFields}
@@ -10,7 +10,7 @@ use Rattle.hmc_cube.specs.Places.{IsLift, answers_at}
 use Rattle.hmc_journal.specs.Routes.{port_towards}
 use Rattle.hmc_journal.specs.Setup.{hosts_in}
 use Rattle.hmc_net.specs.LinkList.{IsDirection, MayHand, LinksStandFor}
-use Rattle.hmc_net.specs.NetState.{NetState, cube_in}
+use Rattle.hmc_net.specs.NetState.{net_of, NetState, cube_in}
 use Rattle.hmc_net.specs.Ports.{IsWayOut}
 use Rattle.hmc_net.proofs.Doing.{starts_in}
 use Rattle.hmc_net.proofs.Indexed.{cube_found, cube_changed, entry_changed}
@@ -18,59 +18,59 @@ use Rattle.hmc_net.proofs.PortSteps.{lift_here, lift_none, lift_answer, lift_ful
 use Rattle.hmc_net.proofs.network.Network.lift_answer.Goals as goal
 
 pub lift_front-requires : goal.lift_front-requires
-lift_front-requires c =
-    let found = cube_found c.self.inside.cubes.items c.args.self.now c.from.result c.args.cube c.index.result.now (ap (λ (n : NetState). n.cubes) c.self.view_is) c.from.ensures c.index.ensures c.requires.ready.sized c.requires.there.some_cube in
-    subst (λ (x : CubeFields). IsLift x c.args.from) (sym found) (lift_here c.args.self.now c.args.cube c.args.from c.requires.ready.sized c.requires.there)
+lift_front-requires g c =
+    let found = cube_found c.self.inside.cubes.items (net_of g.B.Workbench.slots c.args.self.now) c.from.result c.args.cube c.index.result.now (ap (λ (n : NetState). n.cubes) (ap (net_of g.B.Workbench.slots) c.self.view_is)) c.from.ensures c.index.ensures c.requires.ready.sized c.requires.there.some_cube in
+    subst (λ (x : CubeFields). IsLift x c.args.from) (sym found) (lift_here (net_of g.B.Workbench.slots c.args.self.now) c.args.cube c.args.from c.requires.ready.sized c.requires.there)
 
 pub returns-in_default : goal.returns-in_default
-returns-in_default c =
-    let found = cube_found c.self.inside.cubes.items c.args.self.now c.from.result c.args.cube c.index.result.now (ap (λ (n : NetState). n.cubes) c.self.view_is) c.from.ensures c.index.ensures c.requires.ready.sized c.requires.there.some_cube in
-    lift_none c.args.self.now _ c.args.cube c.args.from c.requires.ready.sized
+returns-in_default g c =
+    let found = cube_found c.self.inside.cubes.items (net_of g.B.Workbench.slots c.args.self.now) c.from.result c.args.cube c.index.result.now (ap (λ (n : NetState). n.cubes) (ap (net_of g.B.Workbench.slots) c.self.view_is)) c.from.ensures c.index.ensures c.requires.ready.sized c.requires.there.some_cube in
+    lift_none (net_of g.B.Workbench.slots c.args.self.now) _ c.args.cube c.args.from c.requires.ready.sized
     (ap (λ (x : CubeFields). slice_get (answers_at x c.args.from) 0) (sym found) ∙ sym c.lift_front.ensures ∙ c.in_default.is)
-    (entry_changed _ c.args.self.now _ _ _ _ c.idle.new.self _ c.self.view_is c.idle.ensures)
+    (entry_changed _ (net_of g.B.Workbench.slots c.args.self.now) _ _ _ _ c.idle.new.self _ (ap (net_of g.B.Workbench.slots) c.self.view_is) c.idle.ensures)
 
 pub port_towards-port-requires-clause-host : goal.port_towards-port-requires-clause-host
-port_towards-port-requires-clause-host c =
-    let found = cube_found c.self.inside.cubes.items c.args.self.now c.from.result c.args.cube c.index.result.now (ap (λ (n : NetState). n.cubes) c.self.view_is) c.from.ensures c.index.ensures c.requires.ready.sized c.requires.there.some_cube in
-    let some : slice_get (answers_at (cube_in c.args.self.now.cubes c.args.cube) c.args.from) 0 ≡ Some c.in-Some.front = ap (λ (x : CubeFields). slice_get (answers_at x c.args.from) 0) (sym found) ∙ sym c.lift_front.ensures ∙ c.in-Some.is in
-    subst (λ (n : NetState). c.front.inside.slid < hosts_in n.topology) (sym c.self.view_is)
-    (subst (λ (p : PacketFields). p.slid < hosts_in c.args.self.now.topology) (sym c.front.view_is) (lift_answer c.args.self.now c.args.cube c.args.from c.in-Some.front c.requires.ready some).host)
+port_towards-port-requires-clause-host g c =
+    let found = cube_found c.self.inside.cubes.items (net_of g.B.Workbench.slots c.args.self.now) c.from.result c.args.cube c.index.result.now (ap (λ (n : NetState). n.cubes) (ap (net_of g.B.Workbench.slots) c.self.view_is)) c.from.ensures c.index.ensures c.requires.ready.sized c.requires.there.some_cube in
+    let some : slice_get (answers_at (cube_in (net_of g.B.Workbench.slots c.args.self.now).cubes c.args.cube) c.args.from) 0 ≡ Some c.in-Some.front = ap (λ (x : CubeFields). slice_get (answers_at x c.args.from) 0) (sym found) ∙ sym c.lift_front.ensures ∙ c.in-Some.is in
+    subst (λ (n : NetState). c.front.inside.slid < hosts_in n.topology) (sym (ap (net_of g.B.Workbench.slots) c.self.view_is))
+    (subst (λ (p : PacketFields). p.slid < hosts_in (net_of g.B.Workbench.slots c.args.self.now).topology) (sym c.front.view_is) (lift_answer (net_of g.B.Workbench.slots c.args.self.now) c.args.cube c.args.from c.in-Some.front c.requires.ready some).host)
 
 pub returns-in_default-room_through : goal.returns-in_default-room_through
-returns-in_default-room_through c =
-    let found = cube_found c.self.inside.cubes.items c.args.self.now c.from.result c.args.cube c.index.result.now (ap (λ (n : NetState). n.cubes) c.self.view_is) c.from.ensures c.index.ensures c.requires.ready.sized c.requires.there.some_cube in
-    let some : slice_get (answers_at (cube_in c.args.self.now.cubes c.args.cube) c.args.from) 0 ≡ Some c.in-Some.front = ap (λ (x : CubeFields). slice_get (answers_at x c.args.from) 0) (sym found) ∙ sym c.lift_front.ensures ∙ c.in-Some.is in
-    lift_full c.args.self.now _ c.args.cube c.args.from c.in-Some.front c.port_towards-port.result c.requires.ready.sized some
-    (ap (λ (p : PacketFields). port_towards c.args.self.now.topology c.args.cube p.slid) (sym c.front.view_is) ∙ ap (λ (n : NetState). port_towards n.topology c.args.cube c.front.inside.slid) (sym c.self.view_is) ∙ c.port_towards-port.ensures)
-    (subst (IsWayOut c.args.self.now c.args.cube c.port_towards-port.result) c.in_default-room_through.is c.room_through.ensures)
-    (entry_changed _ c.args.self.now _ _ _ _ c.idle-in_default-room_through.new.self _ c.self.view_is c.idle-in_default-room_through.ensures)
+returns-in_default-room_through g c =
+    let found = cube_found c.self.inside.cubes.items (net_of g.B.Workbench.slots c.args.self.now) c.from.result c.args.cube c.index.result.now (ap (λ (n : NetState). n.cubes) (ap (net_of g.B.Workbench.slots) c.self.view_is)) c.from.ensures c.index.ensures c.requires.ready.sized c.requires.there.some_cube in
+    let some : slice_get (answers_at (cube_in (net_of g.B.Workbench.slots c.args.self.now).cubes c.args.cube) c.args.from) 0 ≡ Some c.in-Some.front = ap (λ (x : CubeFields). slice_get (answers_at x c.args.from) 0) (sym found) ∙ sym c.lift_front.ensures ∙ c.in-Some.is in
+    lift_full (net_of g.B.Workbench.slots c.args.self.now) _ c.args.cube c.args.from c.in-Some.front c.port_towards-port.result c.requires.ready.sized some
+    (ap (λ (p : PacketFields). port_towards (net_of g.B.Workbench.slots c.args.self.now).topology c.args.cube p.slid) (sym c.front.view_is) ∙ ap (λ (n : NetState). port_towards n.topology c.args.cube c.front.inside.slid) (sym (ap (net_of g.B.Workbench.slots) c.self.view_is)) ∙ c.port_towards-port.ensures)
+    (subst (IsWayOut (net_of g.B.Workbench.slots c.args.self.now) c.args.cube c.port_towards-port.result) c.in_default-room_through.is c.room_through.ensures)
+    (entry_changed _ (net_of g.B.Workbench.slots c.args.self.now) _ _ _ _ c.idle-in_default-room_through.new.self _ (ap (net_of g.B.Workbench.slots) c.self.view_is) c.idle-in_default-room_through.ensures)
 
 pub lift-requires : goal.lift-requires
-lift-requires c =
-    let found = cube_found c.self.inside.cubes.items c.args.self.now c.from-2.result c.args.cube c.index_mut-owner.result.now (ap (λ (n : NetState). n.cubes) c.self.view_is) c.from-2.ensures c.index_mut-owner.ensures.value c.requires.ready.sized c.requires.there.some_cube in
-    subst (λ (x : CubeFields). IsLift x c.args.from) (sym found) (lift_here c.args.self.now c.args.cube c.args.from c.requires.ready.sized c.requires.there)
+lift-requires g c =
+    let found = cube_found c.self.inside.cubes.items (net_of g.B.Workbench.slots c.args.self.now) c.from-2.result c.args.cube c.index_mut-owner.result.now (ap (λ (n : NetState). n.cubes) (ap (net_of g.B.Workbench.slots) c.self.view_is)) c.from-2.ensures c.index_mut-owner.ensures.value c.requires.ready.sized c.requires.there.some_cube in
+    subst (λ (x : CubeFields). IsLift x c.args.from) (sym found) (lift_here (net_of g.B.Workbench.slots c.args.self.now) c.args.cube c.args.from c.requires.ready.sized c.requires.there)
 
 pub hand-requires-clause-there : goal.hand-requires-clause-there
-hand-requires-clause-there c =
-    let way = subst (IsWayOut c.args.self.now c.args.cube c.port_towards-port.result) c.in-Some-room_through.is c.room_through.ensures in
-    subst (λ (n : NetState). IsDirection n.links c.in-Some-room_through.onward) (sym c.self.view_is)
-    (starts_in c.args.self.now (places.Port c.args.cube c.port_towards-port.result) c.in-Some-room_through.onward c.requires.ready (way.from c.in-Some-room_through.onward (λ i. Some c.in-Some-room_through.onward)))
+hand-requires-clause-there g c =
+    let way = subst (IsWayOut (net_of g.B.Workbench.slots c.args.self.now) c.args.cube c.port_towards-port.result) c.in-Some-room_through.is c.room_through.ensures in
+    subst (λ (n : NetState). IsDirection n.links c.in-Some-room_through.onward) (sym (ap (net_of g.B.Workbench.slots) c.self.view_is))
+    (starts_in (net_of g.B.Workbench.slots c.args.self.now) (places.Port c.args.cube c.port_towards-port.result) c.in-Some-room_through.onward c.requires.ready (way.from c.in-Some-room_through.onward (λ i. Some c.in-Some-room_through.onward)))
 
 pub hand-requires-clause-may : goal.hand-requires-clause-may
-hand-requires-clause-may c =
-    let found = cube_found c.self.inside.cubes.items c.args.self.now c.from.result c.args.cube c.index.result.now (ap (λ (n : NetState). n.cubes) c.self.view_is) c.from.ensures c.index.ensures c.requires.ready.sized c.requires.there.some_cube in
-    let some : slice_get (answers_at (cube_in c.args.self.now.cubes c.args.cube) c.args.from) 0 ≡ Some c.in-Some.front = ap (λ (x : CubeFields). slice_get (answers_at x c.args.from) 0) (sym found) ∙ sym c.lift_front.ensures ∙ c.in-Some.is in
-    let way = subst (IsWayOut c.args.self.now c.args.cube c.port_towards-port.result) c.in-Some-room_through.is c.room_through.ensures in
-    subst (λ (n : NetState). MayHand n.links c.in-Some-room_through.onward c.in-Some.front) (sym c.self.view_is)
-    (lift_may c.args.self.now c.args.cube c.args.from c.in-Some.front c.port_towards-port.result c.in-Some-room_through.onward c.requires.ready some way)
+hand-requires-clause-may g c =
+    let found = cube_found c.self.inside.cubes.items (net_of g.B.Workbench.slots c.args.self.now) c.from.result c.args.cube c.index.result.now (ap (λ (n : NetState). n.cubes) (ap (net_of g.B.Workbench.slots) c.self.view_is)) c.from.ensures c.index.ensures c.requires.ready.sized c.requires.there.some_cube in
+    let some : slice_get (answers_at (cube_in (net_of g.B.Workbench.slots c.args.self.now).cubes c.args.cube) c.args.from) 0 ≡ Some c.in-Some.front = ap (λ (x : CubeFields). slice_get (answers_at x c.args.from) 0) (sym found) ∙ sym c.lift_front.ensures ∙ c.in-Some.is in
+    let way = subst (IsWayOut (net_of g.B.Workbench.slots c.args.self.now) c.args.cube c.port_towards-port.result) c.in-Some-room_through.is c.room_through.ensures in
+    subst (λ (n : NetState). MayHand n.links c.in-Some-room_through.onward c.in-Some.front) (sym (ap (net_of g.B.Workbench.slots) c.self.view_is))
+    (lift_may (net_of g.B.Workbench.slots c.args.self.now) c.args.cube c.args.from c.in-Some.front c.port_towards-port.result c.in-Some-room_through.onward c.requires.ready some way)
 
 pub returns : goal.returns
-returns c =
-    let found = cube_found c.self.inside.cubes.items c.args.self.now c.from.result c.args.cube c.index.result.now (ap (λ (n : NetState). n.cubes) c.self.view_is) c.from.ensures c.index.ensures c.requires.ready.sized c.requires.there.some_cube in
-    let owned = cube_found c.self.inside.cubes.items c.args.self.now c.from-2.result c.args.cube c.index_mut-owner.result.now (ap (λ (n : NetState). n.cubes) c.self.view_is) c.from-2.ensures c.index_mut-owner.ensures.value c.requires.ready.sized c.requires.there.some_cube in
-    let some : slice_get (answers_at (cube_in c.args.self.now.cubes c.args.cube) c.args.from) 0 ≡ Some c.in-Some.front = ap (λ (x : CubeFields). slice_get (answers_at x c.args.from) 0) (sym found) ∙ sym c.lift_front.ensures ∙ c.in-Some.is in
-    let way = subst (IsWayOut c.args.self.now c.args.cube c.port_towards-port.result) c.in-Some-room_through.is c.room_through.ensures in
-    lift_does c.args.self.now _ c.args.cube c.args.from c.in-Some.front c.port_towards-port.result c.in-Some-room_through.onward c.hand.new.self c.requires.ready c.requires.there (subst AreParts owned c.invariant.ensures) some
-    (ap (λ (p : PacketFields). port_towards c.args.self.now.topology c.args.cube p.slid) (sym c.front.view_is) ∙ ap (λ (n : NetState). port_towards n.topology c.args.cube c.front.inside.slid) (sym c.self.view_is) ∙ c.port_towards-port.ensures) way
-    (λ rows entries stand. c.hand.ensures rows entries (subst (λ (n : NetState). LinksStandFor rows n.links entries) (sym c.self.view_is) stand))
-    (cube_changed _ c.args.self.now c.self.inside.cubes.items c.from-2.result c.args.cube c.index_mut-owner.result.now c.lift.new.self (after_lift c.args.from) _ _ c.hand.new.self _ c.lifted.new.self _ c.self.view_is c.from-2.ensures owned c.lift.ensures.leaves c.lifted.ensures)
+returns g c =
+    let found = cube_found c.self.inside.cubes.items (net_of g.B.Workbench.slots c.args.self.now) c.from.result c.args.cube c.index.result.now (ap (λ (n : NetState). n.cubes) (ap (net_of g.B.Workbench.slots) c.self.view_is)) c.from.ensures c.index.ensures c.requires.ready.sized c.requires.there.some_cube in
+    let owned = cube_found c.self.inside.cubes.items (net_of g.B.Workbench.slots c.args.self.now) c.from-2.result c.args.cube c.index_mut-owner.result.now (ap (λ (n : NetState). n.cubes) (ap (net_of g.B.Workbench.slots) c.self.view_is)) c.from-2.ensures c.index_mut-owner.ensures.value c.requires.ready.sized c.requires.there.some_cube in
+    let some : slice_get (answers_at (cube_in (net_of g.B.Workbench.slots c.args.self.now).cubes c.args.cube) c.args.from) 0 ≡ Some c.in-Some.front = ap (λ (x : CubeFields). slice_get (answers_at x c.args.from) 0) (sym found) ∙ sym c.lift_front.ensures ∙ c.in-Some.is in
+    let way = subst (IsWayOut (net_of g.B.Workbench.slots c.args.self.now) c.args.cube c.port_towards-port.result) c.in-Some-room_through.is c.room_through.ensures in
+    lift_does (net_of g.B.Workbench.slots c.args.self.now) _ c.args.cube c.args.from c.in-Some.front c.port_towards-port.result c.in-Some-room_through.onward c.hand.new.self c.requires.ready c.requires.there (subst AreParts owned c.invariant.ensures) some
+    (ap (λ (p : PacketFields). port_towards (net_of g.B.Workbench.slots c.args.self.now).topology c.args.cube p.slid) (sym c.front.view_is) ∙ ap (λ (n : NetState). port_towards n.topology c.args.cube c.front.inside.slid) (sym (ap (net_of g.B.Workbench.slots) c.self.view_is)) ∙ c.port_towards-port.ensures) way
+    (λ rows entries stand. c.hand.ensures rows entries (subst (λ (n : NetState). LinksStandFor rows n.links entries) (sym (ap (net_of g.B.Workbench.slots) c.self.view_is)) stand))
+    (cube_changed _ (net_of g.B.Workbench.slots c.args.self.now) c.self.inside.cubes.items c.from-2.result c.args.cube c.index_mut-owner.result.now c.lift.new.self (after_lift c.args.from) _ _ c.hand.new.self _ c.lifted.new.self _ (ap (net_of g.B.Workbench.slots) c.self.view_is) c.from-2.ensures owned c.lift.ensures.leaves c.lifted.ensures)

@@ -1,39 +1,39 @@
 -- A front that goes on through another port is an entry.
-use Rattle.std.proofs.Common.{◌≡◌, ◌∙◌, Some, None, refl, ap, sym, subst, arith}
+use Rattle.std.proofs.Common.{ap, sym, subst}
 use Rattle.hmc_codes.specs.declared.place.Place.TheVariants as places
 use Rattle.hmc_net.specs.LinkList.{AreGoing, IsDirection, LinksStandFor}
-use Rattle.hmc_net.specs.NetState.{NetState}
+use Rattle.hmc_net.specs.NetState.{net_of, NetState}
 use Rattle.hmc_net.specs.Ports.{IsWayOut}
-use Rattle.hmc_net.proofs.Doing.{starts_in, ends_in}
+use Rattle.hmc_net.proofs.Doing.{ends_in}
 use Rattle.hmc_net.proofs.Indexed.{links_changed, entry_changed}
 use Rattle.hmc_net.proofs.PortSteps.{shift_out_full, shift_out_may, shift_out_does, onward_after}
 use Rattle.hmc_net.proofs.network.Network.shift_out.Goals as goal
 
 pub returns-in_default : goal.returns-in_default
-returns-in_default c =
-    shift_out_full c.args.self.now _ c.args.cube c.args.port c.args.direction c.args.out c.args.front c.requires.ready.sized c.requires.front
-    (subst (IsWayOut c.args.self.now c.args.cube c.args.out) c.in_default.is c.room_through.ensures)
-    (entry_changed _ c.args.self.now _ _ _ _ c.idle.new.self _ c.self.view_is c.idle.ensures)
+returns-in_default g c =
+    shift_out_full (net_of g.B.Workbench.slots c.args.self.now) _ c.args.cube c.args.port c.args.direction c.args.out c.args.front c.requires.ready.sized c.requires.front
+    (subst (IsWayOut (net_of g.B.Workbench.slots c.args.self.now) c.args.cube c.args.out) c.in_default.is c.room_through.ensures)
+    (entry_changed _ (net_of g.B.Workbench.slots c.args.self.now) _ _ _ _ c.idle.new.self _ (ap (net_of g.B.Workbench.slots) c.self.view_is) c.idle.ensures)
 
 pub take-requires-clause-there : goal.take-requires-clause-there
-take-requires-clause-there c =
-    subst (λ (n : NetState). IsDirection n.links c.args.direction) (sym c.self.view_is) (ends_in c.args.self.now (places.Port c.args.cube c.args.port) c.args.direction c.requires.ready c.requires.front.ends)
+take-requires-clause-there g c =
+    subst (λ (n : NetState). IsDirection n.links c.args.direction) (sym (ap (net_of g.B.Workbench.slots) c.self.view_is)) (ends_in (net_of g.B.Workbench.slots c.args.self.now) (places.Port c.args.cube c.args.port) c.args.direction c.requires.ready c.requires.front.ends)
 
 pub take-requires-clause-going : goal.take-requires-clause-going
-take-requires-clause-going c = subst (λ (n : NetState). AreGoing n.links) (sym c.self.view_is) c.requires.ready.sees.shows.links.going
+take-requires-clause-going g c = subst (λ (n : NetState). AreGoing n.links) (sym (ap (net_of g.B.Workbench.slots) c.self.view_is)) c.requires.ready.sees.shows.links.going
 
 pub hand-requires-clause-there : goal.hand-requires-clause-there
-hand-requires-clause-there c =
-    onward_after c.args.self.now c.args.cube c.args.port c.args.direction c.args.out c.in-Some.onward c.take.new.self c.requires.ready (subst (IsWayOut c.args.self.now c.args.cube c.args.out) c.in-Some.is c.room_through.ensures)
-    (λ rows entries stand. c.take.ensures rows entries (subst (λ (n : NetState). LinksStandFor rows n.links entries) (sym c.self.view_is) stand))
+hand-requires-clause-there g c =
+    onward_after (net_of g.B.Workbench.slots c.args.self.now) c.args.cube c.args.port c.args.direction c.args.out c.in-Some.onward c.take.new.self c.requires.ready (subst (IsWayOut (net_of g.B.Workbench.slots c.args.self.now) c.args.cube c.args.out) c.in-Some.is c.room_through.ensures)
+    (λ rows entries stand. c.take.ensures rows entries (subst (λ (n : NetState). LinksStandFor rows n.links entries) (sym (ap (net_of g.B.Workbench.slots) c.self.view_is)) stand))
 
 pub hand-requires-clause-may : goal.hand-requires-clause-may
-hand-requires-clause-may c =
-    shift_out_may c.args.self.now c.args.cube c.args.port c.args.direction c.args.out c.in-Some.onward c.args.front c.take.new.self c.requires.ready c.requires.front (subst (IsWayOut c.args.self.now c.args.cube c.args.out) c.in-Some.is c.room_through.ensures)
-    (λ rows entries stand. c.take.ensures rows entries (subst (λ (n : NetState). LinksStandFor rows n.links entries) (sym c.self.view_is) stand))
+hand-requires-clause-may g c =
+    shift_out_may (net_of g.B.Workbench.slots c.args.self.now) c.args.cube c.args.port c.args.direction c.args.out c.in-Some.onward c.args.front c.take.new.self c.requires.ready c.requires.front (subst (IsWayOut (net_of g.B.Workbench.slots c.args.self.now) c.args.cube c.args.out) c.in-Some.is c.room_through.ensures)
+    (λ rows entries stand. c.take.ensures rows entries (subst (λ (n : NetState). LinksStandFor rows n.links entries) (sym (ap (net_of g.B.Workbench.slots) c.self.view_is)) stand))
 
 pub returns : goal.returns
-returns c =
-    shift_out_does c.args.self.now _ c.args.cube c.args.port c.args.direction c.args.out c.in-Some.onward c.args.front c.take.new.self c.hand.new.self c.requires.ready c.requires.front (subst (IsWayOut c.args.self.now c.args.cube c.args.out) c.in-Some.is c.room_through.ensures)
-    (λ rows entries stand. c.take.ensures rows entries (subst (λ (n : NetState). LinksStandFor rows n.links entries) (sym c.self.view_is) stand)) c.hand.ensures
-    (links_changed _ c.args.self.now _ _ _ c.hand.new.self _ c.shifted.new.self _ c.self.view_is c.shifted.ensures)
+returns g c =
+    shift_out_does (net_of g.B.Workbench.slots c.args.self.now) _ c.args.cube c.args.port c.args.direction c.args.out c.in-Some.onward c.args.front c.take.new.self c.hand.new.self c.requires.ready c.requires.front (subst (IsWayOut (net_of g.B.Workbench.slots c.args.self.now) c.args.cube c.args.out) c.in-Some.is c.room_through.ensures)
+    (λ rows entries stand. c.take.ensures rows entries (subst (λ (n : NetState). LinksStandFor rows n.links entries) (sym (ap (net_of g.B.Workbench.slots) c.self.view_is)) stand)) c.hand.ensures
+    (links_changed _ (net_of g.B.Workbench.slots c.args.self.now) _ _ _ c.hand.new.self _ c.shifted.new.self _ (ap (net_of g.B.Workbench.slots) c.self.view_is) c.shifted.ensures)

@@ -1,29 +1,59 @@
 -- The step leaves a network that stands for the case.
-use Rattle.std.proofs.Common.{◌∙◌, ap}
-use Rattle.hmc_net.specs.NetState.{NetState}
+use Rattle.std.proofs.Common.{◌∙◌, ◌∷◌, sym, ap, subst}
+use Rattle.hmc_journal.specs.Next.{next}
+use Rattle.hmc_net.specs.NetState.{net_of, NetState}
+use Rattle.hmc_net.specs.Stands.{StandsFor}
+use Rattle.hmc_net.specs.Tally.{step_changes}
 use Rattle.hmc_net.specs.Went.{went_of}
 use Rattle.hmc_net.proofs.Laws.{law_bound}
 use Rattle.hmc_net.proofs.Seeing.{ready_of, step_there}
-use Rattle.hmc_net.proofs.Standing.{chosen_next, stands_stepped}
+use Rattle.hmc_net.proofs.Standing.{chosen_next, stands_stepped, countable, idle_stays, went_cause}
 use Rattle.hmc_net.proofs.network.Network.step.Goals as goal
 
 pub act-requires-clause-there : goal.act-requires-clause-there
-act-requires-clause-there c = step_there c.args.self.now c.requires.1 c.requires.0 c.args.step.now c.requires.2
+act-requires-clause-there g c = step_there (net_of g.B.Workbench.slots c.args.self.now) c.requires.1 c.requires.0 c.args.step.now c.requires.2
 
 pub act-requires-clause-ready : goal.act-requires-clause-ready
-act-requires-clause-ready c =
+act-requires-clause-ready g c =
     let is = c.requires.2 in
-    ready_of c.args.self.now c.requires.1 c.requires.0 is.stands is.goes_on (law_bound c.requires.0 c.requires.1 is.stands.network is.stands.lawful)
+    ready_of (net_of g.B.Workbench.slots c.args.self.now) c.requires.1 c.requires.0 is.stands is.goes_on (law_bound c.requires.0 c.requires.1 is.stands.network is.stands.lawful)
+
+pub unlocks_good-was_good-requires-clause-there : goal.unlocks_good-was_good-requires-clause-there
+unlocks_good-was_good-requires-clause-there g c = step_there (net_of g.B.Workbench.slots c.args.self.now) c.requires.1 c.requires.0 c.args.step.now c.requires.2
+
+pub unlocks_good-was_good-requires-clause-ready : goal.unlocks_good-was_good-requires-clause-ready
+unlocks_good-was_good-requires-clause-ready g c =
+    let is = c.requires.2 in
+    ready_of (net_of g.B.Workbench.slots c.args.self.now) c.requires.1 c.requires.0 is.stands is.goes_on (law_bound c.requires.0 c.requires.1 is.stands.network is.stands.lawful)
+
+pub count-requires : goal.count-requires
+count-requires g c = countable (net_of g.B.Workbench.slots c.args.self.now) (net_of g.B.Workbench.slots c.act.new.self) c.requires.1 c.requires.0 c.args.step.now c.requires.2 c.act.ensures
 
 pub returns-clause-stands : goal.returns-clause-stands
-returns-clause-stands c = λ setup past is.
-    stands_stepped c.args.self.now c.act.new.self past setup c.args.step.now is (law_bound setup past is.stands.network is.stands.lawful) c.act.ensures
+returns-clause-stands g c = λ setup past is.
+    let slots = g.B.Workbench.slots in
+    subst (λ (n : NetState). StandsFor n setup (next setup past c.args.step.now ∷ past)) (sym (ap (net_of slots) c.count.ensures.counted))
+    (stands_stepped (net_of slots c.args.self.now) (net_of slots c.act.new.self) c.count.new.self.tally c.unlocks_good-was_good.result past setup c.args.step.now is (law_bound setup past is.stands.network is.stands.lawful) c.act.ensures
+    c.count.ensures.long c.unlocks_good-was_good.ensures c.count.ensures.tally c.count.ensures.within)
 
 pub returns-clause-last : goal.returns-clause-last
-returns-clause-last c = λ setup past is.
-    chosen_next c.args.self.now c.act.new.self past setup c.args.step.now is (law_bound setup past is.stands.network is.stands.lawful) c.act.ensures
+returns-clause-last g c = λ setup past is.
+    let slots = g.B.Workbench.slots in
+    ap (λ (n : NetState). n.last) (ap (net_of slots) c.count.ensures.counted)
+    ∙ chosen_next (net_of slots c.args.self.now) (net_of slots c.act.new.self) past setup c.args.step.now is (law_bound setup past is.stands.network is.stands.lawful) c.act.ensures
 
 pub returns-clause-went : goal.returns-clause-went
-returns-clause-went c = λ setup past is.
-    c.went_of.ensures ∙ ap went_of (ap (λ (n : NetState). n.last) c.self.view_is
-    ∙ chosen_next c.args.self.now c.act.new.self past setup c.args.step.now is (law_bound setup past is.stands.network is.stands.lawful) c.act.ensures)
+returns-clause-went g c = λ setup past is.
+    let slots = g.B.Workbench.slots in
+    c.went_of.ensures ∙ ap went_of (ap (λ (n : NetState). n.last) (ap (net_of slots) c.self.view_is) ∙ ap (λ (n : NetState). n.last) (ap (net_of slots) c.count.ensures.counted)
+    ∙ chosen_next (net_of slots c.args.self.now) (net_of slots c.act.new.self) past setup c.args.step.now is (law_bound setup past is.stands.network is.stands.lawful) c.act.ensures)
+
+pub returns-clause-idle : goal.returns-clause-idle
+returns-clause-idle g c = λ cause is.
+    let slots = g.B.Workbench.slots in
+    let counted = ap (net_of slots) c.count.ensures.counted in
+    let last = ap (λ (n : NetState). n.last) counted in
+    let idle = went_cause c.act.new.self.last cause (sym (c.went_of.ensures ∙ ap went_of (ap (λ (n : NetState). n.last) (ap (net_of slots) c.self.view_is) ∙ last)) ∙ is) in
+    counted
+    ∙ idle_stays (net_of slots c.args.self.now) (net_of slots c.act.new.self) c.count.new.self.tally (step_changes c.args.step.now) c.unlocks_good-was_good.result cause c.args.step.now c.act.ensures idle c.count.ensures.tally
+    ∙ ap (λ e. record (net_of slots c.args.self.now) { last = e }) (sym last)

@@ -1,5 +1,5 @@
 -- A request may be sent, and is handed to the link.
-use Rattle.std.proofs.Common.{ap, sym, subst}
+use Rattle.std.proofs.Common.{sym, subst}
 use Rattle.hmc_net.specs.Gives.{given_to, IsRequested}
 use Rattle.hmc_net.specs.LinkList.{LinksStandFor}
 use Rattle.hmc_net.proofs.HostSteps.{may_hand}

@@ -1,4 +1,4 @@
-use Rattle.std.proofs.Common.{◌≡◌, ℕ, ◌<◌, length}
+use Rattle.std.proofs.Common.{◌≡◌, length}
 use Rattle.hmc_net.proofs.NewCubes.{AreFirstCubes}
 use Rattle.hmc_net.proofs.network.opening.new_cubes.Given as goal
 

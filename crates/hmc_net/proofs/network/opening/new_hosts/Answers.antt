@@ -1,5 +1,5 @@
 -- One host more is new.
-use Rattle.std.proofs.Common.{◌≡◌, ◌+◌, ◌∙◌, ℕ, [], ◌∷◌, ◌++◌, List, length, sym, ap, subst, arith}
+use Rattle.std.proofs.Common.{◌≡◌, ◌+◌, ◌∙◌, ℕ, List, length, sym, ap, subst}
 use Rattle.std.specs.Prelude.{slice_index_or, ◌<◌}
 use Rattle.std.proofs.lemmas.List.{length_push}
 use Rattle.hmc_host.specs.Host.{HostFields, opening_host}

@@ -1,6 +1,6 @@
 -- The direction of a host is kept.
-use Rattle.std.proofs.Common.{◌≡◌, ◌<◌, ◌∙◌, ℕ, Some, None, refl, sym, ap, subst, arith}
-use Rattle.std.specs.Prelude.{slice_index_or, length}
+use Rattle.std.proofs.Common.{◌<◌, ◌∙◌, ℕ, None, refl, sym, ap, subst, arith}
+use Rattle.std.specs.Prelude.{slice_index_or}
 use Rattle.std.specs.Option.{IsSome}
 use Rattle.hmc_journal.specs.Setup.{Topology, hosts_in, direction_from}
 use Rattle.hmc_codes.specs.declared.place.Place.TheVariants as places

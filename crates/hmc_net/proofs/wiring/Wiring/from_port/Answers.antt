@@ -1,5 +1,5 @@
 -- The direction of a port is kept, and no port is numbered above 3.
-use Rattle.std.proofs.Common.{◌≡◌, ◌≤◌, ◌<◌, ◌*◌, ◌∙◌, ℕ, None, length, sym, ap, subst, arith}
+use Rattle.std.proofs.Common.{◌≤◌, ◌<◌, ◌*◌, ◌∙◌, None, length, sym, ap, subst, arith}
 use Rattle.std.specs.Prelude.{slice_index_or, IfSome}
 use Rattle.hmc_codes.specs.declared.place.Place.TheVariants as places
 use Rattle.hmc_journal.specs.Setup.{Topology, cubes_in, direction_from}

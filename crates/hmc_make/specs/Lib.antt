@@ -1,0 +1,7 @@
+pub mod Draws
+pub mod Requests
+pub mod Chain
+pub mod Plan
+pub mod Steps
+pub mod Numbered
+pub mod Word

@@ -1,0 +1,116 @@
+-- Taking the steps of a case one after another, and writing the line of each.
+use Rattle.std.proofs.Common.{◌≡◌, ◌∙◌, ◌+◌, inl, inr, ℕ, suc, Bool, true, false, List, [], ◌∷◌, ◌++◌, length, drop, slice_get, Some, refl, sym, ap, subst, add-one, append-nil, append_assoc}
+use Rattle.hmc_schedule.specs.declared.step.Step.{Step}
+use Rattle.hmc_journal.specs.declared.entry.Entry.{Entry}
+use Rattle.hmc_journal.specs.Event.{is_passed}
+use Rattle.hmc_journal.specs.Lawful.{has_passed, Lawful, journal_behind, journal_of}
+use Rattle.hmc_journal.specs.Lines.{line_of}
+use Rattle.hmc_journal.specs.Next.{next}
+use Rattle.hmc_journal.specs.Setup.{Setup}
+use Rattle.hmc_journal.specs.Text.{lines_of}
+use Rattle.hmc_journal.proofs.OneJournal.{goes_on, ends_there, behind, journal_of-whole}
+use Rattle.hmc_net.specs.NetState.{NetState}
+use Rattle.hmc_net.specs.Stands.{StandsFor, IsNext}
+use Rattle.hmc_outside.specs.Lines.{WritesLines, BreaksOff}
+use Rattle.hmc_outside.specs.Views.{SinkView}
+use Rattle.hmc_outside.proofs.LinesLemmas.{WritesLines-none, WritesLines-after, BreaksOff-after, BreaksOff-more}
+use Rattle.hmc_replay.specs.Steps.{IsAt, IsAfter, TookAll}
+use Rattle.hmc_replay.proofs.Passes.{passes_is}
+
+-- the step that comes next
+pub is_next : (net : NetState) (setup : Setup) (steps : List Step) (past : List Entry) (at : ℕ) (step : Step) → IsAt net setup steps past at → slice_get steps at ≡ Some step → IsNext net setup past step
+is_next net setup steps past at step is found = record {
+  stands = is.stands;
+  goes_on = is.goes_on;
+  step_is = ap (λ (s : List Step). slice_get s (length past)) is.schedule ∙ ap (slice_get steps) is.done ∙ found;
+}
+
+-- after it
+pub after_step : (net : NetState) (setup : Setup) (past : List Entry) (entry : Entry) (passed : Bool) → StandsFor net setup (entry ∷ past) → net.last ≡ entry → passed ≡ is_passed net.last → IsAfter net setup past passed
+after_step net setup past entry passed stands is passed_is =
+    record { stands = subst (λ (e : Entry). StandsFor net setup (e ∷ past)) (sym is) stands; passed_is = passed_is }
+
+pub at_more : (net new : NetState) (setup : Setup) (steps : List Step) (past : List Entry) (at : ℕ) (passed : Bool) → IsAt net setup steps past at → IsAfter new setup past passed → passed ≡ false → IsAt new setup steps (new.last ∷ past) (at + 1)
+at_more net new setup steps past at passed is after on = record {
+  stands = after.stands;
+  schedule = is.schedule;
+  done = ap (λ n. suc n) is.done ∙ sym (add-one at);
+  goes_on = sym after.passed_is ∙ on;
+}
+
+-- after all steps, or after a landing that passed, the journal is that of the case
+all_whole : (net : NetState) (setup : Setup) (steps : List Step) (past : List Entry) (at : ℕ) → IsAt net setup steps past at → at ≡ length steps → past ≡ journal_of setup
+all_whole net setup steps past at is end =
+    journal_of-whole setup past (record { lawful = is.stands.lawful; whole = inl (is.done ∙ end ∙ ap length (sym is.schedule)) })
+
+passed_whole : (net : NetState) (setup : Setup) (past : List Entry) (passed : Bool) → IsAfter net setup past passed → passed ≡ true → net.last ∷ past ≡ journal_of setup
+passed_whole net setup past passed after is =
+    journal_of-whole setup (net.last ∷ past) (record { lawful = after.stands.lawful; whole = inr (sym after.passed_is ∙ is) })
+
+pub took_all : (net : NetState) (setup : Setup) (steps : List Step) (past : List Entry) (at : ℕ) → IsAt net setup steps past at → at ≡ length steps → TookAll net setup false
+took_all net setup steps past at is end =
+    let whole = all_whole net setup steps past at is end in record {
+      stands = subst (StandsFor net setup) whole is.stands;
+      passed_is = sym is.goes_on ∙ ap has_passed whole ∙ sym (passes_is setup);
+      last = λ wrong. absurd (cc);
+    }
+
+pub took_passed : (net : NetState) (setup : Setup) (past : List Entry) (passed : Bool) → IsAfter net setup past passed → passed ≡ true → TookAll net setup true
+took_passed net setup past passed after is =
+    let whole = passed_whole net setup past passed after is in record {
+      stands = subst (StandsFor net setup) whole after.stands;
+      passed_is = sym is ∙ after.passed_is ∙ ap has_passed whole ∙ sym (passes_is setup);
+      last = λ _. (past, sym whole);
+    }
+
+-- ---- the lines
+
+lines-next : (entry : Entry) (past : List Entry) → lines_of past ++ line_of entry ∷ [] ≡ lines_of (entry ∷ past)
+unfolding lines_of
+lines-next entry past = refl
+
+-- none was written
+pub lines-none : (a : SinkView) → WritesLines a a (lines_of [])
+unfolding lines_of
+lines-none a = WritesLines-none a
+
+-- the line of one more entry was
+pub lines_more : (a b c : SinkView) (entry : Entry) (past : List Entry) → WritesLines a b (lines_of past) → WritesLines b c (line_of entry ∷ []) → WritesLines a c (lines_of (entry ∷ past))
+lines_more a b c entry past before here = subst (WritesLines a c) (lines-next entry past) (WritesLines-after a b c (lines_of past) (line_of entry ∷ []) before here)
+
+-- the lines of the whole journal were
+pub wrote_all : (net : NetState) (setup : Setup) (steps : List Step) (past : List Entry) (at : ℕ) (a b : SinkView) → IsAt net setup steps past at → at ≡ length steps → WritesLines a b (lines_of past) → WritesLines a b (lines_of (journal_of setup))
+wrote_all net setup steps past at a b is end written = subst (λ (j : List Entry). WritesLines a b (lines_of j)) (all_whole net setup steps past at is end) written
+
+pub wrote_passed : (net : NetState) (setup : Setup) (past : List Entry) (passed : Bool) (a b : SinkView) → IsAfter net setup past passed → passed ≡ true → WritesLines a b (lines_of (net.last ∷ past)) → WritesLines a b (lines_of (journal_of setup))
+wrote_passed net setup past passed a b after is written = subst (λ (j : List Entry). WritesLines a b (lines_of j)) (passed_whole net setup past passed after is) written
+
+-- by whether the last entry is a landing that passed
+by_passed : (setup : Setup) (past : List Entry) (step : Step) (steps : List Step) (passed : Bool) → has_passed past ≡ passed
+    → (rest : List (List ℕ)) × (lines_of (journal_behind setup (next setup past step ∷ past) steps) ≡ lines_of (next setup past step ∷ past) ++ rest)
+    → (rest : List (List ℕ)) × (lines_of (journal_behind setup past (step ∷ steps)) ≡ lines_of past ++ rest)
+by_passed setup past step steps true is later = ([], ap lines_of (ends_there setup past (step ∷ steps) is) ∙ sym (append-nil (lines_of past)))
+by_passed setup past step steps false is later =
+    let entry = next setup past step in (
+      (line_of entry ∷ []) ++ later.0,
+      ap lines_of (goes_on setup past step steps is) ∙ later.1 ∙ ap (λ l. l ++ later.0) (sym (lines-next entry past)) ∙ append_assoc (lines_of past) (line_of entry ∷ []) later.0,
+    )
+
+-- a journal's lines begin those of any that goes on after it
+lines-behind : (setup : Setup) (past : List Entry) (steps : List Step) → (rest : List (List ℕ)) × (lines_of (journal_behind setup past steps) ≡ lines_of past ++ rest)
+unfolding journal_behind
+lines-behind setup past [] = ([], sym (append-nil (lines_of past)))
+lines-behind setup past (step ∷ steps) = by_passed setup past step steps (has_passed past) refl (lines-behind setup (next setup past step ∷ past) steps)
+
+begins : (setup : Setup) (past : List Entry) → Lawful setup past → (rest : List (List ℕ)) × (lines_of (journal_of setup) ≡ lines_of past ++ rest)
+unfolding journal_of
+begins setup past lawful =
+    let later = lines-behind setup past (drop (length past) setup.schedule) in
+    (later.0, ap lines_of (behind setup past lawful) ∙ later.1)
+
+-- the line of a step was broken off
+pub broken_at : (net : NetState) (setup : Setup) (past : List Entry) (passed : Bool) (a b c : SinkView) → IsAfter net setup past passed → WritesLines a b (lines_of past) → BreaksOff b c (line_of net.last ∷ []) → BreaksOff a c (lines_of (journal_of setup))
+broken_at net setup past passed a b c after written broken =
+    let later = begins setup (net.last ∷ past) after.stands.lawful in
+    let here = subst (BreaksOff a c) (lines-next net.last past) (BreaksOff-after a b c (lines_of past) (line_of net.last ∷ []) written broken) in
+    subst (BreaksOff a c) (sym later.1) (BreaksOff-more a c (lines_of (net.last ∷ past)) later.0 here)

@@ -1,0 +1,10 @@
+use Rattle.std.proofs.Common.{[], List}
+use Rattle.hmc_journal.specs.declared.entry.Entry.{Entry}
+use Rattle.hmc_journal.specs.Setup.{Setup}
+use Rattle.hmc_net.specs.NetState.{net_of}
+use Rattle.hmc_replay.specs.Steps.{IsAt}
+use Rattle.hmc_replay.proofs.steps.take_steps.Given as goal
+
+abbrev pub invariant-steps : goal.invariant-steps
+invariant-steps g l =
+    (setup : Setup) → IsAt (net_of g.B.Workbench.slots l.initial.network) setup l.schedule [] 0 → (past : List Entry) × IsAt (net_of g.B.Workbench.slots l.network) setup l.schedule past l.at

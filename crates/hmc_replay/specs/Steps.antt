@@ -1,0 +1,41 @@
+-- Taking the steps of a case, one after another.
+use Rattle.std.specs.Prelude.{◌≡◌, ℕ, Bool, true, false, List, ◌∷◌, length, Result, Ok, Err}
+use Rattle.hmc_schedule.specs.declared.step.Step.{Step}
+use Rattle.hmc_journal.specs.declared.entry.Entry.{Entry}
+use Rattle.hmc_journal.specs.Event.{is_passed}
+use Rattle.hmc_journal.specs.Lawful.{has_passed, journal_of}
+use Rattle.hmc_journal.specs.Setup.{Setup}
+use Rattle.hmc_journal.specs.Text.{lines_of}
+use Rattle.hmc_net.specs.NetState.{NetState}
+use Rattle.hmc_net.specs.Stands.{StandsFor}
+use Rattle.hmc_outside.specs.Lines.{WritesLines, BreaksOff}
+use Rattle.hmc_outside.specs.Views.{SinkView}
+use Rattle.hmc_outside.specs.declared.counts.Failed.{Failed}
+use Rattle.hmc_replay.specs.Report.{passes}
+
+-- so many of these steps, which are those of the setup, were taken, and no landing passed
+pub record IsAt (net : NetState) (setup : Setup) (steps : List Step) (past : List Entry)
+    (at : ℕ) : Type 0 where
+  pub stands : StandsFor net setup past
+  pub schedule : setup.schedule ≡ steps
+  pub done : length past ≡ at
+  pub goes_on : has_passed past ≡ false
+
+-- one more was taken, and the network's last entry is that of this step
+pub record IsAfter (net : NetState) (setup : Setup) (past : List Entry)
+    (passed : Bool) : Type 0 where
+  pub stands : StandsFor net setup (net.last ∷ past)
+  pub passed_is : passed ≡ is_passed net.last
+
+-- no further one is taken: the network stands for the whole journal; where a landing passed, its
+-- entry is the last one
+pub record TookAll (net : NetState) (setup : Setup) (passed : Bool) : Type 0 where
+  pub stands : StandsFor net setup (journal_of setup)
+  pub passed_is : passed ≡ passes setup
+  pub last : passed ≡ true → (before : List Entry) × (journal_of setup ≡ net.last ∷ before)
+
+-- and the line of each was written, or they broke off
+abbrev pub WroteAll : Result Bool Failed → NetState → Setup → (old new : SinkView) → Type 0
+WroteAll (Ok passed) net setup old new =
+    TookAll net setup passed × WritesLines old new (lines_of (journal_of setup))
+WroteAll (Err failed) net setup old new = BreaksOff old new (lines_of (journal_of setup))

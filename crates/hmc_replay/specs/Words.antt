@@ -1,0 +1,24 @@
+-- The words that are a defined form.
+use Rattle.std.specs.Prelude.{◌≡◌, ℕ, if◌then◌else◌, List, [], ◌∷◌, codes, bytes_eq, Option, Some, None}
+use Rattle.std.specs.Option.{option_map}
+use Rattle.hmc_make.specs.Word.{case_number}
+use Rattle.hmc_replay.specs.declared.form.Form.{Form}
+use Rattle.hmc_replay.specs.declared.form.Form.TheVariants.{Run, Make}
+
+-- `make` with this word, if it is the number of a case
+abbrev pub make_form : List ℕ → Option Form
+make_form word = option_map Make (case_number word)
+
+-- what the words ask for: `run`, or `make` and the number of a case
+abbrev pub form_of : List (List ℕ) → Option Form
+form_of (word ∷ []) = if bytes_eq word (codes "run") then Some Run else None
+form_of (word ∷ number ∷ []) = if bytes_eq word (codes "make") then make_form number else None
+form_of _ = None
+
+-- they ask for the case that is read
+abbrev pub IsRun : List (List ℕ) → Type 0
+IsRun words = form_of words ≡ Some Run
+
+-- they ask for the case of this number
+abbrev pub IsMake : List (List ℕ) → (number : ℕ) → Type 0
+IsMake words number = form_of words ≡ Some (Make number)
