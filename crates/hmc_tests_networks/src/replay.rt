@@ -260,6 +260,42 @@ fn final_lines_are_those_of_all_cubes_and_hosts(rt: HostRuntime) -> Result<(), F
     Ok(())
 }
 
+// Whether a write that fails, and takes this many bytes, leaves the lines before and these bytes.
+fn keeps_taken(
+    alloc: Global,
+    input: &[u8],
+    call: u32,
+    before: &str,
+    line: &str,
+    taken: usize,
+) -> Result<bool, Fail> {
+    let output = format!(in alloc; "{before}{}", line.get(..taken).unwrap_or(line))?;
+    let run = Run {
+        writes: &[(call, taken)],
+        ..Run::of(&["run"], input)
+    };
+    run.answers(alloc, 4, output.as_str())
+}
+
+// Each line in turn fails with none, one and all of its bytes taken.
+#[test]
+fn a_failing_sink_keeps_what_it_took(rt: HostRuntime) -> Result<(), Fail> {
+    let alloc = rt.alloc();
+    let case = case_on(alloc, "", "")?;
+    let mut before = String::new(alloc);
+    let mut call = 0u32;
+    for words in NOTHING.lines() {
+        call = call.wrapping_add(1);
+        let line = format!(in alloc; "{words}\n")?;
+        let none = keeps_taken(alloc, case.as_bytes(), call, &before, &line, 0)?;
+        let one = keeps_taken(alloc, case.as_bytes(), call, &before, &line, 1)?;
+        let all = keeps_taken(alloc, case.as_bytes(), call, &before, &line, line.len())?;
+        assert!(rt; none && one && all, "write {call}");
+        before.push_str(line.as_str())?;
+    }
+    Ok(())
+}
+
 #[test]
 fn a_failing_source_writes_nothing(rt: HostRuntime) -> Result<(), Fail> {
     let case = case_on(rt.alloc(), "", "")?;
