@@ -23,6 +23,8 @@ def subjects_of(line: str) -> list[Subject]:
         return [("direction", words[1])]
     if words[0] == "retired" and len(words) > 1:
         return [("slot", words[1])]
+    if words[0] == "through" and len(words) > 3:
+        return [("direction", words[3])]
     if words[0] in ("gave", "took") and len(words) > 2:
         return [("request", words[1], words[2])]
     if words[0] == "executed":

@@ -21,6 +21,7 @@ STEPS = {
     "registers": ("cube",),
     "lift": ("cube", "place"),
     "take": ("host",),
+    "through": ("cube", "port"),
     "unlock": ("direction",),
     "retire": ("slot",),
     "round": ("rounds",),

@@ -3,7 +3,8 @@
 A token is room for one flit in the buffer at the end of a direction. The sender holds it, a packet
 that is begun takes it along, a flit in the buffer uses it, it is due for return, or it returns in
 the RTC of a packet of the opposite direction. RTC is chosen when a packet is begun, so it is known
-before the tail of the packet is sent.
+before the tail of the packet is sent. The step `through` begins a packet too, and one that is
+accepted while it goes on uses no room.
 """
 
 from __future__ import annotations
@@ -13,6 +14,7 @@ from typing import NamedTuple
 
 from tool import packets, report
 from tool.case import Endpoint, ends_of
+from tool.gathering import Gathering
 
 # Where a token is, in the order of a line `tokens`.
 PLACES = ("held", "transit", "used", "due", "returning")
@@ -45,6 +47,7 @@ class Tokens:
         self._buffers = [deque[int]() for _ in self.counts]
         # The flits still to be sent of the packet that each direction sends for the first time.
         self._left = [0] * len(self.counts)
+        self._gathering = [Gathering() for _ in self.counts]
 
     def apply(self, entry: dict) -> list[int]:
         """Counts an entry, and returns the directions whose tokens it may have moved."""
@@ -77,14 +80,27 @@ class Tokens:
         self._begun[direction].append(Begun(taken, returned))
         return [direction, direction ^ 1]
 
+    def _through(self, entry: dict) -> list[int]:
+        direction = entry["direction"]
+        source = self._at[Endpoint(None, entry["cube"], entry["port"])]
+        self._left[direction] = self._gathering[source].go_on()
+        return self._begin(direction, self._left[direction])
+
+    def _unlocked(self, entry: dict) -> list[int]:
+        self._gathering[entry["direction"]].end()
+        return []
+
     def _landed(self, entry: dict) -> list[int]:
+        direction = entry["direction"]
+        leaves = self._gathering[direction].land(entry)
         if entry["outcome"] not in ("accepted", "poisoned"):
             return []
-        direction = entry["direction"]
         packet = self._begun[direction].popleft()
         move(self.counts[direction], "transit", "used", packet.taken)
         move(self.counts[direction ^ 1], "returning", "held", packet.returned)
-        if packet.taken:
+        if leaves:
+            move(self.counts[direction], "used", "due", packet.taken)
+        elif packet.taken:
             self._buffers[direction].append(packet.taken)
         return [direction, direction ^ 1]
 

@@ -11,6 +11,7 @@ from collections.abc import Iterable, Iterator
 
 from tool import packets, report
 from tool.case import Endpoint, ends_of
+from tool.gathering import Gathering
 from tool.tokens import PLACES, Tokens
 from tool.vcd import TEXT, Dump
 
@@ -65,7 +66,8 @@ class Queues:
         self.ends = ends_by_direction(document)
         self.held: dict[Queue, int] = {queue: 0 for queue, _, _ in queues_of(document)}
         self._left = [0] * len(self.ends)
-        self._gathering = [False] * len(self.ends)
+        self._gathering = [Gathering() for _ in self.ends]
+        self._direction_to = {end: number for number, (_, end) in enumerate(self.ends)}
 
     def apply(self, entry: dict) -> list[Queue]:
         """Counts an entry, and returns the queues that it changed."""
@@ -93,17 +95,28 @@ class Queues:
     def _landed(self, entry: dict) -> list:
         direction, outcome = entry["direction"], entry["outcome"]
         moves = [(("line", direction), -1)]
-        if outcome in ("accepted", "poisoned") and not self._is_tret(entry):
+        is_stored = outcome in ("accepted", "poisoned") and not self._is_tret(entry)
+        if not self._gathering[direction].land(entry) and is_stored:
             moves.append((("buffer", self.ends[direction][1]), 1))
-        self._gathering[direction] = outcome == "gathered"
         return moves
 
     def _is_tret(self, entry: dict) -> bool:
         """Whether the flit that landed is a TRET, which is accepted and enters no buffer."""
-        if self._gathering[entry["direction"]]:
+        if self._gathering[entry["direction"]].is_begun:
             return False
         packet = packets.Packet((bytes.fromhex(entry["flit"]),), 1)
         return packet.command is not None and packet.command.word == "tret"
+
+    def _through(self, entry: dict) -> list:
+        source = self._direction_to.get(Endpoint(None, entry["cube"], entry["port"]))
+        if source is None:
+            raise report.NotALine(f"{entry['line']} does not fit this case")
+        self._left[entry["direction"]] = self._gathering[source].go_on()
+        return []
+
+    def _unlocked(self, entry: dict) -> list:
+        self._gathering[entry["direction"]].end()
+        return []
 
     def _passed(self, entry: dict) -> list:
         return [(("line", entry["direction"]), -1)]

@@ -1,7 +1,7 @@
 -- The case that some bytes are, or their first fault.
 use Rattle.std.specs.Prelude.{ℕ, List, length, Result, Ok, Err}
 use Rattle.std.specs.List.{All}
-use Rattle.hmc_schedule.specs.Plan.{IsStepOf, IsBuilt}
+use Rattle.hmc_schedule.specs.Plan.{IsStepOf, HasFlit}
 use Rattle.hmc_schedule.specs.Schedule.{schedule_of}
 use Rattle.hmc_schedule.specs.declared.step.Step.{Step}
 use Rattle.hmc_script.specs.Items.{ItemFields, IsWithin, IsScript}
@@ -40,10 +40,10 @@ case_of bytes = do
   Ok (record { net = net; script = script; schedule = schedule })
 
 -- what every case keeps: each request is good, and of one of its hosts to one of its cubes; each
--- step names its parts and is built so far, and each mask has 16 bytes
+-- step names its parts, and each mask is as long as a flit
 pub record IsCase (case : CaseFields) : Type 0 where
   pub net : IsNet case.net
   pub requests : IsScript case.script
   pub script : All (IsWithin case.net.hosts (length case.net.cubes)) case.script
   pub schedule : All (IsStepOf (plan_of case.net)) case.schedule
-  pub built : All IsBuilt case.schedule
+  pub masks : All HasFlit case.schedule

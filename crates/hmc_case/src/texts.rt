@@ -3,7 +3,7 @@
 ghost use Rattle.std.specs.Prelude.{◌≤◌, IfOk};
 ghost use Rattle.std.specs.List.{All};
 ghost use Rattle.hmc_codes.specs.Limits.{most_hosts, most_cubes};
-ghost use Rattle.hmc_schedule.specs.Plan.{IsStepOf, IsBuilt};
+ghost use Rattle.hmc_schedule.specs.Plan.{IsStepOf, HasFlit};
 ghost use Rattle.hmc_schedule.specs.Schedule.{schedule_of};
 ghost use Rattle.hmc_script.specs.Items.{IsWithin};
 ghost use Rattle.hmc_script.specs.Script.{script_of};
@@ -44,7 +44,7 @@ pub fn schedule_of(alloc: Global, net: &Net, text: &str) -> Result<Schedule, Cas
     ensures value { Answers (λ schedule. schedule) result
         (in_text sections.Schedule kinds.Schedule (schedule_of (plan_of net.now) text.now)) }
     ensures within { IfOk result (All (IsStepOf (plan_of net.now))) }
-    ensures built { IfOk result (All IsBuilt) }
+    ensures masks { IfOk result (All HasFlit) }
 {
     let plan = plan_of(alloc, net)?;
     match Schedule::parse(alloc, text, &plan) {

@@ -11,7 +11,7 @@ use std::rt::Files;
 use std::{fs, io};
 
 /// The cases of this folder whose run ends, `NAME.toml` each, with their reports, `NAME.report`.
-const NAMES: [&str; 59] = [
+const NAMES: [&str; 79] = [
     "write-then-read",
     "six-errors",
     "posted-increments",
@@ -71,6 +71,26 @@ const NAMES: [&str; 59] = [
     "units-of-one-cube",
     "counts-of-flits",
     "tokens-on-the-way",
+    "through-two-cubes",
+    "through-one-to-two",
+    "through-two-to-one",
+    "through-two-to-two",
+    "through-poisoned",
+    "through-changed",
+    "through-unlocked",
+    "through-repeat",
+    "through-then-repeat",
+    "through-sent-again",
+    "through-changed-error",
+    "through-short-error",
+    "through-in-each-cube",
+    "through-no-packet",
+    "through-before-open",
+    "through-in-replay",
+    "through-while-asking",
+    "through-behind-another",
+    "through-few-tokens",
+    "through-little-room",
 ];
 
 /// The cases whose run ends at a landing that passed.

@@ -18,10 +18,11 @@ use Rattle.hmc_journal.specs.Queues.{QueueId as queues}
 use Rattle.hmc_journal.specs.Setup.{Topology, Setup, graph_of, cubes_in, hosts_in, directions_in, start_of, end_of, direction_from}
 use Rattle.hmc_journal.proofs.EntryRule.{EntryRule}
 use Rattle.hmc_journal.proofs.Moves.{HasBegun, has_leaving, leaving_inside, same_queue_refl, entering}
-use Rattle.hmc_journal.specs.Carried.{underway_on}
 use Rattle.hmc_journal.proofs.Joins.{same_place_is}
 use Rattle.hmc_journal.proofs.Wired.{Wired, ends_there, same_buffers}
 use Rattle.hmc_journal.proofs.Seen.{seen, hop_queue, arriving, or_zero}
+use Rattle.hmc_journal.proofs.Underway.{line_on}
+use Rattle.std.proofs.lemmas.List.{drop-append-le}
 
 -- ---- the map of a topology
 
@@ -160,11 +161,6 @@ pop true [] = []
 pop true (x ∷ xs) = xs
 pop false xs = xs
 
-drop_front : {X : Type 0} (n : ℕ) (xs more : List X) → n ≤ length xs → drop n (xs ++ more) ≡ drop n xs ++ more
-drop_front zero xs more within = refl
-drop_front (suc n) [] more within = absurd (omega arith)
-drop_front (suc n) (x ∷ xs) more within = drop_front n xs more (omega arith)
-
 drop_next : {X : Type 0} (n : ℕ) (xs : List X) → drop (suc n) xs ≡ pop true (drop n xs)
 drop_next zero [] = refl
 drop_next zero (x ∷ xs) = refl
@@ -172,11 +168,11 @@ drop_next (suc n) [] = refl
 drop_next (suc n) (x ∷ xs) = drop_next n xs
 
 drop_pop : {X : Type 0} (goes : Bool) (n : ℕ) (xs more : List X) → n ≤ length xs → (goes ≡ true → n < length xs) → drop (one_if goes + n) (xs ++ more) ≡ pop goes (drop n xs) ++ more
-drop_pop false n xs more within some = ap (λ (k : ℕ). drop k (xs ++ more)) (zero-add n) ∙ drop_front n xs more within
+drop_pop false n xs more within some = ap (λ (k : ℕ). drop k (xs ++ more)) (zero-add n) ∙ drop-append-le n xs more within
 drop_pop true n xs more within some =
     let less = some refl in
     let next : 1 + n ≡ suc n = omega arith in
-    ap (λ (k : ℕ). drop k (xs ++ more)) next ∙ drop_front (suc n) xs more (omega arith) ∙ ap (λ l. l ++ more) (drop_next n xs)
+    ap (λ (k : ℕ). drop k (xs ++ more)) next ∙ drop-append-le (suc n) xs more (omega arith) ∙ ap (λ l. l ++ more) (drop_next n xs)
 
 pub contents-more : (setup : Setup) (entry : Entry) (past : List Entry) (queue : QueueId) → EntryRule setup past entry → HasBegun setup past entry → ((q : QueueId) → left past q ≤ length (entered setup.topology past q))
     → contents setup.topology (entry ∷ past) queue ≡ pop (is_at (leaves past entry) queue) (contents setup.topology past queue) ++ entering setup.topology past entry queue
@@ -199,4 +195,4 @@ if_seen topology false packet = refl
 -- each queue holds what it holds after the moves
 pub record Agrees (topology : Topology) (m : Map) (past : List Entry) (moved : List Move) : Type 0 where
   pub queues : (queue : QueueId) → IsReal topology queue → map (seen topology) (contents topology past queue) ≡ hop_contents m moved (hop_queue topology queue)
-  pub lines : (d : ℕ) → map (seen topology) (underway_on topology d past) ≡ hop_contents m moved (hops.Line d)
+  pub lines : (d : ℕ) → map (seen topology) (line_on topology d past) ≡ hop_contents m moved (hops.Line d)

@@ -1,5 +1,5 @@
 -- What a journal says of the answers that were lifted and taken is what its moves say.
-use Rattle.std.proofs.Common.{◌≡◌, ◌∙◌, ◌==◌, ◌&&◌, ℕ, Bool, true, false, if◌then◌else◌, Option, Some, List, [], ◌∷◌, ◌++◌, refl, sym, ap, ap₂, append-nil}
+use Rattle.std.proofs.Common.{◌≡◌, ◌∙◌, ◌==◌, ◌&&◌, ℕ, Bool, true, false, if◌then◌else◌, Option, Some, None, List, [], ◌∷◌, ◌++◌, refl, sym, ap, ap₂, append-nil}
 use Rattle.hmc_codes.specs.declared.answer.Answer.{Answer}
 use Rattle.hmc_codes.specs.declared.place.Place.TheVariants as places
 use Rattle.hmc_packet.specs.Packet.{PacketFields}
@@ -13,8 +13,9 @@ use Rattle.hmc_hops.specs.Flows.{answers_to as hop_answers_to, answers_lifted as
 use Rattle.hmc_journal.specs.Carried.{tagged_answer, answers_to, answers_lifted, answers_taken}
 use Rattle.hmc_journal.specs.Choice.{append_if}
 use Rattle.hmc_journal.specs.declared.entry.Entry.{Entry}
-use Rattle.hmc_journal.specs.declared.entry.Entry.TheVariants.{Gave, Sent, Landed, Shifted, Dropped, Lifted, Took, Discarded}
-use Rattle.hmc_journal.specs.Directions.{unsent, landed_packets}
+use Rattle.hmc_journal.specs.declared.entry.Entry.TheVariants.{Gave, Sent, Landed, Shifted, Dropped, Lifted, Took, Discarded, Unlocked}
+use Rattle.hmc_journal.specs.Directions.{unsent, awaits_first, landed_packets}
+use Rattle.hmc_journal.specs.Piped.{passed_onto}
 use Rattle.hmc_journal.specs.Filters.{TaggedAnswer}
 use Rattle.hmc_journal.specs.Lawful.{Lawful}
 use Rattle.hmc_journal.specs.Network.{IsNetwork}
@@ -23,16 +24,17 @@ use Rattle.hmc_journal.specs.Queues.{QueueId as queues}
 use Rattle.hmc_journal.specs.Setup.{Topology, Setup, direction_from}
 use Rattle.hmc_journal.proofs.EntryRule.{entry_rule, lawful_past}
 use Rattle.hmc_journal.proofs.Moves.{front_is}
-use Rattle.hmc_journal.proofs.Entering.{front_stands}
+use Rattle.hmc_journal.proofs.Entering.{front_stands, landed-real}
 use Rattle.hmc_journal.proofs.Sound.{kept}
 use Rattle.hmc_journal.proofs.Wired.{wired}
-use Rattle.hmc_journal.proofs.Seen.{seen, moves_of, moves}
+use Rattle.hmc_journal.proofs.Seen.{seen, arriving, moves_of, moves}
 use Rattle.hmc_journal.proofs.Agreeing.{IsMapOf}
 use Rattle.hmc_journal.proofs.Hopping.{buffer_end}
+use Rattle.hmc_journal.proofs.Passed.{is_passed, passed_end}
 use Rattle.hmc_journal.proofs.Hopped.{at_end}
-use Rattle.hmc_journal.proofs.TagsOut.{none_discarded}
+use Rattle.hmc_journal.proofs.TagsOut.{discards_poison, takes_answer}
 use Rattle.hmc_journal.proofs.Flowing.{answers_seen}
-use Rattle.hmc_journal.proofs.Collecting.{piece_of, collected, quiet, begins_nothing, lands_nothing, comes_nothing}
+use Rattle.hmc_journal.proofs.Collecting.{piece_of, collected, quiet, begins_nothing, landing_nothing, unlocks_nothing, onto_there, comes_nothing}
 
 -- ---- lifted
 
@@ -53,10 +55,13 @@ lifted_more setup c h (Gave giver tag poisoned request) past lawful =
     ∙ ap (λ l. answers_lifted setup.topology c h past ++ l) (sym (comes_nothing (lifted_piece c h) setup.topology (direction_from setup.topology (places.Host giver)) (request_packet request (tag_number tag) giver poisoned) (λ d x. refl)))
 lifted_more setup c h (Sent d what.New flit) past lawful =
     quiet (answers_lifted setup.topology c h past)
-    ∙ ap (λ l. answers_lifted setup.topology c h past ++ l) (sym (begins_nothing (lifted_piece c h) setup.topology past d (unsent d past) (λ x. refl)))
+    ∙ ap (λ l. answers_lifted setup.topology c h past ++ l) (sym (begins_nothing (lifted_piece c h) setup.topology past d (awaits_first d past) (unsent d past) (λ x. refl)))
 lifted_more setup c h (Landed d flit outcome) past lawful =
     quiet (answers_lifted setup.topology c h past)
-    ∙ ap (λ l. answers_lifted setup.topology c h past ++ l) (sym (lands_nothing (lifted_piece c h) setup.topology d (landed_packets setup.topology d flit outcome past) (λ x. refl)))
+    ∙ ap (λ l. answers_lifted setup.topology c h past ++ l) (sym (landing_nothing (lifted_piece c h) setup.topology past (Landed d flit outcome ∷ past) d outcome (passed_onto setup.topology d past) (landed_packets setup.topology d flit outcome past) (λ to is. record { past_output = λ n x. refl; buffer = λ x. refl; line = λ x. refl }) (λ x. refl)))
+lifted_more setup c h (Unlocked d) past lawful =
+    quiet (answers_lifted setup.topology c h past)
+    ∙ ap (λ l. answers_lifted setup.topology c h past ++ l) (sym (unlocks_nothing (lifted_piece c h) setup.topology (Unlocked d ∷ past) (onto_there setup.topology d past) (λ to x. refl)))
 lifted_more setup c h (Sent d what.Tret flit) past lawful = quiet (answers_lifted setup.topology c h past)
 lifted_more setup c h _ past lawful = quiet (answers_lifted setup.topology c h past)
 
@@ -84,6 +89,21 @@ taken_said topology c host h true packet tag answer list is own clean found same
     ∙ sym (append-nil (if (packet.cube == c) && (packet.slid == h) then tagged_answer packet (answer_in packet) else []))
     ∙ sym (answers_seen topology c h (packet ∷ [])))
 
+-- a poisoned answer isn't one
+answers_not : (topology : Topology) (c h : ℕ) (packet : PacketFields) → packet.poisoned ≡ true → answers_to c h (packet ∷ []) ≡ []
+unfolding answers_to
+answers_not topology c h packet poisoned = by_test ((packet.cube == c) && (packet.slid == h)) (answer_in packet)
+  where
+    by_test : (here : Bool) (found : Option Answer) → (if here then tagged_answer packet found else []) ++ [] ≡ []
+    by_test false found = refl
+    by_test true None = refl
+    by_test true (Some answer) = ap (λ (b : Bool). (if b then [] else record { tag = packet.tag; answer = answer } ∷ []) ++ []) poisoned
+
+spoiled_not : (topology : Topology) (c h : ℕ) (here : Bool) (packet : PacketFields) → packet.poisoned ≡ true → pick (hop_answers_to c h) (hop_if here (seen topology packet)) ≡ []
+unfolding pick
+spoiled_not topology c h false packet poisoned = refl
+spoiled_not topology c h true packet poisoned = answers_seen topology c h (packet ∷ []) ∙ answers_not topology c h packet poisoned
+
 abbrev taken_piece : Map → (c h : ℕ) → Move → List TaggedAnswer
 taken_piece m c h move = pick (hop_answers_to c h) (taken_packets m h move)
 
@@ -97,11 +117,17 @@ taken_more setup m c h network map_of (Took host tag answer) past lawful =
     let came = front_stands setup past (queues.Host host) (kept setup past network (lawful_past setup (Took host tag answer) past lawful)) right.at in
     let ends = buffer_end t m (places.Host host) map_of (wired setup network) (at_end t (places.Host host) right.at.front came) in
     ap (λ (p : PacketFields). append_if ((host == h) && (p.cube == c)) (record { tag = tag; answer = answer } ∷ []) list) (front_is setup past (queues.Host host) right.at)
-    ∙ taken_said t c host h (host == h) right.at.front tag answer list refl came.goes.slid right.unpoisoned right.is_answer right.is_tag
+    ∙ taken_said t c host h (host == h) right.at.front tag answer list refl (takes_answer t host right.at.front right.unpoisoned came.goes).slid right.unpoisoned right.is_answer right.is_tag
     ∙ ap₂ (λ e (p : PacketFields). list ++ (pick (hop_answers_to c h) (hop_if (is_host e h) (seen t p)))) (sym ends) (sym (front_is setup past (queues.Host host) right.at))
 taken_more setup m c h network map_of (Discarded host) past lawful =
     let right = entry_rule setup (Discarded host) past lawful in
-    absurd (none_discarded setup past host right (front_stands setup past (queues.Host host) (kept setup past network (lawful_past setup (Discarded host) past lawful)) right.at).goes)
+    let t = setup.topology in
+    let came = front_stands setup past (queues.Host host) (kept setup past network (lawful_past setup (Discarded host) past lawful)) right.at in
+    let d = arriving t (places.Host host) in
+    quiet (answers_taken t c h past)
+    ∙ ap (λ l. answers_taken t c h past ++ l)
+    (sym (ap (λ (p : PacketFields). pick (hop_answers_to c h) (hop_if (is_host (m.end_of d) h) (seen t p))) (front_is setup past (queues.Host host) right.at)
+    ∙ spoiled_not t c h (is_host (m.end_of d) h) right.at.front (discards_poison setup past host right came.goes)))
 taken_more setup m c h network map_of (Shifted cube port goal) past lawful =
     let t = setup.topology in
     let right = entry_rule setup (Shifted cube port goal) past lawful in
@@ -121,10 +147,16 @@ taken_more setup m c h network map_of (Gave giver tag poisoned request) past law
     ∙ ap (λ l. answers_taken setup.topology c h past ++ l) (sym (comes_nothing (taken_piece m c h) setup.topology (direction_from setup.topology (places.Host giver)) (request_packet request (tag_number tag) giver poisoned) (λ d x. refl)))
 taken_more setup m c h network map_of (Sent d what.New flit) past lawful =
     quiet (answers_taken setup.topology c h past)
-    ∙ ap (λ l. answers_taken setup.topology c h past ++ l) (sym (begins_nothing (taken_piece m c h) setup.topology past d (unsent d past) (λ x. refl)))
+    ∙ ap (λ l. answers_taken setup.topology c h past ++ l) (sym (begins_nothing (taken_piece m c h) setup.topology past d (awaits_first d past) (unsent d past) (λ x. refl)))
 taken_more setup m c h network map_of (Landed d flit outcome) past lawful =
+    let keeps = kept setup past network (lawful_past setup (Landed d flit outcome) past lawful) in
     quiet (answers_taken setup.topology c h past)
-    ∙ ap (λ l. answers_taken setup.topology c h past ++ l) (sym (lands_nothing (taken_piece m c h) setup.topology d (landed_packets setup.topology d flit outcome past) (λ x. refl)))
+    ∙ ap (λ l. answers_taken setup.topology c h past ++ l) (sym (landing_nothing (taken_piece m c h) setup.topology past (Landed d flit outcome ∷ past) d outcome (passed_onto setup.topology d past) (landed_packets setup.topology d flit outcome past) (λ to is.
+    let passed = is_passed setup past d to (wired setup network) keeps (landed-real setup past d flit outcome (entry_rule setup (Landed d flit outcome) past lawful) keeps) is in
+    record { past_output = λ n x. refl; buffer = λ x. ap (λ e. pick (hop_answers_to c h) (hop_if (is_host e h) x)) (passed_end setup.topology m past d to map_of passed); line = λ x. refl }) (λ x. refl)))
+taken_more setup m c h network map_of (Unlocked d) past lawful =
+    quiet (answers_taken setup.topology c h past)
+    ∙ ap (λ l. answers_taken setup.topology c h past ++ l) (sym (unlocks_nothing (taken_piece m c h) setup.topology (Unlocked d ∷ past) (onto_there setup.topology d past) (λ to x. refl)))
 taken_more setup m c h network map_of (Sent d what.Tret flit) past lawful = quiet (answers_taken setup.topology c h past)
 taken_more setup m c h network map_of _ past lawful = quiet (answers_taken setup.topology c h past)
 

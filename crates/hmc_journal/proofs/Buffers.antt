@@ -1,7 +1,6 @@
 -- What an entry changes of the buffers at the ends of directions.
-use Rattle.std.proofs.Common.{◌≡◌, ◌≤◌, ◌+◌, ◌∙◌, ◌==◌, ℕ, Bool, true, false, Option, Some, None, List, [], ◌∷◌, ◌++◌, length, refl, sym, ap, ap₂, arith, append-nil, zero-add, eq-eqb}
+use Rattle.std.proofs.Common.{◌≡◌, ◌≤◌, ◌+◌, ◌∙◌, ◌==◌, ℕ, Bool, true, false, Option, Some, None, List, [], ◌∷◌, ◌++◌, length, refl, ap, arith, append-nil, zero-add, eq-eqb}
 use Rattle.std.specs.Prelude.{option_map, filter}
-use Rattle.std.proofs.lemmas.List.Elements.{filter-append}
 use Rattle.hmc_codes.specs.Commands.{is_posted}
 use Rattle.hmc_codes.specs.declared.unit.Unit.{Unit as RequestUnit}
 use Rattle.hmc_codes.specs.declared.unit.Unit.TheVariants as units
@@ -22,9 +21,10 @@ use Rattle.hmc_journal.specs.declared.outcome.Goal.TheVariants as goals
 use Rattle.hmc_journal.specs.declared.entry.Entry.{Entry}
 use Rattle.hmc_journal.specs.declared.entry.Entry.TheVariants.{Gave, Sent, Landed, Shifted, Dropped, Spread, Executed, Lifted, Took, Discarded, Through, Unlocked, Retired, Passed, Idle}
 use Rattle.hmc_journal.specs.Setup.{Topology}
-use Rattle.hmc_journal.specs.Directions.{unsent, receiver_of, profile_of, landed_packets, accepted}
-use Rattle.hmc_journal.specs.Queues.{QueueId, same_queue, leaves, one_if, packet_if, arrival_in, arrival_of, arrived, goal_queue, queue_of, answers_of, unless_posted, landing_buffer, enters, left, entered}
+use Rattle.hmc_journal.specs.Directions.{unsent, awaits_first, receiver_of, profile_of, landed_packets, accepted}
+use Rattle.hmc_journal.specs.Queues.{QueueId, same_queue, leaves, one_if, packet_if, arrival_in, arrival_of, arrived, goal_queue, queue_of, answers_of, unless_posted, landing_buffer, unless_gone, enters, left, entered}
 use Rattle.hmc_journal.specs.Queues.QueueId.{Output, Port, Host, Vault, Bank, Registers, Answers}
+use Rattle.hmc_journal.specs.Piped.{passed_onto, goes_on}
 use Rattle.hmc_journal.proofs.Moves.{begins_off}
 
 -- the buffer of a port or of a host
@@ -153,30 +153,42 @@ tokens-few (p ∷ q ∷ packets) few = absurd (omega arith)
 abbrev pub tokens_landed : Topology → (direction : ℕ) → (flit : List ℕ) → Outcome → List Entry → List PacketFields
 tokens_landed topology d flit outcome past = filter is_token (landed_packets topology d flit outcome past)
 
--- a landing on this direction puts what it accepts into the buffer, except a TRET
-pub landed-here : (topology : Topology) (d : ℕ) (flit : List ℕ) (outcome : Outcome) (past : List Entry) → same_queue (landing_buffer topology d) (landing_buffer topology d) ≡ true
-    → entered topology past (landing_buffer topology d) ≡ filter is_token (accepted topology d past)
-    → entered topology (Landed d flit outcome ∷ past) (landing_buffer topology d) ≡ filter is_token (accepted topology d (Landed d flit outcome ∷ past))
-unfolding entered enters accepted receiver_of landed_packets landings.accepted
-landed-here topology d flit outcome past same is =
+-- what a landing puts into the buffer: all of them, unless they go on at once
+abbrev pub coming : Topology → (direction : ℕ) → (flit : List ℕ) → Outcome → List Entry → List PacketFields
+coming topology d flit outcome past = unless_gone (goes_on outcome (passed_onto topology d past)) (tokens_landed topology d flit outcome past)
+
+few_coming : (gone : Bool) (packets : List PacketFields) → length packets ≤ 1 → length (unless_gone gone packets) ≤ 1
+few_coming true packets few = omega arith
+few_coming false packets few = few
+
+-- a landing on this direction
+pub landed-enters : (topology : Topology) (d : ℕ) (flit : List ℕ) (outcome : Outcome) (past : List Entry) → same_queue (landing_buffer topology d) (landing_buffer topology d) ≡ true
+    → entered topology (Landed d flit outcome ∷ past) (landing_buffer topology d) ≡ entered topology past (landing_buffer topology d) ++ coming topology d flit outcome past
+unfolding entered enters
+landed-enters topology d flit outcome past same =
+    ap (λ l. entered topology past (landing_buffer topology d) ++ l)
+    (first-arrives (landing_buffer topology d) (coming topology d flit outcome past) same
+    (few_coming (goes_on outcome (passed_onto topology d past)) (tokens_landed topology d flit outcome past) (tokens-few (landed_packets topology d flit outcome past) (few_landed topology d flit outcome past))))
+
+pub accepted_more : (topology : Topology) (d : ℕ) (flit : List ℕ) (outcome : Outcome) (past : List Entry) → accepted topology d (Landed d flit outcome ∷ past) ≡ accepted topology d past ++ landed_packets topology d flit outcome past
+unfolding accepted receiver_of landed_packets landings.accepted
+accepted_more topology d flit outcome past =
     let here : (d == d) ≡ true = eq-eqb d d refl in
-    let packets = landed_packets topology d flit outcome past in
-    ap₂ (λ l m. l ++ m) is (first-arrives (landing_buffer topology d) (filter is_token packets) same (tokens-few packets (few_landed topology d flit outcome past)))
-    ∙ sym (filter-append is_token (accepted topology d past) packets)
-    ∙ ap (λ (b : Bool). filter is_token (landings.accepted (profile_of topology d) (put_if b (ReceiverEntry.Land flit outcome) (receiver_of d past)))) (sym here)
+    ap (λ (b : Bool). landings.accepted (profile_of topology d) (put_if b (ReceiverEntry.Land flit outcome) (receiver_of d past))) here
 
 -- and one on another direction changes nothing here
-pub landed-there : (topology : Topology) (d direction : ℕ) (flit : List ℕ) (outcome : Outcome) (past : List Entry) → (direction == d) ≡ false → same_queue (landing_buffer topology direction) (landing_buffer topology d) ≡ false
-    → entered topology past (landing_buffer topology d) ≡ filter is_token (accepted topology d past)
-    → entered topology (Landed direction flit outcome ∷ past) (landing_buffer topology d) ≡ filter is_token (accepted topology d (Landed direction flit outcome ∷ past))
-unfolding entered enters accepted receiver_of
-landed-there topology d direction flit outcome past off other is =
-    more-none _ _ (first-off (landing_buffer topology direction) (landing_buffer topology d) (filter is_token (landed_packets topology direction flit outcome past)) other) ∙ is
-    ∙ ap (λ (b : Bool). filter is_token (landings.accepted (profile_of topology d) (put_if b (ReceiverEntry.Land flit outcome) (receiver_of d past)))) (sym off)
+pub landed-off : (topology : Topology) (d direction : ℕ) (flit : List ℕ) (outcome : Outcome) (past : List Entry) → same_queue (landing_buffer topology direction) (landing_buffer topology d) ≡ false
+    → entered topology (Landed direction flit outcome ∷ past) (landing_buffer topology d) ≡ entered topology past (landing_buffer topology d)
+unfolding entered enters
+landed-off topology d direction flit outcome past other = more-none _ _ (first-off (landing_buffer topology direction) (landing_buffer topology d) (coming topology direction flit outcome past) other)
   where
     first-off : (queue here : QueueId) (packets : List PacketFields) → same_queue queue here ≡ false → arrived here (arrival_of queue packets) ≡ []
     first-off queue here [] quiet = refl
     first-off queue here (p ∷ packets) quiet = ap (λ (b : Bool). packet_if b (λ _. p)) quiet
+
+pub accepted_off : (topology : Topology) (d direction : ℕ) (flit : List ℕ) (outcome : Outcome) (past : List Entry) → (direction == d) ≡ false → accepted topology d (Landed direction flit outcome ∷ past) ≡ accepted topology d past
+unfolding accepted receiver_of
+accepted_off topology d direction flit outcome past off = ap (λ (b : Bool). landings.accepted (profile_of topology d) (put_if b (ReceiverEntry.Land flit outcome) (receiver_of d past))) off
 
 -- ---- what leaves
 
@@ -202,7 +214,7 @@ none-left leaving n is = ap (λ (b : Bool). one_if b + n) is ∙ zero-add n
 
 left-port : (cube port : ℕ) (entry : Entry) (past : List Entry) → IsNoTaking entry → left (entry ∷ past) (Port cube port) ≡ left past (Port cube port)
 unfolding left leaves
-left-port c p (Sent direction New flit) past quiet = none-left _ _ (begins_off (unsent direction past) direction (Port c p) refl)
+left-port c p (Sent direction New flit) past quiet = none-left _ _ (begins_off (awaits_first direction past) (unsent direction past) direction (Port c p) refl)
 left-port c p (Executed unit host tag request answer) past quiet = none-left _ _ (in-cube-port c p unit)
 left-port c p (Shifted cube port goal) past quiet = absurd quiet
 left-port c p (Dropped cube port) past quiet = absurd quiet
@@ -212,7 +224,7 @@ left-port c p _ past quiet = zero-add _
 
 left-host : (host : ℕ) (entry : Entry) (past : List Entry) → IsNoTaking entry → left (entry ∷ past) (Host host) ≡ left past (Host host)
 unfolding left leaves
-left-host h (Sent direction New flit) past quiet = none-left _ _ (begins_off (unsent direction past) direction (Host h) refl)
+left-host h (Sent direction New flit) past quiet = none-left _ _ (begins_off (awaits_first direction past) (unsent direction past) direction (Host h) refl)
 left-host h (Executed unit host tag request answer) past quiet = none-left _ _ (in-cube-host h unit)
 left-host h (Shifted cube port goal) past quiet = absurd quiet
 left-host h (Dropped cube port) past quiet = absurd quiet

@@ -1,7 +1,7 @@
 -- What packets accepted on a direction carried is what left its line, by the moves.
 use Rattle.std.proofs.Common.{◌≡◌, ◌≤◌, ◌∙◌, ◌==◌, ℕ, Bool, true, false, List, [], ◌∷◌, ◌++◌, map, length, refl, sym, ap, arith, append-nil, eqb-true}
 use Rattle.hmc_codes.specs.declared.place.Place.TheVariants as places
-use Rattle.hmc_packet.specs.Packet.{PacketFields}
+use Rattle.hmc_packet.specs.Packet.{PacketFields, null_packet}
 use Rattle.hmc_packet.specs.Transactions.{request_packet}
 use Rattle.hmc_packet.specs.Landings as landings
 use Rattle.hmc_packet.specs.declared.outcome.Outcome.{Outcome}
@@ -12,18 +12,19 @@ use Rattle.hmc_hops.specs.Moves.{packet_if as hop_if, leaves as hop_leaves}
 use Rattle.hmc_hops.specs.Queues.{QueueId as hops}
 use Rattle.hmc_journal.specs.declared.entry.Entry.{Entry}
 use Rattle.hmc_journal.specs.declared.entry.Entry.TheVariants.{Gave, Sent, Landed, Shifted, Dropped, Spread, Executed, Lifted, Took, Discarded, Through, Unlocked, Retired, Passed, Idle}
-use Rattle.hmc_journal.specs.Directions.{unsent, receiver_of, landed_packets, accepted}
+use Rattle.hmc_journal.specs.Directions.{unsent, awaits_first, receiver_of, landed_packets, accepted}
+use Rattle.hmc_journal.specs.Piped.{passed_onto}
 use Rattle.hmc_journal.specs.Lawful.{Lawful}
 use Rattle.hmc_journal.specs.Queues.{tag_number}
 use Rattle.hmc_journal.specs.Setup.{Topology, Setup, direction_from}
-use Rattle.hmc_journal.proofs.Buffers.{IsNoLanding, accepted-same, few_landed}
-use Rattle.hmc_journal.proofs.Collecting.{piece_of, collected, quiet, begins_nothing, comes_nothing}
-use Rattle.hmc_journal.proofs.Seen.{seen, lands, moves_of, moves}
-use Rattle.hmc_journal.proofs.Underway.{accepted-here, accepted-there}
+use Rattle.hmc_journal.proofs.Buffers.{IsNoLanding, accepted-same, few_landed, accepted_more, accepted_off}
+use Rattle.hmc_journal.proofs.Collecting.{piece_of, collected, quiet, begins_nothing, passes_nothing, unlocks_nothing, onto_there, comes_nothing}
+use Rattle.hmc_journal.proofs.Seen.{seen, comes_from, begins_move, lands, moves_of, moves}
 
 -- what is read off packets, and off those that are seen
 pub record IsRead {X : Type 0} (topology : Topology) (f : Flow X) (said : List PacketFields → List X) : Type 0 where
   pub none : said [] ≡ []
+  pub null : said (null_packet ∷ []) ≡ []
   pub append : (xs ys : List PacketFields) → said (xs ++ ys) ≡ said xs ++ said ys
   pub seen_as : (packets : List PacketFields) → (pick f (map (seen topology) packets)) ≡ said packets
 
@@ -39,17 +40,17 @@ landed_on : {X : Type 0} (topology : Topology) (f : Flow X) (said : List PacketF
     → landed_packets topology e flit outcome past ≡ landed → length landed ≤ 1 → (e == d) ≡ same
     → said (accepted topology d (Landed e flit outcome ∷ past)) ≡ said (accepted topology d past) ++ (piece_of (off_line f d) (lands topology e landed))
 unfolding pick
-landed_on topology f said d e flit outcome past [] false reads is few at = ap said (accepted-there topology d e flit outcome past at) ∙ quiet (said (accepted topology d past))
+landed_on topology f said d e flit outcome past [] false reads is few at = ap said (accepted_off topology d e flit outcome past at) ∙ quiet (said (accepted topology d past))
 landed_on topology f said d e flit outcome past [] true reads is few at =
     let same : e ≡ d = eqb-true e d at in
-    ap said (ap (λ (n : ℕ). accepted topology d (Landed n flit outcome ∷ past)) same ∙ accepted-here topology d flit outcome past ∙ ap (λ (n : ℕ). accepted topology d past ++ landed_packets topology n flit outcome past) (sym same)
+    ap said (ap (λ (n : ℕ). accepted topology d (Landed n flit outcome ∷ past)) same ∙ accepted_more topology d flit outcome past ∙ ap (λ (n : ℕ). accepted topology d past ++ landed_packets topology n flit outcome past) (sym same)
     ∙ ap (λ l. accepted topology d past ++ l) is ∙ append-nil (accepted topology d past)) ∙ quiet (said (accepted topology d past))
 landed_on topology f said d e flit outcome past (p ∷ []) false reads is few at =
-    ap said (accepted-there topology d e flit outcome past at) ∙ quiet (said (accepted topology d past))
+    ap said (accepted_off topology d e flit outcome past at) ∙ quiet (said (accepted topology d past))
     ∙ ap (λ (b : Bool). said (accepted topology d past) ++ (pick f (hop_if b (seen topology p)))) (sym at)
 landed_on topology f said d e flit outcome past (p ∷ []) true reads is few at =
     let same : e ≡ d = eqb-true e d at in
-    ap said (ap (λ (n : ℕ). accepted topology d (Landed n flit outcome ∷ past)) same ∙ accepted-here topology d flit outcome past ∙ ap (λ (n : ℕ). accepted topology d past ++ landed_packets topology n flit outcome past) (sym same)
+    ap said (ap (λ (n : ℕ). accepted topology d (Landed n flit outcome ∷ past)) same ∙ accepted_more topology d flit outcome past ∙ ap (λ (n : ℕ). accepted topology d past ++ landed_packets topology n flit outcome past) (sym same)
     ∙ ap (λ l. accepted topology d past ++ l) is)
     ∙ reads.append (accepted topology d past) (p ∷ []) ∙ ap (λ l. said (accepted topology d past) ++ l) (sym (reads.seen_as (p ∷ [])))
     ∙ ap (λ (b : Bool). said (accepted topology d past) ++ (pick f (hop_if b (seen topology p)))) (sym at)
@@ -59,11 +60,15 @@ carried_more : {X : Type 0} (setup : Setup) (f : Flow X) (said : List PacketFiel
     → said (accepted setup.topology d (entry ∷ past)) ≡ said (accepted setup.topology d past) ++ (piece_of (off_line f d) (moves_of setup.topology past entry))
 unfolding moves_of pick
 carried_more setup f said d reads (Landed e flit outcome) past lawful =
-    landed_on setup.topology f said d e flit outcome past (landed_packets setup.topology e flit outcome past) (e == d) reads refl (few_landed setup.topology e flit outcome past) refl
+    let t = setup.topology in
+    let landed = landed_packets t e flit outcome past in
+    landed_on t f said d e flit outcome past landed (e == d) reads refl (few_landed t e flit outcome past) refl
+    ∙ ap (λ l. said (accepted t d past) ++ l)
+    (sym (passes_nothing (off_line f d) t past (Landed e flit outcome ∷ past) e outcome (passed_onto t e past) landed (lands t e landed) (λ to is. record { past_output = λ n x. refl; buffer = λ x. refl; line = λ x. refl })))
 carried_more setup f said d reads (Gave giver tag poisoned request) past lawful =
-    quiet_entry setup.topology f said d (Gave giver tag poisoned request) past _ tt
+    quiet_entry setup.topology f said d (Gave giver tag poisoned request) past (comes_from setup.topology (direction_from setup.topology (places.Host giver)) (request_packet request (tag_number tag) giver poisoned)) tt
     (comes_nothing (off_line f d) setup.topology (direction_from setup.topology (places.Host giver)) (request_packet request (tag_number tag) giver poisoned) (λ n x. refl))
-carried_more setup f said d reads (Sent e what.New flit) past lawful = quiet_entry setup.topology f said d (Sent e what.New flit) past _ tt (begins_nothing (off_line f d) setup.topology past e (unsent e past) (λ x. refl))
+carried_more setup f said d reads (Sent e what.New flit) past lawful = quiet_entry setup.topology f said d (Sent e what.New flit) past (begins_move setup.topology past e (awaits_first e past) (unsent e past)) tt (begins_nothing (off_line f d) setup.topology past e (awaits_first e past) (unsent e past) (λ x. refl))
 carried_more setup f said d reads (Sent e what.Tret flit) past lawful = quiet_entry setup.topology f said d (Sent e what.Tret flit) past (moves_of setup.topology past (Sent e what.Tret flit)) tt refl
 carried_more setup f said d reads (Sent e what.Train flit) past lawful = quiet_entry setup.topology f said d (Sent e what.Train flit) past [] tt refl
 carried_more setup f said d reads (Sent e what.Clear flit) past lawful = quiet_entry setup.topology f said d (Sent e what.Clear flit) past [] tt refl
@@ -78,7 +83,8 @@ carried_more setup f said d reads (Executed unit giver tag request answer) past 
 carried_more setup f said d reads (Lifted cube from port) past lawful = quiet_entry setup.topology f said d (Lifted cube from port) past (moves_of setup.topology past (Lifted cube from port)) tt refl
 carried_more setup f said d reads (Took giver tag answer) past lawful = quiet_entry setup.topology f said d (Took giver tag answer) past (moves_of setup.topology past (Took giver tag answer)) tt refl
 carried_more setup f said d reads (Discarded giver) past lawful = quiet_entry setup.topology f said d (Discarded giver) past (moves_of setup.topology past (Discarded giver)) tt refl
-carried_more setup f said d reads (Unlocked e) past lawful = quiet_entry setup.topology f said d (Unlocked e) past [] tt refl
+carried_more setup f said d reads (Unlocked e) past lawful =
+    quiet_entry setup.topology f said d (Unlocked e) past (moves_of setup.topology past (Unlocked e)) tt (unlocks_nothing (off_line f d) setup.topology (Unlocked e ∷ past) (onto_there setup.topology e past) (λ to x. refl))
 carried_more setup f said d reads (Passed e flit) past lawful = quiet_entry setup.topology f said d (Passed e flit) past [] tt refl
 carried_more setup f said d reads (Through cube port direction) past lawful = quiet_entry setup.topology f said d (Through cube port direction) past [] tt refl
 carried_more setup f said d reads (Retired slot) past lawful = quiet_entry setup.topology f said d (Retired slot) past [] tt refl

@@ -1,5 +1,5 @@
 -- What a journal says was given, executed, carried, lifted and taken is what its moves say.
-use Rattle.std.proofs.Common.{◌≡◌, ◌≤◌, ◌∙◌, ◌==◌, ◌&&◌, ℕ, zero, suc, Bool, true, false, not, if◌then◌else◌, Option, Some, None, List, [], ◌∷◌, ◌++◌, length, refl, sym, ap, ap₂, subst, arith, append-nil}
+use Rattle.std.proofs.Common.{◌≡◌, ◌∙◌, ◌==◌, ◌&&◌, ℕ, zero, suc, Bool, true, false, not, if◌then◌else◌, Option, Some, None, List, [], ◌∷◌, ◌++◌, length, refl, sym, ap, ap₂, subst, append-nil, append_assoc, nat_lt}
 use Rattle.hmc_codes.specs.Commands.{is_posted}
 use Rattle.hmc_codes.specs.Request.{RequestFields, IsRequest}
 use Rattle.hmc_codes.specs.declared.place.Place.TheVariants as places
@@ -7,6 +7,8 @@ use Rattle.hmc_codes.specs.declared.unit.Unit.{Unit as RequestUnit}
 use Rattle.hmc_packet.specs.Packet.{PacketFields}
 use Rattle.hmc_packet.specs.Transactions.{request_packet}
 use Rattle.hmc_packet.proofs.TransactionLemmas.{request_in-request_packet}
+use Rattle.hmc_packet.specs.declared.outcome.Outcome.{Outcome}
+use Rattle.hmc_packet.specs.declared.outcome.Outcome.TheVariants as outcomes
 use Rattle.hmc_packet.specs.declared.what.What.TheVariants as what
 use Rattle.hmc_host.specs.Tags.{lowest_free}
 use Rattle.hmc_journal.specs.Hosts.{host_of}
@@ -20,31 +22,39 @@ use Rattle.hmc_journal.specs.Answers.{tag_of}
 use Rattle.hmc_journal.specs.Carried.{tagged_request, tagged_requests}
 use Rattle.hmc_journal.specs.Choice.{append_if}
 use Rattle.hmc_journal.specs.declared.entry.Entry.{Entry}
-use Rattle.hmc_journal.specs.declared.entry.Entry.TheVariants.{Gave, Sent, Landed}
-use Rattle.hmc_journal.specs.Directions.{unsent, landed_packets}
+use Rattle.hmc_journal.specs.declared.entry.Entry.TheVariants.{Gave, Sent, Landed, Unlocked}
+use Rattle.hmc_journal.specs.Directions.{unsent, awaits_first, landed_packets}
+use Rattle.hmc_journal.specs.Carried.{begun_on}
+use Rattle.hmc_journal.specs.Piped.{passed_onto}
 use Rattle.hmc_journal.specs.Filters.{TaggedRequest, same_unit, given_to}
 use Rattle.hmc_journal.specs.Lawful.{Lawful}
 use Rattle.hmc_journal.specs.Network.{IsNetwork}
-use Rattle.hmc_journal.specs.Queues.{tag_number}
-use Rattle.hmc_journal.specs.Setup.{Topology, Setup, unit_in, unit_cube}
+use Rattle.hmc_journal.specs.Queues.{tag_number, contents}
+use Rattle.hmc_journal.specs.Queues.{QueueId as queues}
+use Rattle.hmc_journal.specs.Setup.{Topology, Setup, directions_in, unit_in, unit_cube}
 use Rattle.hmc_journal.specs.StepView.{view_of}
 use Rattle.hmc_journal.proofs.EntryRule.{IsTagged, HasGiven, entry_rule, lawful_past}
 use Rattle.hmc_journal.proofs.Entering.{has_direction, own_item}
 use Rattle.hmc_journal.proofs.Flowing.{requests_seen}
-use Rattle.hmc_journal.proofs.MayMove.{few_moves}
-use Rattle.hmc_journal.proofs.Seen.{seen, spot_of, comes_from, begins_move, lands, moves_of, moves}
+use Rattle.hmc_journal.proofs.Seen.{seen, spot_of, comes_from, begins_move, lands, goes_past, last_packet, passes_on, if_there, unlocks, moves_of, moves}
 
--- ---- one entry adds what its move adds
+-- ---- one entry adds what its moves add
+
+-- where the packet goes that an unlock spoils
+abbrev pub onto_there : Topology → (direction : ℕ) → List Entry → Option ℕ
+onto_there topology d past = if_there (nat_lt d (directions_in topology)) (passed_onto topology d past)
 
 abbrev pub piece_of : {X : Type 0} → (Move → List X) → List Move → List X
 piece_of piece [] = []
-piece_of piece (move ∷ rest) = piece move
+piece_of piece (move ∷ []) = piece move
+piece_of piece (move ∷ next ∷ rest) = piece_of piece (next ∷ rest) ++ piece move
 
-pub joined_collect : {X : Type 0} (piece : Move → List X) (new moved : List Move) → length new ≤ 1 → collect piece (new ++ moved) ≡ collect piece moved ++ piece_of piece new
+pub joined_collect : {X : Type 0} (piece : Move → List X) (new moved : List Move) → collect piece (new ++ moved) ≡ collect piece moved ++ piece_of piece new
 unfolding collect
-joined_collect piece [] moved few = sym (append-nil (collect piece moved))
-joined_collect piece (move ∷ []) moved few = refl
-joined_collect piece (move ∷ next ∷ rest) moved few = absurd (omega arith)
+joined_collect piece [] moved = sym (append-nil (collect piece moved))
+joined_collect piece (move ∷ []) moved = refl
+joined_collect piece (move ∷ next ∷ rest) moved =
+    ap (λ l. l ++ piece move) (joined_collect piece (next ∷ rest) moved) ∙ append_assoc (collect piece moved) (piece_of piece (next ∷ rest)) (piece move)
 
 -- a filter of entries that says, entry by entry, what the moves say
 pub collected : {X : Type 0} (setup : Setup) (piece : Move → List X) (said : List Entry → List X) → said [] ≡ []
@@ -53,7 +63,7 @@ pub collected : {X : Type 0} (setup : Setup) (piece : Move → List X) (said : L
 unfolding moves collect
 collected setup piece said first more [] lawful = sym first
 collected setup piece said first more (entry ∷ past) lawful =
-    joined_collect piece (moves_of setup.topology past entry) (moves setup.topology past) (few_moves setup.topology past entry)
+    joined_collect piece (moves_of setup.topology past entry) (moves setup.topology past)
     ∙ ap (λ l. l ++ piece_of piece (moves_of setup.topology past entry)) (collected setup piece said first more past (lawful_past setup entry past lawful))
     ∙ sym (more entry past lawful)
 
@@ -65,13 +75,53 @@ pub quiet : {X : Type 0} (list : List X) → list ≡ list ++ []
 quiet list = sym (append-nil list)
 
 -- a move that adds nothing, whichever it is
-pub begins_nothing : {X : Type 0} (piece : Move → List X) (topology : Topology) (past : List Entry) (d n : ℕ) → ((x : Packet) → piece (Goes (hops.Output d) 0 x) ≡ []) → piece_of piece (begins_move topology past d n) ≡ []
-begins_nothing piece topology past d zero none = none _
-begins_nothing piece topology past d (suc n) none = refl
+pub begins_nothing : {X : Type 0} (piece : Move → List X) (topology : Topology) (past : List Entry) (d : ℕ) (waiting : Bool) (n : ℕ) → ((x : Packet) → piece (Goes (hops.Output d) 0 x) ≡ []) → piece_of piece (begins_move topology past d waiting n) ≡ []
+begins_nothing piece topology past d false zero none = none _
+begins_nothing piece topology past d false (suc n) none = refl
+begins_nothing piece topology past d true n none = refl
 
 pub lands_nothing : {X : Type 0} (piece : Move → List X) (topology : Topology) (d : ℕ) (packets : List PacketFields) → ((x : Packet) → piece (Goes (hops.Line d) 0 x) ≡ []) → piece_of piece (lands topology d packets) ≡ []
 lands_nothing piece topology d [] none = refl
 lands_nothing piece topology d (p ∷ packets) none = none _
+
+-- a landing that ends a gathering adds nothing more, where these moves add nothing
+pub record AddsNothing {X : Type 0} (piece : Move → List X) (d onto : ℕ) : Type 0 where
+  pub past_output : (n : ℕ) (x : Packet) → piece (Goes (hops.Output onto) n x) ≡ []
+  pub buffer : (x : Packet) → piece (Goes (hops.Buffer d) 0 x) ≡ []
+  pub line : (x : Packet) → piece (Comes (hops.Line onto) x) ≡ []
+
+before_nothing : {X : Type 0} (piece : Move → List X) (move : Move) (rest : List Move) → piece move ≡ [] → piece_of piece (move ∷ rest) ≡ piece_of piece rest
+before_nothing piece move [] none = none
+before_nothing piece move (next ∷ rest) none = ap (λ l. piece_of piece (next ∷ rest) ++ l) none ∙ append-nil (piece_of piece (next ∷ rest))
+
+past_nothing : {X : Type 0} (piece : Move → List X) (topology : Topology) (past : List Entry) (d onto : ℕ) (packets : List PacketFields) (rest : List Move) → AddsNothing piece d onto → piece_of piece (goes_past topology past d onto packets ++ rest) ≡ piece_of piece rest
+past_nothing piece topology past d onto [] rest none = refl
+past_nothing piece topology past d onto (p ∷ packets) rest none =
+    before_nothing piece (Goes (hops.Output onto) (length (contents topology past (queues.Output onto))) (seen topology p)) (Goes (hops.Buffer d) 0 (seen topology p) ∷ rest) (none.past_output _ _)
+    ∙ before_nothing piece (Goes (hops.Buffer d) 0 (seen topology p)) rest (none.buffer _)
+
+pub passes_nothing : {X : Type 0} (piece : Move → List X) (topology : Topology) (past journal : List Entry) (d : ℕ) (outcome : Outcome) (onto : Option ℕ) (packets : List PacketFields) (rest : List Move) → ((to : ℕ) → onto ≡ Some to → AddsNothing piece d to)
+    → piece_of piece (passes_on topology past journal d outcome onto packets ++ rest) ≡ piece_of piece rest
+passes_nothing piece topology past journal d outcome None packets rest none = refl
+passes_nothing piece topology past journal d outcomes.Gathered (Some onto) packets rest none = refl
+passes_nothing piece topology past journal d outcomes.Accepted (Some onto) packets rest none = past_nothing piece topology past d onto packets rest (none onto refl)
+passes_nothing piece topology past journal d outcomes.Quiet (Some onto) packets rest none = before_nothing piece (Comes (hops.Line onto) (seen topology (last_packet (begun_on topology onto journal)))) rest ((none onto refl).line _)
+passes_nothing piece topology past journal d outcomes.Trained (Some onto) packets rest none = before_nothing piece (Comes (hops.Line onto) (seen topology (last_packet (begun_on topology onto journal)))) rest ((none onto refl).line _)
+passes_nothing piece topology past journal d outcomes.Poisoned (Some onto) packets rest none = before_nothing piece (Comes (hops.Line onto) (seen topology (last_packet (begun_on topology onto journal)))) rest ((none onto refl).line _)
+passes_nothing piece topology past journal d outcomes.Repeat (Some onto) packets rest none = before_nothing piece (Comes (hops.Line onto) (seen topology (last_packet (begun_on topology onto journal)))) rest ((none onto refl).line _)
+passes_nothing piece topology past journal d (outcomes.AbortedBad bad) (Some onto) packets rest none = before_nothing piece (Comes (hops.Line onto) (seen topology (last_packet (begun_on topology onto journal)))) rest ((none onto refl).line _)
+passes_nothing piece topology past journal d outcomes.AbortedOrder (Some onto) packets rest none = before_nothing piece (Comes (hops.Line onto) (seen topology (last_packet (begun_on topology onto journal)))) rest ((none onto refl).line _)
+passes_nothing piece topology past journal d (outcomes.Ran kind) (Some onto) packets rest none = before_nothing piece (Comes (hops.Line onto) (seen topology (last_packet (begun_on topology onto journal)))) rest ((none onto refl).line _)
+
+-- so a landing adds nothing where a packet that leaves the line adds nothing
+pub landing_nothing : {X : Type 0} (piece : Move → List X) (topology : Topology) (past journal : List Entry) (d : ℕ) (outcome : Outcome) (onto : Option ℕ) (packets : List PacketFields) → ((to : ℕ) → onto ≡ Some to → AddsNothing piece d to) → ((x : Packet) → piece (Goes (hops.Line d) 0 x) ≡ [])
+    → piece_of piece (passes_on topology past journal d outcome onto packets ++ lands topology d packets) ≡ []
+landing_nothing piece topology past journal d outcome onto packets none line =
+    passes_nothing piece topology past journal d outcome onto packets (lands topology d packets) none ∙ lands_nothing piece topology d packets line
+
+pub unlocks_nothing : {X : Type 0} (piece : Move → List X) (topology : Topology) (journal : List Entry) (onto : Option ℕ) → ((to : ℕ) (x : Packet) → piece (Comes (hops.Line to) x) ≡ []) → piece_of piece (unlocks topology journal onto) ≡ []
+unlocks_nothing piece topology journal None none = refl
+unlocks_nothing piece topology journal (Some onto) none = none onto _
 
 pub comes_nothing : {X : Type 0} (piece : Move → List X) (topology : Topology) (found : Option ℕ) (packet : PacketFields) → ((d : ℕ) (x : Packet) → piece (Comes (hops.Output d) x) ≡ []) → piece_of piece (comes_from topology found packet) ≡ []
 comes_nothing piece topology None packet none = refl
@@ -124,10 +174,13 @@ given_more setup host unit network (Gave giver tag poisoned request) past lawful
     ∙ ap (λ l. given_to t host unit past ++ l) (sym (ap (λ (o : Option ℕ). piece_of piece (comes_from t o packet)) to.1 ∙ gave_said setup past host unit giver tag poisoned request network right))
 given_more setup host unit network (Sent d what.New flit) past lawful =
     quiet (given_to setup.topology host unit past)
-    ∙ ap (λ l. given_to setup.topology host unit past ++ l) (sym (begins_nothing (λ move. pick (requests_to host (unit_cube unit) (spot_of unit)) (given_packets move)) setup.topology past d (unsent d past) (λ x. refl)))
+    ∙ ap (λ l. given_to setup.topology host unit past ++ l) (sym (begins_nothing (λ move. pick (requests_to host (unit_cube unit) (spot_of unit)) (given_packets move)) setup.topology past d (awaits_first d past) (unsent d past) (λ x. refl)))
 given_more setup host unit network (Landed d flit outcome) past lawful =
     quiet (given_to setup.topology host unit past)
-    ∙ ap (λ l. given_to setup.topology host unit past ++ l) (sym (lands_nothing (λ move. pick (requests_to host (unit_cube unit) (spot_of unit)) (given_packets move)) setup.topology d (landed_packets setup.topology d flit outcome past) (λ x. refl)))
+    ∙ ap (λ l. given_to setup.topology host unit past ++ l) (sym (landing_nothing (λ move. pick (requests_to host (unit_cube unit) (spot_of unit)) (given_packets move)) setup.topology past (Landed d flit outcome ∷ past) d outcome (passed_onto setup.topology d past) (landed_packets setup.topology d flit outcome past) (λ to is. record { past_output = λ n x. refl; buffer = λ x. refl; line = λ x. refl }) (λ x. refl)))
+given_more setup host unit network (Unlocked d) past lawful =
+    quiet (given_to setup.topology host unit past)
+    ∙ ap (λ l. given_to setup.topology host unit past ++ l) (sym (unlocks_nothing (λ move. pick (requests_to host (unit_cube unit) (spot_of unit)) (given_packets move)) setup.topology (Unlocked d ∷ past) (onto_there setup.topology d past) (λ to x. refl)))
 given_more setup host unit network (Sent d what.Tret flit) past lawful = quiet (given_to setup.topology host unit past)
 given_more setup host unit network _ past lawful = quiet (given_to setup.topology host unit past)
 

@@ -35,7 +35,7 @@ use Rattle.hmc_journal.proofs.Moves.{same_queue_is, arrives}
 use Rattle.hmc_journal.proofs.Standing.{Stands, IsBound, IsLeaving}
 use Rattle.hmc_journal.proofs.Entering.{Kept, contents_stand, front_stands}
 use Rattle.hmc_journal.specs.Network.{IsNetwork}
-use Rattle.hmc_journal.proofs.Buffers.{tokens_landed}
+use Rattle.hmc_journal.proofs.Buffers.{coming}
 use Rattle.hmc_journal.proofs.Sound.{kept, far_sizes}
 use Rattle.hmc_journal.proofs.LinkLaws.{tokens_hold}
 
@@ -134,7 +134,7 @@ entering_there : (setup : Setup) (entry : Entry) (past : List Entry) (cube vault
     → VaultThere setup.topology cube vault
 unfolding enters
 entering_there setup (Gave host tag poisoned request) past cube vault right kept is = absurd (not_output (direction_from setup.topology (places.Host host)) (Answers cube (lifts.Vault vault)) cube vault refl (sym (queue_is _ _) ∙ is))
-entering_there setup (Landed direction flit outcome) past cube vault right kept is = absurd (not_landed (end_of setup.topology direction) (tokens_landed setup.topology direction flit outcome past) cube vault is)
+entering_there setup (Landed direction flit outcome) past cube vault right kept is = absurd (not_landed (end_of setup.topology direction) (coming setup.topology direction flit outcome past) cube vault is)
 entering_there setup (Shifted here port goal) past cube vault right kept is = absurd (not_goal setup.topology here goal cube vault (sym (queue_is _ _) ∙ is))
 entering_there setup (Spread here v bank) past cube vault right kept is = cc
 entering_there setup (Executed unit host tag request answer) past cube vault right kept is =

@@ -1,10 +1,11 @@
 -- Where a journal is drained its moves are: the queues of the moves are empty, and their lines have
 -- at most TRETs.
-use Rattle.std.proofs.Common.{◌≡◌, ◌≤◌, ◌<◌, ◌/◌, ◌∙◌, ℕ, zero, suc, Bool, true, false, if◌then◌else◌, Option, Some, None, List, [], ◌∷◌, ◌++◌, map, length, drop, filter, refl, sym, ap, ap₂, subst, arith, nat_le, leb-true, leb-false, ne_eqb}
-use Rattle.std.proofs.lemmas.List.{drop_at}
+use Rattle.std.proofs.Common.{◌≡◌, ◌≤◌, ◌<◌, ◌/◌, ◌∙◌, ℕ, zero, suc, Bool, true, false, if◌then◌else◌, Option, Some, None, List, [], ◌∷◌, ◌++◌, map, filter, refl, sym, ap, ap₂, subst, arith, nat_lt, nat_le, leb-true, leb-false, ne_eqb}
 use Rattle.hmc_codes.specs.declared.place.Place.TheVariants as places
 use Rattle.hmc_packet.specs.Packet.{PacketFields}
 use Rattle.hmc_packet.specs.Transactions.{request_packet}
+use Rattle.hmc_packet.specs.declared.outcome.Outcome.{Outcome}
+use Rattle.hmc_packet.specs.declared.outcome.Outcome.TheVariants as outcomes
 use Rattle.hmc_packet.specs.declared.what.What.TheVariants as what
 use Rattle.hmc_send.specs.Places.{is_token}
 use Rattle.hmc_hops.specs.Packets.{Packet, Kind, Spot, reply_to, is_token as is_hop_token}
@@ -17,29 +18,27 @@ use Rattle.hmc_hops.specs.Queues.{QueueId as hops}
 use Rattle.hmc_hops.specs.Moves.{Move, enters, remaining, without, without_if, packet_if, answer_queue, contents as hop_contents}
 use Rattle.hmc_hops.specs.Moves.Move.{Rests, Comes, Goes, Executes}
 use Rattle.hmc_hops.specs.Delivered.{IsNoLine, NoTokens, IsDrained as MovesDrained}
-use Rattle.hmc_journal.specs.Carried.{underway_on}
+use Rattle.hmc_journal.specs.Piped.{passed_onto}
 use Rattle.hmc_journal.specs.Counts.{token_counts}
 use Rattle.hmc_journal.specs.declared.entry.Entry.{Entry}
-use Rattle.hmc_journal.specs.declared.entry.Entry.TheVariants.{Gave, Sent, Landed, Shifted, Dropped, Spread, Executed, Lifted, Took, Discarded}
-use Rattle.hmc_journal.specs.Directions.{unsent, landed_packets, accepted}
+use Rattle.hmc_journal.specs.declared.entry.Entry.TheVariants.{Gave, Sent, Landed, Shifted, Dropped, Spread, Executed, Lifted, Took, Discarded, Unlocked}
+use Rattle.hmc_journal.specs.Directions.{unsent, awaits_first, landed_packets}
 use Rattle.hmc_journal.specs.Drained.{IsDrained}
 use Rattle.hmc_journal.specs.Lawful.{Lawful}
-use Rattle.hmc_journal.specs.Links.{toward, entries_on, sizes_on}
 use Rattle.hmc_journal.specs.Network.{IsNetwork}
 use Rattle.hmc_journal.specs.Queues.{QueueId, landing_buffer, tag_number}
 use Rattle.hmc_journal.specs.Queues.{QueueId as queues}
 use Rattle.hmc_journal.specs.Setup.{Topology, Setup, directions_in, end_of, direction_from}
-use Rattle.hmc_journal.proofs.AcceptedTokens.{are_first}
 use Rattle.hmc_journal.proofs.Agreeing.{IsReal, Agrees}
 use Rattle.hmc_journal.proofs.Awaited.{routes_of, maps_routes}
-use Rattle.hmc_journal.proofs.Entering.{Kept, landed-real, accepted_are}
+use Rattle.hmc_journal.proofs.Entering.{Kept, landed-real}
 use Rattle.hmc_journal.proofs.EntryRule.{EntryRule, entry_rule, lawful_past}
-use Rattle.hmc_journal.proofs.Hopped.{agrees, buffer_hop, buffer_real, token_seen}
-use Rattle.hmc_journal.proofs.MayMove.{few_moves}
-use Rattle.hmc_journal.proofs.Projections.{are_direct}
-use Rattle.hmc_journal.proofs.Seen.{seen, hop_queue, comes_from, begins_move, lands, moves_of, moves}
+use Rattle.hmc_journal.proofs.Hopped.{agrees}
+use Rattle.hmc_journal.proofs.LandingMoves.{buffer_hop, buffer_real, token_seen}
+use Rattle.hmc_journal.proofs.Seen.{seen, hop_queue, comes_from, begins_move, lands, passes_on, if_there, unlocks, moves_of, moves}
 use Rattle.hmc_journal.proofs.Sound.{kept}
 use Rattle.hmc_journal.proofs.Transit.{none_in_transit}
+use Rattle.hmc_journal.proofs.Underway.{line_on}
 use Rattle.hmc_journal.proofs.Wired.{wired}
 
 -- ---- the buffer of a direction that isn't there holds nothing
@@ -52,7 +51,11 @@ IsNear n _ = Unit {0}
 
 abbrev AreNear : (directions : ℕ) → List Move → Type 0
 AreNear n [] = Unit {0}
-AreNear n (move ∷ rest) = IsNear n move
+AreNear n (move ∷ rest) = IsNear n move × AreNear n rest
+
+near-append : (n : ℕ) (new more : List Move) → AreNear n new → AreNear n more → AreNear n (new ++ more)
+near-append n [] more near rest = rest
+near-append n (move ∷ new) more near rest = (near.0, near-append n new more near.1 rest)
 
 no_reply_there : (kind : Kind) (c : ℕ) (s : Spot) (d : ℕ) → is_at (answer_queue kind c s) (hops.Buffer d) ≡ false
 no_reply_there kinds.Asks c s d = refl
@@ -114,38 +117,61 @@ leaves_none (Comes into x) queue = refl
 leaves_none (Goes from k x) queue = without_none _ k
 leaves_none (Executes c s k x answer) queue = without_none _ k
 
-joined_none : (m : Map) (n d : ℕ) (new moved : List Move) → length new ≤ 1 → n ≤ d → AreNear n new → hop_contents m moved (hops.Buffer d) ≡ [] → hop_contents m (new ++ moved) (hops.Buffer d) ≡ []
+joined_none : (m : Map) (n d : ℕ) (new moved : List Move) → n ≤ d → AreNear n new → hop_contents m moved (hops.Buffer d) ≡ [] → hop_contents m (new ++ moved) (hops.Buffer d) ≡ []
 unfolding hop_contents
-joined_none m n d [] moved few far near none = none
-joined_none m n d (move ∷ []) moved few far near none =
-    ap₂ (λ (a b : List Packet). a ++ b) (ap (remaining move (hops.Buffer d)) none ∙ leaves_none move (hops.Buffer d)) (enters_not m move n d far near)
-joined_none m n d (move ∷ next ∷ rest) moved few far near none = absurd (omega arith)
+joined_none m n d [] moved far near none = none
+joined_none m n d (move ∷ rest) moved far near none =
+    ap₂ (λ (a b : List Packet). a ++ b) (ap (remaining move (hops.Buffer d)) (joined_none m n d rest moved far near.1 none) ∙ leaves_none move (hops.Buffer d)) (enters_not m move n d far near.0)
 
-near_begins : (topology : Topology) (past : List Entry) (d u n : ℕ) → AreNear n (begins_move topology past d u)
-near_begins topology past d zero n = tt
-near_begins topology past d (suc u) n = tt
+near_begins : (topology : Topology) (past : List Entry) (d : ℕ) (waiting : Bool) (u n : ℕ) → AreNear n (begins_move topology past d waiting u)
+near_begins topology past d false zero n = (tt, tt)
+near_begins topology past d false (suc u) n = tt
+near_begins topology past d true u n = tt
 
 near_lands : (topology : Topology) (d n : ℕ) (packets : List PacketFields) → d < n → AreNear n (lands topology d packets)
 near_lands topology d n [] less = tt
-near_lands topology d n (p ∷ packets) less = less
+near_lands topology d n (p ∷ packets) less = (less, tt)
 
 near_comes : (topology : Topology) (found : Option ℕ) (packet : PacketFields) (n : ℕ) → AreNear n (comes_from topology found packet)
 near_comes topology None packet n = tt
-near_comes topology (Some d) packet n = tt
+near_comes topology (Some d) packet n = (tt, tt)
+
+near_passes : (topology : Topology) (past journal : List Entry) (d n : ℕ) (outcome : Outcome) (onto : Option ℕ) (packets : List PacketFields) → AreNear n (passes_on topology past journal d outcome onto packets)
+near_passes topology past journal d n outcome None packets = tt
+near_passes topology past journal d n outcomes.Gathered (Some onto) packets = tt
+near_passes topology past journal d n outcomes.Accepted (Some onto) [] = tt
+near_passes topology past journal d n outcomes.Accepted (Some onto) (p ∷ packets) = (tt, (tt, tt))
+near_passes topology past journal d n outcomes.Quiet (Some onto) packets = (tt, tt)
+near_passes topology past journal d n outcomes.Trained (Some onto) packets = (tt, tt)
+near_passes topology past journal d n outcomes.Poisoned (Some onto) packets = (tt, tt)
+near_passes topology past journal d n outcomes.Repeat (Some onto) packets = (tt, tt)
+near_passes topology past journal d n (outcomes.AbortedBad bad) (Some onto) packets = (tt, tt)
+near_passes topology past journal d n outcomes.AbortedOrder (Some onto) packets = (tt, tt)
+near_passes topology past journal d n (outcomes.Ran kind) (Some onto) packets = (tt, tt)
+
+near_unlocks : (topology : Topology) (journal : List Entry) (n : ℕ) (onto : Option ℕ) → AreNear n (unlocks topology journal onto)
+near_unlocks topology journal n None = tt
+near_unlocks topology journal n (Some onto) = (tt, tt)
 
 near_one : (setup : Setup) (past : List Entry) (entry : Entry) → EntryRule setup past entry → Kept setup past → AreNear (directions_in setup.topology) (moves_of setup.topology past entry)
 unfolding moves_of
 near_one setup past (Gave host tag poisoned request) right keeps = near_comes setup.topology (direction_from setup.topology (places.Host host)) (request_packet request (tag_number tag) host poisoned) (directions_in setup.topology)
-near_one setup past (Sent d what.New flit) right keeps = near_begins setup.topology past d (unsent d past) (directions_in setup.topology)
-near_one setup past (Sent d what.Tret flit) right keeps = tt
-near_one setup past (Landed d flit outcome) right keeps = near_lands setup.topology d (directions_in setup.topology) (landed_packets setup.topology d flit outcome past) (landed-real setup past d flit outcome right keeps)
-near_one setup past (Shifted cube port goal) right keeps = tt
-near_one setup past (Dropped cube port) right keeps = tt
-near_one setup past (Spread cube vault bank) right keeps = tt
-near_one setup past (Executed unit host tag request answer) right keeps = tt
-near_one setup past (Lifted cube from port) right keeps = tt
-near_one setup past (Took host tag answer) right keeps = tt
-near_one setup past (Discarded host) right keeps = tt
+near_one setup past (Sent d what.New flit) right keeps = near_begins setup.topology past d (awaits_first d past) (unsent d past) (directions_in setup.topology)
+near_one setup past (Sent d what.Tret flit) right keeps = (tt, tt)
+near_one setup past (Landed d flit outcome) right keeps =
+    let landed = landed_packets setup.topology d flit outcome past in
+    near-append (directions_in setup.topology) (passes_on setup.topology past (Landed d flit outcome ∷ past) d outcome (passed_onto setup.topology d past) landed) (lands setup.topology d landed)
+    (near_passes setup.topology past (Landed d flit outcome ∷ past) d (directions_in setup.topology) outcome (passed_onto setup.topology d past) landed)
+    (near_lands setup.topology d (directions_in setup.topology) landed (landed-real setup past d flit outcome right keeps))
+near_one setup past (Unlocked d) right keeps =
+    near_unlocks setup.topology (Unlocked d ∷ past) (directions_in setup.topology) (if_there (nat_lt d (directions_in setup.topology)) (passed_onto setup.topology d past))
+near_one setup past (Shifted cube port goal) right keeps = (tt, tt)
+near_one setup past (Dropped cube port) right keeps = (tt, tt)
+near_one setup past (Spread cube vault bank) right keeps = (tt, tt)
+near_one setup past (Executed unit host tag request answer) right keeps = (tt, tt)
+near_one setup past (Lifted cube from port) right keeps = (tt, tt)
+near_one setup past (Took host tag answer) right keeps = (tt, tt)
+near_one setup past (Discarded host) right keeps = (tt, tt)
 near_one setup past _ right keeps = tt
 
 far_buffer : (setup : Setup) (m : Map) (past : List Entry) (d : ℕ) → IsNetwork setup → Lawful setup past → directions_in setup.topology ≤ d → hop_contents m (moves setup.topology past) (hops.Buffer d) ≡ []
@@ -153,7 +179,7 @@ unfolding moves hop_contents
 far_buffer setup m [] d network lawful far = refl
 far_buffer setup m (entry ∷ past) d network lawful far =
     let before = lawful_past setup entry past lawful in
-    joined_none m (directions_in setup.topology) d (moves_of setup.topology past entry) (moves setup.topology past) (few_moves setup.topology past entry) far
+    joined_none m (directions_in setup.topology) d (moves_of setup.topology past entry) (moves setup.topology past) far
     (near_one setup past entry (entry_rule setup entry past lawful) (kept setup past network before)) (far_buffer setup m past d network before far)
 
 -- ---- each queue of the moves
@@ -188,23 +214,14 @@ no_tokens topology (packet ∷ packets) none = by (is_token packet) refl none (n
     by true is some later = absurd (cc)
     by false is rest later = (token_seen topology packet ∙ is, later rest)
 
-underway_none : (setup : Setup) (past : List Entry) (d : ℕ) → Kept setup past → (token_counts setup.topology past d).transit ≡ 0 → filter is_token (underway_on setup.topology d past) ≡ []
+line_none : (setup : Setup) (past : List Entry) (d : ℕ) → Kept setup past → (token_counts setup.topology past d).transit ≡ 0 → filter is_token (line_on setup.topology d past) ≡ []
 unfolding token_counts
-underway_none setup past d keeps transit =
-    let t = setup.topology in
-    let link = sizes_on t d in
-    let on_link = entries_on t d past in
-    let direct = are_direct t (d / 2) past in
-    let first = are_first link (toward d) on_link (keeps.links (d / 2)) direct in
-    let none : filter is_token first.others ≡ [] = none_in_transit link (toward d) on_link first.others direct first.are transit in
-    let rest : underway_on t d past ≡ first.others =
-    ap (drop (length (accepted t d past))) (first.are ∙ ap (λ l. l ++ first.others) (sym (accepted_are t d past))) ∙ drop_at (accepted t d past) first.others (length (accepted t d past)) refl in
-    ap (filter is_token) rest ∙ none
+line_none setup past d keeps transit = none_in_transit setup.topology d past (keeps.links (d / 2)) transit
 
 pub moves_drained : (setup : Setup) (past : List Entry) → IsNetwork setup → Lawful setup past → IsDrained setup.topology past → MovesDrained (routes_of setup) (moves setup.topology past)
 moves_drained setup past network lawful drained = record {
   queues = λ queue no_line. empty_hop setup past queue network lawful drained no_line;
   lines = λ d.
       let agreed : Agrees setup.topology (routes_of setup) past (moves setup.topology past) = agrees setup (routes_of setup) past network (maps_routes setup network) lawful in
-      subst NoTokens (agreed.lines d) (no_tokens setup.topology (underway_on setup.topology d past) (underway_none setup past d (kept setup past network lawful) (drained.transit d)));
+      subst NoTokens (agreed.lines d) (no_tokens setup.topology (line_on setup.topology d past) (line_none setup past d (kept setup past network lawful) (drained.transit d)));
 }

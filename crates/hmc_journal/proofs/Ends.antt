@@ -20,7 +20,8 @@ use Rattle.hmc_send.specs.Places.{is_token}
 use Rattle.hmc_journal.specs.Carried.{tagged_answer, tagged_answers, tagged_answers_gone}
 use Rattle.hmc_journal.specs.Choice.{append_if}
 use Rattle.hmc_journal.specs.Delivered.{IsPrefix, accepted_on, accepted_by}
-use Rattle.hmc_journal.specs.Directions.{unsent, accepted}
+use Rattle.hmc_journal.specs.Directions.{unsent, awaits_first, landed_packets, accepted}
+use Rattle.hmc_journal.specs.Piped.{goes_on, passed_onto}
 use Rattle.hmc_journal.specs.declared.entry.Entry.{Entry}
 use Rattle.hmc_journal.specs.declared.entry.Entry.TheVariants.{Gave, Sent, Landed, Shifted, Executed, Lifted, Took, Discarded}
 use Rattle.hmc_journal.specs.declared.outcome.Goal.{Goal}
@@ -29,17 +30,16 @@ use Rattle.hmc_journal.specs.Filters.{TaggedAnswer, answered_into, taken_by}
 use Rattle.hmc_journal.specs.Lawful.{Lawful}
 use Rattle.hmc_journal.specs.Links.{direction_to}
 use Rattle.hmc_journal.specs.Network.{IsNetwork}
-use Rattle.hmc_journal.specs.Queues.{QueueId, same_queue, is_at, buffer_at, landing_buffer, leaves, enters, answers_of, unless_posted, queue_of, goal_queue, output_from, tag_number, front_of, packet_if, arrival_in, arrived, left, entered, contents}
+use Rattle.hmc_journal.specs.Queues.{QueueId, same_queue, is_at, buffer_at, landing_buffer, unless_gone, leaves, enters, answers_of, unless_posted, queue_of, goal_queue, output_from, tag_number, front_of, packet_if, arrival_in, arrived, left, entered, contents}
 use Rattle.hmc_journal.specs.Queues.QueueId.{Host, Answers}
 use Rattle.hmc_journal.specs.Setup.{Topology, Setup, joins_of, directions_in, other, end_of, direction_from}
-use Rattle.hmc_journal.proofs.EntryRule.{EntryRule, HasExecuted, HasTaken, entry_rule, lawful_past}
+use Rattle.hmc_journal.proofs.EntryRule.{EntryRule, HasExecuted, HasTaken, HasDiscarded, entry_rule, lawful_past}
 use Rattle.hmc_journal.proofs.Moves.{append_if-append, arrives, arrived_first, arrived_off, begins_off, entered-more, entering, front_is, gone, gone-contents, gone-more, leaving, output_off}
 use Rattle.hmc_journal.proofs.Standing.{IsAtEnd, clean_reply, replied_tag}
 use Rattle.hmc_journal.proofs.Entering.{Kept, front_stands, sends}
 use Rattle.hmc_journal.proofs.Joins.{other_inside, start_is_end}
 use Rattle.hmc_journal.proofs.Sound.{kept, has_begun}
-use Rattle.hmc_journal.proofs.Buffers.{tokens_landed}
-use Rattle.hmc_journal.proofs.TagsOut.{none_discarded}
+use Rattle.hmc_journal.proofs.TagsOut.{discards_poison}
 use Rattle.hmc_journal.proofs.Views.{takings_none, takings_append, takings_of_tokens}
 use Rattle.hmc_journal.proofs.Wired.{Wired, wired, ends_there}
 
@@ -96,7 +96,7 @@ answers-more : (setup : Setup) (cube : ℕ) (from : Lift) (entry : Entry) (past 
 unfolding answered_into enters
 answers-more setup cube from (Executed unit host tag request answer) past right keeps = executed_answers setup past unit host tag request answer (Answers cube from) right keeps
 answers-more setup cube from (Landed d flit outcome) past right keeps =
-    none_answers setup.topology past (Landed d flit outcome) (Answers cube from) (arrived_first (landing_buffer setup.topology d) (Answers cube from) (tokens_landed setup.topology d flit outcome past) (buffer_not_answers (end_of setup.topology d) cube from))
+    none_answers setup.topology past (Landed d flit outcome) (Answers cube from) (arrived_first (landing_buffer setup.topology d) (Answers cube from) (unless_gone (goes_on outcome (passed_onto setup.topology d past)) (filter is_token (landed_packets setup.topology d flit outcome past))) (buffer_not_answers (end_of setup.topology d) cube from))
 answers-more setup cube from (Shifted c here goal) past right keeps = none_answers setup.topology past (Shifted c here goal) (Answers cube from) (arrived_off (goal_queue setup.topology c goal) _ (Answers cube from) (goal_not_answers setup.topology c goal cube from))
 answers-more setup cube from (Gave host tag poisoned request) past right keeps =
     none_answers setup.topology past (Gave host tag poisoned request) (Answers cube from) (arrived_off (output_from setup.topology (places.Host host)) _ (Answers cube from) (output_off (direction_from setup.topology (places.Host host)) (Answers cube from) (λ d. refl)))
@@ -138,9 +138,25 @@ unfolding leaving
 none_taken topology past entry h off =
     sym (append-nil (taken_by h past)) ∙ ap (λ (l : List TaggedAnswer). taken_by h past ++ l) (sym (ap (λ (b : Bool). tagged_answers (packet_if b (λ _. front_of (contents topology past (Host h))))) off ∙ takings_none))
 
+-- a poisoned packet carries no answer
+takings_not : (packet : PacketFields) → packet.poisoned ≡ true → tagged_answers (packet ∷ []) ≡ []
+unfolding tagged_answers
+takings_not packet poisoned = by_found (answer_in packet)
+  where
+    by_found : (found : Option Answer) → tagged_answer packet found ++ [] ≡ []
+    by_found None = refl
+    by_found (Some answer) = ap (λ (b : Bool). (if b then [] else record { tag = packet.tag; answer = answer } ∷ []) ++ []) poisoned
+
+discards_none : (setup : Setup) (past : List Entry) (host h : ℕ) (here : Bool) → (host == h) ≡ here → (has : HasDiscarded setup past host) → has.at.front.poisoned ≡ true
+    → taken_by h past ≡ taken_by h past ++ tagged_answers (packet_if here (λ _. front_of (contents setup.topology past (Host h))))
+discards_none setup past host h false at has poisoned = sym (append-nil (taken_by h past)) ∙ ap (λ (l : List TaggedAnswer). taken_by h past ++ l) (sym takings_none)
+discards_none setup past host h true at has poisoned =
+    let front : front_of (contents setup.topology past (Host h)) ≡ has.at.front = ap (λ (n : ℕ). front_of (contents setup.topology past (Host n))) (sym (eqb-true host h at)) ∙ front_is setup past (Host host) has.at in
+    sym (append-nil (taken_by h past)) ∙ ap (λ (l : List TaggedAnswer). taken_by h past ++ l) (sym (ap (λ (p : PacketFields). tagged_answers (p ∷ [])) front ∙ takings_not has.at.front poisoned))
+
 sent_leaves : (past : List Entry) (d : ℕ) (what : What) (flit : List ℕ) (h : ℕ) → is_at (leaves past (Sent d what flit)) (Host h) ≡ false
 unfolding leaves
-sent_leaves past d New flit h = begins_off (unsent d past) d (Host h) refl
+sent_leaves past d New flit h = begins_off (awaits_first d past) (unsent d past) d (Host h) refl
 sent_leaves past d _ flit h = refl
 
 queue_not_host : (unit : RequestUnit) (h : ℕ) → same_queue (queue_of unit) (Host h) ≡ false
@@ -150,7 +166,7 @@ queue_not_host (units.Registers c) h = refl
 taken-more : (setup : Setup) (h : ℕ) (entry : Entry) (past : List Entry) → EntryRule setup past entry → Kept setup past → taken_by h (entry ∷ past) ≡ taken_by h past ++ tagged_answers (leaving setup.topology past entry (Host h))
 unfolding taken_by leaves leaving
 taken-more setup h (Took host tag answer) past right keeps = took_by setup past host h tag answer (host == h) refl right
-taken-more setup h (Discarded host) past right keeps = absurd (none_discarded setup past host right (front_stands setup past (Host host) keeps right.at).goes)
+taken-more setup h (Discarded host) past right keeps = discards_none setup past host h (host == h) refl right (discards_poison setup past host right (front_stands setup past (Host host) keeps right.at).goes)
 taken-more setup h (Sent d what flit) past right keeps = none_taken setup.topology past (Sent d what flit) h (sent_leaves past d what flit h)
 taken-more setup h (Executed unit host tag request answer) past right keeps = none_taken setup.topology past (Executed unit host tag request answer) h (queue_not_host unit h)
 taken-more setup h entry past right keeps = none_taken setup.topology past entry h refl
@@ -207,7 +223,7 @@ taken_front_by setup past host None network lawful to =
 taken_front_by setup past host (Some d) network lawful to =
     let t = setup.topology in
     let is = arriving_by t host d (direction_from t (places.Host host)) (wired setup network) refl to in
-    let came : entered t past (Host host) ≡ filter is_token (accepted t d past) = ap (λ (p : Place). entered t past (buffer_at p)) (sym is.ends) ∙ ((kept setup past network lawful).ends d is.inside).buffered in (
+    let came : entered t past (Host host) ≡ filter is_token (accepted t d past) = ap (λ (p : Place). entered t past (buffer_at p)) (sym is.ends) ∙ ((kept setup past network lawful).ends d is.inside).host host is.ends in (
       tagged_answers (contents t past (Host host)),
       sym (takings_of_tokens (accepted t d past)) ∙ ap tagged_answers (sym came ∙ gone-contents t past (Host host)) ∙ takings_append (gone t past (Host host)) (contents t past (Host host))
           ∙ ap (λ (l : List TaggedAnswer). l ++ tagged_answers (contents t past (Host host))) (taken_gone setup host past network lawful),

@@ -29,10 +29,14 @@ use Rattle.hmc_send.specs.LinkEntries.{LinkEntry, receiver_entries, accepted_pac
 use Rattle.hmc_send.specs.LinkLines.{StampedFlit, line}
 use Rattle.hmc_send.specs.LinkLines as links
 use Rattle.hmc_send.specs.Places.{is_token}
-use Rattle.hmc_send.proofs.LinkProjections.{receiver-landed}
+use Rattle.hmc_send.specs.Entries as begun
+use Rattle.hmc_send.specs.Entries.{SenderEntry}
+use Rattle.hmc_send.specs.LinkSenders.{sender_entries}
+use Rattle.hmc_send.proofs.LinkProjections.{receiver-landed, sender-landed_own}
 use Rattle.hmc_codes.specs.declared.profile.Profile.{Profile}
 use Rattle.hmc_packet.specs.Landings as landings
 use Rattle.hmc_wire.specs.LinkLaws.{IsKept}
+use Rattle.hmc_schedule.specs.Plan.{HasFlit}
 use Rattle.hmc_journal.specs.declared.entry.Entry.{Entry}
 use Rattle.hmc_journal.specs.declared.entry.Entry.TheVariants.{Gave, Landed, Shifted, Spread, Executed, Lifted}
 use Rattle.hmc_serial.specs.Unit.{is_for_registers}
@@ -46,7 +50,7 @@ use Rattle.hmc_journal.proofs.Machine.{HasCubes, cube_there}
 use Rattle.hmc_journal.proofs.Wired.{Wired, not_hosts, EndsAtCube, towards_cube, towards_host}
 use Rattle.hmc_journal.specs.Directions.{sent_flits, landed_packets, accepted}
 use Rattle.hmc_journal.specs.Links.{toward, landing_mask, link_sizes, link_entries, sizes_on, entries_on}
-use Rattle.hmc_journal.specs.Queues.{QueueId, buffer_at, landing_buffer, enters, left, entered, contents, goal_queue, output_from, queue_of, answers_of, unless_posted, tag_number, Arrival, arrival_in, arrival_of, front_of}
+use Rattle.hmc_journal.specs.Queues.{QueueId, buffer_at, landing_buffer, unless_gone, enters, left, entered, contents, goal_queue, output_from, queue_of, answers_of, unless_posted, tag_number, Arrival, arrival_in, arrival_of, front_of}
 use Rattle.hmc_journal.specs.Queues.QueueId.{Output, Port, Vault, Bank, Answers}
 use Rattle.hmc_journal.specs.Hosts.{host_of, tags_out}
 use Rattle.hmc_journal.specs.Next.{tag_of}
@@ -54,22 +58,37 @@ use Rattle.hmc_journal.specs.StepView.{StepView, state_of, view_of}
 use Rattle.hmc_journal.proofs.EntryRule.{EntryRule, HasFront, IsTagged, HasGiven, HasLanded, HasShifted, HasExecuted, HasLifted, goal_by, goal_of}
 use Rattle.hmc_journal.proofs.Moves.{front_is, arrives}
 use Rattle.hmc_journal.proofs.Standing.{IsAsking, IsReplying, IsMoving, IsLeaving, GoesTo, IsSmallError, Stands, Stands-alike, request_of_packet, IsAsking-request_packet, IsReplying-reply_packet, replied_cube, All-back, all_get}
-use Rattle.hmc_journal.proofs.Standing.IsMoving.{ToCube, ToHost}
+use Rattle.hmc_journal.proofs.Standing.IsMoving.{ToCube, ToHost, Spoiled}
 use Rattle.hmc_journal.proofs.SmallErrors.{performed_small}
-use Rattle.hmc_journal.proofs.LinkKept.{AreDirect, kept-landed}
-use Rattle.hmc_journal.proofs.AcceptedTokens.{tokens_alike}
-use Rattle.hmc_journal.proofs.Projections.{flits_of_line, received, handed_are, are_direct, sent_are}
+use Rattle.hmc_journal.proofs.LinkKept.{kept-landed}
+use Rattle.hmc_journal.proofs.LinkHanded.{own_marks}
+use Rattle.hmc_journal.proofs.UnsentFlits.{AreGathered}
+use Rattle.hmc_journal.proofs.Piping.{sender_on}
+use Rattle.hmc_journal.proofs.PipeSteps.{IsUp, ArePending}
+use Rattle.hmc_journal.proofs.GoodLandings.{AreShort}
+use Rattle.hmc_journal.proofs.Passing.{ArePiped, ArePassing}
+use Rattle.hmc_journal.proofs.Buffers.{coming}
+use Rattle.hmc_journal.proofs.AcceptedTokens.{OthersHold, tokens_alike}
+use Rattle.hmc_journal.proofs.Projections.{goes_at, flits_of_line, received, handed_are, sent_are}
 
--- of each direction: what left the buffer at its end was taken, and what entered it was accepted
+-- of each direction: the buffer at its end holds what was accepted and not taken; that of a host all
+-- that was accepted
 pub record EndKept (topology : Topology) (past : List Entry) (d : ℕ) : Type 0 where
-  pub taken : left past (landing_buffer topology d) ≡ takes (toward d) (entries_on topology d past)
-  pub buffered : entered topology past (landing_buffer topology d) ≡ filter is_token (accepted topology d past)
+  pub buffer : contents topology past (landing_buffer topology d) ≡ drop (takes (toward d) (entries_on topology d past)) (filter is_token (accepted topology d past))
+  pub inside : takes (toward d) (entries_on topology d past) ≤ length (filter is_token (accepted topology d past))
+  pub host : (host : ℕ) → end_of topology d ≡ places.Host host → entered topology past (landing_buffer topology d) ≡ filter is_token (accepted topology d past)
+
+-- the copies on a direction go where it leads
+abbrev pub CopiesStand : Topology → List Entry → (d : ℕ) → Type 0
+CopiesStand topology past d = OthersHold (Stands topology (Output d)) (own_marks (sender_on topology d past)) (begun.places (sizes_on topology d).profile (sender_on topology d past))
 
 abbrev pub AreWithin : Setup → List Entry → Type 0
 AreWithin setup past = (room : QueueId) → left past room ≤ length (entered setup.topology past room)
 
 -- what each entry keeps
 pub record Kept (setup : Setup) (past : List Entry) : Type 0 where
+  -- the masks under which flits land
+  pub masks : All HasFlit setup.schedule
   pub within : AreWithin setup past
   pub stands : (room : QueueId) → All (Stands setup.topology room) (entered setup.topology past room)
   -- every link, also one that isn't there
@@ -79,6 +98,14 @@ pub record Kept (setup : Setup) (past : List Entry) : Type 0 where
   pub none : (d : ℕ) → directions_in setup.topology ≤ d → sent_flits d past ≡ []
   pub state : HasCubes setup.topology (state_of setup past)
   pub tags : (host : ℕ) → length (tags_out host past) ≡ 2048
+  -- what is passed on
+  pub gathered : AreGathered setup.topology past
+  pub pendings : ArePending setup.topology past
+  pub short : AreShort past
+  pub up : (d : ℕ) → IsUp setup.topology d past
+  pub piped : ArePiped setup.topology past
+  pub passing : ArePassing setup.topology past
+  pub copies : (d : ℕ) → CopiesStand setup.topology past d
 
 pub contents_stand : (setup : Setup) (past : List Entry) (room : QueueId) → Kept setup past → All (Stands setup.topology room) (contents setup.topology past room)
 unfolding contents
@@ -119,7 +146,7 @@ moves_to : (topology : Topology) (place : Place) (packet : PacketFields) → ((h
 moves_to topology (places.Host host) packet apart moving = absurd (apart host refl)
 moves_to topology (places.Port cube port) packet apart moving = moving
 
-at_cube : (topology : Topology) (d : ℕ) (packet : PacketFields) → EndsAtCube topology d → IsMoving topology packet → GoesTo topology (end_of topology d) packet
+pub at_cube : (topology : Topology) (d : ℕ) (packet : PacketFields) → EndsAtCube topology d → IsMoving topology packet → GoesTo topology (end_of topology d) packet
 at_cube topology d packet is moving = subst (λ (p : Place). GoesTo topology p packet) (sym is.is) moving
 
 -- give
@@ -181,9 +208,10 @@ pub landed-real : (setup : Setup) (past : List Entry) (direction : ℕ) (flit : 
 landed-real setup past direction flit outcome has kept = real-by setup past direction flit outcome (nat_le (directions_in setup.topology) direction) refl has kept
 
 -- the requests and answers that were accepted stand
-pub accepted_stand : (setup : Setup) (d : ℕ) (past : List LinkEntry) → IsKept (sizes_on setup.topology d) past → AreDirect past → All (Stands setup.topology (Output d)) (handed_packets (toward d) past)
+pub accepted_stand : (setup : Setup) (d : ℕ) (past : List LinkEntry) → IsKept (sizes_on setup.topology d) past → All (Stands setup.topology (Output d)) (handed_packets (toward d) past)
+    → OthersHold (Stands setup.topology (Output d)) (own_marks (sender_entries (sizes_on setup.topology d) (toward d) past)) (begun.places (sizes_on setup.topology d).profile (sender_entries (sizes_on setup.topology d) (toward d) past))
     → All (Stands setup.topology (Output d)) (filter is_token (accepted_packets (sizes_on setup.topology d).profile (toward d) past))
-accepted_stand setup d past kept direct all = tokens_alike (Stands setup.topology (Output d)) (Stands-alike setup.topology d) (sizes_on setup.topology d) (toward d) past kept direct all
+accepted_stand setup d past kept all copies = tokens_alike (Stands setup.topology (Output d)) (Stands-alike setup.topology d) (sizes_on setup.topology d) (toward d) past kept all copies
 
 -- the packets accepted on a direction, by the link's entries
 pub accepted_are : (topology : Topology) (d : ℕ) (past : List Entry) → accepted topology d past ≡ accepted_packets (sizes_on topology d).profile (toward d) (entries_on topology d past)
@@ -201,7 +229,7 @@ pub landed_on_link : (topology : Topology) (d : ℕ) (past : List Entry) (flit :
 unfolding landed_packets
 landed_on_link topology d past flit outcome = ap (λ r. accepted_by (sizes_on topology d).profile (pending r) (ReceiverEntry.Land flit outcome)) (received topology d past)
 
-accepted-landed : (q : Profile) (d : Toward) (mask flit : List ℕ) (outcome : Outcome) (past : List LinkEntry)
+pub accepted-landed : (q : Profile) (d : Toward) (mask flit : List ℕ) (outcome : Outcome) (past : List LinkEntry)
     → accepted_packets q d (LinkEntry.landed d mask flit outcome ∷ past) ≡ accepted_packets q d past ++ accepted_by q (pending (receiver_entries d past)) (ReceiverEntry.Land flit outcome)
 unfolding landings.accepted
 accepted-landed q d mask flit outcome past = ap (landings.accepted q) (receiver-landed d mask flit outcome past)
@@ -222,7 +250,8 @@ landed_stands setup d past flit outcome has kept =
     let is : IsKept sizes now = kept_landing setup d past flit outcome has kept in
     let there : All P (handed_packets way before) = All-same P _ _ (sym (handed_are setup.topology d past)) (kept.stands (Output d)) in
     let handed : All P (handed_packets way now) = All-same P _ _ (handed-landed way way mask flit outcome before) there in
-    let all : All P (filter is_token (accepted_packets sizes.profile way now)) = accepted_stand setup d now is (are_direct setup.topology (d / 2) past) handed in
+    let all : All P (filter is_token (accepted_packets sizes.profile way now)) = accepted_stand setup d now is handed
+    (subst (λ (T : List SenderEntry). OthersHold P (own_marks T) (begun.places sizes.profile T)) (sym (sender-landed_own sizes way mask flit outcome before)) (kept.copies d)) in
     let parts : filter is_token (accepted_packets sizes.profile way now) ≡ filter is_token (accepted_packets sizes.profile way before) ++ filter is_token (landed_packets setup.topology d flit outcome past) =
     ap (filter is_token) (accepted-landed sizes.profile way mask flit outcome before) ∙ filter-append is_token (accepted_packets sizes.profile way before) _
     ∙ ap (λ l. filter is_token (accepted_packets sizes.profile way before) ++ filter is_token l) (sym (landed_on_link setup.topology d past flit outcome)) in
@@ -236,10 +265,13 @@ landed_first : (setup : Setup) (d : ℕ) (packets : List PacketFields) → d < d
 landed_first setup d [] inside all = tt
 landed_first setup d (packet ∷ packets) inside all = in_buffer setup.topology d (end_of setup.topology d) packet inside refl (All-head (Stands setup.topology (Output d)) packet packets all).goes
 
-landed_enters : (setup : Setup) (past : List Entry) (d : ℕ) (flit : List ℕ) (outcome : Outcome) → HasLanded setup past d flit outcome → Kept setup past
-    → ArrivesRight setup.topology (arrival_of (landing_buffer setup.topology d) (filter is_token (landed_packets setup.topology d flit outcome past)))
+unless_right : (setup : Setup) (d : ℕ) (gone : Bool) (packets : List PacketFields) → d < directions_in setup.topology → All (Stands setup.topology (Output d)) packets → ArrivesRight setup.topology (arrival_of (landing_buffer setup.topology d) (unless_gone gone packets))
+unless_right setup d true packets inside all = tt
+unless_right setup d false packets inside all = landed_first setup d packets inside all
+
+landed_enters : (setup : Setup) (past : List Entry) (d : ℕ) (flit : List ℕ) (outcome : Outcome) → HasLanded setup past d flit outcome → Kept setup past → ArrivesRight setup.topology (arrival_of (landing_buffer setup.topology d) (coming setup.topology d flit outcome past))
 landed_enters setup past d flit outcome has kept =
-    landed_first setup d (filter is_token (landed_packets setup.topology d flit outcome past)) (landed-real setup past d flit outcome has kept) (landed_stands setup d past flit outcome has kept)
+    unless_right setup d (goes_at setup.topology d outcome past) (filter is_token (landed_packets setup.topology d flit outcome past)) (landed-real setup past d flit outcome has kept) (landed_stands setup d past flit outcome has kept)
 
 -- shift
 pub no_vault : (out : Option ℕ) (vault : ℕ) → goal_at (out_of_cube out) ≡ Some (goals.Vault vault) → ⊥
@@ -285,9 +317,10 @@ here_by topology cube goal packet true at asking is inside =
     record { asking = asking; own = eqb-true packet.cube cube at; is_goal = inside_goal (is_for_registers packet.command) (vault_of (shape_of topology cube) packet.address) goal is }
 here_by topology cube goal packet false at asking is inside = absurd (inside (port_to_cube (graph_of topology) packet.cube cube) is)
 
-pub is_here : (topology : Topology) (cube : ℕ) (goal : Goal) (packet : PacketFields) → IsMoving topology packet → goal_of topology cube packet ≡ Some goal → ((out : Option ℕ) → goal_at (out_of_cube out) ≡ Some goal → ⊥) → IsHere topology cube goal packet
-is_here topology cube goal packet (ToCube asking) is inside = here_by topology cube goal packet (packet.cube == cube) refl asking (asking_goal topology cube packet goal asking is) inside
-is_here topology cube goal packet (ToHost replying) is inside = absurd (inside (port_to_host (graph_of topology) packet.slid cube) (replying_goal topology cube packet goal replying is))
+pub is_here : (topology : Topology) (cube : ℕ) (goal : Goal) (packet : PacketFields) → packet.poisoned ≡ false → IsMoving topology packet → goal_of topology cube packet ≡ Some goal → ((out : Option ℕ) → goal_at (out_of_cube out) ≡ Some goal → ⊥) → IsHere topology cube goal packet
+is_here topology cube goal packet clean (ToCube asking) is inside = here_by topology cube goal packet (packet.cube == cube) refl asking (asking_goal topology cube packet goal asking is) inside
+is_here topology cube goal packet clean (ToHost replying) is inside = absurd (inside (port_to_host (graph_of topology) packet.slid cube) (replying_goal topology cube packet goal replying is))
+is_here topology cube goal packet clean (Spoiled spoiled) is inside = absurd (let clash : true ≡ false = sym spoiled.poisoned ∙ clean in cc)
 
 -- one that goes on
 onwards_by : (topology : Topology) (cube port d : ℕ) (packet : PacketFields) (here : Bool) → Wired topology → IsAsking topology packet → goal_at (request_to (graph_of topology) (shape_of topology cube) cube packet here) ≡ Some (goals.Port port)
@@ -302,26 +335,27 @@ pub answer_goes : (topology : Topology) (cube port d : ℕ) (packet : PacketFiel
 answer_goes topology cube port d packet wires replying towards starts = by_end (towards_host topology wires packet.slid cube port d towards starts)
   where
     by_end : (end_of topology d ≡ places.Host packet.slid) ⊎ EndsAtCube topology d → GoesTo topology (end_of topology d) packet
-    by_end (inl is) = subst (λ (p : Place). GoesTo topology p packet) (sym is) (record { replying = replying; slid = refl })
+    by_end (inl is) = subst (λ (p : Place). GoesTo topology p packet) (sym is) (inl (record { replying = replying; slid = refl }))
     by_end (inr is) = at_cube topology d packet is (ToHost replying)
 
-pub goes_onwards : (topology : Topology) (cube port d : ℕ) (packet : PacketFields) → Wired topology → IsMoving topology packet → goal_of topology cube packet ≡ Some (goals.Port port) → direction_from topology (places.Port cube port) ≡ Some d
+pub goes_onwards : (topology : Topology) (cube port d : ℕ) (packet : PacketFields) → packet.poisoned ≡ false → Wired topology → IsMoving topology packet → goal_of topology cube packet ≡ Some (goals.Port port) → direction_from topology (places.Port cube port) ≡ Some d
     → GoesTo topology (end_of topology d) packet
-goes_onwards topology cube port d packet wires (ToCube asking) is starts = onwards_by topology cube port d packet (packet.cube == cube) wires asking (asking_goal topology cube packet (goals.Port port) asking is) starts
-goes_onwards topology cube port d packet wires (ToHost replying) is starts =
+goes_onwards topology cube port d packet clean wires (ToCube asking) is starts = onwards_by topology cube port d packet (packet.cube == cube) wires asking (asking_goal topology cube packet (goals.Port port) asking is) starts
+goes_onwards topology cube port d packet clean wires (Spoiled spoiled) is starts = absurd (let clash : true ≡ false = sym spoiled.poisoned ∙ clean in cc)
+goes_onwards topology cube port d packet clean wires (ToHost replying) is starts =
     answer_goes topology cube port d packet wires replying (out_port (port_to_host (graph_of topology) packet.slid cube) port (replying_goal topology cube packet (goals.Port port) replying is)) starts
 
 shifted_by : (setup : Setup) (past : List Entry) (cube port : ℕ) (goal : Goal) → Wired setup.topology → (has : HasShifted setup past cube port goal) → IsMoving setup.topology has.at.front
     → EntersRight setup.topology (goal_queue setup.topology cube goal) has.at.front
 shifted_by setup past cube port (goals.Vault vault) wires has moving =
-    let here = is_here setup.topology cube (goals.Vault vault) has.at.front moving has.is_goal (λ out is. no_vault out vault is) in
+    let here = is_here setup.topology cube (goals.Vault vault) has.at.front has.unpoisoned moving has.is_goal (λ out is. no_vault out vault is) in
     record { asking = here.asking; own = here.own; unpoisoned = has.unpoisoned; is_goal = here.is_goal }
 shifted_by setup past cube port goals.Registers wires has moving =
-    let here = is_here setup.topology cube goals.Registers has.at.front moving has.is_goal (λ out is. no_registers out is) in
+    let here = is_here setup.topology cube goals.Registers has.at.front has.unpoisoned moving has.is_goal (λ out is. no_registers out is) in
     record { asking = here.asking; own = here.own; unpoisoned = has.unpoisoned; is_goal = here.is_goal }
 shifted_by setup past cube port (goals.Port out) wires has moving =
     let to = has_direction setup.topology (view_of setup past) (places.Port cube out) has.room in
-    goes_out setup.topology (places.Port cube out) to.0 has.at.front wires to.1 (goes_onwards setup.topology cube out to.0 has.at.front wires moving has.is_goal to.1)
+    goes_out setup.topology (places.Port cube out) to.0 has.at.front wires to.1 (goes_onwards setup.topology cube out to.0 has.at.front has.unpoisoned wires moving has.is_goal to.1)
 
 -- execute
 pub asking_at : (topology : Topology) (unit : RequestUnit) (packet : PacketFields) → Stands topology (queue_of unit) packet → IsAsking topology packet × (packet.cube ≡ unit_cube unit)

@@ -1,5 +1,6 @@
 -- What an entry is that follows: by its variant, what its step saw.
-use Rattle.std.proofs.Common.{◌≡◌, ◌&&◌, ◌⊎◌, inl, inr, ℕ, Bool, true, false, not, if◌then◌else◌, Option, Some, None, is_none, List, [], ◌∷◌, length, slice_get, refl, sym, subst}
+use Rattle.std.proofs.Common.{◌≡◌, ◌==◌, ◌&&◌, ◌||◌, ◌⊎◌, ◌∙◌, inl, inr, ℕ, Bool, true, false, not, if◌then◌else◌, Option, Some, None, is_none, List, [], ◌∷◌, length, slice_get, refl, sym, ap, subst}
+use Rattle.std.specs.Prelude.{is_some, option_and_then}
 use Rattle.hmc_codes.specs.Commands.{is_posted, family_of}
 use Rattle.hmc_codes.specs.Request.{RequestFields}
 use Rattle.hmc_codes.specs.Shape.{ShapeFields, vault_of, bank_of}
@@ -8,7 +9,11 @@ use Rattle.hmc_codes.specs.declared.lift.Lift.{Lift}
 use Rattle.hmc_codes.specs.declared.unit.Unit.{Unit as RequestUnit}
 use Rattle.hmc_codes.specs.declared.unit.Unit.TheVariants as units
 use Rattle.hmc_packet.specs.declared.what.What.{What}
+use Rattle.hmc_packet.specs.declared.feed.Feed.{Feed}
 use Rattle.hmc_packet.specs.declared.feed.Feed.TheVariants.{Waiting}
+use Rattle.hmc_packet.specs.declared.head.Head.{Head}
+use Rattle.hmc_packet.specs.Head.{head_in}
+use Rattle.hmc_packet.specs.Landings.{pending}
 use Rattle.hmc_packet.specs.declared.outcome.Outcome.{Outcome}
 use Rattle.hmc_packet.specs.Packet.{PacketFields}
 use Rattle.hmc_packet.specs.Receptions.{reception_of}
@@ -36,19 +41,21 @@ use Rattle.hmc_codes.specs.declared.place.Place.TheVariants as places
 use Rattle.hmc_send.specs.declared.sent.Sent.{Sent as Sending}
 use Rattle.hmc_send.specs.declared.sent.Sent.TheVariants.{Out, Starved}
 use Rattle.hmc_send.specs.Choice as cases
-use Rattle.hmc_send.specs.LinkCalls.{is_full, view_in}
+use Rattle.hmc_send.specs.LinkCalls.{is_full, view_in, may_pass_on}
 use Rattle.hmc_send.specs.LinkEntries.{receiver_entries}
 use Rattle.hmc_send.specs.LinkLines.{StampedFlit, line, under_mask, passes}
 use Rattle.hmc_send.proofs.LinkLawful.{IsSend, IsLanding}
-use Rattle.hmc_journal.specs.Setup.{Setup, Topology, shape_of, graph_of}
+use Rattle.hmc_journal.specs.Setup.{Setup, Topology, shape_of, graph_of, direction_from}
 use Rattle.hmc_journal.specs.Routes.{port_towards}
 use Rattle.hmc_journal.specs.Queues.{QueueId, contents, queue_of, output_from, goal_queue}
 use Rattle.hmc_journal.specs.Queues.QueueId.{Port, Host, Vault, Answers}
 use Rattle.hmc_journal.specs.Hosts.{host_of}
+use Rattle.hmc_journal.specs.Piped.{passed_onto, pipe_onto}
 use Rattle.hmc_journal.specs.StepView.{state_of, view_of}
-use Rattle.hmc_journal.specs.Links.{toward, sizes_on, entries_on}
+use Rattle.hmc_journal.specs.Links.{toward, sizes_on, entries_on, direction_to, fed_after}
 use Rattle.hmc_journal.specs.Waiting.{lacks_room}
 use Rattle.hmc_journal.specs.Next.{next, choice, lifted_entry, with_front, unless_full, gave_entry, sent_entry, landed_entry, landed_front, goal_at, shifted_entry, tag_of, execution_entry, ran_entry, took_entry}
+use Rattle.hmc_journal.specs.ThroughSteps.{port_by, other_than, gathered_head, is_passed_on, takes_on, passed_entry, through_head}
 use Rattle.hmc_journal.specs.Lawful.{Follows, has_passed, Lawful}
 
 -- the room has this front
@@ -70,10 +77,14 @@ pub record HasGiven (setup : Setup) (past : List Entry) (host : ℕ) (tag : Opti
   pub is_tagged : IsTagged (wants_tag item) (lowest_free (host_of setup past host).tags) tag
   pub room : lacks_room setup.topology (view_of setup past) (output_from setup.topology (places.Host host)) ≡ false
 
+-- what a send on a direction is fed
+abbrev pub feed_on : Topology → List Entry → (direction : ℕ) → Feed
+feed_on topology past direction = fed_after (sizes_on topology direction) (toward direction) (entries_on topology direction past) (pipe_onto topology direction past)
+
 -- the line had room, and the flit is the sender's choice
 abbrev pub HasSent : Setup → List Entry → (direction : ℕ) → What → List ℕ → Type 0
 HasSent setup past direction what flit =
-    IsSend (sizes_on setup.topology direction) (entries_on setup.topology direction past) (toward direction) Waiting what flit
+    IsSend (sizes_on setup.topology direction) (entries_on setup.topology direction past) (toward direction) (feed_on setup.topology past direction) what flit
 
 -- the front of the line landed under the mask of the step
 pub record HasLanded (setup : Setup) (past : List Entry) (direction : ℕ) (flit : List ℕ) (outcome : Outcome) : Type 0 where
@@ -133,6 +144,24 @@ pub record HasDiscarded (setup : Setup) (past : List Entry) (host : ℕ) : Type 
   pub at : HasFront setup past (Host host)
   pub is_none : (at.front.poisoned ≡ true) ⊎ (answer_in at.front ≡ None)
 
+-- a packet was being gathered at the port, and may go on, onto the direction from a port towards its
+-- goal
+pub record HasThrough (setup : Setup) (past : List Entry) (cube port direction : ℕ) : Type 0 where
+  pub from : ℕ
+  pub arrives : direction_to setup.topology (places.Port cube port) ≡ Some from
+  pub flit : List ℕ
+  pub rest : List (List ℕ)
+  pub gathered : pending (receiver_entries (toward from) (entries_on setup.topology from past)) ≡ flit ∷ rest
+  pub head : Head
+  pub is_head : head_in flit ≡ Some head
+  pub onward : ℕ
+  pub is_onward : port_by setup.topology cube head (family_of head.command) ≡ Some onward
+  pub other_port : (onward == port) ≡ false
+  pub starts : direction_from setup.topology (places.Port cube onward) ≡ Some direction
+  pub alone : passed_onto setup.topology from past ≡ None
+  pub empty : contents setup.topology past (Port cube port) ≡ []
+  pub may : may_pass_on (view_in (sizes_on setup.topology direction) (toward direction) (entries_on setup.topology direction past) Waiting) head.flits ≡ true
+
 abbrev pub EntryRule : Setup → List Entry → Entry → Type 0
 EntryRule setup past (Gave host tag poisoned request) = HasGiven setup past host tag poisoned request
 EntryRule setup past (Sent direction what flit) = HasSent setup past direction what flit
@@ -146,7 +175,7 @@ EntryRule setup past (Took host tag answer) = HasTaken setup past host tag answe
 EntryRule setup past (Discarded host) = HasDiscarded setup past host
 EntryRule setup past (Unlocked direction) = Unit {0}
 EntryRule setup past (Passed direction flit) = HasPassed setup past direction flit
-EntryRule setup past (Through cube port direction) = Unit {0}
+EntryRule setup past (Through cube port direction) = HasThrough setup past cube port direction
 EntryRule setup past (Retired slot) = Unit {0}
 EntryRule setup past (Idle step cause) = Unit {0}
 
@@ -189,7 +218,7 @@ give setup past host (Some item) is =
 
 -- send
 send : (setup : Setup) (past : List Entry) (direction : ℕ) (full : Bool) (sending : Sending) → is_full (sizes_on setup.topology direction) (toward direction) (entries_on setup.topology direction past) ≡ full
-    → cases.choice (sizes_on setup.topology direction).profile (view_in (sizes_on setup.topology direction) (toward direction) (entries_on setup.topology direction past) Waiting) ≡ sending
+    → cases.choice (sizes_on setup.topology direction).profile (view_in (sizes_on setup.topology direction) (toward direction) (entries_on setup.topology direction past) (feed_on setup.topology past direction)) ≡ sending
     → EntryRule setup past (sent_entry direction full sending)
 send setup past direction true sending full is = tt
 send setup past direction false Starved full is = tt
@@ -271,6 +300,89 @@ retire : (setup : Setup) (past : List Entry) (slot : ℕ) (live : Bool) → Entr
 retire setup past slot true = tt
 retire setup past slot false = tt
 
+-- through
+none_passed : (onto : Option ℕ) → is_some onto ≡ false → onto ≡ None
+none_passed None is = refl
+none_passed (Some direction) is = absurd (cc)
+
+none_inside : (packets : List PacketFields) → not (is_none (slice_get packets 0)) ≡ false → packets ≡ []
+none_inside [] is = refl
+none_inside (packet ∷ packets) is = absurd (cc)
+
+-- what is known of a packet that is gathered at a port, once its way is known
+record IsGathered (setup : Setup) (past : List Entry) (cube port : ℕ) (head : Head) : Type 0 where
+  from : ℕ
+  arrives : direction_to setup.topology (places.Port cube port) ≡ Some from
+  flit : List ℕ
+  rest : List (List ℕ)
+  gathered : pending (receiver_entries (toward from) (entries_on setup.topology from past)) ≡ flit ∷ rest
+  is_head : head_in flit ≡ Some head
+
+through_busy : (setup : Setup) (past : List Entry) (cube port : ℕ) (head : Head) (onward direction : ℕ) (on held full : Bool) → IsGathered setup past cube port head
+    → port_by setup.topology cube head (family_of head.command) ≡ Some onward → (onward == port) ≡ false → direction_from setup.topology (places.Port cube onward) ≡ Some direction
+    → is_passed_on (view_of setup past) (direction_to setup.topology (places.Port cube port)) ≡ on → not (is_none (slice_get (contents setup.topology past (Port cube port)) 0)) ≡ held
+    → not (takes_on setup.topology (view_of setup past) direction head.flits) ≡ full
+    → EntryRule setup past (if on || held || full then Idle (steps.Through cube port) causes.Busy else Through cube port direction)
+unfolding view_of
+through_busy setup past cube port head onward direction true held full is towards other_port starts passed holds takes = tt
+through_busy setup past cube port head onward direction false true full is towards other_port starts passed holds takes = tt
+through_busy setup past cube port head onward direction false false true is towards other_port starts passed holds takes = tt
+through_busy setup past cube port head onward direction false false false is towards other_port starts passed holds takes = record {
+  from = is.from;
+  arrives = is.arrives;
+  flit = is.flit;
+  rest = is.rest;
+  gathered = is.gathered;
+  head = head;
+  is_head = is.is_head;
+  onward = onward;
+  is_onward = towards;
+  other_port = other_port;
+  starts = starts;
+  alone = none_passed (passed_onto setup.topology is.from past) (sym (ap (is_passed_on (view_of setup past)) is.arrives) ∙ passed);
+  empty = none_inside (contents setup.topology past (Port cube port)) holds;
+  may = not_false (may_pass_on (view_in (sizes_on setup.topology direction) (toward direction) (entries_on setup.topology direction past) Waiting) head.flits) takes;
+}
+  where
+    not_false : (b : Bool) → not b ≡ false → b ≡ true
+    not_false true at = refl
+    not_false false at = absurd (cc)
+
+through_onto : (setup : Setup) (past : List Entry) (cube port : ℕ) (head : Head) (onward : ℕ) (found : Option ℕ) → IsGathered setup past cube port head
+    → port_by setup.topology cube head (family_of head.command) ≡ Some onward → (onward == port) ≡ false → direction_from setup.topology (places.Port cube onward) ≡ found
+    → EntryRule setup past (passed_entry setup.topology (view_of setup past) cube port head found)
+unfolding view_of
+through_onto setup past cube port head onward None is towards other_port starts = tt
+through_onto setup past cube port head onward (Some direction) is towards other_port starts = through_busy setup past cube port head onward direction _ _ _ is towards other_port starts refl refl refl
+
+through_port : (setup : Setup) (past : List Entry) (cube port : ℕ) (head : Head) (onward : ℕ) (same : Bool) → IsGathered setup past cube port head
+    → port_by setup.topology cube head (family_of head.command) ≡ Some onward → (onward == port) ≡ same
+    → EntryRule setup past (passed_entry setup.topology (view_of setup past) cube port head (option_and_then (λ there. direction_from setup.topology (places.Port cube there)) (if same then None else Some onward)))
+through_port setup past cube port head onward true is towards same = tt
+through_port setup past cube port head onward false is towards same = through_onto setup past cube port head onward _ is towards same refl
+
+through_towards : (setup : Setup) (past : List Entry) (cube port : ℕ) (head : Head) (found : Option ℕ) → IsGathered setup past cube port head → port_by setup.topology cube head (family_of head.command) ≡ found
+    → EntryRule setup past (passed_entry setup.topology (view_of setup past) cube port head (option_and_then (λ there. direction_from setup.topology (places.Port cube there)) (other_than port found)))
+through_towards setup past cube port head None is towards = tt
+through_towards setup past cube port head (Some onward) is towards = through_port setup past cube port head onward _ is towards refl
+
+through_head_by : (setup : Setup) (past : List Entry) (cube port from : ℕ) (flit : List ℕ) (rest : List (List ℕ)) (found : Option Head) → direction_to setup.topology (places.Port cube port) ≡ Some from
+    → pending (receiver_entries (toward from) (entries_on setup.topology from past)) ≡ flit ∷ rest → head_in flit ≡ found → EntryRule setup past (through_head setup.topology (view_of setup past) cube port found)
+through_head_by setup past cube port from flit rest None arrives gathered is = tt
+through_head_by setup past cube port from flit rest (Some head) arrives gathered is =
+    through_towards setup past cube port head _ (record { from = from; arrives = arrives; flit = flit; rest = rest; gathered = gathered; is_head = is }) refl
+
+through_pending : (setup : Setup) (past : List Entry) (cube port from : ℕ) (flits : List (List ℕ)) → direction_to setup.topology (places.Port cube port) ≡ Some from
+    → pending (receiver_entries (toward from) (entries_on setup.topology from past)) ≡ flits → EntryRule setup past (through_head setup.topology (view_of setup past) cube port (option_and_then head_in (slice_get flits 0)))
+through_pending setup past cube port from [] arrives gathered = tt
+through_pending setup past cube port from (flit ∷ rest) arrives gathered = through_head_by setup past cube port from flit rest (head_in flit) arrives gathered refl
+
+through_from : (setup : Setup) (past : List Entry) (cube port : ℕ) (found : Option ℕ) → direction_to setup.topology (places.Port cube port) ≡ found
+    → EntryRule setup past (through_head setup.topology (view_of setup past) cube port (gathered_head (view_of setup past) found))
+unfolding view_of
+through_from setup past cube port None arrives = tt
+through_from setup past cube port (Some from) arrives = through_pending setup past cube port from _ arrives refl
+
 pub next_rule : (setup : Setup) (past : List Entry) (step : Step) → slice_get setup.schedule (length past) ≡ Some step → EntryRule setup past (next setup past step)
 unfolding next choice view_of give_says
 next_rule setup past (steps.Give host) there = give setup past host (next_item (host_of setup past host)) refl
@@ -289,6 +401,7 @@ next_rule setup past (steps.Lift cube from) there =
     (λ at. lift setup past cube from at (port_towards setup.topology cube at.front.slid) refl)
 next_rule setup past (steps.Take host) there = fronted setup past (steps.Take host) (Host host) _ _ refl (λ at. take_front setup past host at at.front.poisoned refl)
 next_rule setup past (steps.Retire slot) there = retire setup past slot _
+next_rule setup past (steps.Through cube port) there = through_from setup past cube port _ refl
 next_rule setup past _ there = tt
 
 follows_rule : (setup : Setup) (past : List Entry) (step : Option Step) (entry : Entry) → slice_get setup.schedule (length past) ≡ step → Follows setup past step entry → EntryRule setup past entry

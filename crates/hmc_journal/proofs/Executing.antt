@@ -15,8 +15,9 @@ use Rattle.hmc_hops.specs.Flows.{executed_by as hop_executed_by}
 use Rattle.hmc_hops.specs.Moves.Move.{Executes}
 use Rattle.hmc_journal.specs.Answers.{tag_of}
 use Rattle.hmc_journal.specs.declared.entry.Entry.{Entry}
-use Rattle.hmc_journal.specs.declared.entry.Entry.TheVariants.{Gave, Sent, Landed, Executed}
-use Rattle.hmc_journal.specs.Directions.{unsent, landed_packets}
+use Rattle.hmc_journal.specs.declared.entry.Entry.TheVariants.{Gave, Sent, Landed, Executed, Unlocked}
+use Rattle.hmc_journal.specs.Directions.{unsent, awaits_first, landed_packets}
+use Rattle.hmc_journal.specs.Piped.{passed_onto}
 use Rattle.hmc_journal.specs.Filters.{TaggedRequest, same_unit, executed_by}
 use Rattle.hmc_journal.specs.Lawful.{Lawful}
 use Rattle.hmc_journal.specs.Network.{IsNetwork}
@@ -29,7 +30,7 @@ use Rattle.hmc_journal.proofs.Entering.{Kept, runs_request}
 use Rattle.hmc_journal.proofs.Sound.{kept}
 use Rattle.hmc_journal.proofs.Seen.{seen, kind_by, kind_of, spot_of, request_or, moves_of, moves}
 use Rattle.hmc_journal.proofs.Flowing.{unit_parts}
-use Rattle.hmc_journal.proofs.Collecting.{piece_of, collected, append_when, quiet, begins_nothing, lands_nothing, comes_nothing}
+use Rattle.hmc_journal.proofs.Collecting.{piece_of, collected, append_when, quiet, begins_nothing, landing_nothing, unlocks_nothing, onto_there, comes_nothing}
 
 -- ---- executed
 
@@ -73,10 +74,13 @@ executed_more setup host unit network (Gave giver tag poisoned request) past law
     ∙ ap (λ l. executed_by host unit past ++ l) (sym (comes_nothing (executed_requests host (unit_cube unit) (spot_of unit)) setup.topology (direction_from setup.topology (places.Host giver)) (request_packet request (tag_number tag) giver poisoned) (λ d x. refl)))
 executed_more setup host unit network (Sent d what.New flit) past lawful =
     quiet (executed_by host unit past)
-    ∙ ap (λ l. executed_by host unit past ++ l) (sym (begins_nothing (executed_requests host (unit_cube unit) (spot_of unit)) setup.topology past d (unsent d past) (λ x. refl)))
+    ∙ ap (λ l. executed_by host unit past ++ l) (sym (begins_nothing (executed_requests host (unit_cube unit) (spot_of unit)) setup.topology past d (awaits_first d past) (unsent d past) (λ x. refl)))
 executed_more setup host unit network (Landed d flit outcome) past lawful =
     quiet (executed_by host unit past)
-    ∙ ap (λ l. executed_by host unit past ++ l) (sym (lands_nothing (executed_requests host (unit_cube unit) (spot_of unit)) setup.topology d (landed_packets setup.topology d flit outcome past) (λ x. refl)))
+    ∙ ap (λ l. executed_by host unit past ++ l) (sym (landing_nothing (executed_requests host (unit_cube unit) (spot_of unit)) setup.topology past (Landed d flit outcome ∷ past) d outcome (passed_onto setup.topology d past) (landed_packets setup.topology d flit outcome past) (λ to is. record { past_output = λ n x. refl; buffer = λ x. refl; line = λ x. refl }) (λ x. refl)))
+executed_more setup host unit network (Unlocked d) past lawful =
+    quiet (executed_by host unit past)
+    ∙ ap (λ l. executed_by host unit past ++ l) (sym (unlocks_nothing (executed_requests host (unit_cube unit) (spot_of unit)) setup.topology (Unlocked d ∷ past) (onto_there setup.topology d past) (λ to x. refl)))
 executed_more setup host unit network (Sent d what.Tret flit) past lawful = quiet (executed_by host unit past)
 executed_more setup host unit network _ past lawful = quiet (executed_by host unit past)
 

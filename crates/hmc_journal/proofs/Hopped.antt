@@ -1,9 +1,9 @@
 -- Each entry of a lawful journal is its move: the queues of the journal hold what they hold after
 -- the moves.
-use Rattle.std.proofs.Common.{◌≡◌, ◌≤◌, ◌<◌, ◌/◌, ◌∙◌, ◌==◌, ◌&&◌, ℕ, zero, suc, Bool, true, false, not, if◌then◌else◌, Option, Some, None, List, [], ◌∷◌, ◌++◌, map, length, refl, sym, ap, ap₂, subst, arith, append-nil, eqb-true}
-use Rattle.std.specs.Prelude.{option_map, filter}
+use Rattle.std.proofs.Common.{◌≡◌, ◌/◌, ◌∙◌, ◌==◌, ℕ, zero, suc, Bool, true, false, if◌then◌else◌, Option, Some, None, List, [], ◌∷◌, ◌++◌, map, refl, sym, ap, ap₂, subst, append-nil, append_assoc, eqb-true, nat_lt}
+use Rattle.std.specs.Prelude.{option_map}
 use Rattle.std.proofs.lemmas.List.{map-append}
-use Rattle.hmc_codes.specs.Commands.{family_of, family_of_layout, layout_of, is_posted, is_ask, is_flow}
+use Rattle.hmc_codes.specs.Commands.{family_of, family_of_layout, layout_of, is_posted, is_ask}
 use Rattle.hmc_codes.specs.Answer.{CanReply, IsAnswer}
 use Rattle.hmc_codes.specs.Request.{RequestFields}
 use Rattle.hmc_codes.specs.declared.answer.Answer.{Answer}
@@ -17,30 +17,27 @@ use Rattle.hmc_codes.specs.declared.unit.Unit.TheVariants as units
 use Rattle.hmc_packet.specs.Packet.{PacketFields}
 use Rattle.hmc_packet.specs.Transactions.{request_packet, reply_packet, request_in, answer_in}
 use Rattle.hmc_packet.proofs.TransactionLemmas.{answer_in-reply_packet}
-use Rattle.hmc_packet.specs.declared.outcome.Outcome.{Outcome}
 use Rattle.hmc_packet.specs.declared.what.What.{What}
 use Rattle.hmc_packet.specs.declared.what.What.TheVariants as what
 use Rattle.hmc_packet.specs.Landings as landings
 use Rattle.hmc_send.specs.Entries as senders
 use Rattle.hmc_send.specs.LinkSenders.{sender_entries}
-use Rattle.hmc_send.specs.Places.{is_token, tret_packet}
+use Rattle.hmc_send.specs.Places.{tret_packet}
 use Rattle.hmc_wire.specs.LinkLaws.{IsKept}
 use Rattle.hmc_hops.specs.Packets.{Packet, Kind, Spot, no_request, reply_to}
-use Rattle.hmc_hops.specs.Packets.{is_token as is_hop_token}
 use Rattle.hmc_hops.specs.Packets.{Kind as kinds}
 use Rattle.hmc_hops.specs.Packets.{Spot as spots}
 use Rattle.hmc_hops.specs.Map.{Map}
-use Rattle.hmc_hops.specs.Queues.{QueueId as HopQueue, next_queue, after_line, lift_of}
+use Rattle.hmc_hops.specs.Queues.{QueueId as HopQueue, next_queue, lift_of}
 use Rattle.hmc_hops.specs.Queues.{same_queue as same_hop, is_at as is_at_hop}
 use Rattle.hmc_hops.specs.Queues.{QueueId as hops}
-use Rattle.hmc_hops.specs.Moves.{Move, without, without_if, answer_queue}
+use Rattle.hmc_hops.specs.Moves.{Move, answer_queue}
 use Rattle.hmc_hops.specs.Moves.{packet_if as hop_if, contents as hop_contents}
 use Rattle.hmc_hops.specs.Moves.Move.{Comes, Executes}
 use Rattle.hmc_journal.specs.declared.entry.Entry.{Entry}
 use Rattle.hmc_journal.specs.declared.entry.Entry.TheVariants.{Gave, Sent, Landed, Shifted, Dropped, Spread, Executed, Lifted, Took, Discarded, Through, Unlocked, Retired, Passed, Idle}
-use Rattle.hmc_journal.specs.Carried.{underway_on}
 use Rattle.hmc_journal.specs.Delivered.{unnumbered}
-use Rattle.hmc_journal.specs.Directions.{unsent, receiver_of, landed_packets, accepted}
+use Rattle.hmc_journal.specs.Directions.{unsent, awaits_first, receiver_of, landed_packets, accepted}
 use Rattle.hmc_journal.specs.Lawful.{Lawful}
 use Rattle.hmc_journal.specs.Links.{link_entries, sizes_on, entries_on}
 use Rattle.hmc_journal.specs.StepView.{view_of}
@@ -48,19 +45,23 @@ use Rattle.hmc_journal.specs.declared.outcome.Goal.{Goal}
 use Rattle.hmc_journal.specs.declared.outcome.Goal.TheVariants as goals
 use Rattle.hmc_codes.specs.declared.place.Place.{Place}
 use Rattle.hmc_journal.specs.Network.{IsNetwork}
-use Rattle.hmc_journal.specs.Queues.{QueueId, same_queue, is_at, arrival_in, arrival_of, arrived, begins, leaves, left, entered, enters, contents, front_of, buffer_at, landing_buffer, goal_queue, queue_of, answers_of, unless_posted, tag_number, output_from}
+use Rattle.hmc_journal.specs.Queues.{QueueId, is_at, arrival_in, arrived, begins, leaves, left, entered, enters, contents, front_of, goal_queue, queue_of, answers_of, unless_posted, tag_number, output_from}
 use Rattle.hmc_journal.specs.Queues.{QueueId as queues}
-use Rattle.hmc_journal.specs.Setup.{Topology, Setup, directions_in, end_of, direction_from, unit_cube}
+use Rattle.hmc_journal.specs.Setup.{Topology, Setup, directions_in, direction_from, unit_cube}
 use Rattle.hmc_journal.proofs.EntryRule.{EntryRule, HasFront, HasExecuted, entry_rule, lawful_past}
 use Rattle.hmc_journal.proofs.Moves.{HasBegun, arrives, arrived_is, entering, front_is}
-use Rattle.hmc_journal.proofs.Buffers.{few_landed}
 use Rattle.hmc_journal.proofs.Standing.{IsAtEnd, request_of_packet, clean_reply, replied_slid, replied_cube, replied_tag}
-use Rattle.hmc_journal.proofs.Entering.{Kept, front_stands, has_direction, landed-real, runs_request, sends, reply_tag, executed_reply}
-use Rattle.hmc_journal.proofs.Sound.{kept, has_begun}
-use Rattle.hmc_journal.proofs.Underway.{begins_with, underway-sent, underway-elsewhere, underway-quiet, underway-landed, underway-there}
+use Rattle.hmc_journal.proofs.Entering.{Kept, front_stands, has_direction, runs_request, sends, reply_tag, executed_reply}
+use Rattle.hmc_journal.proofs.Sound.{kept, has_begun, through_of}
+use Rattle.hmc_packet.specs.Landings.{pending}
+use Rattle.hmc_journal.specs.Piped.{passed_onto, pipe_onto}
+use Rattle.hmc_journal.proofs.PipeSteps.{IsUp}
+use Rattle.hmc_journal.proofs.UnsentFlits.{AreGathered}
+use Rattle.hmc_journal.proofs.LandingMoves.{line_off, landed_step, unlocked_step}
+use Rattle.hmc_journal.proofs.Underway.{line_on, begins_with, new_begun, underway-sent, underway-elsewhere, underway-quiet, underway-through}
 use Rattle.hmc_journal.proofs.Wired.{Wired, wired, end_cubes}
-use Rattle.hmc_journal.proofs.Seen.{seen, all_seen, kind_by, spot_of, spot_by, request_or, answer_or, hop_queue, arriving, comes_from, begins_move, lands, moves_of, moves}
-use Rattle.hmc_journal.proofs.Agreeing.{IsMapOf, EndsAt, IsReal, Agrees, arriving_is, same_hops, if_seen}
+use Rattle.hmc_journal.proofs.Seen.{seen, all_seen, kind_by, spot_of, spot_by, request_or, answer_or, hop_queue, comes_from, begins_move, lands, passes_on, moves_of, moves}
+use Rattle.hmc_journal.proofs.Agreeing.{IsMapOf, EndsAt, IsReal, Agrees, same_hops, if_seen}
 use Rattle.hmc_journal.proofs.Hopping.{queue-more, still_step, RealTo, front_step, host_next, shifted_next, dropped_next, spread_next, lifted_next}
 
 -- ---- executions
@@ -147,7 +148,7 @@ executed_step setup m past moved unit host tag request answer network wires keep
           ∙ reply_enters t unit q (seen t has.at.front).kind (is_posted request.command) reply (reply_to (seen t has.at.front) answer) wires real kind_is replied)
           (agrees.queues q real);
       lines = λ d.
-          ap (map (seen t)) (underway-quiet t d entry past tt tt) ∙ agrees.lines d
+          ap (map (seen t)) (underway-quiet t d entry past tt tt tt) ∙ agrees.lines d
           ∙ sym (ap (λ (b : Bool). hop_contents m moved (hops.Line d) ++ hop_if b (reply_to (seen t has.at.front) answer)) (no_line_answer (seen t has.at.front).kind (unit_cube unit) (spot_of unit) d)
           ∙ append-nil (hop_contents m moved (hops.Line d)));
     })
@@ -155,7 +156,7 @@ executed_step setup m past moved unit host tag request answer network wires keep
 -- ---- what comes from outside
 
 gave_step : (setup : Setup) (m : Map) (past : List Entry) (moved : List Move) (entry : Entry) (place : Place) (packet : PacketFields) (d : ℕ) → Wired setup.topology → Kept setup past → Agrees setup.topology m past moved → EntryRule setup past entry → HasBegun setup past entry
-    → leaves past entry ≡ None → arrives setup.topology past entry ≡ arrival_in (output_from setup.topology place) (λ _. packet) → direction_from setup.topology place ≡ Some d → ((e : ℕ) → underway_on setup.topology e (entry ∷ past) ≡ underway_on setup.topology e past)
+    → leaves past entry ≡ None → arrives setup.topology past entry ≡ arrival_in (output_from setup.topology place) (λ _. packet) → direction_from setup.topology place ≡ Some d → ((e : ℕ) → line_on setup.topology e (entry ∷ past) ≡ line_on setup.topology e past)
     → Agrees setup.topology m (entry ∷ past) (Comes (hops.Output d) (seen setup.topology packet) ∷ moved)
 unfolding entering hop_contents
 gave_step setup m past moved entry place packet d wires keeps agrees right begun leaves_is arrives_is starts under =
@@ -171,26 +172,17 @@ gave_step setup m past moved entry place packet d wires keeps agrees right begun
 
 -- ---- sends
 
-line_off : (topology : Topology) (q : QueueId) (d : ℕ) → same_hop (hops.Line d) (hop_queue topology q) ≡ false
-line_off topology (queues.Output e) d = refl
-line_off topology (queues.Port c p) d = refl
-line_off topology (queues.Host h) d = refl
-line_off topology (queues.Vault c v) d = refl
-line_off topology (queues.Bank c v b) d = refl
-line_off topology (queues.Registers c) d = refl
-line_off topology (queues.Answers c from) d = refl
-
 -- what a send adds to a line
-added : (topology : Topology) (d e : ℕ) (as_what : What) (flit : List ℕ) (past : List Entry) (same : Bool) → (d == e) ≡ same → IsKept (sizes_on topology d) (entries_on topology d (Sent d as_what flit ∷ past))
-    → map (seen topology) (underway_on topology e (Sent d as_what flit ∷ past))
-    ≡ map (seen topology) (underway_on topology e past) ++ (if same then map (seen topology) (begins_with as_what (unsent d past) (front_of (contents topology past (queues.Output d)))) else [])
-added topology d e as_what flit past false is keeps = ap (map (seen topology)) (underway-elsewhere topology e d as_what flit past is) ∙ sym (append-nil (map (seen topology) (underway_on topology e past)))
-added topology d e as_what flit past true is keeps =
-    let begun = begins_with as_what (unsent d past) (front_of (contents topology past (queues.Output d))) in
-    let here : map (seen topology) (underway_on topology d (Sent d as_what flit ∷ past)) ≡ map (seen topology) (underway_on topology d past) ++ map (seen topology) begun =
-    sym (all_seen topology (underway_on topology d (Sent d as_what flit ∷ past))) ∙ ap (map (seen topology)) (underway-sent topology d as_what flit past keeps)
-    ∙ map-append (seen topology) (map unnumbered (underway_on topology d past)) (map unnumbered begun) ∙ ap₂ (λ (l k : List Packet). l ++ k) (all_seen topology (underway_on topology d past)) (all_seen topology begun) in
-    subst (λ (n : ℕ). map (seen topology) (underway_on topology n (Sent d as_what flit ∷ past)) ≡ map (seen topology) (underway_on topology n past) ++ map (seen topology) begun) (eqb-true d e is) here
+added : (topology : Topology) (d e : ℕ) (as_what : What) (flit : List ℕ) (past : List Entry) (same : Bool) → (d == e) ≡ same → IsKept (sizes_on topology d) (entries_on topology d (Sent d as_what flit ∷ past)) → AreGathered topology past → IsUp topology d past
+    → map (seen topology) (line_on topology e (Sent d as_what flit ∷ past))
+    ≡ map (seen topology) (line_on topology e past) ++ (if same then map (seen topology) (begins_with as_what (awaits_first d past) (unsent d past) (front_of (contents topology past (queues.Output d)))) else [])
+added topology d e as_what flit past false is keeps gathered up = ap (map (seen topology)) (underway-elsewhere topology e d as_what flit past is) ∙ sym (append-nil (map (seen topology) (line_on topology e past)))
+added topology d e as_what flit past true is keeps gathered up =
+    let begun = begins_with as_what (awaits_first d past) (unsent d past) (front_of (contents topology past (queues.Output d))) in
+    let here : map (seen topology) (line_on topology d (Sent d as_what flit ∷ past)) ≡ map (seen topology) (line_on topology d past) ++ map (seen topology) begun =
+    sym (all_seen topology (line_on topology d (Sent d as_what flit ∷ past))) ∙ ap (map (seen topology)) (underway-sent topology d as_what flit past keeps gathered up)
+    ∙ map-append (seen topology) (map unnumbered (line_on topology d past)) (map unnumbered begun) ∙ ap₂ (λ (l k : List Packet). l ++ k) (all_seen topology (line_on topology d past)) (all_seen topology begun) in
+    subst (λ (n : ℕ). map (seen topology) (line_on topology n (Sent d as_what flit ∷ past)) ≡ map (seen topology) (line_on topology n past) ++ map (seen topology) begun) (eqb-true d e is) here
 
 one_if_same : (topology : Topology) (same : Bool) (packet : PacketFields) → (if same then map (seen topology) (packet ∷ []) else []) ≡ hop_if same (seen topology packet)
 one_if_same topology true packet = refl
@@ -200,26 +192,35 @@ none_if : (same : Bool) (list : List Packet) → list ≡ [] → (if same then l
 none_if true list is = is
 none_if false list is = refl
 
-begin_step : (setup : Setup) (m : Map) (past : List Entry) (moved : List Move) (d : ℕ) (flit : List ℕ) (n : ℕ) → Wired setup.topology → Kept setup past → Kept setup (Sent d what.New flit ∷ past) → Agrees setup.topology m past moved → EntryRule setup past (Sent d what.New flit)
-    → HasBegun setup past (Sent d what.New flit) → unsent d past ≡ n → Agrees setup.topology m (Sent d what.New flit ∷ past) (begins_move setup.topology past d n ++ moved)
+-- a flit of a packet under way
+begins_not : (setup : Setup) (m : Map) (past : List Entry) (moved : List Move) (d : ℕ) (flit : List ℕ) (waiting : Bool) (n : ℕ) → Kept setup past → Kept setup (Sent d what.New flit ∷ past) → Agrees setup.topology m past moved → EntryRule setup past (Sent d what.New flit)
+    → HasBegun setup past (Sent d what.New flit) → awaits_first d past ≡ waiting → unsent d past ≡ n → begins waiting n d ≡ None → new_begun waiting n (front_of (contents setup.topology past (queues.Output d))) ≡ [] → Agrees setup.topology m (Sent d what.New flit ∷ past) moved
+unfolding entering leaves enters
+begins_not setup m past moved d flit waiting n keeps now agrees right begun waits is none new =
+    let t = setup.topology in
+    still_step setup m past moved (Sent d what.New flit) agrees right begun keeps.within (ap₂ (λ (b : Bool) (k : ℕ). begins b k d) waits is ∙ none) (λ q. refl)
+    (λ e. added t d e what.New flit past (d == e) refl (now.links (d / 2)) keeps.gathered (keeps.up d)
+    ∙ ap (λ l. map (seen t) (line_on t e past) ++ l)
+    (none_if (d == e) (map (seen t) (new_begun (awaits_first d past) (unsent d past) (front_of (contents t past (queues.Output d)))))
+    (ap (map (seen t)) (ap₂ (λ (b : Bool) (k : ℕ). new_begun b k (front_of (contents t past (queues.Output d)))) waits is ∙ new)))
+    ∙ append-nil (map (seen t) (line_on t e past)))
+
+begin_step : (setup : Setup) (m : Map) (past : List Entry) (moved : List Move) (d : ℕ) (flit : List ℕ) (waiting : Bool) (n : ℕ) → Wired setup.topology → Kept setup past → Kept setup (Sent d what.New flit ∷ past) → Agrees setup.topology m past moved → EntryRule setup past (Sent d what.New flit)
+    → HasBegun setup past (Sent d what.New flit) → awaits_first d past ≡ waiting → unsent d past ≡ n → Agrees setup.topology m (Sent d what.New flit ∷ past) (begins_move setup.topology past d waiting n ++ moved)
 unfolding entering hop_contents leaves enters
-begin_step setup m past moved d flit zero wires keeps now agrees right begun is =
+begin_step setup m past moved d flit false zero wires keeps now agrees right begun waits is =
     let t = setup.topology in
     let front = front_of (contents t past (queues.Output d)) in
     let x = seen t front in record {
       queues = λ q real.
           queue-more setup (Sent d what.New flit) past q (same_hop (hops.Output d) (hop_queue t q)) (hop_if (same_hop (hops.Line d) (hop_queue t q)) x) (hop_contents m moved (hop_queue t q)) right begun keeps.within
-          (ap (λ (n : ℕ). is_at (begins n d) q) is ∙ same_hops t (queues.Output d) q wires tt real) (sym (ap (λ (b : Bool). hop_if b x) (line_off t q d))) (agrees.queues q real);
+          (ap₂ (λ (b : Bool) (n : ℕ). is_at (begins b n d) q) waits is ∙ same_hops t (queues.Output d) q wires tt real) (sym (ap (λ (b : Bool). hop_if b x) (line_off t q d))) (agrees.queues q real);
       lines = λ e.
-          added t d e what.New flit past (d == e) refl (now.links (d / 2))
-          ∙ ap₂ (λ (l k : List Packet). l ++ k) (agrees.lines e) (ap (λ (n : ℕ). if d == e then map (seen t) (begins_with what.New n front) else []) is ∙ one_if_same t (d == e) front);
+          added t d e what.New flit past (d == e) refl (now.links (d / 2)) keeps.gathered (keeps.up d)
+          ∙ ap₂ (λ (l k : List Packet). l ++ k) (agrees.lines e) (ap₂ (λ (b : Bool) (n : ℕ). if d == e then map (seen t) (new_begun b n front) else []) waits is ∙ one_if_same t (d == e) front);
     }
-begin_step setup m past moved d flit (suc n) wires keeps now agrees right begun is =
-    let t = setup.topology in
-    still_step setup m past moved (Sent d what.New flit) agrees right begun keeps.within (ap (λ (k : ℕ). begins k d) is) (λ q. refl)
-    (λ e. added t d e what.New flit past (d == e) refl (now.links (d / 2))
-    ∙ ap (λ l. map (seen t) (underway_on t e past) ++ l) (none_if (d == e) (map (seen t) (begins_with what.New (unsent d past) (front_of (contents t past (queues.Output d))))) (ap (λ (k : ℕ). map (seen t) (begins_with what.New k (front_of (contents t past (queues.Output d))))) is))
-    ∙ append-nil (map (seen t) (underway_on t e past)))
+begin_step setup m past moved d flit false (suc n) wires keeps now agrees right begun waits is = begins_not setup m past moved d flit false (suc n) keeps now agrees right begun waits is refl refl
+begin_step setup m past moved d flit true n wires keeps now agrees right begun waits is = begins_not setup m past moved d flit true n keeps now agrees right begun waits is refl refl
 
 tret_step : (setup : Setup) (m : Map) (past : List Entry) (moved : List Move) (d : ℕ) (flit : List ℕ) → Wired setup.topology → Kept setup past → Kept setup (Sent d what.Tret flit ∷ past) → Agrees setup.topology m past moved → EntryRule setup past (Sent d what.Tret flit)
     → Agrees setup.topology m (Sent d what.Tret flit ∷ past) (Comes (hops.Line d) (seen setup.topology tret_packet) ∷ moved)
@@ -230,7 +231,7 @@ tret_step setup m past moved d flit wires keeps now agrees right =
       queues = λ q real.
           queue-more setup (Sent d what.Tret flit) past q false (hop_if (same_hop (hops.Line d) (hop_queue t q)) x) (hop_contents m moved (hop_queue t q)) right tt keeps.within refl (sym (ap (λ (b : Bool). hop_if b x) (line_off t q d))) (agrees.queues q real);
       lines = λ e.
-          added t d e what.Tret flit past (d == e) refl (now.links (d / 2)) ∙ ap₂ (λ (l k : List Packet). l ++ k) (agrees.lines e) (one_if_same t (d == e) tret_packet);
+          added t d e what.Tret flit past (d == e) refl (now.links (d / 2)) keeps.gathered (keeps.up d) ∙ ap₂ (λ (l k : List Packet). l ++ k) (agrees.lines e) (one_if_same t (d == e) tret_packet);
     }
 
 -- a flit that begins no packet
@@ -239,10 +240,10 @@ BeginsNone what.New = ⊥
 BeginsNone what.Tret = ⊥
 BeginsNone _ = Unit {0}
 
-begins_none : (as_what : What) (n : ℕ) (front : PacketFields) → BeginsNone as_what → begins_with as_what n front ≡ []
-begins_none what.New n front none = absurd none
-begins_none what.Tret n front none = absurd none
-begins_none _ n front none = refl
+begins_none : (as_what : What) (waiting : Bool) (n : ℕ) (front : PacketFields) → BeginsNone as_what → begins_with as_what waiting n front ≡ []
+begins_none what.New waiting n front none = absurd none
+begins_none what.Tret waiting n front none = absurd none
+begins_none _ waiting n front none = refl
 
 leaves_none : (d : ℕ) (as_what : What) (flit : List ℕ) (past : List Entry) → BeginsNone as_what → leaves past (Sent d as_what flit) ≡ None
 unfolding leaves
@@ -262,102 +263,9 @@ flit_step setup m past moved d as_what flit keeps now agrees right none =
     let t = setup.topology in
     let front = front_of (contents t past (queues.Output d)) in
     still_step setup m past moved (Sent d as_what flit) agrees right (begun_none setup d as_what flit past none) keeps.within (leaves_none d as_what flit past none) (λ q. refl)
-    (λ e. added t d e as_what flit past (d == e) refl (now.links (d / 2))
-    ∙ ap (λ l. map (seen t) (underway_on t e past) ++ l) (none_if (d == e) (map (seen t) (begins_with as_what (unsent d past) front)) (ap (map (seen t)) (begins_none as_what (unsent d past) front none)))
-    ∙ append-nil (map (seen t) (underway_on t e past)))
-
--- ---- landings
-
-token_kind : (layout : Layout) (posted : Bool) → is_hop_token (kind_by (family_of_layout layout) posted) ≡ not (is_flow layout)
-token_kind layouts.Ask true = refl
-token_kind layouts.Ask false = refl
-token_kind layouts.Reply posted = refl
-token_kind layouts.Null posted = refl
-token_kind layouts.Pret posted = refl
-token_kind layouts.Tret posted = refl
-token_kind layouts.Irtry posted = refl
-
-pub token_seen : (topology : Topology) (packet : PacketFields) → is_hop_token (seen topology packet).kind ≡ is_token packet
-unfolding seen
-token_seen topology packet = token_kind (layout_of packet.command) (is_posted packet.command)
-
-pub buffer_real : (topology : Topology) (place : Place) (d : ℕ) → d < directions_in topology → end_of topology d ≡ place → IsReal topology (buffer_at place)
-buffer_real topology (places.Host host) d less ends = record { direction = d; inside = less; ends = ends }
-buffer_real topology (places.Port cube port) d less ends = record { direction = d; inside = less; ends = ends }
-
-buffer_hop_at : (topology : Topology) (place : Place) → hop_queue topology (buffer_at place) ≡ hops.Buffer (arriving topology place)
-buffer_hop_at topology (places.Host host) = refl
-buffer_hop_at topology (places.Port cube port) = refl
-
-pub buffer_hop : (topology : Topology) (d : ℕ) → Wired topology → d < directions_in topology → hop_queue topology (landing_buffer topology d) ≡ hops.Buffer d
-buffer_hop topology d wires less =
-    buffer_hop_at topology (end_of topology d) ∙ ap hops.Buffer (arriving_is topology (end_of topology d) wires (record { direction = d; inside = less; ends = refl }))
-
--- the packet enters the buffer, unless it only returns tokens
-landed_new : (topology : Topology) (d : ℕ) (q : QueueId) (p : PacketFields) (token : Bool) → Wired topology → d < directions_in topology → IsReal topology q → is_token p ≡ token
-    → map (seen topology) (arrived q (arrival_of (landing_buffer topology d) (filter is_token (p ∷ [])))) ≡ hop_if (is_at_hop (after_line token d) (hop_queue topology q)) (seen topology p)
-landed_new topology d q p true wires less real is =
-    ap (λ (b : Bool). map (seen topology) (arrived q (arrival_of (landing_buffer topology d) (if b then p ∷ [] else [])))) is
-    ∙ if_seen topology (same_queue (landing_buffer topology d) q) (λ _. p)
-    ∙ ap (λ (b : Bool). hop_if b (seen topology p)) (same_hops topology (landing_buffer topology d) q wires (buffer_real topology (end_of topology d) d less refl) real ∙ ap (λ a. same_hop a (hop_queue topology q)) (buffer_hop topology d wires less))
-landed_new topology d q p false wires less real is =
-    ap (λ (b : Bool). map (seen topology) (arrived q (arrival_of (landing_buffer topology d) (if b then p ∷ [] else [])))) is
-
-no_line_after : (token : Bool) (d e : ℕ) → is_at_hop (after_line token d) (hops.Line e) ≡ false
-no_line_after true d e = refl
-no_line_after false d e = refl
-
--- there is a packet
-abbrev some_in : List PacketFields → Bool
-some_in [] = false
-some_in (packet ∷ packets) = true
-
--- what is left of a line
-line_left : (topology : Topology) (d e : ℕ) (flit : List ℕ) (outcome : Outcome) (past : List Entry) (same : Bool) (landed : List PacketFields) → (d == e) ≡ same → IsKept (sizes_on topology d) (entries_on topology d (Landed d flit outcome ∷ past))
-    → landed_packets topology d flit outcome past ≡ landed → length landed ≤ 1 → map (seen topology) (underway_on topology e (Landed d flit outcome ∷ past)) ≡ without_if (same && some_in landed) 0 (map (seen topology) (underway_on topology e past))
-unfolding without
-line_left topology d e flit outcome past false landed is keeps landed_is few = ap (map (seen topology)) (underway-there topology e d flit outcome past is)
-line_left topology d e flit outcome past true [] is keeps landed_is few =
-    ap (λ (n : ℕ). map (seen topology) (underway_on topology n (Landed d flit outcome ∷ past))) (sym (eqb-true d e is))
-    ∙ ap (map (seen topology)) (sym (underway-landed topology d flit outcome past keeps ∙ ap (λ l. l ++ underway_on topology d (Landed d flit outcome ∷ past)) landed_is))
-    ∙ ap (λ (n : ℕ). map (seen topology) (underway_on topology n past)) (eqb-true d e is)
-line_left topology d e flit outcome past true (p ∷ []) is keeps landed_is few =
-    ap (λ (n : ℕ). map (seen topology) (underway_on topology n (Landed d flit outcome ∷ past))) (sym (eqb-true d e is))
-    ∙ ap (λ l. without_if true 0 (map (seen topology) l)) (sym (underway-landed topology d flit outcome past keeps ∙ ap (λ l. l ++ underway_on topology d (Landed d flit outcome ∷ past)) landed_is))
-    ∙ ap (λ (n : ℕ). without_if true 0 (map (seen topology) (underway_on topology n past))) (eqb-true d e is)
-line_left topology d e flit outcome past true (p ∷ q ∷ rest) is keeps landed_is few = absurd (omega arith)
-
-same_line : (b : Bool) → (b && true) ≡ b
-same_line true = refl
-same_line false = refl
-
-no_line : (b : Bool) → (b && false) ≡ false
-no_line true = refl
-no_line false = refl
-
-landed_step : (setup : Setup) (m : Map) (past : List Entry) (moved : List Move) (d : ℕ) (flit : List ℕ) (outcome : Outcome) (landed : List PacketFields) → Wired setup.topology → Kept setup past → Kept setup (Landed d flit outcome ∷ past) → Agrees setup.topology m past moved
-    → EntryRule setup past (Landed d flit outcome) → landed_packets setup.topology d flit outcome past ≡ landed → length landed ≤ 1 → Agrees setup.topology m (Landed d flit outcome ∷ past) (lands setup.topology d landed ++ moved)
-unfolding entering enters leaves hop_contents
-landed_step setup m past moved d flit outcome [] wires keeps now agrees right is few =
-    let t = setup.topology in
-    still_step setup m past moved (Landed d flit outcome) agrees right tt keeps.within refl (λ q. ap (λ l. arrived q (arrival_of (landing_buffer t d) (filter is_token l))) is)
-    (λ e. line_left t d e flit outcome past (d == e) [] refl (now.links (d / 2)) is few ∙ ap (λ (b : Bool). without_if b 0 (map (seen t) (underway_on t e past))) (no_line (d == e)))
-landed_step setup m past moved d flit outcome (p ∷ []) wires keeps now agrees right is few =
-    let t = setup.topology in
-    let less = landed-real setup past d flit outcome right keeps in
-    let next_is : next_queue m (hops.Line d) (seen t p) ≡ after_line (is_token p) d = ap (λ (b : Bool). after_line b d) (token_seen t p) in record {
-      queues = λ q real.
-          queue-more setup (Landed d flit outcome) past q (same_hop (hops.Line d) (hop_queue t q)) (hop_if (is_at_hop (next_queue m (hops.Line d) (seen t p)) (hop_queue t q)) (seen t p)) (hop_contents m moved (hop_queue t q)) right tt keeps.within
-          (sym (line_off t q d))
-          (ap (λ l. map (seen t) (arrived q (arrival_of (landing_buffer t d) (filter is_token l)))) is ∙ landed_new t d q p (is_token p) wires less real refl
-          ∙ ap (λ o. hop_if (is_at_hop o (hop_queue t q)) (seen t p)) (sym next_is)) (agrees.queues q real);
-      lines = λ e.
-          line_left t d e flit outcome past (d == e) (p ∷ []) refl (now.links (d / 2)) is few
-          ∙ ap₂ (λ (b : Bool) (l : List Packet). without_if b 0 l) (same_line (d == e)) (agrees.lines e)
-          ∙ sym (ap (λ (b : Bool). without_if (d == e) 0 (hop_contents m moved (hops.Line e)) ++ hop_if b (seen t p)) (ap (λ o. is_at_hop o (hops.Line e)) next_is ∙ no_line_after (is_token p) d e)
-          ∙ append-nil (without_if (d == e) 0 (hop_contents m moved (hops.Line e))));
-    }
-landed_step setup m past moved d flit outcome (p ∷ q ∷ rest) wires keeps now agrees right is few = absurd (omega arith)
+    (λ e. added t d e as_what flit past (d == e) refl (now.links (d / 2)) keeps.gathered (keeps.up d)
+    ∙ ap (λ l. map (seen t) (line_on t e past) ++ l) (none_if (d == e) (map (seen t) (begins_with as_what (awaits_first d past) (unsent d past) front)) (ap (map (seen t)) (begins_none as_what (awaits_first d past) (unsent d past) front none)))
+    ∙ append-nil (map (seen t) (line_on t e past)))
 
 -- ---- every entry
 
@@ -386,8 +294,8 @@ agrees_more setup m past moved (Gave host tag poisoned request) network wires ma
     let packet = request_packet request (tag_number tag) host poisoned in
     let to = has_direction t (view_of setup past) (places.Host host) right.room in
     subst (λ (o : Option ℕ). Agrees t m (Gave host tag poisoned request ∷ past) (comes_from t o packet ++ moved)) (sym to.1)
-    (gave_step setup m past moved (Gave host tag poisoned request) (places.Host host) packet to.0 wires keeps agrees right tt refl refl to.1 (λ e. underway-quiet t e (Gave host tag poisoned request) past tt tt))
-agrees_more setup m past moved (Sent d what.New flit) network wires map_of keeps now agrees right = begin_step setup m past moved d flit (unsent d past) wires keeps now agrees right (has_begun setup past (Sent d what.New flit) right keeps) refl
+    (gave_step setup m past moved (Gave host tag poisoned request) (places.Host host) packet to.0 wires keeps agrees right tt refl refl to.1 (λ e. underway-quiet t e (Gave host tag poisoned request) past tt tt tt))
+agrees_more setup m past moved (Sent d what.New flit) network wires map_of keeps now agrees right = begin_step setup m past moved d flit (awaits_first d past) (unsent d past) wires keeps now agrees right (has_begun setup past (Sent d what.New flit) right keeps) refl refl
 agrees_more setup m past moved (Sent d what.Tret flit) network wires map_of keeps now agrees right = tret_step setup m past moved d flit wires keeps now agrees right
 agrees_more setup m past moved (Sent d what.Train flit) network wires map_of keeps now agrees right = flit_step setup m past moved d what.Train flit keeps now agrees right tt
 agrees_more setup m past moved (Sent d what.Clear flit) network wires map_of keeps now agrees right = flit_step setup m past moved d what.Clear flit keeps now agrees right tt
@@ -396,52 +304,56 @@ agrees_more setup m past moved (Sent d what.Null flit) network wires map_of keep
 agrees_more setup m past moved (Sent d what.Pret flit) network wires map_of keeps now agrees right = flit_step setup m past moved d what.Pret flit keeps now agrees right tt
 agrees_more setup m past moved (Sent d what.Again flit) network wires map_of keeps now agrees right = flit_step setup m past moved d what.Again flit keeps now agrees right tt
 agrees_more setup m past moved (Landed d flit outcome) network wires map_of keeps now agrees right =
-    landed_step setup m past moved d flit outcome (landed_packets setup.topology d flit outcome past) wires keeps now agrees right refl (few_landed setup.topology d flit outcome past)
+    let t = setup.topology in
+    let landed = landed_packets t d flit outcome past in
+    let passed = passed_onto t d past in
+    subst (Agrees t m (Landed d flit outcome ∷ past)) (sym (append_assoc (passes_on t past (Landed d flit outcome ∷ past) d outcome passed landed) (lands t d landed) moved))
+    (landed_step setup m past moved d flit outcome passed map_of wires keeps now agrees right refl)
 agrees_more setup m past moved (Shifted cube port goal) network wires map_of keeps now agrees right =
     let t = setup.topology in
     let came = front_stands setup past (queues.Port cube port) keeps right.at in
     let at = at_end t (places.Port cube port) right.at.front came in
     front_step setup m past moved (Shifted cube port goal) (queues.Port cube port) (goal_queue t cube goal) wires agrees right tt keeps.within refl refl at (real_goal t cube goal)
-    (front_next setup m past (queues.Port cube port) right.at (option_map (hop_queue t) (goal_queue t cube goal)) (shifted_next setup m past cube port goal map_of wires at right came.goes)) (λ e. underway-quiet t e (Shifted cube port goal) past tt tt)
+    (front_next setup m past (queues.Port cube port) right.at (option_map (hop_queue t) (goal_queue t cube goal)) (shifted_next setup m past cube port goal map_of wires at right came.goes)) (λ e. underway-quiet t e (Shifted cube port goal) past tt tt tt)
 agrees_more setup m past moved (Dropped cube port) network wires map_of keeps now agrees right =
     let t = setup.topology in
     let came = front_stands setup past (queues.Port cube port) keeps right.at in
     let at = at_end t (places.Port cube port) right.at.front came in
     front_step setup m past moved (Dropped cube port) (queues.Port cube port) None wires agrees right tt keeps.within refl refl at tt
-    (front_next setup m past (queues.Port cube port) right.at None (dropped_next setup m past cube port map_of wires at (end_cubes t wires came.direction cube port came.inside came.ends) right came.goes)) (λ e. underway-quiet t e (Dropped cube port) past tt tt)
+    (front_next setup m past (queues.Port cube port) right.at None (dropped_next setup m past cube port map_of wires at (end_cubes t wires came.direction cube port came.inside came.ends) right came.goes)) (λ e. underway-quiet t e (Dropped cube port) past tt tt tt)
 agrees_more setup m past moved (Spread cube vault bank) network wires map_of keeps now agrees right =
     let t = setup.topology in
     front_step setup m past moved (Spread cube vault bank) (queues.Vault cube vault) (Some (queues.Bank cube vault bank)) wires agrees right tt keeps.within refl refl tt tt
-    (front_next setup m past (queues.Vault cube vault) right.at (Some (hops.UnitQueue cube (spots.Bank vault bank))) (spread_next setup m past cube vault bank right (front_stands setup past (queues.Vault cube vault) keeps right.at))) (λ e. underway-quiet t e (Spread cube vault bank) past tt tt)
+    (front_next setup m past (queues.Vault cube vault) right.at (Some (hops.UnitQueue cube (spots.Bank vault bank))) (spread_next setup m past cube vault bank right (front_stands setup past (queues.Vault cube vault) keeps right.at))) (λ e. underway-quiet t e (Spread cube vault bank) past tt tt tt)
 agrees_more setup m past moved (Executed unit host tag request answer) network wires map_of keeps now agrees right = executed_step setup m past moved unit host tag request answer network wires keeps agrees right
 agrees_more setup m past moved (Lifted cube from port) network wires map_of keeps now agrees right =
     let t = setup.topology in
     front_step setup m past moved (Lifted cube from port) (queues.Answers cube from) (output_from t (places.Port cube port)) wires agrees right tt keeps.within refl refl tt (real_output t (direction_from t (places.Port cube port)))
-    (front_next setup m past (queues.Answers cube from) right.at (option_map (hop_queue t) (output_from t (places.Port cube port))) (lifted_next setup m past cube from port map_of right)) (λ e. underway-quiet t e (Lifted cube from port) past tt tt)
+    (front_next setup m past (queues.Answers cube from) right.at (option_map (hop_queue t) (output_from t (places.Port cube port))) (lifted_next setup m past cube from port map_of right)) (λ e. underway-quiet t e (Lifted cube from port) past tt tt tt)
 agrees_more setup m past moved (Took host tag answer) network wires map_of keeps now agrees right =
     let t = setup.topology in
     let at = at_end t (places.Host host) right.at.front (front_stands setup past (queues.Host host) keeps right.at) in
     front_step setup m past moved (Took host tag answer) (queues.Host host) None wires agrees right tt keeps.within refl refl at tt
-    (host_next t m host (seen t (front_of (contents t past (queues.Host host)))) map_of wires at) (λ e. underway-quiet t e (Took host tag answer) past tt tt)
+    (host_next t m host (seen t (front_of (contents t past (queues.Host host)))) map_of wires at) (λ e. underway-quiet t e (Took host tag answer) past tt tt tt)
 agrees_more setup m past moved (Discarded host) network wires map_of keeps now agrees right =
     let t = setup.topology in
     let at = at_end t (places.Host host) right.at.front (front_stands setup past (queues.Host host) keeps right.at) in
     front_step setup m past moved (Discarded host) (queues.Host host) None wires agrees right tt keeps.within refl refl at tt
-    (host_next t m host (seen t (front_of (contents t past (queues.Host host)))) map_of wires at) (λ e. underway-quiet t e (Discarded host) past tt tt)
-agrees_more setup m past moved (Unlocked direction) network wires map_of keeps now agrees right =
-    still_step setup m past moved (Unlocked direction) agrees right tt keeps.within refl (λ q. refl) (λ e. ap (map (seen setup.topology)) (underway-quiet setup.topology e (Unlocked direction) past tt tt))
+    (host_next t m host (seen t (front_of (contents t past (queues.Host host)))) map_of wires at) (λ e. underway-quiet t e (Discarded host) past tt tt tt)
+agrees_more setup m past moved (Unlocked d) network wires map_of keeps now agrees right = unlocked_step setup m past moved d (nat_lt d (directions_in setup.topology)) wires keeps agrees refl
 agrees_more setup m past moved (Passed direction flit) network wires map_of keeps now agrees right =
-    still_step setup m past moved (Passed direction flit) agrees right tt keeps.within refl (λ q. refl) (λ e. ap (map (seen setup.topology)) (underway-quiet setup.topology e (Passed direction flit) past tt tt))
+    still_step setup m past moved (Passed direction flit) agrees right tt keeps.within refl (λ q. refl) (λ e. ap (map (seen setup.topology)) (underway-quiet setup.topology e (Passed direction flit) past tt tt tt))
 agrees_more setup m past moved (Through cube port direction) network wires map_of keeps now agrees right =
-    still_step setup m past moved (Through cube port direction) agrees right tt keeps.within refl (λ q. refl) (λ e. ap (map (seen setup.topology)) (underway-quiet setup.topology e (Through cube port direction) past tt tt))
+    still_step setup m past moved (Through cube port direction) agrees right tt keeps.within refl (λ q. refl)
+    (λ e. ap (map (seen setup.topology)) (underway-through setup.topology e cube port direction past (through_of setup past cube port direction right) (now.links (e / 2))))
 agrees_more setup m past moved (Retired slot) network wires map_of keeps now agrees right =
-    still_step setup m past moved (Retired slot) agrees right tt keeps.within refl (λ q. refl) (λ e. ap (map (seen setup.topology)) (underway-quiet setup.topology e (Retired slot) past tt tt))
+    still_step setup m past moved (Retired slot) agrees right tt keeps.within refl (λ q. refl) (λ e. ap (map (seen setup.topology)) (underway-quiet setup.topology e (Retired slot) past tt tt tt))
 agrees_more setup m past moved (Idle step cause) network wires map_of keeps now agrees right =
-    still_step setup m past moved (Idle step cause) agrees right tt keeps.within refl (λ q. refl) (λ e. ap (map (seen setup.topology)) (underway-quiet setup.topology e (Idle step cause) past tt tt))
+    still_step setup m past moved (Idle step cause) agrees right tt keeps.within refl (λ q. refl) (λ e. ap (map (seen setup.topology)) (underway-quiet setup.topology e (Idle step cause) past tt tt tt))
 
 -- nothing is under way before anything was done
-none_underway : (topology : Topology) (d : ℕ) → underway_on topology d [] ≡ []
-unfolding accepted landings.accepted receiver_of link_entries senders.places sender_entries
+none_underway : (topology : Topology) (d : ℕ) → line_on topology d [] ≡ []
+unfolding accepted landings.accepted receiver_of link_entries senders.places sender_entries pipe_onto
 none_underway topology d = refl
 
 -- the queues of a lawful journal hold what they hold after its moves

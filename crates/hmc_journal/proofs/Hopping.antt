@@ -1,5 +1,5 @@
 -- One more entry, and its move: the queues agree.
-use Rattle.std.proofs.Common.{◌≡◌, ◌≤◌, ◌<◌, ◌∙◌, ◌==◌, ◌⊎◌, inl, inr, ℕ, Bool, true, false, if◌then◌else◌, Option, Some, None, List, [], ◌∷◌, ◌++◌, map, length, refl, sym, ap, ap₂, append-nil, lt-ltb, eq-eqb, ne_eqb}
+use Rattle.std.proofs.Common.{◌≡◌, ◌≤◌, ◌<◌, ◌∙◌, ◌==◌, ◌⊎◌, inl, inr, ℕ, Bool, true, false, if◌then◌else◌, Option, Some, None, List, [], ◌∷◌, ◌++◌, map, length, refl, sym, ap, ap₂, append-nil, lt-ltb, eq-eqb}
 use Rattle.std.specs.Prelude.{option_map}
 use Rattle.std.proofs.lemmas.List.{map-append}
 use Rattle.hmc_codes.specs.Commands.{is_posted}
@@ -28,14 +28,13 @@ use Rattle.hmc_hops.specs.Moves.Move.{Goes}
 use Rattle.hmc_journal.specs.declared.outcome.Goal.{Goal as PortGoal}
 use Rattle.hmc_journal.specs.declared.outcome.Goal.TheVariants as goals
 use Rattle.hmc_journal.specs.declared.entry.Entry.{Entry}
-use Rattle.hmc_journal.specs.Carried.{underway_on}
 use Rattle.hmc_journal.specs.Queues.{QueueId, is_at, arrival_in, arrived, leaves, left, entered, contents, front_of, goal_queue, output_from}
 use Rattle.hmc_journal.specs.Queues.{QueueId as queues}
 use Rattle.hmc_journal.specs.Setup.{Topology, Setup, graph_of, shape_of, cubes_in, hosts_in, direction_from}
 use Rattle.hmc_journal.proofs.EntryRule.{EntryRule, HasShifted, HasDropped, HasSpread, HasLifted, goal_of}
 use Rattle.hmc_journal.proofs.Moves.{HasBegun, arrives, arrived_is, entering}
-use Rattle.hmc_journal.proofs.Standing.{IsAsking, IsReplying, IsMoving, IsBound, request_of_packet}
-use Rattle.hmc_journal.proofs.Standing.IsMoving.{ToCube, ToHost}
+use Rattle.hmc_journal.proofs.Standing.{IsAsking, IsReplying, IsSpoiled, IsMoving, IsBound, request_of_packet}
+use Rattle.hmc_journal.proofs.Standing.IsMoving.{ToCube, ToHost, Spoiled}
 use Rattle.hmc_journal.proofs.Entering.{has_direction, asking_goal, replying_goal, out_port, inside_goal, no_vault, no_registers, no_port, is_here}
 use Rattle.hmc_crossbar.specs.To.{into_cube, out_of_cube, request_to, unpoisoned_to}
 use Rattle.hmc_codes.specs.declared.lift.Lift.{Lift}
@@ -43,7 +42,9 @@ use Rattle.hmc_journal.specs.Next.{goal_at}
 use Rattle.hmc_journal.specs.StepView.{view_of}
 use Rattle.hmc_journal.proofs.Wired.{Wired}
 use Rattle.hmc_journal.proofs.Seen.{seen, kind_by, spot_of, spot_by, hop_queue, arriving}
+use Rattle.hmc_journal.proofs.Underway.{line_on}
 use Rattle.hmc_journal.proofs.Agreeing.{IsMapOf, EndsAt, IsReal, Agrees, end_at, out_by, arriving_is, same_hops, not_line, pop, contents-more, pop_seen, if_seen}
+use Rattle.hmc_journal.proofs.Passing.{back_false}
 
 -- ---- a queue after one more entry
 
@@ -59,7 +60,7 @@ queue-more setup entry past queue goes new before right begun within leaves_is e
 -- no move
 pub still_step : (setup : Setup) (m : Map) (past : List Entry) (moved : List Move) (entry : Entry) → Agrees setup.topology m past moved → EntryRule setup past entry → HasBegun setup past entry
     → ((q : QueueId) → left past q ≤ length (entered setup.topology past q)) → leaves past entry ≡ None → ((q : QueueId) → entering setup.topology past entry q ≡ [])
-    → ((d : ℕ) → map (seen setup.topology) (underway_on setup.topology d (entry ∷ past)) ≡ map (seen setup.topology) (underway_on setup.topology d past)) → Agrees setup.topology m (entry ∷ past) moved
+    → ((d : ℕ) → map (seen setup.topology) (line_on setup.topology d (entry ∷ past)) ≡ map (seen setup.topology) (line_on setup.topology d past)) → Agrees setup.topology m (entry ∷ past) moved
 still_step setup m past moved entry agrees right begun within leaves_is enters_is under = record {
   queues = λ q real.
       queue-more setup entry past q false [] (hop_contents m moved (hop_queue setup.topology q)) right begun within (ap (λ (o : Option QueueId). is_at o q) leaves_is) (ap (map (seen setup.topology)) (enters_is q)) (agrees.queues q real)
@@ -83,7 +84,7 @@ no_line_to topology (Some p) d = not_line topology p d
 pub front_step : (setup : Setup) (m : Map) (past : List Entry) (moved : List Move) (entry : Entry) (p : QueueId) (to : Option QueueId) → Wired setup.topology → Agrees setup.topology m past moved → EntryRule setup past entry → HasBegun setup past entry
     → ((q : QueueId) → left past q ≤ length (entered setup.topology past q)) → leaves past entry ≡ Some p → arrives setup.topology past entry ≡ arrival_in to (λ _. front_of (contents setup.topology past p)) → IsReal setup.topology p → RealTo setup.topology to
     → next_queue m (hop_queue setup.topology p) (seen setup.topology (front_of (contents setup.topology past p))) ≡ option_map (hop_queue setup.topology) to
-    → ((d : ℕ) → underway_on setup.topology d (entry ∷ past) ≡ underway_on setup.topology d past)
+    → ((d : ℕ) → line_on setup.topology d (entry ∷ past) ≡ line_on setup.topology d past)
     → Agrees setup.topology m (entry ∷ past) (Goes (hop_queue setup.topology p) 0 (seen setup.topology (front_of (contents setup.topology past p))) ∷ moved)
 unfolding entering hop_contents
 front_step setup m past moved entry p to wires agrees right begun within leaves_is arrives_is p_real to_real next_is under =
@@ -182,31 +183,32 @@ asked_out topology cube out packet true is =
     (inside_goal (is_for_registers packet.command) (vault_of (shape_of topology cube) packet.address) (goals.Port out) is))
 asked_out topology cube out packet false is = (refl, out_port (port_to_cube (graph_of topology) packet.cube cube) out is)
 
-not_back : (c d : ℕ) → (c == d) ≡ false → (d == c) ≡ false
-not_back c d is = ne_eqb d c (λ e. let clash : true ≡ false = sym (eq-eqb c d (sym e)) ∙ is in cc)
-
 request_out : (topology : Topology) (m : Map) (cube out d : ℕ) (packet : PacketFields) → IsMapOf topology m → IsAsking topology packet → goal_of topology cube packet ≡ Some (goals.Port out)
     → direction_from topology (places.Port cube out) ≡ Some d → m.next (hop_goal (seen topology packet)) cube ≡ Some d
 request_out topology m cube out d packet map_of asking is starts =
     let parts = asked_out topology cube out packet (packet.cube == cube) (asking_goal topology cube packet (goals.Port out) asking is) in
     ap (λ (g : Goal). m.next g cube) (asking_for topology packet asking) ∙ map_of.next_cube packet.cube cube
-    ∙ ap (λ (b : Bool). if b then None else out_by topology cube (port_to_cube (graph_of topology) packet.cube cube)) (not_back packet.cube cube parts.0)
+    ∙ ap (λ (b : Bool). if b then None else out_by topology cube (port_to_cube (graph_of topology) packet.cube cube)) (back_false packet.cube cube parts.0)
     ∙ ap (out_by topology cube) parts.1 ∙ starts
 
-answer_out : (topology : Topology) (m : Map) (cube out d : ℕ) (packet : PacketFields) → IsMapOf topology m → IsReplying topology packet → port_to_host (graph_of topology) packet.slid cube ≡ Some out
+pub answer_out : (topology : Topology) (m : Map) (cube out d : ℕ) (packet : PacketFields) → IsMapOf topology m → IsReplying topology packet → port_to_host (graph_of topology) packet.slid cube ≡ Some out
     → direction_from topology (places.Port cube out) ≡ Some d → m.next (hop_goal (seen topology packet)) cube ≡ Some d
 answer_out topology m cube out d packet map_of replying port starts =
     ap (λ (g : Goal). m.next g cube) (replying_for topology packet replying) ∙ map_of.next_host packet.slid cube ∙ ap (out_by topology cube) port ∙ starts
 
-pub onwards : (topology : Topology) (m : Map) (cube out d : ℕ) (packet : PacketFields) → IsMapOf topology m → IsMoving topology packet → goal_of topology cube packet ≡ Some (goals.Port out)
+pub not_spoiled : (topology : Topology) (packet : PacketFields) → packet.poisoned ≡ false → IsSpoiled topology packet → ⊥
+not_spoiled topology packet clean spoiled = let clash : true ≡ false = sym spoiled.poisoned ∙ clean in cc
+
+pub onwards : (topology : Topology) (m : Map) (cube out d : ℕ) (packet : PacketFields) → IsMapOf topology m → packet.poisoned ≡ false → IsMoving topology packet → goal_of topology cube packet ≡ Some (goals.Port out)
     → direction_from topology (places.Port cube out) ≡ Some d → m.next (hop_goal (seen topology packet)) cube ≡ Some d
-onwards topology m cube out d packet map_of (ToCube asking) is starts = request_out topology m cube out d packet map_of asking is starts
-onwards topology m cube out d packet map_of (ToHost replying) is starts =
+onwards topology m cube out d packet map_of clean (ToCube asking) is starts = request_out topology m cube out d packet map_of asking is starts
+onwards topology m cube out d packet map_of clean (Spoiled spoiled) is starts = absurd (not_spoiled topology packet clean spoiled)
+onwards topology m cube out d packet map_of clean (ToHost replying) is starts =
     answer_out topology m cube out d packet map_of replying (out_port (port_to_host (graph_of topology) packet.slid cube) out (replying_goal topology cube packet (goals.Port out) replying is)) starts
 
 -- ---- where the front of a port's buffer goes
 
-unpoisoned_next : (topology : Topology) (m : Map) (cube port : ℕ) (packet : PacketFields) (direction : Option ℕ) → IsMapOf topology m → Wired topology → EndsAt topology (places.Port cube port) → packet.poisoned ≡ false
+pub unpoisoned_next : (topology : Topology) (m : Map) (cube port : ℕ) (packet : PacketFields) (direction : Option ℕ) → IsMapOf topology m → Wired topology → EndsAt topology (places.Port cube port) → packet.poisoned ≡ false
     → m.next (hop_goal (seen topology packet)) cube ≡ direction → next_queue m (hop_queue topology (queues.Port cube port)) (seen topology packet) ≡ at_cube direction (first_queue cube (seen topology packet).spot)
 unfolding seen
 unpoisoned_next topology m cube port packet direction map_of wires at clean next_is =
@@ -221,14 +223,14 @@ pub shifted_next : (setup : Setup) (m : Map) (past : List Entry) (cube port : �
     → IsMoving setup.topology has.at.front → next_queue m (hop_queue setup.topology (queues.Port cube port)) (seen setup.topology has.at.front) ≡ option_map (hop_queue setup.topology) (goal_queue setup.topology cube goal)
 shifted_next setup m past cube port (goals.Vault vault) map_of wires at has moving =
     let t = setup.topology in
-    let here = is_here t cube (goals.Vault vault) has.at.front moving has.is_goal (λ out is. no_vault out vault is) in
+    let here = is_here t cube (goals.Vault vault) has.at.front has.unpoisoned moving has.is_goal (λ out is. no_vault out vault is) in
     let v = vault_of (shape_of t cube) has.at.front.address in
     let b = bank_of (shape_of t cube) has.at.front.address in
     unpoisoned_next t m cube port has.at.front None map_of wires at has.unpoisoned (stops_here t m cube has.at.front map_of here.asking here.own)
     ∙ ap (λ s. Some (first_queue cube s)) (spot_is t cube has.at.front here.asking here.own) ∙ ap Some (first_vault (is_for_registers has.at.front.command) cube v b vault here.is_goal)
 shifted_next setup m past cube port goals.Registers map_of wires at has moving =
     let t = setup.topology in
-    let here = is_here t cube goals.Registers has.at.front moving has.is_goal (λ out is. no_registers out is) in
+    let here = is_here t cube goals.Registers has.at.front has.unpoisoned moving has.is_goal (λ out is. no_registers out is) in
     let v = vault_of (shape_of t cube) has.at.front.address in
     let b = bank_of (shape_of t cube) has.at.front.address in
     unpoisoned_next t m cube port has.at.front None map_of wires at has.unpoisoned (stops_here t m cube has.at.front map_of here.asking here.own)
@@ -236,7 +238,7 @@ shifted_next setup m past cube port goals.Registers map_of wires at has moving =
 shifted_next setup m past cube port (goals.Port out) map_of wires at has moving =
     let t = setup.topology in
     let to = has_direction t (view_of setup past) (places.Port cube out) has.room in
-    unpoisoned_next t m cube port has.at.front (Some to.0) map_of wires at has.unpoisoned (onwards t m cube out to.0 has.at.front map_of moving has.is_goal to.1)
+    unpoisoned_next t m cube port has.at.front (Some to.0) map_of wires at has.unpoisoned (onwards t m cube out to.0 has.at.front map_of has.unpoisoned moving has.is_goal to.1)
     ∙ some_out t (direction_from t (places.Port cube out)) to.0 to.1
 
 -- a packet that has a goal which is there isn't lost
@@ -258,15 +260,16 @@ goal_for_family topology cube packet family = goal_at (unpoisoned_to (graph_of t
 to_cubes : (c d : ℕ) → targets.ToCube c ≡ targets.ToCube d → c ≡ d
 to_cubes c d same = cc
 
-pub not_lost : (topology : Topology) (m : Map) (cube : ℕ) (packet : PacketFields) → IsMapOf topology m → cube < cubes_in topology → IsMoving topology packet → goal_of topology cube packet ≡ None → ⊥
-not_lost topology m cube packet map_of there (ToCube asking) is =
+pub not_lost : (topology : Topology) (m : Map) (cube : ℕ) (packet : PacketFields) → IsMapOf topology m → cube < cubes_in topology → packet.poisoned ≡ false → IsMoving topology packet → goal_of topology cube packet ≡ None → ⊥
+not_lost topology m cube packet map_of there clean (ToCube asking) is =
     let parts = asked_none topology cube packet (packet.cube == cube) (sym (ap (goal_for_family topology cube packet) asking.asks) ∙ is) in
     let none : m.next (targets.ToCube packet.cube) cube ≡ None =
-    map_of.next_cube packet.cube cube ∙ ap (λ (b : Bool). if b then None else out_by topology cube (port_to_cube (graph_of topology) packet.cube cube)) (not_back packet.cube cube parts.0) ∙ ap (out_by topology cube) parts.1 in
+    map_of.next_cube packet.cube cube ∙ ap (λ (b : Bool). if b then None else out_by topology cube (port_to_cube (graph_of topology) packet.cube cube)) (back_false packet.cube cube parts.0) ∙ ap (out_by topology cube) parts.1 in
     let known : m.is_goal (targets.ToCube packet.cube) ≡ true = map_of.goal_cube packet.cube ∙ lt-ltb packet.cube (cubes_in topology) asking.cube in
     let here = map_of.is.arrives (targets.ToCube packet.cube) cube known (map_of.is_cube cube ∙ lt-ltb cube (cubes_in topology) there) none in
     let clash : true ≡ false = sym (eq-eqb packet.cube cube (to_cubes packet.cube cube here)) ∙ parts.0 in cc
-not_lost topology m cube packet map_of there (ToHost replying) is =
+not_lost topology m cube packet map_of there clean (Spoiled spoiled) is = absurd (not_spoiled topology packet clean spoiled)
+not_lost topology m cube packet map_of there clean (ToHost replying) is =
     let port = no_goal_at (port_to_host (graph_of topology) packet.slid cube) (sym (ap (goal_for_family topology cube packet) replying.replies) ∙ is) in
     let none : m.next (targets.ToHost packet.slid) cube ≡ None = map_of.next_host packet.slid cube ∙ ap (out_by topology cube) port in
     let known : m.is_goal (targets.ToHost packet.slid) ≡ true = map_of.goal_host packet.slid ∙ lt-ltb packet.slid (hosts_in topology) replying.slid in
@@ -281,9 +284,13 @@ pub dropped_next : (setup : Setup) (m : Map) (past : List Entry) (cube port : �
 unfolding seen
 dropped_next setup m past cube port map_of wires at there has moving = by_cause has.is_lost
   where
+    by_poison : (poisoned : Bool) → has.at.front.poisoned ≡ poisoned → goal_of setup.topology cube has.at.front ≡ None → next_queue m (hop_queue setup.topology (queues.Port cube port)) (seen setup.topology has.at.front) ≡ None
+    by_poison true poisoned none = poisoned_none has.at.front.poisoned (after_buffer m (m.end_of (arriving setup.topology (places.Port cube port))) (seen setup.topology has.at.front)) poisoned
+    by_poison false clean none = absurd (not_lost setup.topology m cube has.at.front map_of there clean moving none)
+
     by_cause : (has.at.front.poisoned ≡ true) ⊎ (goal_of setup.topology cube has.at.front ≡ None) → next_queue m (hop_queue setup.topology (queues.Port cube port)) (seen setup.topology has.at.front) ≡ None
     by_cause (inl poisoned) = poisoned_none has.at.front.poisoned (after_buffer m (m.end_of (arriving setup.topology (places.Port cube port))) (seen setup.topology has.at.front)) poisoned
-    by_cause (inr none) = absurd (not_lost setup.topology m cube has.at.front map_of there moving none)
+    by_cause (inr none) = by_poison has.at.front.poisoned refl none
 
 pub spread_next : (setup : Setup) (m : Map) (past : List Entry) (cube vault bank : ℕ) → (has : HasSpread setup past cube vault bank) → IsBound setup.topology cube (goals.Vault vault) has.at.front
     → next_queue m (hops.Vault cube vault) (seen setup.topology has.at.front) ≡ Some (hops.UnitQueue cube (spots.Bank vault bank))

@@ -1,11 +1,12 @@
 -- No request and no answer is lost or passes another on its way: what was given was executed or
 -- waits, and what was lifted was taken or waits; and what each direction of a route carried is the
 -- first of what the one before carried.
-use Rattle.std.proofs.Common.{◌≡◌, ◌∙◌, ℕ, List, [], ◌∷◌, ◌++◌, map, refl, sym, ap, ap₂}
+use Rattle.std.proofs.Common.{◌≡◌, ◌/◌, ◌∙◌, ◌==◌, ◌&&◌, ℕ, Bool, true, false, if◌then◌else◌, List, [], ◌∷◌, ◌++◌, map, refl, sym, ap, ap₂}
 use Rattle.std.proofs.lemmas.Grind.{flat_map-append}
 use Rattle.hmc_codes.specs.declared.unit.Unit.{Unit as RequestUnit}
-use Rattle.hmc_packet.specs.Packet.{PacketFields}
-use Rattle.hmc_packet.specs.Transactions.{request_in}
+use Rattle.hmc_codes.specs.Table.{table_line}
+use Rattle.hmc_packet.specs.Packet.{PacketFields, null_packet}
+use Rattle.hmc_packet.specs.Transactions.{request_in, answer_in, answer_by}
 use Rattle.hmc_routes.specs.Route.{route_from_host, route_from_cube}
 use Rattle.hmc_routes.specs.Route.{Goal as goals}
 use Rattle.hmc_hops.specs.Flows.{requests_to, requests_accepted, answers_accepted, waiting_inside as hop_waiting_inside, waiting_along as hop_waiting_along, given_to as hop_given_to, executed_by as hop_executed_by, answers_to as hop_answers_to, answers_lifted as hop_lifted, answers_taken as hop_taken}
@@ -27,21 +28,35 @@ use Rattle.hmc_journal.proofs.Executing.{executed_are}
 use Rattle.hmc_journal.proofs.Flowing.{requests_seen, answers_seen}
 use Rattle.hmc_journal.proofs.Hopped.{agrees}
 use Rattle.hmc_journal.proofs.Seen.{spot_of, moves}
+use Rattle.hmc_journal.proofs.Sound.{kept}
 use Rattle.hmc_journal.proofs.Waiting.{all_inside, waits_along, waits_inside}
 use Rattle.hmc_journal.proofs.Wired.{wired}
 
 pub requests_read : (topology : Topology) (host : ℕ) (unit : RequestUnit) → IsRead topology (requests_to host (unit_cube unit) (spot_of unit)) (tagged_requests topology host unit)
-unfolding tagged_requests
+unfolding tagged_requests request_in table_line
 requests_read topology host unit = record {
   none = refl;
+  null = refl;
   append = λ xs ys. flat_map-append (λ (packet : PacketFields). tagged_request topology host unit packet (request_in packet)) xs ys;
   seen_as = λ packets. requests_seen topology host unit packets;
 }
+
+null_answers : (cube host : ℕ) → answers_to cube host (null_packet ∷ []) ≡ []
+unfolding answers_to answer_in answer_by
+null_answers cube host = by_test ((0 == cube) && (0 == host))
+  where
+    none : List TaggedAnswer
+    none = []
+
+    by_test : (here : Bool) → (if here then none else none) ++ none ≡ none
+    by_test true = refl
+    by_test false = refl
 
 pub answers_read : (topology : Topology) (cube host : ℕ) → IsRead topology (hop_answers_to cube host) (answers_to cube host)
 unfolding answers_to
 answers_read topology cube host = record {
   none = refl;
+  null = null_answers cube host;
   append = λ xs ys. flat_map-append (answer_to cube host) xs ys;
   seen_as = λ packets. answers_seen topology cube host packets;
 }
@@ -77,7 +92,7 @@ kept_requests setup past host unit network lawful law =
     sym (given_are setup host unit past network lawful) ∙ law.all
     ∙ ap₂ (λ (a b : List TaggedRequest). a ++ b) (executed_are setup host unit past network lawful)
     (ap₂ (λ (a b : List TaggedRequest). a ++ b) (waits_inside t m flow (tagged_requests t host unit) past moved read same unit)
-    (waits_along t m flow (tagged_requests t host unit) past moved read same (wired setup network) (route_to_cube t host c) (all_inside t (route_from_host (graph_of t) (goals.ToCube c) host) (wired setup network)))
+    (waits_along t m flow (tagged_requests t host unit) past moved read same (λ d. (kept setup past network lawful).links (d / 2)) (wired setup network) (route_to_cube t host c) (all_inside t (route_from_host (graph_of t) (goals.ToCube c) host) (wired setup network)))
     ∙ sym (read.append (waiting_for t past unit) (waiting_along t past (route_to_cube t host c))))
 
 pub chained_requests : (setup : Setup) (past : List Entry) (host : ℕ) (unit : RequestUnit) → IsNetwork setup → Lawful setup past
@@ -107,7 +122,7 @@ kept_answers setup past cube host network lawful law =
     let along = hop_waiting_along m flow moved (route_to_host t cube host) in
     sym (lifted_are setup cube host past lawful) ∙ law.all
     ∙ ap₂ (λ (a b : List TaggedAnswer). a ++ b) (taken_are setup m cube host past network (maps_routes setup network) lawful)
-    (waits_along t m flow (answers_to cube host) past moved (answers_read t cube host) (agrees setup m past network (maps_routes setup network) lawful) (wired setup network) (route_to_host t cube host) (all_inside t (route_from_cube (graph_of t) (goals.ToHost host) cube) (wired setup network)))
+    (waits_along t m flow (answers_to cube host) past moved (answers_read t cube host) (agrees setup m past network (maps_routes setup network) lawful) (λ d. (kept setup past network lawful).links (d / 2)) (wired setup network) (route_to_host t cube host) (all_inside t (route_from_cube (graph_of t) (goals.ToHost host) cube) (wired setup network)))
 
 pub chained_answers : (setup : Setup) (past : List Entry) (cube host : ℕ) → IsNetwork setup → Lawful setup past
     → AnswersAlong (routes_of setup) (moves setup.topology past) cube host (route_to_host setup.topology cube host)

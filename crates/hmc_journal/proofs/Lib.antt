@@ -10,8 +10,16 @@ pub mod LinkHanded
 pub mod Projections
 pub mod KeptPast
 pub mod NoSends
+pub mod OpenParts
 pub mod UnsentFlits
 pub mod QueueFronts
+pub mod Marks
+pub mod Feeding
+pub mod OpenSends
+pub mod Piping
+pub mod PipeSteps
+pub mod Copies
+pub mod Passing
 pub mod AcceptedTokens
 pub mod Order
 pub mod Moves
@@ -29,9 +37,13 @@ pub mod QueueInvariant
 pub mod Transit
 pub mod Views
 pub mod DrainedTest
+pub mod CopyWhole
+pub mod KnownCopies
 pub mod Seen
 pub mod Agreeing
 pub mod Hopping
+pub mod Passed
+pub mod LandingMoves
 pub mod Hopped
 pub mod MayMove
 pub mod TagsOut
@@ -56,6 +68,7 @@ mod ZeroDigits
 mod WorkedLines
 mod WorkedUnits
 mod WorkedRow
+mod WorkedThrough
 mod Worked
 mod Edges
 mod WorkedHops
@@ -65,3 +78,6 @@ pub mod ParseTells
 pub mod ParseSame
 pub mod ParseShown
 pub mod ParseJournals
+mod CopyGoes
+mod GoodLandings
+pub mod PassedOnKept

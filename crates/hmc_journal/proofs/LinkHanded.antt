@@ -1,5 +1,5 @@
 -- What a lawful link begins are the fronts of its output queue, in order.
-use Rattle.std.proofs.Common.{◌≡◌, ◌≤◌, ◌<◌, ◌∙◌, ◌+◌, ◌-◌, ◌==◌, ℕ, zero, suc, Bool, true, false, if◌then◌else◌, List, [], ◌∷◌, ◌++◌, Option, Some, None, length, take, drop, refl, sym, ap, subst, arith, append-nil, length-append}
+use Rattle.std.proofs.Common.{◌≡◌, ◌≤◌, ◌<◌, ◌∙◌, ◌+◌, ◌-◌, ◌==◌, ℕ, zero, suc, Bool, true, false, if◌then◌else◌, List, [], ◌∷◌, ◌++◌, Option, Some, None, length, take, drop, refl, sym, ap, ap₂, subst, arith, append-nil, length-append}
 use Rattle.std.specs.Prelude.{slice_get, filter, map, is_none}
 use Rattle.std.proofs.lemmas.List.{map-append, take-append-le}
 use Rattle.std.proofs.lemmas.List.Elements.{filter-append}
@@ -22,41 +22,26 @@ use Rattle.hmc_send.specs.declared.sent.Sent.{Sent}
 use Rattle.hmc_send.specs.declared.sent.Sent.TheVariants.{Out}
 use Rattle.hmc_send.specs.Choice.{SendView, view_after, choice, part_what, what_of}
 use Rattle.hmc_send.specs.Entries.{SenderEntry, Given, Part, UnderWay, or_null, part_with, part_after, unfinished, places, places_with, taken_fronts, last_begun, with_place}
-use Rattle.hmc_send.specs.LinkCalls.{view_in, IsLawful}
-use Rattle.hmc_send.specs.LinkEntries.{LinkEntry, other, handed_packets}
+use Rattle.hmc_send.specs.LinkCalls.{view_in}
+use Rattle.hmc_send.specs.LinkEntries.{LinkEntry, other, push_if, handed_packets}
 use Rattle.hmc_send.specs.LinkLines.{StampedFlit}
 use Rattle.hmc_send.specs.LinkSenders.{sender_entries, given_in, given_after, run_entries, acknowledgement}
-use Rattle.hmc_send.specs.Places.{Place, is_token, packet_in, place_at, pointer_of, number_of, next_packet, tret_packet}
+use Rattle.hmc_send.specs.Copies.{place_fed}
+use Rattle.hmc_send.specs.Places.{Place, is_token, packet_in, with_last, place_at, pointer_of, number_of, next_packet, tret_packet}
 use Rattle.hmc_send.proofs.Cases.{Case, case_of}
 use Rattle.hmc_send.proofs.Cases.Case.{trains, goes_on, starves, steers, repeats, begins, returns, points, idles}
 use Rattle.hmc_send.proofs.LinkLawful.{IsSend, lawful-sent}
-use Rattle.hmc_wire.specs.Conditions.{AreHanded}
 use Rattle.hmc_wire.specs.LinkLaws.{IsKept}
-use Rattle.hmc_wire.proofs.Agreements.{landed-fed, fed-turn}
 use Rattle.hmc_wire.proofs.SenderLists.{none-under}
 use Rattle.hmc_wire.proofs.Parts.{PartsFit, grown-left}
 use Rattle.hmc_wire.specs.EntryTurns.{left_of}
-use Rattle.hmc_wire.proofs.OpenPlaces.{AreKnown, last-fed_known}
 use Rattle.hmc_wire.proofs.Links.{fronts-good}
 use Rattle.hmc_wire.proofs.Turns.{own-joins}
 use Rattle.hmc_journal.specs.Delivered.{unnumbered}
-use Rattle.hmc_journal.proofs.LinkKept.{AreDirect, no-through, known-places}
+use Rattle.hmc_journal.specs.Carried.{marked}
+use Rattle.hmc_wire.proofs.EntryTurns.{kept-before}
 
 -- ---- a link's entries were kept to at every moment
-
-pub kept-before : (link : LinkFields) (entry : LinkEntry) (past : List LinkEntry) → IsKept link (entry ∷ past) → IsKept link past
-unfolding IsLawful AreHanded sender_entries
-kept-before link (LinkEntry.handed d packet) past is = record { retry = is.retry; lawful = is.lawful.1; met = record { handed = is.met.handed.1; forth = is.met.forth; back = is.met.back } }
-kept-before link (LinkEntry.taken d) past is = record { retry = is.retry; lawful = is.lawful.1; met = record { handed = is.met.handed; forth = is.met.forth; back = is.met.back } }
-kept-before link (LinkEntry.unlocked d) past is = record { retry = is.retry; lawful = is.lawful.1; met = record { handed = is.met.handed; forth = is.met.forth; back = is.met.back } }
-kept-before link (LinkEntry.sent Forth feed what flit) past is = record { retry = is.retry; lawful = is.lawful.1; met = record { handed = is.met.handed; forth = fed-turn link.profile _ _ is.met.forth; back = is.met.back } }
-kept-before link (LinkEntry.sent Back feed what flit) past is = record { retry = is.retry; lawful = is.lawful.1; met = record { handed = is.met.handed; forth = is.met.forth; back = fed-turn link.profile _ _ is.met.back } }
-kept-before link (LinkEntry.landed Forth mask flit outcome) past is =
-    record { retry = is.retry; lawful = is.lawful.1; met = record { handed = is.met.handed; forth = is.met.forth; back = landed-fed link.profile outcome _ _ _ is.met.back } }
-kept-before link (LinkEntry.landed Back mask flit outcome) past is =
-    record { retry = is.retry; lawful = is.lawful.1; met = record { handed = is.met.handed; forth = landed-fed link.profile outcome _ _ _ is.met.forth; back = is.met.back } }
-kept-before link (LinkEntry.through Forth head flits) past is = record { retry = is.retry; lawful = is.lawful.1; met = record { handed = is.met.handed; forth = fed-turn link.profile _ _ is.met.forth; back = is.met.back } }
-kept-before link (LinkEntry.through Back head flits) past is = record { retry = is.retry; lawful = is.lawful.1; met = record { handed = is.met.handed; forth = is.met.forth; back = fed-turn link.profile _ _ is.met.back } }
 
 -- ---- what a flit is sent as, by the packet under way
 
@@ -150,14 +135,111 @@ left-again (Some part) given flit is = again_grown part flit is ∙ sym (ap (λ 
 
 -- ---- what was handed and what was begun
 
--- the requests and answers that were begun, apart from their numbers
-abbrev pub begun_tokens : List Place → List PacketFields
-begun_tokens begun = map unnumbered (filter is_token (map packet_in begun))
+-- of each packet that was begun, whether it was the front of the queue, or a TRET, and no cut-through
+unfoldable pub own_marks : List SenderEntry → List Bool
+own_marks [] = []
+own_marks (SenderEntry.sent given what.New flit ∷ past) = push_if (is_none (unfinished past)) true (own_marks past)
+own_marks (SenderEntry.sent given what.Tret flit ∷ past) = own_marks past ++ true ∷ []
+own_marks (SenderEntry.through head flits due ∷ past) = own_marks past ++ false ∷ []
+own_marks (_ ∷ past) = own_marks past
 
--- What was begun are the first of those that were handed.
+-- each place that is marked so has its packet
+abbrev pub AreOwn : List Bool → List Place → Type 0
+AreOwn [] [] = Unit {0}
+AreOwn [] (place ∷ places) = ⊥
+AreOwn (mark ∷ marks) [] = ⊥
+AreOwn (true ∷ marks) (Place.known packet ∷ places) = AreOwn marks places
+AreOwn (true ∷ marks) (Place.awaited head flits numbers ∷ places) = ⊥
+AreOwn (false ∷ marks) (place ∷ places) = AreOwn marks places
+
+own-push : (marks : List Bool) (l : List Place) (packet : PacketFields) → AreOwn marks l → AreOwn (marks ++ true ∷ []) (l ++ Place.known packet ∷ [])
+own-push [] [] packet own = tt
+own-push [] (x ∷ l) packet own = absurd own
+own-push (mark ∷ marks) [] packet own = absurd own
+own-push (true ∷ marks) (Place.known p ∷ l) packet own = own-push marks l packet own
+own-push (true ∷ marks) (Place.awaited head flits numbers ∷ l) packet own = absurd own
+own-push (false ∷ marks) (x ∷ l) packet own = own-push marks l packet own
+
+other-push : (marks : List Bool) (l : List Place) (place : Place) → AreOwn marks l → AreOwn (marks ++ false ∷ []) (l ++ place ∷ [])
+other-push [] [] place own = tt
+other-push [] (x ∷ l) place own = absurd own
+other-push (mark ∷ marks) [] place own = absurd own
+other-push (true ∷ marks) (Place.known p ∷ l) place own = other-push marks l place own
+other-push (true ∷ marks) (Place.awaited head flits numbers ∷ l) place own = absurd own
+other-push (false ∷ marks) (x ∷ l) place own = other-push marks l place own
+
+own-fed : (q : Profile) (sent : List (List ℕ)) (feed : Feed) (marks : List Bool) (l : List Place) → AreOwn marks l → AreOwn marks (with_last (place_fed q sent feed) l)
+own-fed q sent feed [] [] own = tt
+own-fed q sent feed [] (x ∷ l) own = absurd own
+own-fed q sent feed (mark ∷ marks) [] own = absurd own
+own-fed q sent feed (true ∷ marks) (Place.known p ∷ []) own = own
+own-fed q sent feed (true ∷ marks) (Place.awaited head flits numbers ∷ []) own = absurd own
+own-fed q sent feed (false ∷ marks) (x ∷ []) own = own
+own-fed q sent feed (true ∷ marks) (Place.known p ∷ y ∷ l) own = own-fed q sent feed marks (y ∷ l) own
+own-fed q sent feed (true ∷ marks) (Place.awaited head flits numbers ∷ y ∷ l) own = absurd own
+own-fed q sent feed (false ∷ marks) (x ∷ y ∷ l) own = own-fed q sent feed marks (y ∷ l) own
+
+-- there are as many marks as places
+pub own-count : (marks : List Bool) (l : List Place) → AreOwn marks l → length marks ≡ length l
+own-count [] [] own = refl
+own-count [] (x ∷ l) own = absurd own
+own-count (mark ∷ marks) [] own = absurd own
+own-count (true ∷ marks) (Place.known p ∷ l) own = ap suc (own-count marks l own)
+own-count (true ∷ marks) (Place.awaited head flits numbers ∷ l) own = absurd own
+own-count (false ∷ marks) (x ∷ l) own = ap suc (own-count marks l own)
+
+-- what is marked, by a view that shows the packets of places that have them
+abbrev pub ShowsKnown : (Place → PacketFields) → Type 0
+ShowsKnown view = (packet : PacketFields) → view (Place.known packet) ≡ packet
+
+abbrev pub own_packets : (Place → PacketFields) → List Bool → List Place → List PacketFields
+own_packets view marks l = marked marks (map view l)
+
+-- it is the same by each such view
+pub own-views : (view other : Place → PacketFields) → ShowsKnown view → ShowsKnown other → (marks : List Bool) (l : List Place) → AreOwn marks l → own_packets view marks l ≡ own_packets other marks l
+own-views view other shows too [] [] own = refl
+own-views view other shows too [] (x ∷ l) own = absurd own
+own-views view other shows too (mark ∷ marks) [] own = absurd own
+own-views view other shows too (true ∷ marks) (Place.known p ∷ l) own = ap₂ (λ (x : PacketFields) (r : List PacketFields). x ∷ r) (shows p ∙ sym (too p)) (own-views view other shows too marks l own)
+own-views view other shows too (true ∷ marks) (Place.awaited head flits numbers ∷ l) own = absurd own
+own-views view other shows too (false ∷ marks) (x ∷ l) own = own-views view other shows too marks l own
+
+own_packets-push : (marks : List Bool) (l : List Place) (packet : PacketFields) → AreOwn marks l → own_packets packet_in (marks ++ true ∷ []) (l ++ Place.known packet ∷ []) ≡ own_packets packet_in marks l ++ packet ∷ []
+own_packets-push [] [] packet own = refl
+own_packets-push [] (x ∷ l) packet own = absurd own
+own_packets-push (mark ∷ marks) [] packet own = absurd own
+own_packets-push (true ∷ marks) (Place.known p ∷ l) packet own = ap (λ r. p ∷ r) (own_packets-push marks l packet own)
+own_packets-push (true ∷ marks) (Place.awaited head flits numbers ∷ l) packet own = absurd own
+own_packets-push (false ∷ marks) (x ∷ l) packet own = own_packets-push marks l packet own
+
+own_packets-other : (marks : List Bool) (l : List Place) (place : Place) → AreOwn marks l → own_packets packet_in (marks ++ false ∷ []) (l ++ place ∷ []) ≡ own_packets packet_in marks l
+own_packets-other [] [] place own = refl
+own_packets-other [] (x ∷ l) place own = absurd own
+own_packets-other (mark ∷ marks) [] place own = absurd own
+own_packets-other (true ∷ marks) (Place.known p ∷ l) place own = ap (λ r. p ∷ r) (own_packets-other marks l place own)
+own_packets-other (true ∷ marks) (Place.awaited head flits numbers ∷ l) place own = absurd own
+own_packets-other (false ∷ marks) (x ∷ l) place own = own_packets-other marks l place own
+
+own_packets-fed : (q : Profile) (sent : List (List ℕ)) (feed : Feed) (marks : List Bool) (l : List Place) → AreOwn marks l → own_packets packet_in marks (with_last (place_fed q sent feed) l) ≡ own_packets packet_in marks l
+own_packets-fed q sent feed [] [] own = refl
+own_packets-fed q sent feed [] (x ∷ l) own = absurd own
+own_packets-fed q sent feed (mark ∷ marks) [] own = absurd own
+own_packets-fed q sent feed (true ∷ marks) (Place.known p ∷ []) own = refl
+own_packets-fed q sent feed (true ∷ marks) (Place.awaited head flits numbers ∷ []) own = absurd own
+own_packets-fed q sent feed (false ∷ marks) (x ∷ []) own = refl
+own_packets-fed q sent feed (true ∷ marks) (Place.known p ∷ y ∷ l) own = ap (λ r. p ∷ r) (own_packets-fed q sent feed marks (y ∷ l) own)
+own_packets-fed q sent feed (true ∷ marks) (Place.awaited head flits numbers ∷ y ∷ l) own = absurd own
+own_packets-fed q sent feed (false ∷ marks) (x ∷ y ∷ l) own = own_packets-fed q sent feed marks (y ∷ l) own
+
+-- the requests and answers among them, apart from their numbers
+abbrev pub own_tokens : List Bool → List Place → List PacketFields
+own_tokens marks begun = map unnumbered (filter is_token (own_packets packet_in marks begun))
+
+-- What was begun, without cut-throughs, are the first of those that were handed.
 pub record Fronts (q : Profile) (sender : List SenderEntry) (handed : List PacketFields) : Type 0 where
   pub within : taken_fronts sender ≤ length handed
-  pub are : begun_tokens (places q sender) ≡ map unnumbered (take (taken_fronts sender) handed)
+  pub own : AreOwn (own_marks sender) (places q sender)
+  pub are : own_tokens (own_marks sender) (places q sender) ≡ map unnumbered (take (taken_fronts sender) handed)
 
 -- the front of a queue, if it has one
 front-inside : (n : ℕ) (list : List PacketFields) (front : PacketFields) → slice_get (drop n list) 0 ≡ Some front → n < length list
@@ -174,12 +256,13 @@ take-front (suc n) (x ∷ list) front is =
     let more : 1 + suc n ≡ suc (1 + n) = omega arith in
     ap (λ (k : ℕ). take k (x ∷ list)) more ∙ ap (λ l. x ∷ l) (take-front n list front is)
 
-begun_tokens-push : (begun : List Place) (packet : PacketFields) (token : Bool) → is_token packet ≡ token → begun_tokens (begun ++ Place.known packet ∷ []) ≡ begun_tokens begun ++ (if token then unnumbered packet ∷ [] else [])
-begun_tokens-push begun packet token is =
-    ap (λ l. map unnumbered (filter is_token l)) (map-append packet_in begun (Place.known packet ∷ []))
-    ∙ ap (map unnumbered) (filter-append is_token (map packet_in begun) (packet ∷ []))
-    ∙ map-append unnumbered (filter is_token (map packet_in begun)) (filter is_token (packet ∷ []))
-    ∙ ap (λ l. begun_tokens begun ++ l) (one token is)
+own_tokens-push : (marks : List Bool) (begun : List Place) (packet : PacketFields) (token : Bool) → AreOwn marks begun → is_token packet ≡ token
+    → own_tokens (marks ++ true ∷ []) (begun ++ Place.known packet ∷ []) ≡ own_tokens marks begun ++ (if token then unnumbered packet ∷ [] else [])
+own_tokens-push marks begun packet token own is =
+    ap (λ l. map unnumbered (filter is_token l)) (own_packets-push marks begun packet own)
+    ∙ ap (map unnumbered) (filter-append is_token (own_packets packet_in marks begun) (packet ∷ []))
+    ∙ map-append unnumbered (filter is_token (own_packets packet_in marks begun)) (filter is_token (packet ∷ []))
+    ∙ ap (λ l. own_tokens marks begun ++ l) (one token is)
   where
     one : (t : Bool) → is_token packet ≡ t → map unnumbered (filter is_token (packet ∷ [])) ≡ (if t then unnumbered packet ∷ [] else [])
     one true e = rw e refl
@@ -189,53 +272,70 @@ tret_is_no_token : (q : Profile) (pointer number rtc : ℕ) → is_token (next_p
 unfolding table_line
 tret_is_no_token q pointer number rtc = refl
 
-new-fronts : (q : Profile) (given : Given) (begun : List Place) (n : ℕ) (handed : List PacketFields) (u : Option Part) → IsSentAs what.New u given
+-- the marks, the places and what is handed after a flit that begins a packet, or goes on with one
+record NewFronts (q : Profile) (u : Option Part) (given : Given) (marks : List Bool) (l : List Place) (n : ℕ) (handed : List PacketFields) : Type 0 where
+  within : (if is_none u then 1 else 0) + n ≤ length handed
+  own : AreOwn (push_if (is_none u) true marks) (places_with q u given l)
+  are : own_tokens (push_if (is_none u) true marks) (places_with q u given l) ≡ map unnumbered (take ((if is_none u then 1 else 0) + n) handed)
+
+new-fronts : (q : Profile) (given : Given) (marks : List Bool) (begun : List Place) (n : ℕ) (handed : List PacketFields) (u : Option Part) → IsSentAs what.New u given
     → given.front ≡ slice_get (drop n handed) 0 → ((p : PacketFields) → slice_get (drop n handed) 0 ≡ Some p → is_token p ≡ true)
-    → AreKnown begun → n ≤ length handed → begun_tokens begun ≡ map unnumbered (take n handed)
-    → ((if is_none u then 1 else 0) + n ≤ length handed) × (begun_tokens (places_with q u given begun) ≡ map unnumbered (take ((if is_none u then 1 else 0) + n) handed))
-new-fronts q given l n handed None has front tokens known within are =
+    → AreOwn marks begun → n ≤ length handed → own_tokens marks begun ≡ map unnumbered (take n handed) → NewFronts q u given marks begun n handed
+new-fronts q given marks l n handed None has front tokens own within are =
     let at : slice_get (drop n handed) 0 ≡ Some has.front = sym front ∙ has.is in
     let inside = front-inside n handed has.front at in
     let x : PacketFields = next_packet q (pointer_of q l) (number_of l) (code_for given.due) (or_null given.front) in
     let same : or_null given.front ≡ has.front = ap or_null has.is in
     let token : is_token x ≡ true = ap is_token same ∙ tokens has.front at in
-    let more : unnumbered x ≡ unnumbered has.front = ap unnumbered same in (
-      omega arith,
-      begun_tokens-push l x true token ∙ ap (λ k. k ++ unnumbered x ∷ []) are ∙ ap (λ (p : PacketFields). map unnumbered (take n handed) ++ p ∷ []) more
-          ∙ sym (map-append unnumbered (take n handed) (has.front ∷ [])) ∙ ap (map unnumbered) (sym (take-front n handed has.front at)),
-    )
-new-fronts q given l n handed (Some part) has front tokens known within are =
-    let m : 0 + n ≡ n = omega arith in (
-      omega arith,
-      ap begun_tokens (last-fed_known q part.sent given.feed l known) ∙ are ∙ ap (λ (k : ℕ). map unnumbered (take k handed)) (sym m),
-    )
+    let more : unnumbered x ≡ unnumbered has.front = ap unnumbered same in record {
+      within = omega arith;
+      own = own-push marks l x own;
+      are = own_tokens-push marks l x true own token ∙ ap (λ k. k ++ unnumbered x ∷ []) are ∙ ap (λ (p : PacketFields). map unnumbered (take n handed) ++ p ∷ []) more
+          ∙ sym (map-append unnumbered (take n handed) (has.front ∷ [])) ∙ ap (map unnumbered) (sym (take-front n handed has.front at));
+    }
+new-fronts q given marks l n handed (Some part) has front tokens own within are =
+    let m : 0 + n ≡ n = omega arith in record {
+      within = omega arith;
+      own = own-fed q part.sent given.feed marks l own;
+      are = ap (λ k. map unnumbered (filter is_token k)) (own_packets-fed q part.sent given.feed marks l own) ∙ are ∙ ap (λ (k : ℕ). map unnumbered (take k handed)) (sym m);
+    }
 
 fronts-sent : (q : Profile) (given : Given) (as_what : What) (flit : List ℕ) (sender : List SenderEntry) (handed : List PacketFields) → IsSentAs as_what (unfinished sender) given
     → given.front ≡ slice_get (drop (taken_fronts sender) handed) 0 → ((p : PacketFields) → slice_get (drop (taken_fronts sender) handed) 0 ≡ Some p → is_token p ≡ true)
-    → AreKnown (places q sender) → Fronts q sender handed → Fronts q (SenderEntry.sent given as_what flit ∷ sender) handed
-unfolding places taken_fronts
-fronts-sent q given what.New flit sender handed has front tokens known is =
-    let f = new-fronts q given (places q sender) (taken_fronts sender) handed (unfinished sender) has front tokens known is.within is.are in
-    record { within = f.0; are = f.1 }
-fronts-sent q given what.Tret flit sender handed has front tokens known is = record {
-  within = is.within;
-  are = begun_tokens-push (places q sender) (next_packet q (pointer_of q (places q sender)) (number_of (places q sender)) (code_for given.due) tret_packet) false
-      (tret_is_no_token q (pointer_of q (places q sender)) (number_of (places q sender)) (code_for given.due)) ∙ append-nil (begun_tokens (places q sender)) ∙ is.are;
-}
-fronts-sent q given what.Train flit sender handed has front tokens known is = record { within = is.within; are = is.are }
-fronts-sent q given what.Clear flit sender handed has front tokens known is = record { within = is.within; are = is.are }
-fronts-sent q given what.Start flit sender handed has front tokens known is = record { within = is.within; are = is.are }
-fronts-sent q given what.Null flit sender handed has front tokens known is = record { within = is.within; are = is.are }
-fronts-sent q given what.Pret flit sender handed has front tokens known is = record { within = is.within; are = is.are }
-fronts-sent q given what.Again flit sender handed has front tokens known is = record { within = is.within; are = is.are }
+    → Fronts q sender handed → Fronts q (SenderEntry.sent given as_what flit ∷ sender) handed
+unfolding places taken_fronts own_marks
+fronts-sent q given what.New flit sender handed has front tokens is =
+    let f = new-fronts q given (own_marks sender) (places q sender) (taken_fronts sender) handed (unfinished sender) has front tokens is.own is.within is.are in
+    record { within = f.within; own = f.own; are = f.are }
+fronts-sent q given what.Tret flit sender handed has front tokens is =
+    let x : PacketFields = next_packet q (pointer_of q (places q sender)) (number_of (places q sender)) (code_for given.due) tret_packet in record {
+      within = is.within;
+      own = own-push (own_marks sender) (places q sender) x is.own;
+      are = own_tokens-push (own_marks sender) (places q sender) x false is.own (tret_is_no_token q (pointer_of q (places q sender)) (number_of (places q sender)) (code_for given.due)) ∙ append-nil (own_tokens (own_marks sender) (places q sender)) ∙ is.are;
+    }
+fronts-sent q given what.Train flit sender handed has front tokens is = record { within = is.within; own = is.own; are = is.are }
+fronts-sent q given what.Clear flit sender handed has front tokens is = record { within = is.within; own = is.own; are = is.are }
+fronts-sent q given what.Start flit sender handed has front tokens is = record { within = is.within; own = is.own; are = is.are }
+fronts-sent q given what.Null flit sender handed has front tokens is = record { within = is.within; own = is.own; are = is.are }
+fronts-sent q given what.Pret flit sender handed has front tokens is = record { within = is.within; own = is.own; are = is.are }
+fronts-sent q given what.Again flit sender handed has front tokens is = record { within = is.within; own = is.own; are = is.are }
 
 fronts-handed : (q : Profile) (sender : List SenderEntry) (handed : List PacketFields) (packet : PacketFields) → Fronts q sender handed → Fronts q sender (handed ++ packet ∷ [])
 fronts-handed q sender handed packet is =
     let long = length-append handed (packet ∷ []) in
     let w = is.within in record {
       within = omega arith;
+      own = is.own;
       are = is.are ∙ ap (map unnumbered) (sym (take-append-le (taken_fronts sender) handed (packet ∷ []) is.within));
     }
+
+fronts-through : (q : Profile) (head : List ℕ) (flits due : ℕ) (sender : List SenderEntry) (handed : List PacketFields) → Fronts q sender handed → Fronts q (SenderEntry.through head flits due ∷ sender) handed
+unfolding places taken_fronts own_marks
+fronts-through q head flits due sender handed is = record {
+  within = is.within;
+  own = other-push (own_marks sender) (places q sender) _ is.own;
+  are = ap (λ k. map unnumbered (filter is_token k)) (own_packets-other (own_marks sender) (places q sender) _ is.own) ∙ is.are;
+}
 
 -- a landing changes nothing of them
 rrp-same : {X : Type 0} (f : List SenderEntry → X) (rrp : Option ℕ) (front : Option StampedFlit) (past : List SenderEntry) → ((n : ℕ) → f (SenderEntry.acknowledged n ∷ past) ≡ f past) → f (acknowledgement rrp front ++ past) ≡ f past
@@ -250,13 +350,15 @@ landing-same f (outcomes.Ran Clear) rrp front past same ran = rrp-same f rrp fro
 landing-same f _ rrp front past same ran = rrp-same f rrp front past (same past)
 
 fronts-landed : (q : Profile) (outcome : Outcome) (rrp : Option ℕ) (front : Option StampedFlit) (sender : List SenderEntry) (handed : List PacketFields) → Fronts q sender handed → Fronts q ((run_entries outcome ++ acknowledgement rrp front) ++ sender) handed
-unfolding places taken_fronts
+unfolding places taken_fronts own_marks
 fronts-landed q outcome rrp front sender handed is =
     let taken = landing-same taken_fronts outcome rrp front sender (λ l n. refl) (λ l. refl) in
     let begun = landing-same (places q) outcome rrp front sender (λ l n. refl) (λ l. refl) in
+    let marks = landing-same own_marks outcome rrp front sender (λ l n. refl) (λ l. refl) in
     let w = is.within in record {
       within = omega arith;
-      are = ap begun_tokens begun ∙ is.are ∙ ap (λ (k : ℕ). map unnumbered (take k handed)) (sym taken);
+      own = subst (λ (m : List Bool). AreOwn m (places q ((run_entries outcome ++ acknowledgement rrp front) ++ sender))) (sym marks) (subst (AreOwn (own_marks sender)) (sym begun) is.own);
+      are = ap₂ own_tokens marks begun ∙ is.are ∙ ap (λ (k : ℕ). map unnumbered (take k handed)) (sym taken);
     }
 
 -- every packet that is handed takes tokens
@@ -264,33 +366,36 @@ tokens-at : (link : LinkFields) (d : Toward) (past : List LinkEntry) (n : ℕ) �
 tokens-at link Forth past n is p at = let j = own-joins link past is in let good = fronts-good link.profile (handed_packets Forth past) n j.forth.handed p at in good.token
 tokens-at link Back past n is p at = let j = own-joins link past is in let good = fronts-good link.profile (handed_packets Back past) n j.back.handed p at in good.token
 
-send-fronts : (link : LinkFields) (d : Toward) (feed : Feed) (as_what : What) (flit : List ℕ) (past : List LinkEntry) → IsKept link (LinkEntry.sent d feed as_what flit ∷ past) → AreDirect past
+send-fronts : (link : LinkFields) (d : Toward) (feed : Feed) (as_what : What) (flit : List ℕ) (past : List LinkEntry) → IsKept link (LinkEntry.sent d feed as_what flit ∷ past)
     → Fronts link.profile (sender_entries link d past) (handed_packets d past) → Fronts link.profile (SenderEntry.sent (given_in link d past feed) as_what flit ∷ sender_entries link d past) (handed_packets d past)
 unfolding given_after
-send-fronts link d feed as_what flit past is direct fronts =
+send-fronts link d feed as_what flit past is fronts =
     let T = sender_entries link d past in
     fronts-sent link.profile (given_in link d past feed) as_what flit T (handed_packets d past) (sent_as link past d feed as_what flit (lawful-sent link past d feed as_what flit is.lawful)) refl
-    (λ p. tokens-at link d past (taken_fronts T) (kept-before link (LinkEntry.sent d feed as_what flit) past is) p) (known-places link.profile T (no-through link d past direct)) fronts
+    (λ p. tokens-at link d past (taken_fronts T) (kept-before link (LinkEntry.sent d feed as_what flit) past is) p) fronts
 
-pub fronts : (link : LinkFields) (d : Toward) (past : List LinkEntry) → IsKept link past → AreDirect past → Fronts link.profile (sender_entries link d past) (handed_packets d past)
-unfolding sender_entries handed_packets places taken_fronts
-fronts link d [] is direct = record { within = omega arith; are = refl }
-fronts link Forth (LinkEntry.handed Forth packet ∷ past) is direct = fronts-handed link.profile _ _ packet (fronts link Forth past (kept-before link (LinkEntry.handed Forth packet) past is) direct)
-fronts link Forth (LinkEntry.handed Back packet ∷ past) is direct = fronts link Forth past (kept-before link (LinkEntry.handed Back packet) past is) direct
-fronts link Back (LinkEntry.handed Forth packet ∷ past) is direct = fronts link Back past (kept-before link (LinkEntry.handed Forth packet) past is) direct
-fronts link Back (LinkEntry.handed Back packet ∷ past) is direct = fronts-handed link.profile _ _ packet (fronts link Back past (kept-before link (LinkEntry.handed Back packet) past is) direct)
-fronts link d (LinkEntry.taken way ∷ past) is direct = fronts link d past (kept-before link (LinkEntry.taken way) past is) direct
-fronts link d (LinkEntry.unlocked way ∷ past) is direct = fronts link d past (kept-before link (LinkEntry.unlocked way) past is) direct
-fronts link Forth (LinkEntry.sent Forth feed as_what flit ∷ past) is direct =
-    send-fronts link Forth feed as_what flit past is direct (fronts link Forth past (kept-before link (LinkEntry.sent Forth feed as_what flit) past is) direct)
-fronts link Forth (LinkEntry.sent Back feed as_what flit ∷ past) is direct = fronts link Forth past (kept-before link (LinkEntry.sent Back feed as_what flit) past is) direct
-fronts link Back (LinkEntry.sent Forth feed as_what flit ∷ past) is direct = fronts link Back past (kept-before link (LinkEntry.sent Forth feed as_what flit) past is) direct
-fronts link Back (LinkEntry.sent Back feed as_what flit ∷ past) is direct =
-    send-fronts link Back feed as_what flit past is direct (fronts link Back past (kept-before link (LinkEntry.sent Back feed as_what flit) past is) direct)
-fronts link Forth (LinkEntry.landed Forth mask flit outcome ∷ past) is direct = fronts link Forth past (kept-before link (LinkEntry.landed Forth mask flit outcome) past is) direct
-fronts link Forth (LinkEntry.landed Back mask flit outcome ∷ past) is direct =
-    fronts-landed link.profile outcome _ _ _ _ (fronts link Forth past (kept-before link (LinkEntry.landed Back mask flit outcome) past is) direct)
-fronts link Back (LinkEntry.landed Forth mask flit outcome ∷ past) is direct =
-    fronts-landed link.profile outcome _ _ _ _ (fronts link Back past (kept-before link (LinkEntry.landed Forth mask flit outcome) past is) direct)
-fronts link Back (LinkEntry.landed Back mask flit outcome ∷ past) is direct = fronts link Back past (kept-before link (LinkEntry.landed Back mask flit outcome) past is) direct
-fronts link d (LinkEntry.through way head flits ∷ past) is direct = absurd direct
+pub fronts : (link : LinkFields) (d : Toward) (past : List LinkEntry) → IsKept link past → Fronts link.profile (sender_entries link d past) (handed_packets d past)
+unfolding sender_entries handed_packets places taken_fronts own_marks
+fronts link d [] is = record { within = omega arith; own = tt; are = refl }
+fronts link Forth (LinkEntry.handed Forth packet ∷ past) is = fronts-handed link.profile _ _ packet (fronts link Forth past (kept-before link (LinkEntry.handed Forth packet) past is))
+fronts link Forth (LinkEntry.handed Back packet ∷ past) is = fronts link Forth past (kept-before link (LinkEntry.handed Back packet) past is)
+fronts link Back (LinkEntry.handed Forth packet ∷ past) is = fronts link Back past (kept-before link (LinkEntry.handed Forth packet) past is)
+fronts link Back (LinkEntry.handed Back packet ∷ past) is = fronts-handed link.profile _ _ packet (fronts link Back past (kept-before link (LinkEntry.handed Back packet) past is))
+fronts link d (LinkEntry.taken way ∷ past) is = fronts link d past (kept-before link (LinkEntry.taken way) past is)
+fronts link d (LinkEntry.unlocked way ∷ past) is = fronts link d past (kept-before link (LinkEntry.unlocked way) past is)
+fronts link Forth (LinkEntry.sent Forth feed as_what flit ∷ past) is =
+    send-fronts link Forth feed as_what flit past is (fronts link Forth past (kept-before link (LinkEntry.sent Forth feed as_what flit) past is))
+fronts link Forth (LinkEntry.sent Back feed as_what flit ∷ past) is = fronts link Forth past (kept-before link (LinkEntry.sent Back feed as_what flit) past is)
+fronts link Back (LinkEntry.sent Forth feed as_what flit ∷ past) is = fronts link Back past (kept-before link (LinkEntry.sent Forth feed as_what flit) past is)
+fronts link Back (LinkEntry.sent Back feed as_what flit ∷ past) is =
+    send-fronts link Back feed as_what flit past is (fronts link Back past (kept-before link (LinkEntry.sent Back feed as_what flit) past is))
+fronts link Forth (LinkEntry.landed Forth mask flit outcome ∷ past) is = fronts link Forth past (kept-before link (LinkEntry.landed Forth mask flit outcome) past is)
+fronts link Forth (LinkEntry.landed Back mask flit outcome ∷ past) is =
+    fronts-landed link.profile outcome _ _ _ _ (fronts link Forth past (kept-before link (LinkEntry.landed Back mask flit outcome) past is))
+fronts link Back (LinkEntry.landed Forth mask flit outcome ∷ past) is =
+    fronts-landed link.profile outcome _ _ _ _ (fronts link Back past (kept-before link (LinkEntry.landed Forth mask flit outcome) past is))
+fronts link Back (LinkEntry.landed Back mask flit outcome ∷ past) is = fronts link Back past (kept-before link (LinkEntry.landed Back mask flit outcome) past is)
+fronts link Forth (LinkEntry.through Forth head flits ∷ past) is = fronts-through link.profile head flits _ _ _ (fronts link Forth past (kept-before link (LinkEntry.through Forth head flits) past is))
+fronts link Forth (LinkEntry.through Back head flits ∷ past) is = fronts link Forth past (kept-before link (LinkEntry.through Back head flits) past is)
+fronts link Back (LinkEntry.through Forth head flits ∷ past) is = fronts link Back past (kept-before link (LinkEntry.through Forth head flits) past is)
+fronts link Back (LinkEntry.through Back head flits ∷ past) is = fronts-through link.profile head flits _ _ _ (fronts link Back past (kept-before link (LinkEntry.through Back head flits) past is))

@@ -1,55 +1,94 @@
 -- What the law of one wire says of each direction of a lawful journal.
-use Rattle.std.proofs.Common.{◌/◌, ◌≢◌, ◌∙◌, ℕ, List, [], ◌∷◌, ◌++◌, All, map, take, drop, refl, sym, ap, take-append-drop}
+use Rattle.std.proofs.Common.{◌/◌, ◌≡◌, ◌≢◌, ◌∙◌, ℕ, suc, Bool, Option, None, Some, List, [], ◌∷◌, ◌++◌, All, length, map, take, drop, refl, sym, ap, take-append-drop}
 use Rattle.std.specs.Prelude.{filter}
 use Rattle.std.proofs.lemmas.List.{map-append}
 use Rattle.std.proofs.lemmas.List.Elements.{All-nil, All-cons}
+use Rattle.hmc_codes.specs.declared.profile.Profile.{Profile}
+use Rattle.hmc_packet.specs.Packet.{PacketFields}
 use Rattle.hmc_packet.specs.declared.outcome.Outcome.{Outcome}
 use Rattle.hmc_packet.specs.declared.outcome.Outcome.TheVariants as outcomes
 use Rattle.hmc_send.specs.Entries.{taken_fronts}
-use Rattle.hmc_send.specs.LinkEntries.{handed_packets}
-use Rattle.hmc_send.specs.LinkSenders.{sender_entries}
-use Rattle.hmc_send.specs.Places.{is_token}
+use Rattle.hmc_send.specs.LinkEntries.{handed_packets, accepted_packets}
+use Rattle.hmc_send.specs.LinkSenders.{sender_entries, places_in}
+use Rattle.hmc_send.specs.Places.{Place, packet_in, is_token}
 use Rattle.hmc_wire.specs.LinkLaws.{TokenLaws}
 use Rattle.hmc_wire.proofs.LawsHold.{direction-laws}
 use Rattle.hmc_wire.proofs.TokenFacts.{token-laws}
 use Rattle.hmc_journal.specs.declared.entry.Entry.{Entry}
 use Rattle.hmc_journal.specs.declared.entry.Entry.TheVariants.{Gave, Sent, Landed, Shifted, Dropped, Spread, Executed, Lifted, Took, Discarded, Through, Unlocked, Retired, Passed, Idle}
-use Rattle.hmc_journal.specs.Setup.{Setup}
-use Rattle.hmc_journal.specs.Carried.{begun_on}
+use Rattle.hmc_journal.specs.Setup.{Setup, Topology}
+use Rattle.hmc_journal.specs.Carried.{begun_on, begun_here, marked, place_with}
 use Rattle.hmc_journal.specs.Delivered.{IsPrefix, unnumbered, IsInOrder}
-use Rattle.hmc_journal.specs.Directions.{accepted}
+use Rattle.hmc_journal.specs.Directions.{accepted, profile_of}
+use Rattle.hmc_journal.specs.Piped.{PipeFrom, pipe_onto}
 use Rattle.hmc_journal.specs.Queues.{entered}
 use Rattle.hmc_journal.specs.Queues.QueueId.{Output}
 use Rattle.hmc_journal.specs.Links.{toward, landing_mask, sizes_on, entries_on}
 use Rattle.hmc_journal.specs.Lawful.{Lawful}
 use Rattle.hmc_journal.proofs.EntryRule.{EntryRule, entry_rule, lawful_past}
 use Rattle.hmc_journal.proofs.LinkKept.{kept-landed}
-use Rattle.hmc_journal.proofs.LinkHanded.{fronts}
-use Rattle.hmc_journal.proofs.AcceptedTokens.{are_first}
-use Rattle.hmc_journal.proofs.Projections.{handed_are, are_direct}
+use Rattle.hmc_journal.proofs.LinkHanded.{ShowsKnown, own_marks, own-views, own-count, fronts}
+use Rattle.hmc_journal.proofs.AcceptedTokens.{begun_first}
+use Rattle.hmc_journal.proofs.Marks.{marks_are}
+use Rattle.hmc_journal.proofs.Projections.{handed_are}
 use Rattle.hmc_journal.specs.Network.{IsNetwork}
 use Rattle.hmc_journal.proofs.Entering.{accepted_are}
 use Rattle.hmc_journal.proofs.Sound.{kept}
 
+-- what the places of a direction show, with its pipe
+abbrev with_pipe : Topology → (d : ℕ) → List Entry → Place → PacketFields
+with_pipe topology d past place = packet_in (place_with (profile_of topology d) (pipe_onto topology d past) place)
+
+known_stays : (q : Profile) (pipe : Option PipeFrom) (packet : PacketFields) → packet_in (place_with q pipe (Place.known packet)) ≡ packet
+known_stays q None packet = refl
+known_stays q (Some p) packet = refl
+
+shows_known : (topology : Topology) (d : ℕ) (past : List Entry) → ShowsKnown (with_pipe topology d past)
+shows_known topology d past packet = known_stays (profile_of topology d) (pipe_onto topology d past) packet
+
 -- they are a prefix of those begun
 pub accepted_prefix : (setup : Setup) (network : IsNetwork setup) (d : ℕ) (past : List Entry) → Lawful setup past → IsPrefix (accepted setup.topology d past) (begun_on setup.topology d past)
 accepted_prefix setup network d past lawful =
-    let first = are_first (sizes_on setup.topology d) (toward d) (entries_on setup.topology d past) ((kept setup past network lawful).links (d / 2)) (are_direct setup.topology _ past) in
-    (first.others, first.are ∙ ap (λ l. l ++ first.others) (sym (accepted_are setup.topology d past)))
+    let sizes = sizes_on setup.topology d in
+    let before = entries_on setup.topology d past in
+    let view = with_pipe setup.topology d past in
+    let others = map view (drop (length (accepted_packets sizes.profile (toward d) before)) (places_in sizes (toward d) before)) in
+    (others, begun_first view (shows_known setup.topology d past) sizes (toward d) before ((kept setup past network lawful).links (d / 2)) ∙ ap (λ l. l ++ others) (sym (accepted_are setup.topology d past)))
 
--- and those begun, without TRETs and numbers, of those that entered the output queue
+-- and those begun, without TRETs, copies and numbers, of those that entered the output queue
 pub begun_prefix : (setup : Setup) (network : IsNetwork setup) (d : ℕ) (past : List Entry) → Lawful setup past
-    → IsPrefix (map unnumbered (filter is_token (begun_on setup.topology d past))) (map unnumbered (entered setup.topology past (Output d)))
+    → IsPrefix (map unnumbered (filter is_token (marked (begun_here d past) (begun_on setup.topology d past)))) (map unnumbered (entered setup.topology past (Output d)))
 begun_prefix setup network d past lawful =
     let sizes = sizes_on setup.topology d in
     let before = entries_on setup.topology d past in
-    let begun = fronts sizes (toward d) before ((kept setup past network lawful).links (d / 2)) (are_direct setup.topology _ past) in
+    let keeps = kept setup past network lawful in
+    let begun = fronts sizes (toward d) before (keeps.links (d / 2)) in
+    let marks = own_marks (sender_entries sizes (toward d) before) in
+    let l = places_in sizes (toward d) before in
     let n = taken_fronts (sender_entries sizes (toward d) before) in
-    let handed = handed_packets (toward d) before in (
+    let handed = handed_packets (toward d) before in
+    let own = own-views (with_pipe setup.topology d past) packet_in (shows_known setup.topology d past) (λ packet. refl) marks l begun.own in
+    let are : map unnumbered (filter is_token (marked (begun_here d past) (begun_on setup.topology d past))) ≡ map unnumbered (take n handed) =
+    ap (λ (m : List Bool). map unnumbered (filter is_token (marked m (begun_on setup.topology d past)))) (marks_are setup.topology d past keeps.gathered (keeps.links (d / 2)))
+    ∙ ap (λ k. map unnumbered (filter is_token k)) own ∙ begun.are in (
       map unnumbered (drop n handed),
       ap (map unnumbered) (handed_are setup.topology d past ∙ sym (take-append-drop n handed)) ∙ map-append unnumbered (take n handed) (drop n handed)
-          ∙ ap (λ l. l ++ map unnumbered (drop n handed)) (sym begun.are),
+          ∙ ap (λ k. k ++ map unnumbered (drop n handed)) (sym are),
     )
+
+length-map-view : (view : Place → PacketFields) (l : List Place) → length (map view l) ≡ length l
+length-map-view view [] = refl
+length-map-view view (x ∷ l) = ap suc (length-map-view view l)
+
+-- each that was begun is marked or not
+pub marks_each : (setup : Setup) (network : IsNetwork setup) (d : ℕ) (past : List Entry) → Lawful setup past → length (begun_here d past) ≡ length (begun_on setup.topology d past)
+marks_each setup network d past lawful =
+    let sizes = sizes_on setup.topology d in
+    let before = entries_on setup.topology d past in
+    let keeps = kept setup past network lawful in
+    let begun = fronts sizes (toward d) before (keeps.links (d / 2)) in
+    ap length (marks_are setup.topology d past keeps.gathered (keeps.links (d / 2))) ∙ own-count (own_marks (sender_entries sizes (toward d) before)) (places_in sizes (toward d) before) begun.own
+    ∙ sym (length-map-view (with_pipe setup.topology d past) (places_in sizes (toward d) before))
 
 -- the tokens of each direction add up
 pub tokens_hold : (setup : Setup) (network : IsNetwork setup) (d : ℕ) (past : List Entry) → Lawful setup past → TokenLaws (sizes_on setup.topology d) (toward d) (entries_on setup.topology d past)

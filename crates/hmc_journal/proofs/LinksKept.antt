@@ -6,13 +6,14 @@ use Rattle.hmc_journal.specs.Network.{IsNetwork}
 use Rattle.hmc_journal.specs.Delivered.{LinksInOrder}
 use Rattle.hmc_journal.specs.Lawful.{Lawful}
 use Rattle.hmc_journal.proofs.Order.{wire_order}
-use Rattle.hmc_journal.proofs.LinkLaws.{accepted_prefix, begun_prefix, tokens_hold, all_in_order}
+use Rattle.hmc_journal.proofs.LinkLaws.{accepted_prefix, begun_prefix, marks_each, tokens_hold, all_in_order}
 
 pub links_in_order : (setup : Setup) (past : List Entry) → IsNetwork setup → Lawful setup past → LinksInOrder setup past
 links_in_order setup past network lawful = record {
   wires = λ d. (wire_order setup d past lawful).are;
   accepted = λ d. accepted_prefix setup network d past lawful;
   begun = λ d. begun_prefix setup network d past lawful;
+  marks = λ d. marks_each setup network d past lawful;
   in_order = all_in_order setup network past lawful;
   tokens = λ d. tokens_hold setup network d past lawful;
 }

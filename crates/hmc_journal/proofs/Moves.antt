@@ -10,13 +10,13 @@ use Rattle.hmc_packet.specs.Packet.{PacketFields, null_packet}
 use Rattle.hmc_journal.specs.declared.entry.Entry.{Entry}
 use Rattle.hmc_journal.specs.declared.entry.Entry.TheVariants.{Sent, Shifted, Dropped, Spread, Executed, Lifted, Took, Discarded}
 use Rattle.hmc_journal.specs.Setup.{Setup, Topology}
-use Rattle.hmc_journal.specs.Directions.{unsent}
+use Rattle.hmc_journal.specs.Directions.{unsent, awaits_first}
 use Rattle.hmc_journal.specs.Queues.{QueueId, same_lift, same_queue, is_at, leaves, enters, begins, Arrival, arrival_in, arrival_of, arrived, front_of, one_if, packet_if, left, entered, contents}
 use Rattle.hmc_journal.specs.Queues.QueueId.{Output, Port, Host, Vault, Bank, Registers, Answers}
 use Rattle.hmc_journal.proofs.EntryRule.{EntryRule, HasFront}
 
 -- two rooms with one name are one
-both_true : (a b : Bool) → (a && b) ≡ true → (a ≡ true) × (b ≡ true)
+pub both_true : (a b : Bool) → (a && b) ≡ true → (a ≡ true) × (b ≡ true)
 both_true true b is = (refl, is)
 both_true false b is = cc
 
@@ -59,9 +59,10 @@ same_queue_refl (Registers c) = eq-eqb c c refl
 same_queue_refl (Answers c from) = rw (eq-eqb c c refl) (lift_same from)
 
 -- what is begun, or taken, elsewhere isn't so here
-pub begins_off : (count direction : ℕ) (room : QueueId) → same_queue (Output direction) room ≡ false → is_at (begins count direction) room ≡ false
-begins_off zero direction room off = off
-begins_off (suc count) direction room off = refl
+pub begins_off : (waiting : Bool) (count direction : ℕ) (room : QueueId) → same_queue (Output direction) room ≡ false → is_at (begins waiting count direction) room ≡ false
+begins_off true count direction room off = refl
+begins_off false zero direction room off = off
+begins_off false (suc count) direction room off = refl
 
 pub output_off : (direction : Option ℕ) (room : QueueId) → ((d : ℕ) → same_queue (Output d) room ≡ false) → is_at (option_map Output direction) room ≡ false
 output_off None room off = refl
@@ -129,7 +130,7 @@ HasLeaving setup past (Some room) = HasFront setup past room
 
 -- of a flit that begins a packet
 abbrev pub HasBegun : Setup → List Entry → Entry → Type 0
-HasBegun setup past (Sent direction New flit) = HasLeaving setup past (begins (unsent direction past) direction)
+HasBegun setup past (Sent direction New flit) = HasLeaving setup past (begins (awaits_first direction past) (unsent direction past) direction)
 HasBegun setup past _ = Unit {0}
 
 pub has_leaving : (setup : Setup) (past : List Entry) (entry : Entry) → EntryRule setup past entry → HasBegun setup past entry → HasLeaving setup past (leaves past entry)

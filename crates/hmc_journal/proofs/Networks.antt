@@ -31,5 +31,6 @@ network_of case slots is =
       hosts = subst (λ (n : ℕ). (host : ℕ) → is_host_of (graph_of cubes links) host ≡ nat_lt host n) hosts net.hosts;
       cubes = net.cubes;
       sizes = net.sizes;
+      masks = is.masks;
       items = subst (λ (n : ℕ). All (IsItemOf n cubes) case.script) hosts (items_of case is);
     }

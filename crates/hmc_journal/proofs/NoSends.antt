@@ -1,11 +1,12 @@
 -- What no entry changes of a sender but a send on its direction.
-use Rattle.std.proofs.Common.{◌≡◌, ◌∙◌, ◌/◌, ◌==◌, ◌&&◌, ℕ, Bool, true, false, List, ◌∷◌, Some, refl, sym, ap, eq-eqb}
+use Rattle.std.proofs.Common.{◌≡◌, ◌∙◌, ◌/◌, ◌==◌, ◌&&◌, ℕ, Bool, true, false, List, [], ◌∷◌, Some, refl, sym, ap, eq-eqb}
 use Rattle.hmc_codes.specs.Link.{LinkFields}
 use Rattle.hmc_codes.specs.declared.place.Place.TheVariants as places
-use Rattle.hmc_packet.specs.declared.feed.Feed.TheVariants.{Waiting}
+use Rattle.hmc_packet.specs.declared.feed.Feed.{Feed}
 use Rattle.hmc_packet.specs.declared.outcome.Outcome.{Outcome}
 use Rattle.hmc_packet.specs.declared.what.What.{What}
 use Rattle.hmc_packet.specs.Packet.{PacketFields}
+use Rattle.hmc_packet.specs.Parts.{lng_of}
 use Rattle.hmc_send.specs.declared.toward.Toward.{Toward}
 use Rattle.hmc_send.specs.declared.toward.Toward.TheVariants.{Forth, Back}
 use Rattle.hmc_send.specs.Entries.{SenderEntry}
@@ -18,9 +19,9 @@ use Rattle.hmc_journal.specs.declared.entry.Entry.TheVariants.{Gave, Sent, Lande
 use Rattle.hmc_journal.specs.Setup.{Topology}
 use Rattle.hmc_journal.specs.Queues.{front_of, contents}
 use Rattle.hmc_journal.specs.Queues.QueueId.{Port}
-use Rattle.hmc_journal.specs.Links.{toward, taken_at, handed_on, landing_mask, link_sizes, link_entries, sizes_on, entries_on}
+use Rattle.hmc_journal.specs.Links.{toward, taken_at, handed_on, landing_mask, passed_on, link_sizes, link_entries, sizes_on, entries_on}
 use Rattle.hmc_journal.proofs.LinkHanded.{landing-same}
-use Rattle.hmc_journal.proofs.Projections.{same_direction, put_on-same}
+use Rattle.hmc_journal.proofs.Projections.{feed_in, goes_at, came_at, same_direction, put_on-same, taken_if-same}
 
 -- an acknowledgement and a run of Starts change nothing of it
 pub record IsOfSends {X : Type 0} (f : List SenderEntry → X) : Type 0 where
@@ -40,9 +41,10 @@ on-same g topology link cube (goals.Port port) packet past same = put_on-same g 
 on-same g topology link cube (goals.Vault vault) packet past same = refl
 on-same g topology link cube goals.Registers packet past same = refl
 
--- not a send
+-- not a send, and no cut-through
 abbrev pub IsNoSend : Entry → Type 0
 IsNoSend (Sent direction what flit) = ⊥
+IsNoSend (Through cube port direction) = ⊥
 IsNoSend _ = Unit {0}
 
 abbrev pub of_sends : {X : Type 0} → (List SenderEntry → X) → Topology → ℕ → List LinkEntry → X
@@ -53,7 +55,8 @@ pub no-send : {X : Type 0} (f : List SenderEntry → X) → IsOfSends f → (top
 unfolding link_entries sender_entries
 no-send f is topology d (Sent direction what flit) past quiet = absurd quiet
 no-send f is topology d (Landed direction flit outcome) past quiet =
-    put_on-same (of_sends f topology d) (d / 2) (Some direction) (λ way. LinkEntry.landed way (landing_mask (link_sizes topology (d / 2)) way (entries_on topology d past) flit) flit outcome) (entries_on topology d past)
+    taken_if-same (of_sends f topology d) (goes_at topology direction outcome past) (d / 2) direction _ (λ e. refl)
+    ∙ put_on-same (of_sends f topology d) (d / 2) (Some direction) (λ way. LinkEntry.landed way (landing_mask (link_sizes topology (d / 2)) way (entries_on topology d past) flit) flit outcome) (entries_on topology d past)
     (λ way. landed-same f is (sizes_on topology d) (toward d) way (landing_mask (link_sizes topology (d / 2)) way (entries_on topology d past) flit) flit outcome (entries_on topology d past))
 no-send f is topology d (Gave host tag poisoned request) past quiet = put_on-same (of_sends f topology d) (d / 2) _ (λ way. LinkEntry.handed way _) (entries_on topology d past) (λ e. refl)
 no-send f is topology d (Lifted cube from port) past quiet = put_on-same (of_sends f topology d) (d / 2) _ (λ way. LinkEntry.handed way _) (entries_on topology d past) (λ e. refl)
@@ -67,30 +70,76 @@ no-send f is topology d (Discarded host) past quiet = put_on-same (of_sends f to
 no-send f is topology d (Executed unit host tag request answer) past quiet = refl
 no-send f is topology d (Spread cube vault bank) past quiet = refl
 no-send f is topology d (Passed direction flit) past quiet = refl
-no-send f is topology d (Through cube port direction) past quiet = refl
+no-send f is topology d (Through cube port direction) past quiet = absurd quiet
 no-send f is topology d (Retired slot) past quiet = refl
 no-send f is topology d (Idle step cause) past quiet = refl
 
 -- a send on another direction
-other-way : {X : Type 0} (f : List SenderEntry → X) (sizes : LinkFields) (d e : Toward) (as_what : What) (flit : List ℕ) (past : List LinkEntry) → same_way d e ≡ false
-    → f (sender_entries sizes d (LinkEntry.sent e Waiting as_what flit ∷ past)) ≡ f (sender_entries sizes d past)
+other-way : {X : Type 0} (f : List SenderEntry → X) (sizes : LinkFields) (d e : Toward) (feed : Feed) (as_what : What) (flit : List ℕ) (past : List LinkEntry) → same_way d e ≡ false
+    → f (sender_entries sizes d (LinkEntry.sent e feed as_what flit ∷ past)) ≡ f (sender_entries sizes d past)
 unfolding sender_entries
-other-way f sizes Forth Back as_what flit past is = refl
-other-way f sizes Back Forth as_what flit past is = refl
-other-way f sizes Forth Forth as_what flit past is = absurd (let clash : true ≡ false = is in cc)
-other-way f sizes Back Back as_what flit past is = absurd (let clash : true ≡ false = is in cc)
+other-way f sizes Forth Back feed as_what flit past is = refl
+other-way f sizes Back Forth feed as_what flit past is = refl
+other-way f sizes Forth Forth feed as_what flit past is = absurd (let clash : true ≡ false = is in cc)
+other-way f sizes Back Back feed as_what flit past is = absurd (let clash : true ≡ false = is in cc)
 
 pub sent-elsewhere : {X : Type 0} (f : List SenderEntry → X) (topology : Topology) (d direction : ℕ) (as_what : What) (flit : List ℕ) (past : List Entry) → (direction == d) ≡ false
     → of_sends f topology d (entries_on topology d (Sent direction as_what flit ∷ past)) ≡ of_sends f topology d (entries_on topology d past)
 unfolding link_entries
 sent-elsewhere f topology d direction as_what flit past off = by_here (direction / 2 == d / 2) (sym (same_direction d direction) ∙ off)
   where
+    feed : Feed
+    feed = feed_in topology (d / 2) direction past (toward direction)
+
     by_here : (here : Bool) → (here && same_way (toward d) (toward direction)) ≡ false
-        → of_sends f topology d (put_if here (LinkEntry.sent (toward direction) Waiting as_what flit) (entries_on topology d past)) ≡ of_sends f topology d (entries_on topology d past)
+        → of_sends f topology d (put_if here (LinkEntry.sent (toward direction) feed as_what flit) (entries_on topology d past)) ≡ of_sends f topology d (entries_on topology d past)
     by_here false quiet = refl
-    by_here true quiet = other-way f (sizes_on topology d) (toward d) (toward direction) as_what flit (entries_on topology d past) quiet
+    by_here true quiet = other-way f (sizes_on topology d) (toward d) (toward direction) feed as_what flit (entries_on topology d past) quiet
 
 -- a send on this one
-pub sent-here : (topology : Topology) (d : ℕ) (as_what : What) (flit : List ℕ) (past : List Entry) → entries_on topology d (Sent d as_what flit ∷ past) ≡ LinkEntry.sent (toward d) Waiting as_what flit ∷ entries_on topology d past
+pub sent-here : (topology : Topology) (d : ℕ) (as_what : What) (flit : List ℕ) (past : List Entry)
+    → entries_on topology d (Sent d as_what flit ∷ past) ≡ LinkEntry.sent (toward d) (feed_in topology (d / 2) d past (toward d)) as_what flit ∷ entries_on topology d past
 unfolding link_entries
-sent-here topology d as_what flit past = ap (λ (b : Bool). put_if b (LinkEntry.sent (toward d) Waiting as_what flit) (entries_on topology d past)) (eq-eqb (d / 2) (d / 2) refl)
+sent-here topology d as_what flit past = ap (λ (b : Bool). put_if b (LinkEntry.sent (toward d) (feed_in topology (d / 2) d past (toward d)) as_what flit) (entries_on topology d past)) (eq-eqb (d / 2) (d / 2) refl)
+
+-- ---- cut-throughs
+
+-- a packet is there that is passed on
+abbrev pub IsSome : List (List ℕ) → Type 0
+IsSome [] = ⊥
+IsSome (head ∷ rest) = Unit {0}
+
+-- onto another direction
+other-through : {X : Type 0} (f : List SenderEntry → X) (sizes : LinkFields) (d e : Toward) (head : List ℕ) (flits : ℕ) (past : List LinkEntry) → same_way d e ≡ false
+    → f (sender_entries sizes d (LinkEntry.through e head flits ∷ past)) ≡ f (sender_entries sizes d past)
+unfolding sender_entries
+other-through f sizes Forth Back head flits past is = refl
+other-through f sizes Back Forth head flits past is = refl
+other-through f sizes Forth Forth head flits past is = absurd (let clash : true ≡ false = is in cc)
+other-through f sizes Back Back head flits past is = absurd (let clash : true ≡ false = is in cc)
+
+passed-elsewhere : {X : Type 0} (f : List SenderEntry → X) (topology : Topology) (d direction : ℕ) (came : List (List ℕ)) (past : List Entry) → (direction == d) ≡ false
+    → of_sends f topology d (passed_on (d / 2) direction came (entries_on topology d past)) ≡ of_sends f topology d (entries_on topology d past)
+passed-elsewhere f topology d direction [] past off = refl
+passed-elsewhere f topology d direction (head ∷ rest) past off = by_here (direction / 2 == d / 2) (sym (same_direction d direction) ∙ off)
+  where
+    by_here : (here : Bool) → (here && same_way (toward d) (toward direction)) ≡ false
+        → of_sends f topology d (put_if here (LinkEntry.through (toward direction) head (lng_of head)) (entries_on topology d past)) ≡ of_sends f topology d (entries_on topology d past)
+    by_here false quiet = refl
+    by_here true quiet = other-through f (sizes_on topology d) (toward d) (toward direction) head (lng_of head) (entries_on topology d past) quiet
+
+pub through-elsewhere : {X : Type 0} (f : List SenderEntry → X) (topology : Topology) (d cube port direction : ℕ) (past : List Entry) → (direction == d) ≡ false
+    → of_sends f topology d (entries_on topology d (Through cube port direction ∷ past)) ≡ of_sends f topology d (entries_on topology d past)
+unfolding link_entries
+through-elsewhere f topology d cube port direction past off = passed-elsewhere f topology d direction (came_at topology cube port past) past off
+
+-- onto this one
+passed-here : (topology : Topology) (d : ℕ) (came : List (List ℕ)) (head : List ℕ) (rest : List (List ℕ)) (past : List LinkEntry) → came ≡ head ∷ rest
+    → passed_on (d / 2) d came past ≡ LinkEntry.through (toward d) head (lng_of head) ∷ past
+passed-here topology d came head rest past is =
+    ap (λ (c : List (List ℕ)). passed_on (d / 2) d c past) is ∙ ap (λ (b : Bool). put_if b (LinkEntry.through (toward d) head (lng_of head)) past) (eq-eqb (d / 2) (d / 2) refl)
+
+pub through-here : (topology : Topology) (d cube port : ℕ) (head : List ℕ) (rest : List (List ℕ)) (past : List Entry) → came_at topology cube port past ≡ head ∷ rest
+    → entries_on topology d (Through cube port d ∷ past) ≡ LinkEntry.through (toward d) head (lng_of head) ∷ entries_on topology d past
+unfolding link_entries
+through-here topology d cube port head rest past is = passed-here topology d (came_at topology cube port past) head rest (entries_on topology d past) is

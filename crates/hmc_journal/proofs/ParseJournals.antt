@@ -1,5 +1,5 @@
 -- Lawful journals of equal texts are equal: each of their entries can be printed.
-use Rattle.std.proofs.Common.{◌≡◌, List, All}
+use Rattle.std.proofs.Common.{List, All}
 use Rattle.hmc_journal.specs.declared.entry.Entry.{Entry}
 use Rattle.hmc_journal.specs.Parse.{IsPrintable}
 use Rattle.hmc_journal.specs.ParseJournals.{IsJournalOf, LawfulIsShown, JournalTells}

@@ -1,37 +1,26 @@
 -- The line of an entry is its words with one space between, and those are words.
-use Rattle.std.proofs.Common.{◌≡◌, ◌∙◌, ◌<◌, ℕ, ◌+◌, ◌*◌, ◌^◌, Bool, true, false, Option, Some, None, List, [], ◌∷◌, ◌++◌, length, codes, option_to_list, refl, sym, ap, append_assoc}
+use Rattle.std.proofs.Common.{◌≡◌, ◌∙◌, ℕ, Bool, true, false, Option, List, [], ◌∷◌, ◌++◌, codes, option_to_list, refl, sym, ap, append_assoc}
 use Rattle.std.specs.Fmt.{decimal}
 use Rattle.std.specs.Int.{w32, to_be_bytes}
 use Rattle.hex.specs.Hex.{encode_lower}
-use Rattle.hmc_codes.specs.Answer.{is_returned, IsAnswer}
-use Rattle.hmc_codes.specs.Request.{RequestFields, IsRequest}
+use Rattle.hmc_codes.specs.Request.{RequestFields}
 use Rattle.hmc_codes.specs.Commands.{word_of}
 use Rattle.hmc_codes.specs.Text.{spaced_words, line, hex_number, is_mdwr, operand_of, flag_text, request_text, answer_text}
 use Rattle.hmc_codes.specs.declared.answer.Answer.{Answer}
 use Rattle.hmc_codes.specs.declared.answer.Answer.TheVariants.{Silent, Done, Read, Register, Stored, Refused}
-use Rattle.hmc_codes.specs.declared.lift.Lift.{Lift}
-use Rattle.hmc_codes.specs.declared.lift.Lift.TheVariants as lifts
 use Rattle.hmc_codes.specs.declared.unit.Unit.{Unit as Executor}
 use Rattle.hmc_codes.specs.declared.unit.Unit.TheVariants as units
 use Rattle.hmc_packet.specs.declared.bad.Bad.TheVariants as bads
 use Rattle.hmc_packet.specs.declared.kind.Kind.TheVariants as kinds
-use Rattle.hmc_packet.specs.declared.what.What.{What}
-use Rattle.hmc_packet.specs.declared.what.What.TheVariants.{Train, Clear, Start, Null, Pret, Tret, New, Again}
 use Rattle.hmc_packet.specs.declared.outcome.Outcome.{Outcome}
 use Rattle.hmc_packet.specs.declared.outcome.Outcome.TheVariants as outcomes
 use Rattle.hmc_schedule.specs.declared.step.Step.{Step}
 use Rattle.hmc_schedule.specs.declared.step.Step.TheVariants as steps
 use Rattle.hmc_script.proofs.MeaningText as meaning
-use Rattle.hmc_script.proofs.RequestWords.{IsWord-decimal, IsWord-encode_lower}
-use Rattle.hmc_script.proofs.WordsText.{IsWord, AreWords, line-spaced}
-use Rattle.hmc_journal.specs.declared.outcome.Goal.{Goal}
-use Rattle.hmc_journal.specs.declared.outcome.Goal.TheVariants as goals
-use Rattle.hmc_journal.specs.declared.outcome.Cause.{Cause}
-use Rattle.hmc_journal.specs.declared.outcome.Cause.TheVariants as causes
+use Rattle.hmc_script.proofs.WordsText.{line-spaced}
 use Rattle.hmc_journal.specs.declared.entry.Entry.{Entry}
 use Rattle.hmc_journal.specs.declared.entry.Entry.TheVariants.{Gave, Sent, Landed, Shifted, Dropped, Spread, Executed, Lifted, Took, Discarded, Through, Unlocked, Retired, Passed, Idle}
 use Rattle.hmc_journal.specs.Lines.{tag_text, unit_text, what_text, outcome_text, goal_text, lift_text, cause_text, step_words, line_of}
-use Rattle.hmc_journal.specs.Parse.{CanBeShown, IsFlit, IsTag, IsUnit, IsLift, IsGoal, IsStep, IsPrintable}
 
 -- the words of an answer, and of the other parts that may have several
 abbrev pub answer_words : Answer → List (List ℕ)
@@ -116,10 +105,6 @@ line_request request w =
 line_request_end : (request : RequestFields) → line (request_text request ∷ []) ≡ line (meaning.request_words request)
 line_request_end request =
     ap (λ t. line (t ∷ [])) (request_spaced request) ∙ sym (line-spaced (meaning.request_words request))
-
-line_unit : (u : Executor) (w : List ℕ) (ws : List (List ℕ)) → line (unit_text u ∷ w ∷ ws) ≡ line (unit_words u ++ (w ∷ ws))
-line_unit (units.Bank cube vault bank) w ws = line_flat (decimal cube) (decimal vault ∷ decimal bank ∷ []) w ws
-line_unit (units.Registers cube) w ws = line_flat (decimal cube) (codes "r" ∷ []) w ws
 
 line_step : (step : Step) (w : List ℕ) → line (spaced_words (step_words step) ∷ w ∷ []) ≡ line (step_words step ++ (w ∷ []))
 line_step (steps.Give host) w = line_flat (codes "give") (decimal host ∷ []) w []

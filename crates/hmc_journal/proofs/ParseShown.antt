@@ -1,12 +1,12 @@
 -- The line of each entry of a lawful journal shows all of it: an idle landing has no mask, and an
 -- answer is silent or one that a response can carry.
-use Rattle.std.proofs.Common.{◌≡◌, ◌∙◌, ◌<◌, ◌≤◌, ◌+◌, ◌/◌, ◌%◌, ◌^◌, ◌&&◌, ◌||◌, ◌==◌, ◌⊎◌, inl, inr, nat_le, ℕ, Bool, true, false, if◌then◌else◌, Option, Some, None, List, [], ◌∷◌, length, slice_get, refl, sym, ap, subst, arith}
+use Rattle.std.proofs.Common.{◌≡◌, ◌∙◌, ◌+◌, ◌/◌, ◌%◌, ◌&&◌, ◌||◌, ◌==◌, inl, inr, nat_le, ℕ, Bool, true, false, if◌then◌else◌, Option, Some, None, List, [], ◌∷◌, length, slice_get, refl, sym, ap, subst, arith, not}
+use Rattle.std.specs.Prelude.{is_none, option_and_then}
 use Rattle.std.specs.List.{All}
 use Rattle.std.proofs.lemmas.Bool.Decides.{nat_tests}
 use Rattle.std.proofs.lemmas.List.Elements.{All-nil, All-cons}
 use Rattle.hmc_codes.specs.Answer.{is_returned, CanReply}
 use Rattle.hmc_codes.specs.Commands.{allows_of, is_posted}
-use Rattle.hmc_codes.specs.Flit.{zero_flit}
 use Rattle.hmc_codes.specs.Link.{LinkFields}
 use Rattle.hmc_codes.specs.Request.{RequestFields}
 use Rattle.hmc_codes.specs.Shape.{bank_of}
@@ -22,11 +22,12 @@ use Rattle.hmc_codes.specs.declared.unit.Unit.TheVariants as units
 use Rattle.hmc_crossbar.specs.To.{where_to}
 use Rattle.hmc_packet.specs.Packet.{PacketFields, IsPacket}
 use Rattle.hmc_packet.specs.Transactions.{answer_by, answer_in, request_in}
+use Rattle.hmc_packet.specs.declared.head.Head.{Head}
 use Rattle.hmc_packet.specs.declared.outcome.Outcome.{Outcome}
 use Rattle.hmc_schedule.specs.declared.step.Step.{Step}
 use Rattle.hmc_schedule.specs.declared.step.Step.TheVariants as steps
 use Rattle.hmc_send.specs.LinkEntries.{LinkEntry}
-use Rattle.hmc_send.specs.LinkLines.{StampedFlit, line, under_mask, passes}
+use Rattle.hmc_send.specs.LinkLines.{StampedFlit, line, under_mask}
 use Rattle.hmc_send.specs.declared.sent.Sent.{Sent as Sending}
 use Rattle.hmc_send.specs.declared.sent.Sent.TheVariants.{Out, Starved}
 use Rattle.hmc_serial.specs.Machine.{State, cube_state_at, answer_to}
@@ -38,11 +39,10 @@ use Rattle.hmc_host.specs.declared.settled.Settled.{Settled}
 use Rattle.hmc_host.specs.declared.settled.Settled.TheVariants as settles
 use Rattle.hmc_vault.specs.declared.execute.Executed.{Executed as Execution}
 use Rattle.hmc_vault.specs.declared.execute.Executed.TheVariants as executions
-use Rattle.hmc_vault.specs.Execute.{runs}
 use Rattle.hmc_journal.specs.declared.outcome.Cause.TheVariants as causes
 use Rattle.hmc_journal.specs.declared.outcome.Goal.{Goal}
 use Rattle.hmc_journal.specs.declared.entry.Entry.{Entry}
-use Rattle.hmc_journal.specs.declared.entry.Entry.TheVariants.{Gave, Sent, Landed, Shifted, Dropped, Spread, Executed, Lifted, Took, Discarded, Through, Unlocked, Retired, Passed, Idle}
+use Rattle.hmc_journal.specs.declared.entry.Entry.TheVariants.{Gave, Shifted, Spread, Executed, Lifted, Took, Through, Retired, Idle}
 use Rattle.hmc_journal.specs.Network.{IsNetwork}
 use Rattle.hmc_journal.specs.Lawful.{Follows, Lawful}
 use Rattle.hmc_journal.specs.Links.{toward, sizes_on}
@@ -50,15 +50,16 @@ use Rattle.hmc_journal.specs.Queues.{queue_of, answers_of}
 use Rattle.hmc_journal.specs.Queues.QueueId.{Port, Host, Vault, Bank, Answers}
 use Rattle.hmc_journal.specs.Routes.{port_towards}
 use Rattle.hmc_journal.specs.Waiting.{is_full, queue_size}
-use Rattle.hmc_journal.specs.Setup.{Setup, Topology, graph_of, shape_of}
+use Rattle.hmc_journal.specs.Setup.{Setup, Topology, graph_of, shape_of, direction_from, direction_to}
 use Rattle.hmc_journal.specs.StepView.{StepView, state_of}
-use Rattle.hmc_journal.specs.Next.{next, choice, with_front, unless_full, gave_entry, took_entry, ran_entry, sent_entry, landed_entry, landed_flit, landed_front, goal_at, shifted_entry, shift_entry, spread_to_bank, execution_entry, executed_entry, lifted_entry}
+use Rattle.hmc_journal.specs.Next.{next, choice, with_front, unless_full, gave_entry, took_entry, ran_entry, sent_entry, landed_entry, landed_front, goal_at, shifted_entry, shift_entry, spread_to_bank, execution_entry, executed_entry, lifted_entry}
+use Rattle.hmc_journal.specs.ThroughSteps.{onward_port, gathered_head, is_passed_on, takes_on, passed_entry, through_head}
 use Rattle.hmc_journal.specs.Parse.{CanBeShown, HasNoMask, IsShown}
 use Rattle.hmc_journal.proofs.EntryRule.{EntryRule, HasExecuted, HasTaken, entry_rule, lawful_past}
 use Rattle.hmc_journal.proofs.Entering.{Kept, front_stands, runs_request, sends}
 use Rattle.hmc_journal.proofs.Machine.{cube_there}
 use Rattle.hmc_journal.proofs.Sound.{kept}
-use Rattle.hmc_journal.proofs.Standing.{IsReplying}
+use Rattle.hmc_journal.proofs.Standing.{GoesTo}
 
 -- MASKS
 
@@ -125,6 +126,21 @@ executed_by topology view unit step none =
     fronted step (view.inside (queue_of unit)) (λ front. execution_entry unit step front (view.inside (answers_of unit)) (queue_size topology unit) view.state (request_in front)) none
     (λ front. execution unit step front (view.inside (answers_of unit)) (queue_size topology unit) view.state (request_in front) none)
 
+begun : (cube port direction : ℕ) (busy : Bool) → IsUnmasked (if busy then Idle (steps.Through cube port) causes.Busy else Through cube port direction)
+begun cube port direction true = tt
+begun cube port direction false = tt
+
+passed_on : (topology : Topology) (view : StepView) (cube port : ℕ) (head : Head) (onto : Option ℕ) → IsUnmasked (passed_entry topology view cube port head onto)
+passed_on topology view cube port head None = tt
+passed_on topology view cube port head (Some direction) =
+    begun cube port direction
+    (is_passed_on view (direction_to topology (places.Port cube port)) || not (is_none (slice_get (view.inside (Port cube port)) 0)) || not (takes_on topology view direction head.flits))
+
+through : (topology : Topology) (view : StepView) (cube port : ℕ) (found : Option Head) → IsUnmasked (through_head topology view cube port found)
+through topology view cube port None = tt
+through topology view cube port (Some head) =
+    passed_on topology view cube port head (option_and_then (λ onward. direction_from topology (places.Port cube onward)) (onward_port topology cube port head))
+
 choice_unmasked : (topology : Topology) (view : StepView) (step : Step) → IsUnmasked (choice topology view step)
 unfolding choice
 choice_unmasked topology view (steps.Give host) = gave host _
@@ -145,6 +161,7 @@ choice_unmasked topology view (steps.Lift cube from) =
 choice_unmasked topology view (steps.Take host) =
     fronted (steps.Take host) (view.inside (Host host)) (λ front. took_entry host (settle_says front)) tt (λ front. took host (settle_says front))
 choice_unmasked topology view (steps.Retire slot) = retired slot _
+choice_unmasked topology view (steps.Through cube port) = through topology view cube port (gathered_head view (direction_to topology (places.Port cube port)))
 choice_unmasked topology view _ = tt
 
 next_unmasked : (setup : Setup) (past : List Entry) (step : Step) → IsUnmasked (next setup past step)
@@ -203,9 +220,11 @@ replied _ packet answer own is found = absurd (cc found)
 
 taken_shown : (setup : Setup) (past : List Entry) (host tag : ℕ) (answer : Answer) → HasTaken setup past host tag answer → Kept setup past → CanBeShown answer
 unfolding answer_in
-taken_shown setup past host tag answer has keeps =
-    let replies : IsReplying setup.topology has.at.front = (front_stands setup past (Host host) keeps has.at).goes.replying in
-    can_be_shown answer (replied has.at.front.command has.at.front answer refl replies.counted.is_packet has.is_answer)
+taken_shown setup past host tag answer has keeps = by_goes (front_stands setup past (Host host) keeps has.at).goes
+  where
+    by_goes : GoesTo setup.topology (places.Host host) has.at.front → CanBeShown answer
+    by_goes (inl bound) = can_be_shown answer (replied has.at.front.command has.at.front answer refl bound.replying.counted.is_packet has.is_answer)
+    by_goes (inr spoiled) = absurd (let clash : true ≡ false = sym spoiled.poisoned ∙ has.unpoisoned in cc)
 
 -- ENTRIES
 

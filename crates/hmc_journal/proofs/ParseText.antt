@@ -1,11 +1,11 @@
 -- The words of an entry are words, and are read back as the entry.
-use Rattle.std.proofs.Common.{◌≡◌, ◌∙◌, ◌<◌, ◌≤◌, ℕ, zero, suc, ◌+◌, ◌*◌, ◌/◌, ◌%◌, ◌^◌, ◌==◌, ◌&&◌, Bool, true, false, Option, Some, None, option_map, Result, Ok, List, [], ◌∷◌, ◌++◌, length, drop, codes, slice_index, nat_eq, refl, sym, ap, arith, cond, lit<}
+use Rattle.std.proofs.Common.{◌≡◌, ◌∙◌, ◌<◌, ℕ, zero, suc, ◌/◌, ◌^◌, Bool, true, false, Option, Some, None, option_map, List, [], ◌∷◌, ◌++◌, length, codes, nat_eq, refl, sym, ap, arith, cond, lit<}
 use Rattle.std.specs.Char.{digit_value}
 use Rattle.std.specs.Fmt.{decimal}
 use Rattle.std.specs.Int.{w32, to_be_bytes, from_be_bytes, bytes_high_first, byte_at}
 use Rattle.std.specs.Result.{result_ok}
 use Rattle.std.specs.Str.{bytes_eq}
-use Rattle.std.specs.Str.Parse.{AllDigits, IsNumeral}
+use Rattle.std.specs.Str.Parse.{IsNumeral}
 use Rattle.std.proofs.lemmas.Bool.Decides.{nat_tests}
 use Rattle.std.proofs.lemmas.Fmt.{decimal_is_IsNumeral}
 use Rattle.std.proofs.lemmas.List.{append_cancel_right}
@@ -14,9 +14,8 @@ use Rattle.hex.specs.Hex.{encode_lower, decode_sized, lower_digits}
 use Rattle.hex.proofs.HexLemmas.{decode_sized-encode_lower, length-encode_with}
 use Rattle.hmc_codes.specs.Answer.{is_returned, IsAnswer}
 use Rattle.hmc_codes.specs.Bytes.{IsBytes}
-use Rattle.hmc_codes.specs.Flit.{zero_flit}
 use Rattle.hmc_codes.specs.Request.{RequestFields, IsRequest}
-use Rattle.hmc_codes.specs.Text.{flag_text, spaced_words, line}
+use Rattle.hmc_codes.specs.Text.{flag_text, spaced_words}
 use Rattle.hmc_codes.specs.declared.answer.Answer.{Answer}
 use Rattle.hmc_codes.specs.declared.answer.Answer.TheVariants.{Silent, Done, Read, Register, Stored, Refused}
 use Rattle.hmc_codes.specs.declared.lift.Lift.{Lift}
@@ -26,7 +25,7 @@ use Rattle.hmc_codes.specs.declared.unit.Unit.TheVariants as units
 use Rattle.hmc_packet.specs.declared.bad.Bad.TheVariants as bads
 use Rattle.hmc_packet.specs.declared.kind.Kind.TheVariants as kinds
 use Rattle.hmc_packet.specs.declared.what.What.{What}
-use Rattle.hmc_packet.specs.declared.what.What.TheVariants.{Train, Clear, Start, Null, Pret, Tret, New, Again}
+use Rattle.hmc_packet.specs.declared.what.What.TheVariants.{Train}
 use Rattle.hmc_packet.specs.declared.outcome.Outcome.{Outcome}
 use Rattle.hmc_packet.specs.declared.outcome.Outcome.TheVariants as outcomes
 use Rattle.hmc_schedule.specs.declared.step.Step.{Step}
@@ -37,8 +36,8 @@ use Rattle.hmc_script.proofs.NumberText.{number_of-decimal, below-is}
 use Rattle.hmc_script.proofs.RequestWords.{IsWord-decimal, IsWord-encode_lower, no_poison}
 use Rattle.hmc_script.proofs.TakenLemmas.{take_number-is, take_request-words}
 use Rattle.hmc_script.proofs.WordsText.{IsWord, AreWords, words_of-spaced, line-spaced}
-use Rattle.hmc_text.specs.Number.{below, number_of}
-use Rattle.hmc_text.specs.Words.{words_of, first_word}
+use Rattle.hmc_text.specs.Number.{below}
+use Rattle.hmc_text.specs.Words.{words_of}
 use Rattle.hmc_words.specs.Taking.{◌>>=◌, take_number, take_this}
 use Rattle.hmc_journal.specs.declared.outcome.Goal.{Goal}
 use Rattle.hmc_journal.specs.declared.outcome.Goal.TheVariants as goals
@@ -47,9 +46,10 @@ use Rattle.hmc_journal.specs.declared.outcome.Cause.TheVariants as causes
 use Rattle.hmc_journal.specs.declared.entry.Entry.{Entry}
 use Rattle.hmc_journal.specs.declared.entry.Entry.TheVariants.{Gave, Sent, Landed, Shifted, Dropped, Spread, Executed, Lifted, Took, Discarded, Through, Unlocked, Retired, Passed, Idle}
 use Rattle.hmc_journal.specs.Lines.{tag_text, what_text, goal_text, lift_text, cause_text, step_words, line_of}
-use Rattle.hmc_journal.specs.Parse.{CanBeShown, HasNoMask, IsFlit, IsTag, IsUnit, IsLift, IsGoal, IsStep, IsPrintable, IsLineOf}
+use Rattle.hmc_wire.specs.Conditions.{IsFlit}
+use Rattle.hmc_journal.specs.Parse.{CanBeShown, HasNoMask, IsTag, IsUnit, IsLift, IsGoal, IsStep, IsPrintable, IsLineOf}
 use Rattle.hmc_journal.specs.ParseWords.{byte_of, flit_of, tag_of, whats, what_of, causes_known, cause_named, outcome_named, goal_of, port_of, lift_of, flag_of, returned_of, value_of}
-use Rattle.hmc_journal.specs.ParseParts.{take_bank, take_unit, outcome_among, outcome_in, done_in, read_in, register_in, refused_in, answer_after, answer_in, numbered_step, pair_step, take_bank_step, take_lift_step, take_pair_step, take_long_step, step_or, take_step}
+use Rattle.hmc_journal.specs.ParseParts.{take_bank, take_unit, outcome_among, outcome_in, done_in, read_in, register_in, refused_in, answer_after, answer_in, numbered_step, pair_step, take_bank_step, take_lift_step, take_pair_step, take_long_step, take_step}
 use Rattle.hmc_journal.specs.ParseHead.{head_of, all_heads}
 use Rattle.hmc_journal.specs.ParseEntry.{take_tag, take_flit, gave_in, sent_in, landed_in, shifted_in, dropped_in, spread_in, executed_in, lifted_in, took_in, discarded_in, through_in, unlocked_in, retired_in, passed_in, idle_in, entry_after, entry_in}
 use Rattle.hmc_journal.proofs.ParseLines.{answer_words, unit_words, outcome_words, poison_words, entry_words, line_of-words}
@@ -68,7 +68,7 @@ tag_word None is = record { some = refl; letters = refl }
 tag_word (Some tag) is = IsWord-decimal tag (omega arith)
 
 flit_word : (flit : List ℕ) → IsFlit flit → IsWord (encode_lower flit)
-flit_word [] is = absurd (omega (arith, is.0))
+flit_word [] is = absurd (omega (arith, is.long))
 flit_word (b ∷ bs) is = IsWord-encode_lower b bs
 
 what_word : (what : What) → IsWord (what_text what)
@@ -228,7 +228,7 @@ tag_back tag ws is = ap (λ (o : Option (Option ℕ)). o >>= (λ t. Some (t, ws)
 
 flit_of-digits : (flit : List ℕ) → IsFlit flit → flit_of (encode_lower flit) ≡ Some flit
 unfolding flit_of
-flit_of-digits flit is = ap result_ok (decode_sized-encode_lower flit 16 is.0 is.1)
+flit_of-digits flit is = ap result_ok (decode_sized-encode_lower flit 16 is.long is.bytes)
 
 flit_back : (flit : List ℕ) (ws : List (List ℕ)) → IsFlit flit → take_flit (encode_lower flit ∷ ws) ≡ Some (flit, ws)
 unfolding take_flit

@@ -5,7 +5,9 @@ use Rattle.std.specs.Prelude.{option_map}
 use Rattle.std.proofs.lemmas.List.{map-append}
 use Rattle.hmc_codes.specs.declared.place.Place.{Place}
 use Rattle.hmc_codes.specs.declared.place.Place.TheVariants as places
-use Rattle.hmc_packet.specs.declared.feed.Feed.TheVariants.{Waiting}
+use Rattle.hmc_packet.specs.declared.feed.Feed.{Feed}
+use Rattle.hmc_packet.specs.declared.outcome.Outcome.{Outcome}
+use Rattle.hmc_packet.specs.Parts.{lng_of}
 use Rattle.hmc_packet.specs.Landings.{ReceiverEntry}
 use Rattle.hmc_packet.specs.Packet.{PacketFields}
 use Rattle.hmc_send.specs.declared.toward.Toward.{Toward}
@@ -25,12 +27,12 @@ use Rattle.hmc_packet.specs.Transactions.{request_packet}
 use Rattle.hmc_journal.specs.Setup.{Topology, end_of, direction_from}
 use Rattle.hmc_journal.specs.Queues.{buffer_at, goal_queue, answers_of, unless_posted, tag_number, front_of, packet_if, arrival_in, arrival_of, arrived, enters, entered, contents}
 use Rattle.hmc_journal.specs.Queues.QueueId.{Output, Port, Answers}
-use Rattle.hmc_journal.proofs.LinkKept.{AreDirect}
 use Rattle.hmc_journal.specs.Directions.{sent_flits, receiver_of, profile_of}
-use Rattle.hmc_journal.specs.Links.{toward, put_on, taken_at, handed_on, landing_mask, link_sizes, link_entries, entries_on}
+use Rattle.hmc_journal.specs.Links.{toward, put_on, taken_at, handed_on, landing_mask, fed_after, taken_if, passed_on, gathered_at, direction_to, link_sizes, link_entries, entries_on}
+use Rattle.hmc_journal.specs.Piped.{passed_onto, goes_on, pipe_onto}
 
 -- two directions are one where they are of one link and of one way
-never : (b : Bool) → (b ≡ true → ⊥) → b ≡ false
+pub never : (b : Bool) → (b ≡ true → ⊥) → b ≡ false
 never true = λ no. absurd (no refl)
 never false = λ no. refl
 
@@ -80,6 +82,28 @@ handed_on-same f topology link cube (goals.Port port) packet past same = put_on-
 handed_on-same f topology link cube (goals.Vault vault) packet past same = refl
 handed_on-same f topology link cube goals.Registers packet past same = refl
 
+-- what a send in a direction of a link is fed
+abbrev pub feed_in : Topology → (link direction : ℕ) → List Entry → Toward → Feed
+feed_in topology link direction past way = fed_after (link_sizes topology link) way (link_entries topology link past) (pipe_onto topology direction past)
+
+-- what goes on at once is taken too
+pub taken_if-same : {X : Type 0} (f : List LinkEntry → X) (gone : Bool) (link direction : ℕ) (past : List LinkEntry) → ((d : Toward) → f (LinkEntry.taken d ∷ past) ≡ f past) → f (taken_if gone link direction past) ≡ f past
+taken_if-same f false link direction past same = refl
+taken_if-same f true link direction past same = put_on-same f link (Some direction) LinkEntry.taken past same
+
+-- whether a landing goes on at once
+abbrev pub goes_at : Topology → (direction : ℕ) → Outcome → List Entry → Bool
+goes_at topology direction outcome past = goes_on outcome (passed_onto topology direction past)
+
+-- a packet that is passed on
+pub passed_on-same : {X : Type 0} (f : List LinkEntry → X) (link direction : ℕ) (came : List (List ℕ)) (past : List LinkEntry) → ((d : Toward) (head : List ℕ) (flits : ℕ) → f (LinkEntry.through d head flits ∷ past) ≡ f past) → f (passed_on link direction came past) ≡ f past
+passed_on-same f link direction [] past same = refl
+passed_on-same f link direction (head ∷ rest) past same = put_on-same f link (Some direction) (λ d. LinkEntry.through d head (lng_of head)) past (λ d. same d head (lng_of head))
+
+-- the flits that a packet has which is passed on at a port
+abbrev pub came_at : Topology → (cube port : ℕ) → List Entry → List (List ℕ)
+came_at topology cube port past = gathered_at (direction_to topology (places.Port cube port)) past
+
 -- what an entry that only hands or takes packets leaves
 pub record IsBlind {X : Type 0} (f : List LinkEntry → X) : Type 0 where
   pub handed : (d : Toward) (packet : PacketFields) (past : List LinkEntry) → f (LinkEntry.handed d packet ∷ past) ≡ f past
@@ -108,11 +132,12 @@ received-step : (topology : Topology) (d : ℕ) (entry : Entry) (past : List Ent
 unfolding receiver_of link_entries receiver_entries
 received-step topology d (Gave host tag poisoned request) past is = is ∙ sym (put_on-same (receiver_entries (toward d)) (d / 2) _ (λ way. LinkEntry.handed way _) (entries_on topology d past) (λ e. refl))
 received-step topology d (Sent direction what flit) past is =
-    is ∙ sym (put_on-same (receiver_entries (toward d)) (d / 2) (Some direction) (λ way. LinkEntry.sent way Waiting what flit) (entries_on topology d past) (λ e. refl))
+    is ∙ sym (put_on-same (receiver_entries (toward d)) (d / 2) (Some direction) (λ way. LinkEntry.sent way (feed_in topology (d / 2) direction past way) what flit) (entries_on topology d past) (λ e. refl))
 received-step topology d (Landed direction flit outcome) past is =
     ap (put_if (direction == d) (ReceiverEntry.Land flit outcome)) is
     ∙ ap (λ (b : Bool). put_if b (ReceiverEntry.Land flit outcome) (receiver_entries (toward d) (entries_on topology d past))) (same_direction d direction)
     ∙ sym (received-put (direction / 2 == d / 2) (same_way (toward d) (toward direction)) (toward d) (ReceiverEntry.Land flit outcome) _ (entries_on topology d past) refl)
+    ∙ sym (taken_if-same (receiver_entries (toward d)) (goes_at topology direction outcome past) (d / 2) direction _ (λ e. refl))
 received-step topology d (Unlocked direction) past is =
     ap (put_if (direction == d) ReceiverEntry.Unlock) is
     ∙ ap (λ (b : Bool). put_if b ReceiverEntry.Unlock (receiver_entries (toward d) (entries_on topology d past))) (same_direction d direction)
@@ -125,7 +150,7 @@ received-step topology d (Discarded host) past is = is ∙ sym (put_on-same (rec
 received-step topology d (Spread cube vault bank) past is = is
 received-step topology d (Executed unit host tag request answer) past is = is
 received-step topology d (Passed direction flit) past is = is
-received-step topology d (Through cube port direction) past is = is
+received-step topology d (Through cube port direction) past is = is ∙ sym (passed_on-same (receiver_entries (toward d)) (d / 2) direction (came_at topology cube port past) (entries_on topology d past) (λ e head flits. refl))
 received-step topology d (Retired slot) past is = is
 received-step topology d (Idle step cause) past is = is
 
@@ -166,6 +191,7 @@ sent-step topology d (Sent direction what flit) past is =
 sent-step topology d (Gave host tag poisoned request) past is = is ∙ sym (put_on-same (link_flits topology d) (d / 2) _ (λ way. LinkEntry.handed way _) (entries_on topology d past) (λ e. refl))
 sent-step topology d (Landed direction flit outcome) past is =
     is ∙ sym (put_on-same (link_flits topology d) (d / 2) (Some direction) (λ way. LinkEntry.landed way (landing_mask (link_sizes topology (d / 2)) way (entries_on topology d past) flit) flit outcome) (entries_on topology d past) (λ e. refl))
+    ∙ sym (taken_if-same (link_flits topology d) (goes_at topology direction outcome past) (d / 2) direction _ (λ e. refl))
 sent-step topology d (Unlocked direction) past is = is ∙ sym (put_on-same (link_flits topology d) (d / 2) (Some direction) LinkEntry.unlocked (entries_on topology d past) (λ e. refl))
 sent-step topology d (Shifted cube port goal) past is = is ∙ sym (shifted-same (link_flits topology d) (blind_sent topology d) topology (d / 2) cube port goal _ (entries_on topology d past))
 sent-step topology d (Dropped cube port) past is = is ∙ sym (put_on-same (link_flits topology d) (d / 2) _ LinkEntry.taken (entries_on topology d past) (λ e. refl))
@@ -175,7 +201,7 @@ sent-step topology d (Discarded host) past is = is ∙ sym (put_on-same (link_fl
 sent-step topology d (Spread cube vault bank) past is = is
 sent-step topology d (Executed unit host tag request answer) past is = is
 sent-step topology d (Passed direction flit) past is = is
-sent-step topology d (Through cube port direction) past is = is
+sent-step topology d (Through cube port direction) past is = is ∙ sym (passed_on-same (link_flits topology d) (d / 2) direction (came_at topology cube port past) (entries_on topology d past) (λ e head flits. refl))
 sent-step topology d (Retired slot) past is = is
 sent-step topology d (Idle step cause) past is = is
 
@@ -207,9 +233,10 @@ landed-step topology d (Landed direction flit outcome) past is =
     ap (count_if (direction == d)) is
     ∙ ap (λ (b : Bool). count_if b (lines.landings (toward d) (entries_on topology d past))) (same_direction d direction)
     ∙ sym (counted-put (direction / 2 == d / 2) (same_way (toward d) (toward direction)) (toward d) _ (entries_on topology d past) refl)
+    ∙ sym (taken_if-same (lines.landings (toward d)) (goes_at topology direction outcome past) (d / 2) direction _ (λ e. refl))
 landed-step topology d (Gave host tag poisoned request) past is = is ∙ sym (put_on-same (lines.landings (toward d)) (d / 2) _ (λ way. LinkEntry.handed way _) (entries_on topology d past) (λ e. refl))
 landed-step topology d (Sent direction what flit) past is =
-    is ∙ sym (put_on-same (lines.landings (toward d)) (d / 2) (Some direction) (λ way. LinkEntry.sent way Waiting what flit) (entries_on topology d past) (λ e. refl))
+    is ∙ sym (put_on-same (lines.landings (toward d)) (d / 2) (Some direction) (λ way. LinkEntry.sent way (feed_in topology (d / 2) direction past way) what flit) (entries_on topology d past) (λ e. refl))
 landed-step topology d (Unlocked direction) past is = is ∙ sym (put_on-same (lines.landings (toward d)) (d / 2) (Some direction) LinkEntry.unlocked (entries_on topology d past) (λ e. refl))
 landed-step topology d (Shifted cube port goal) past is = is ∙ sym (shifted-same (lines.landings (toward d)) (blind_landings (toward d)) topology (d / 2) cube port goal _ (entries_on topology d past))
 landed-step topology d (Dropped cube port) past is = is ∙ sym (put_on-same (lines.landings (toward d)) (d / 2) _ LinkEntry.taken (entries_on topology d past) (λ e. refl))
@@ -219,7 +246,7 @@ landed-step topology d (Discarded host) past is = is ∙ sym (put_on-same (lines
 landed-step topology d (Spread cube vault bank) past is = is
 landed-step topology d (Executed unit host tag request answer) past is = is
 landed-step topology d (Passed direction flit) past is = is
-landed-step topology d (Through cube port direction) past is = is
+landed-step topology d (Through cube port direction) past is = is ∙ sym (passed_on-same (lines.landings (toward d)) (d / 2) direction (came_at topology cube port past) (entries_on topology d past) (λ e head flits. refl))
 landed-step topology d (Retired slot) past is = is
 landed-step topology d (Idle step cause) past is = is
 
@@ -229,10 +256,6 @@ landed_are topology d [] = refl
 landed_are topology d (entry ∷ past) = landed-step topology d entry past (landed_are topology d past)
 
 -- ---- the packets that entered an output queue
-
-blind_handed : (d : Toward) (way : Toward) (past : List LinkEntry) → handed_packets d (LinkEntry.taken way ∷ past) ≡ handed_packets d past
-unfolding handed_packets
-blind_handed d way past = refl
 
 entered-put : (here way : Bool) (packet : PacketFields) (list : List PacketFields) (d e : Toward) (past : List LinkEntry) → same_way d e ≡ way → list ≡ handed_packets d past
     → list ++ packet_if (here && way) (λ _. packet) ≡ handed_packets d (put_if here (LinkEntry.handed e packet) past)
@@ -279,17 +302,18 @@ handed-step topology d (Shifted cube port goal) past is =
     (is ∙ sym (put_on-same (handed_packets (toward d)) (d / 2) _ LinkEntry.taken (entries_on topology d past) (λ e. refl)))
 handed-step topology d (Landed direction flit outcome) past is =
     nothing-more _ _ _ (not-output d (end_of topology direction) _)
-    (is ∙ sym (put_on-same (handed_packets (toward d)) (d / 2) (Some direction) (λ way. LinkEntry.landed way (landing_mask (link_sizes topology (d / 2)) way (entries_on topology d past) flit) flit outcome) (entries_on topology d past) (λ e. refl)))
+    (is ∙ sym (put_on-same (handed_packets (toward d)) (d / 2) (Some direction) (λ way. LinkEntry.landed way (landing_mask (link_sizes topology (d / 2)) way (entries_on topology d past) flit) flit outcome) (entries_on topology d past) (λ e. refl))
+    ∙ sym (taken_if-same (handed_packets (toward d)) (goes_at topology direction outcome past) (d / 2) direction _ (λ e. refl)))
 handed-step topology d (Executed unit host tag request answer) past is = nothing-more _ _ _ (not-answers d (is_posted request.command) unit _) is
 handed-step topology d (Spread cube vault bank) past is = append-nil _ ∙ is
 handed-step topology d (Sent direction what flit) past is =
-    append-nil _ ∙ is ∙ sym (put_on-same (handed_packets (toward d)) (d / 2) (Some direction) (λ way. LinkEntry.sent way Waiting what flit) (entries_on topology d past) (λ e. refl))
+    append-nil _ ∙ is ∙ sym (put_on-same (handed_packets (toward d)) (d / 2) (Some direction) (λ way. LinkEntry.sent way (feed_in topology (d / 2) direction past way) what flit) (entries_on topology d past) (λ e. refl))
 handed-step topology d (Unlocked direction) past is = append-nil _ ∙ is ∙ sym (put_on-same (handed_packets (toward d)) (d / 2) (Some direction) LinkEntry.unlocked (entries_on topology d past) (λ e. refl))
 handed-step topology d (Dropped cube port) past is = append-nil _ ∙ is ∙ sym (put_on-same (handed_packets (toward d)) (d / 2) _ LinkEntry.taken (entries_on topology d past) (λ e. refl))
 handed-step topology d (Took host tag answer) past is = append-nil _ ∙ is ∙ sym (put_on-same (handed_packets (toward d)) (d / 2) _ LinkEntry.taken (entries_on topology d past) (λ e. refl))
 handed-step topology d (Discarded host) past is = append-nil _ ∙ is ∙ sym (put_on-same (handed_packets (toward d)) (d / 2) _ LinkEntry.taken (entries_on topology d past) (λ e. refl))
 handed-step topology d (Passed direction flit) past is = append-nil _ ∙ is
-handed-step topology d (Through cube port direction) past is = append-nil _ ∙ is
+handed-step topology d (Through cube port direction) past is = append-nil _ ∙ is ∙ sym (passed_on-same (handed_packets (toward d)) (d / 2) direction (came_at topology cube port past) (entries_on topology d past) (λ e head flits. refl))
 handed-step topology d (Retired slot) past is = append-nil _ ∙ is
 handed-step topology d (Idle step cause) past is = append-nil _ ∙ is
 
@@ -297,44 +321,3 @@ pub handed_are : (topology : Topology) (d : ℕ) (past : List Entry) → entered
 unfolding entered link_entries handed_packets
 handed_are topology d [] = refl
 handed_are topology d (entry ∷ past) = handed-step topology d entry past (handed_are topology d past)
-
--- ---- no packet is passed on
-
-direct-put : (link : ℕ) (direction : Option ℕ) (entry : Toward → LinkEntry) (past : List LinkEntry) → ((d : Toward) → AreDirect (entry d ∷ past)) → AreDirect past → AreDirect (put_on link direction entry past)
-direct-put link None entry past more is = is
-direct-put link (Some direction) entry past more is = by_here (direction / 2 == link)
-  where
-    by_here : (here : Bool) → AreDirect (put_if here (entry (toward direction)) past)
-    by_here true = more (toward direction)
-    by_here false = is
-
-direct-on : (topology : Topology) (link cube : ℕ) (goal : Goal) (packet : PacketFields) (past : List LinkEntry) → AreDirect past → AreDirect (handed_on topology link cube goal packet past)
-direct-on topology link cube (goals.Port port) packet past is = direct-put link _ (λ d. LinkEntry.handed d packet) past (λ d. is) is
-direct-on topology link cube (goals.Vault vault) packet past is = is
-direct-on topology link cube goals.Registers packet past is = is
-
-direct-step : (topology : Topology) (link : ℕ) (entry : Entry) (past : List Entry) → AreDirect (link_entries topology link past) → AreDirect (link_entries topology link (entry ∷ past))
-unfolding link_entries
-direct-step topology link (Gave host tag poisoned request) past is = direct-put link _ _ (link_entries topology link past) (λ d. is) is
-direct-step topology link (Lifted cube from port) past is = direct-put link _ _ (link_entries topology link past) (λ d. is) is
-direct-step topology link (Shifted cube port goal) past is =
-    direct-on topology link cube goal (front_of (contents topology past (Port cube port))) (taken_at topology link (places.Port cube port) (link_entries topology link past))
-    (direct-put link _ LinkEntry.taken (link_entries topology link past) (λ d. is) is)
-direct-step topology link (Landed direction flit outcome) past is =
-    direct-put link (Some direction) (λ way. LinkEntry.landed way (landing_mask (link_sizes topology link) way (link_entries topology link past) flit) flit outcome) (link_entries topology link past) (λ d. is) is
-direct-step topology link (Sent direction what flit) past is = direct-put link (Some direction) (λ way. LinkEntry.sent way Waiting what flit) (link_entries topology link past) (λ d. is) is
-direct-step topology link (Unlocked direction) past is = direct-put link (Some direction) LinkEntry.unlocked (link_entries topology link past) (λ d. is) is
-direct-step topology link (Dropped cube port) past is = direct-put link _ LinkEntry.taken (link_entries topology link past) (λ d. is) is
-direct-step topology link (Took host tag answer) past is = direct-put link _ LinkEntry.taken (link_entries topology link past) (λ d. is) is
-direct-step topology link (Discarded host) past is = direct-put link _ LinkEntry.taken (link_entries topology link past) (λ d. is) is
-direct-step topology link (Executed unit host tag request answer) past is = is
-direct-step topology link (Spread cube vault bank) past is = is
-direct-step topology link (Passed direction flit) past is = is
-direct-step topology link (Through cube port direction) past is = is
-direct-step topology link (Retired slot) past is = is
-direct-step topology link (Idle step cause) past is = is
-
-pub are_direct : (topology : Topology) (link : ℕ) (past : List Entry) → AreDirect (link_entries topology link past)
-unfolding link_entries
-are_direct topology link [] = tt
-are_direct topology link (entry ∷ past) = direct-step topology link entry past (are_direct topology link past)

@@ -1,5 +1,5 @@
 -- What the queues hold after a lawful journal.
-use Rattle.std.proofs.Common.{◌≡◌, ◌∙◌, ℕ, nat_lt, List, sym, subst, lt-ltb}
+use Rattle.std.proofs.Common.{◌≡◌, ◌∙◌, ℕ, true, false, nat_lt, List, sym, subst, lt-ltb}
 use Rattle.std.proofs.lemmas.List.Elements.{All-weaker}
 use Rattle.hmc_packet.specs.Packet.{PacketFields}
 use Rattle.hmc_crossbar.specs.To.{HasGoal}
@@ -12,7 +12,7 @@ use Rattle.hmc_journal.specs.Queues.QueueId.{Port, Vault, Bank, Registers, Answe
 use Rattle.hmc_journal.specs.Lawful.{Lawful}
 use Rattle.hmc_journal.specs.QueueInvariant.{IsCubeRequest, IsOnItsWay, IsHostAnswer, QueueInvariant}
 use Rattle.hmc_journal.proofs.Standing.{IsMoving, IsLeaving, Stands}
-use Rattle.hmc_journal.proofs.Standing.IsMoving.{ToCube, ToHost}
+use Rattle.hmc_journal.proofs.Standing.IsMoving.{ToCube, ToHost, Spoiled}
 use Rattle.hmc_journal.proofs.Entering.{contents_stand}
 use Rattle.hmc_journal.proofs.Sound.{kept}
 use Rattle.hmc_journal.proofs.LinkInvariant.{link_invariant}
@@ -20,11 +20,15 @@ use Rattle.hmc_journal.proofs.LinkInvariant.{link_invariant}
 on_its_way : (topology : Topology) (packet : PacketFields) → ((host : ℕ) → is_host_of (graph_of topology) host ≡ nat_lt host (hosts_in topology)) → IsMoving topology packet → IsOnItsWay topology packet
 on_its_way topology packet hosts (ToCube is) = record {
   goal = subst (HasGoal (graph_of topology) packet) (sym is.asks) is.cube;
-  errstat = is.counted.errstat;
+  errstat = λ clean. is.counted.errstat;
 }
 on_its_way topology packet hosts (ToHost is) = record {
   goal = subst (HasGoal (graph_of topology) packet) (sym is.replies) (hosts packet.slid ∙ lt-ltb packet.slid (hosts_in topology) is.slid);
-  errstat = is.counted.errstat;
+  errstat = λ clean. is.counted.errstat;
+}
+on_its_way topology packet hosts (Spoiled is) = record {
+  goal = is.goal;
+  errstat = λ clean. absurd (let clash : true ≡ false = sym is.poisoned ∙ clean in cc);
 }
 
 host_answer : (topology : Topology) (cube : ℕ) (packet : PacketFields) → IsLeaving topology cube packet → IsHostAnswer topology packet

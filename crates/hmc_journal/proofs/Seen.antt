@@ -1,6 +1,6 @@
 -- A journal as moves of packets between queues. A packet is seen without what links set, and an
 -- entry is no move or one.
-use Rattle.std.proofs.Common.{◌≡◌, ℕ, zero, suc, Bool, true, false, Option, Some, None, List, [], ◌∷◌, ◌++◌, map, refl, ap₂}
+use Rattle.std.proofs.Common.{◌≡◌, ℕ, zero, Bool, true, false, Option, Some, None, List, [], ◌∷◌, ◌++◌, map, length, refl, ap₂, nat_lt}
 use Rattle.hmc_codes.specs.Commands.{family_of, is_posted}
 use Rattle.hmc_codes.specs.Request.{RequestFields}
 use Rattle.hmc_codes.specs.declared.answer.Answer.{Answer}
@@ -11,8 +11,10 @@ use Rattle.hmc_codes.specs.declared.place.Place.{Place}
 use Rattle.hmc_codes.specs.declared.place.Place.TheVariants as places
 use Rattle.hmc_codes.specs.declared.unit.Unit.{Unit as RequestUnit}
 use Rattle.hmc_codes.specs.declared.unit.Unit.TheVariants as units
-use Rattle.hmc_packet.specs.Packet.{PacketFields}
+use Rattle.hmc_packet.specs.Packet.{PacketFields, null_packet}
 use Rattle.hmc_packet.specs.Transactions.{request_packet, request_in, answer_in}
+use Rattle.hmc_packet.specs.declared.outcome.Outcome.{Outcome}
+use Rattle.hmc_packet.specs.declared.outcome.Outcome.TheVariants as outcomes
 use Rattle.hmc_packet.specs.declared.what.What.TheVariants.{New, Tret}
 use Rattle.hmc_send.specs.Places.{tret_packet}
 use Rattle.hmc_hops.specs.Packets.{Packet, Kind, Spot, no_request}
@@ -23,13 +25,15 @@ use Rattle.hmc_hops.specs.Queues.{QueueId as hops}
 use Rattle.hmc_hops.specs.Moves.{Move}
 use Rattle.hmc_hops.specs.Moves.Move.{Comes, Goes, Executes}
 use Rattle.hmc_journal.specs.declared.entry.Entry.{Entry}
-use Rattle.hmc_journal.specs.declared.entry.Entry.TheVariants.{Gave, Sent, Landed, Shifted, Dropped, Spread, Executed, Lifted, Took, Discarded}
+use Rattle.hmc_journal.specs.declared.entry.Entry.TheVariants.{Gave, Sent, Landed, Shifted, Dropped, Spread, Executed, Lifted, Took, Discarded, Unlocked}
+use Rattle.hmc_journal.specs.Carried.{begun_on}
 use Rattle.hmc_journal.specs.Delivered.{unnumbered}
-use Rattle.hmc_journal.specs.Directions.{unsent, landed_packets}
+use Rattle.hmc_journal.specs.Directions.{unsent, awaits_first, landed_packets}
+use Rattle.hmc_journal.specs.Piped.{passed_onto}
 use Rattle.hmc_journal.specs.Links.{direction_to}
 use Rattle.hmc_journal.specs.Queues.{QueueId, tag_number, front_of, contents, queue_of}
 use Rattle.hmc_journal.specs.Queues.{QueueId as queues}
-use Rattle.hmc_journal.specs.Setup.{Topology, direction_from, unit_in, unit_cube}
+use Rattle.hmc_journal.specs.Setup.{Topology, directions_in, direction_from, unit_in, unit_cube}
 use Rattle.hmc_journal.proofs.Standing.{request_in-unnumbered, answer_in-unnumbered}
 
 -- ---- packets
@@ -111,27 +115,64 @@ hop_queue topology (queues.Answers cube from) = hops.Answers cube from
 abbrev pub front_goes : Topology → List Entry → QueueId → List Move
 front_goes topology past queue = Goes (hop_queue topology queue) 0 (seen topology (front_of (contents topology past queue))) ∷ []
 
--- the first flit of a packet takes it out of the output queue, and a TRET is begun on the line
-abbrev pub begins_move : Topology → List Entry → (direction unsent : ℕ) → List Move
-begins_move topology past direction zero = front_goes topology past (queues.Output direction)
-begins_move topology past direction (suc left) = []
+-- the first flit of a packet takes it out of the output queue, unless it is passed on, and a TRET is
+-- begun on the line
+abbrev pub begins_move : Topology → List Entry → (direction : ℕ) → (passed_on : Bool) → (unsent : ℕ) → List Move
+begins_move topology past direction false zero = front_goes topology past (queues.Output direction)
+begins_move topology past direction _ unsent = []
 
 -- a packet that lands and is accepted leaves the line
 abbrev pub lands : Topology → (direction : ℕ) → List PacketFields → List Move
 lands topology direction [] = []
 lands topology direction (packet ∷ rest) = Goes (hops.Line direction) 0 (seen topology packet) ∷ []
 
+-- what is accepted while it is passed on goes on at once: through the buffer, and past all that waits
+-- in the output queue
+abbrev pub goes_past : Topology → List Entry → (direction onto : ℕ) → List PacketFields → List Move
+goes_past topology past direction onto [] = []
+goes_past topology past direction onto (packet ∷ rest) =
+    Goes (hops.Output onto) (length (contents topology past (queues.Output onto))) (seen topology packet) ∷ Goes (hops.Buffer direction) 0 (seen topology packet) ∷ []
+
+-- the packet that was begun last
+abbrev pub last_packet : List PacketFields → PacketFields
+last_packet [] = null_packet
+last_packet (packet ∷ []) = packet
+last_packet (packet ∷ next ∷ rest) = last_packet (next ∷ rest)
+
+-- where the gathering ends otherwise, a poisoned copy comes onto the line, as the journal has it then
+abbrev pub copy_comes : Topology → (journal : List Entry) → (onto : ℕ) → List Move
+copy_comes topology journal onto = Comes (hops.Line onto) (seen topology (last_packet (begun_on topology onto journal))) ∷ []
+
+-- what a landing does with a packet that is passed on
+abbrev pub passes_on : Topology → (past journal : List Entry) → (direction : ℕ) → Outcome → (onto : Option ℕ) → List PacketFields → List Move
+passes_on topology past journal direction outcome None packets = []
+passes_on topology past journal direction outcomes.Gathered (Some onto) packets = []
+passes_on topology past journal direction outcomes.Accepted (Some onto) packets = goes_past topology past direction onto packets
+passes_on topology past journal direction _ (Some onto) packets = copy_comes topology journal onto
+
+-- and an unlock; that of a direction that isn't there does nothing
+abbrev pub if_there : Bool → Option ℕ → Option ℕ
+if_there true onto = onto
+if_there false onto = None
+
+abbrev pub unlocks : Topology → (journal : List Entry) → (onto : Option ℕ) → List Move
+unlocks topology journal None = []
+unlocks topology journal (Some onto) = copy_comes topology journal onto
+
 abbrev pub comes_from : Topology → Option ℕ → PacketFields → List Move
 comes_from topology None packet = []
 comes_from topology (Some direction) packet = Comes (hops.Output direction) (seen topology packet) ∷ []
 
--- the move of an entry, if it is one
+-- the moves of an entry, the newest first: mostly one, or none
 unfoldable pub moves_of : Topology → List Entry → Entry → List Move
 moves_of topology past (Gave host tag poisoned request) =
     comes_from topology (direction_from topology (places.Host host)) (request_packet request (tag_number tag) host poisoned)
-moves_of topology past (Sent direction New flit) = begins_move topology past direction (unsent direction past)
+moves_of topology past (Sent direction New flit) = begins_move topology past direction (awaits_first direction past) (unsent direction past)
 moves_of topology past (Sent direction Tret flit) = Comes (hops.Line direction) (seen topology tret_packet) ∷ []
-moves_of topology past (Landed direction flit outcome) = lands topology direction (landed_packets topology direction flit outcome past)
+moves_of topology past (Landed direction flit outcome) =
+    let landed = landed_packets topology direction flit outcome past in
+    passes_on topology past (Landed direction flit outcome ∷ past) direction outcome (passed_onto topology direction past) landed ++ lands topology direction landed
+moves_of topology past (Unlocked direction) = unlocks topology (Unlocked direction ∷ past) (if_there (nat_lt direction (directions_in topology)) (passed_onto topology direction past))
 moves_of topology past (Shifted cube port goal) = front_goes topology past (queues.Port cube port)
 moves_of topology past (Dropped cube port) = front_goes topology past (queues.Port cube port)
 moves_of topology past (Spread cube vault bank) = front_goes topology past (queues.Vault cube vault)

@@ -1,5 +1,5 @@
 -- Which packets stand in which room.
-use Rattle.std.proofs.Common.{◌≡◌, ◌≤◌, ◌<◌, ◌^◌, ◌∙◌, ℕ, Bool, true, false, if◌then◌else◌, Some, None, is_some, List, ◌++◌, All, length, slice_get, refl, sym, ap, subst, arith}
+use Rattle.std.proofs.Common.{◌≡◌, ◌≤◌, ◌<◌, ◌^◌, ◌∙◌, ◌⊎◌, inl, inr, ℕ, Bool, true, false, if◌then◌else◌, Some, None, is_some, List, ◌++◌, All, length, slice_get, refl, sym, ap, subst, arith}
 use Rattle.hmc_journal.proofs.EntryRule.{goal_by}
 use Rattle.std.proofs.lemmas.List.{drop_at}
 use Rattle.std.proofs.lemmas.List.Elements.{All-drop, All-same}
@@ -11,16 +11,20 @@ use Rattle.hmc_codes.specs.declared.answer.Answer.{Answer}
 use Rattle.hmc_codes.specs.declared.answer.Answer.TheVariants.{Silent, Done, Read, Register, Stored, Refused}
 use Rattle.hmc_codes.specs.declared.command.Command.{Command}
 use Rattle.hmc_codes.specs.declared.command.Command.TheVariants.{WrRs, RdRs, MdRdRs, MdWrRs, Error}
+use Rattle.hmc_codes.specs.Graph.{GraphFields}
+use Rattle.hmc_codes.specs.declared.family.Family.{Family}
 use Rattle.hmc_codes.specs.declared.family.Family.TheVariants as families
+use Rattle.hmc_routes.specs.WellFormed.{is_host_of}
 use Rattle.hmc_codes.specs.declared.layout.Layout.{Layout}
 use Rattle.hmc_codes.specs.declared.layout.Layout.TheVariants as layouts
 use Rattle.hmc_packet.specs.Packet.{PacketFields, IsPacket}
 use Rattle.hmc_codes.specs.Answer.{CanReply, IsAnswer}
 use Rattle.hmc_packet.specs.Transactions.{request_packet, reply_packet, request_in, answer_by, answer_in, payload_of}
 use Rattle.hmc_packet.proofs.TransactionLemmas.{asks-layout, IsPacket-request_packet, request_in-request_packet, IsPacket-reply_packet, answer_in-reply_packet, answer_in-replies}
+use Rattle.hmc_crossbar.specs.To.{HasGoal}
 use Rattle.hmc_journal.specs.declared.outcome.Goal.{Goal}
 use Rattle.hmc_journal.specs.declared.outcome.Goal.TheVariants as goals
-use Rattle.hmc_journal.specs.Setup.{Topology, shape_of, end_of, cubes_in, hosts_in, directions_in}
+use Rattle.hmc_journal.specs.Setup.{Topology, graph_of, shape_of, end_of, cubes_in, hosts_in, directions_in}
 use Rattle.hmc_codes.specs.declared.place.Place.{Place}
 use Rattle.hmc_codes.specs.declared.place.Place.TheVariants as places
 use Rattle.hmc_journal.specs.Queues.{QueueId}
@@ -53,10 +57,18 @@ pub record IsReplying (topology : Topology) (packet : PacketFields) : Type 0 whe
   pub answer : Answer
   pub found : answer_in packet ≡ Some answer
 
--- either
+-- the poisoned copy of a packet that was passed on; its goal is there
+pub record IsSpoiled (topology : Topology) (packet : PacketFields) : Type 0 where
+  pub is_packet : IsPacket packet
+  pub layout : is_flow (layout_of packet.command) ≡ false
+  pub poisoned : packet.poisoned ≡ true
+  pub goal : HasGoal (graph_of topology) packet (family_of packet.command)
+
+-- any of them
 pub data IsMoving (topology : Topology) (packet : PacketFields) : Type 0 where
   ToCube : IsAsking topology packet → IsMoving topology packet
   ToHost : IsReplying topology packet → IsMoving topology packet
+  Spoiled : IsSpoiled topology packet → IsMoving topology packet
 
 -- a request in its cube, on its way to a unit
 pub record IsBound (topology : Topology) (cube : ℕ) (goal : Goal) (packet : PacketFields) : Type 0 where
@@ -79,9 +91,9 @@ pub record IsFor (topology : Topology) (host : ℕ) (packet : PacketFields) : Ty
   pub replying : IsReplying topology packet
   pub slid : packet.slid ≡ host
 
--- what goes to a place: a host gets its answers alone
+-- what goes to a place: a host gets its answers, and spoiled packets
 abbrev pub GoesTo : Topology → Place → PacketFields → Type 0
-GoesTo topology (places.Host host) packet = IsFor topology host packet
+GoesTo topology (places.Host host) packet = IsFor topology host packet ⊎ IsSpoiled topology packet
 GoesTo topology (places.Port cube port) packet = IsMoving topology packet
 
 -- it goes by a direction that is there
@@ -157,22 +169,39 @@ IsReplying-alike topology packet other same fits is = record {
   found = alike answer_in answer_in-unnumbered packet other same ∙ is.found;
 }
 
--- what moves counts
-pub IsCounted-moving : (topology : Topology) (packet : PacketFields) → IsMoving topology packet → IsCounted packet
-IsCounted-moving topology packet (ToCube is) = is.counted
-IsCounted-moving topology packet (ToHost is) = is.counted
+goal_by_family : (graph : GraphFields) (packet other : PacketFields) (family : Family) → packet.cube ≡ other.cube → packet.slid ≡ other.slid → HasGoal graph other family → HasGoal graph packet family
+goal_by_family graph packet other families.Ask cube slid goal = subst (λ (n : ℕ). n < graph.cubes) (sym cube) goal
+goal_by_family graph packet other families.Reply cube slid goal = ap (is_host_of graph) slid ∙ goal
+goal_by_family graph packet other families.Flow cube slid goal = goal
 
-pub IsCounted-to : (topology : Topology) (place : Place) (packet : PacketFields) → GoesTo topology place packet → IsCounted packet
-IsCounted-to topology (places.Host host) packet is = is.replying.counted
-IsCounted-to topology (places.Port cube port) packet is = IsCounted-moving topology packet is
+HasGoal-alike : (topology : Topology) (packet other : PacketFields) → unnumbered packet ≡ unnumbered other → HasGoal (graph_of topology) other (family_of other.command) → HasGoal (graph_of topology) packet (family_of packet.command)
+HasGoal-alike topology packet other same goal =
+    subst (HasGoal (graph_of topology) packet) (sym (alike (λ p. family_of p.command) (λ p. refl) packet other same))
+    (goal_by_family (graph_of topology) packet other (family_of other.command) (alike (λ p. p.cube) (λ p. refl) packet other same) (alike (λ p. p.slid) (λ p. refl) packet other same) goal)
+
+IsSpoiled-alike : (topology : Topology) (packet other : PacketFields) → unnumbered packet ≡ unnumbered other → IsPacket packet → IsSpoiled topology other → IsSpoiled topology packet
+IsSpoiled-alike topology packet other same fits is = record {
+  is_packet = fits;
+  layout = alike (λ p. is_flow (layout_of p.command)) (λ p. refl) packet other same ∙ is.layout;
+  poisoned = alike (λ p. p.poisoned) (λ p. refl) packet other same ∙ is.poisoned;
+  goal = HasGoal-alike topology packet other same is.goal;
+}
+
+-- what moves counts, unless it is spoiled
+pub IsCounted-moving : (topology : Topology) (packet : PacketFields) → packet.poisoned ≡ false → IsMoving topology packet → IsCounted packet
+IsCounted-moving topology packet clean (ToCube is) = is.counted
+IsCounted-moving topology packet clean (ToHost is) = is.counted
+IsCounted-moving topology packet clean (Spoiled is) = absurd (let clash : true ≡ false = sym is.poisoned ∙ clean in cc)
 
 IsMoving-alike : (topology : Topology) (packet other : PacketFields) → unnumbered packet ≡ unnumbered other → IsPacket packet → IsMoving topology other → IsMoving topology packet
 IsMoving-alike topology packet other same fits (ToCube is) = ToCube (IsAsking-alike topology packet other same fits is)
 IsMoving-alike topology packet other same fits (ToHost is) = ToHost (IsReplying-alike topology packet other same fits is)
+IsMoving-alike topology packet other same fits (Spoiled is) = Spoiled (IsSpoiled-alike topology packet other same fits is)
 
 GoesTo-alike : (topology : Topology) (place : Place) (packet other : PacketFields) → unnumbered packet ≡ unnumbered other → IsPacket packet → GoesTo topology place other → GoesTo topology place packet
-GoesTo-alike topology (places.Host host) packet other same fits is =
-    record { replying = IsReplying-alike topology packet other same fits is.replying; slid = alike (λ p. p.slid) (λ p. refl) packet other same ∙ is.slid }
+GoesTo-alike topology (places.Host host) packet other same fits (inl is) =
+    inl (record { replying = IsReplying-alike topology packet other same fits is.replying; slid = alike (λ p. p.slid) (λ p. refl) packet other same ∙ is.slid })
+GoesTo-alike topology (places.Host host) packet other same fits (inr is) = inr (IsSpoiled-alike topology packet other same fits is)
 GoesTo-alike topology (places.Port cube port) packet other same fits is = IsMoving-alike topology packet other same fits is
 
 -- a packet stands with other numbers too

@@ -1,5 +1,5 @@
 -- What a journal says of each tag of a host is what its moves say.
-use Rattle.std.proofs.Common.{◌≡◌, ◌≤◌, ◌∙◌, ◌==◌, ◌&&◌, ℕ, suc, Bool, true, false, if◌then◌else◌, Option, Some, List, [], ◌∷◌, ◌++◌, map, length, refl, sym, ap, ap₂, subst}
+use Rattle.std.proofs.Common.{◌≡◌, ◌≤◌, ◌∙◌, ◌==◌, ◌&&◌, ℕ, suc, Bool, true, false, not, if◌then◌else◌, Option, Some, List, [], ◌∷◌, ◌++◌, map, length, refl, sym, ap, ap₂, subst}
 use Rattle.std.proofs.lemmas.List.{map-append}
 use Rattle.hmc_codes.specs.Commands.{is_posted}
 use Rattle.hmc_codes.specs.Request.{RequestFields, IsRequest}
@@ -17,7 +17,7 @@ use Rattle.hmc_host.specs.Tags.{lowest_free}
 use Rattle.hmc_hops.specs.Map.{Map, IsMap}
 use Rattle.hmc_hops.specs.Moves.{Move, MayAll}
 use Rattle.hmc_hops.specs.Moves.Move.{Comes, Goes, Executes}
-use Rattle.hmc_hops.specs.Flows.{item_if}
+use Rattle.hmc_hops.specs.Flows.{item_if, is_host}
 use Rattle.hmc_hops.specs.Queues.{QueueId as hops}
 use Rattle.hmc_hops.specs.Tags.{is_asks, asks_now, executes_now, takes_now, request_of, answer_of, KeepsTags, IsAnswered}
 use Rattle.hmc_hops.specs.Tags.{asked_under as hop_asked, executed_under as hop_executed, replied_under as hop_replied, answers_under as hop_answers}
@@ -25,8 +25,9 @@ use Rattle.hmc_journal.specs.Answers.{tag_of}
 use Rattle.hmc_journal.specs.Choice.{append_if}
 use Rattle.hmc_journal.specs.Delivered.{IsPrefix}
 use Rattle.hmc_journal.specs.declared.entry.Entry.{Entry}
-use Rattle.hmc_journal.specs.declared.entry.Entry.TheVariants.{Gave, Sent, Landed, Shifted, Dropped, Executed, Took, Discarded}
-use Rattle.hmc_journal.specs.Directions.{unsent, landed_packets}
+use Rattle.hmc_journal.specs.declared.entry.Entry.TheVariants.{Gave, Sent, Landed, Shifted, Dropped, Executed, Took, Discarded, Unlocked}
+use Rattle.hmc_journal.specs.Directions.{unsent, awaits_first, landed_packets}
+use Rattle.hmc_journal.specs.Piped.{passed_onto}
 use Rattle.hmc_journal.specs.Filters.{Completion, same_tag, asked_under, replies_under, answers_under}
 use Rattle.hmc_journal.specs.Hosts.{host_of}
 use Rattle.hmc_journal.specs.Lawful.{Lawful}
@@ -37,18 +38,19 @@ use Rattle.hmc_journal.specs.Setup.{Topology, Setup, direction_from, unit_cube}
 use Rattle.hmc_journal.specs.StepView.{view_of}
 use Rattle.hmc_journal.proofs.EntryRule.{IsTagged, HasExecuted, entry_rule, lawful_past}
 use Rattle.hmc_journal.proofs.Moves.{front_is}
-use Rattle.hmc_journal.proofs.Entering.{Kept, front_stands, has_direction, given_asks, own_item, runs_request}
+use Rattle.hmc_journal.proofs.Entering.{Kept, front_stands, has_direction, given_asks, own_item, runs_request, landed-real}
 use Rattle.hmc_journal.proofs.Sound.{kept}
 use Rattle.hmc_journal.proofs.Standing.{request_of_packet}
 use Rattle.hmc_journal.proofs.Wired.{wired}
 use Rattle.hmc_journal.proofs.Seen.{seen, kind_by, spot_of, request_or, answer_or, hop_queue, arriving, comes_from, moves_of, moves}
 use Rattle.hmc_journal.proofs.Agreeing.{IsMapOf}
 use Rattle.hmc_journal.proofs.Hopping.{buffer_end}
+use Rattle.hmc_journal.proofs.Passed.{is_passed, passed_end}
 use Rattle.hmc_journal.proofs.Hopped.{at_end}
 use Rattle.hmc_journal.proofs.MayMove.{may_all}
-use Rattle.hmc_journal.proofs.TagsOut.{asks_given, taken_here, taken_there, none_discarded}
+use Rattle.hmc_journal.proofs.TagsOut.{asks_given, taken_here, taken_there, taken_not, discards_poison}
 use Rattle.hmc_journal.proofs.Awaiting.{keeps_tags}
-use Rattle.hmc_journal.proofs.Collecting.{piece_of, collected, append_when, quiet, begins_nothing, lands_nothing, comes_nothing}
+use Rattle.hmc_journal.proofs.Collecting.{piece_of, collected, append_when, quiet, begins_nothing, landing_nothing, unlocks_nothing, onto_there, comes_nothing}
 
 -- the same, as an item and as a choice
 item_when : {X : Type 0} (b : Bool) (x : X) → (if b then x ∷ [] else []) ≡ item_if b x
@@ -84,9 +86,11 @@ asked_more setup h t network (Gave host tag poisoned request) past lawful =
     ∙ item_when (asks_now h t (Comes (hops.Output to.0) (seen top packet))) (request_or (request_in packet))
     ∙ ap (λ (o : Option ℕ). piece_of (asked_piece h t) (comes_from top o packet)) (sym to.1))
 asked_more setup h t network (Sent d what.New flit) past lawful =
-    quiet (asked_under h t past) ∙ ap (λ l. asked_under h t past ++ l) (sym (begins_nothing (asked_piece h t) setup.topology past d (unsent d past) (λ x. refl)))
+    quiet (asked_under h t past) ∙ ap (λ l. asked_under h t past ++ l) (sym (begins_nothing (asked_piece h t) setup.topology past d (awaits_first d past) (unsent d past) (λ x. refl)))
 asked_more setup h t network (Landed d flit outcome) past lawful =
-    quiet (asked_under h t past) ∙ ap (λ l. asked_under h t past ++ l) (sym (lands_nothing (asked_piece h t) setup.topology d (landed_packets setup.topology d flit outcome past) (λ x. refl)))
+    quiet (asked_under h t past) ∙ ap (λ l. asked_under h t past ++ l) (sym (landing_nothing (asked_piece h t) setup.topology past (Landed d flit outcome ∷ past) d outcome (passed_onto setup.topology d past) (landed_packets setup.topology d flit outcome past) (λ to is. record { past_output = λ n x. refl; buffer = λ x. refl; line = λ x. refl }) (λ x. refl)))
+asked_more setup h t network (Unlocked d) past lawful =
+    quiet (asked_under h t past) ∙ ap (λ l. asked_under h t past ++ l) (sym (unlocks_nothing (asked_piece h t) setup.topology (Unlocked d ∷ past) (onto_there setup.topology d past) (λ to x. refl)))
 asked_more setup h t network (Sent d what.Tret flit) past lawful = quiet (asked_under h t past)
 asked_more setup h t network _ past lawful = quiet (asked_under h t past)
 
@@ -143,9 +147,11 @@ done_more setup said value agree h t network (Gave giver tag poisoned request) p
     quiet (map said (replies_under h t past))
     ∙ ap (λ l. map said (replies_under h t past) ++ l) (sym (comes_nothing (done_piece value h t) setup.topology (direction_from setup.topology (places.Host giver)) (request_packet request (tag_number tag) giver poisoned) (λ d x. refl)))
 done_more setup said value agree h t network (Sent d what.New flit) past lawful =
-    quiet (map said (replies_under h t past)) ∙ ap (λ l. map said (replies_under h t past) ++ l) (sym (begins_nothing (done_piece value h t) setup.topology past d (unsent d past) (λ x. refl)))
+    quiet (map said (replies_under h t past)) ∙ ap (λ l. map said (replies_under h t past) ++ l) (sym (begins_nothing (done_piece value h t) setup.topology past d (awaits_first d past) (unsent d past) (λ x. refl)))
 done_more setup said value agree h t network (Landed d flit outcome) past lawful =
-    quiet (map said (replies_under h t past)) ∙ ap (λ l. map said (replies_under h t past) ++ l) (sym (lands_nothing (done_piece value h t) setup.topology d (landed_packets setup.topology d flit outcome past) (λ x. refl)))
+    quiet (map said (replies_under h t past)) ∙ ap (λ l. map said (replies_under h t past) ++ l) (sym (landing_nothing (done_piece value h t) setup.topology past (Landed d flit outcome ∷ past) d outcome (passed_onto setup.topology d past) (landed_packets setup.topology d flit outcome past) (λ to is. record { past_output = λ n x. refl; buffer = λ x. refl; line = λ x. refl }) (λ x. refl)))
+done_more setup said value agree h t network (Unlocked d) past lawful =
+    quiet (map said (replies_under h t past)) ∙ ap (λ l. map said (replies_under h t past) ++ l) (sym (unlocks_nothing (done_piece value h t) setup.topology (Unlocked d ∷ past) (onto_there setup.topology d past) (λ to x. refl)))
 done_more setup said value agree h t network (Sent d what.Tret flit) past lawful = quiet (map said (replies_under h t past))
 done_more setup said value agree h t network _ past lawful = quiet (map said (replies_under h t past))
 
@@ -186,7 +192,13 @@ took_more setup m h t network map_of (Took host tag answer) past lawful =
     ∙ ap (λ (p : PacketFields). took_piece m h t (move p)) (sym (front_is setup past (queues.Host host) right.at)))
 took_more setup m h t network map_of (Discarded host) past lawful =
     let right = entry_rule setup (Discarded host) past lawful in
-    absurd (none_discarded setup past host right (front_stands setup past (queues.Host host) (kept setup past network (lawful_past setup (Discarded host) past lawful)) right.at).goes)
+    let top = setup.topology in
+    let came = front_stands setup past (queues.Host host) (kept setup past network (lawful_past setup (Discarded host) past lawful)) right.at in
+    let d = arriving top (places.Host host) in
+    quiet (answers_under h t past)
+    ∙ ap (λ l. answers_under h t past ++ l)
+    (sym (ap (λ (p : PacketFields). took_piece m h t (Goes (hops.Buffer d) 0 (seen top p))) (front_is setup past (queues.Host host) right.at)
+    ∙ ap (λ (b : Bool). item_if b (answer_of (Goes (hops.Buffer d) 0 (seen top right.at.front)))) (taken_not top m right.at.front d h t (discards_poison setup past host right came.goes))))
 took_more setup m h t network map_of (Shifted cube port goal) past lawful =
     let top = setup.topology in
     let right = entry_rule setup (Shifted cube port goal) past lawful in
@@ -207,9 +219,14 @@ took_more setup m h t network map_of (Gave giver tag poisoned request) past lawf
     quiet (answers_under h t past)
     ∙ ap (λ l. answers_under h t past ++ l) (sym (comes_nothing (took_piece m h t) setup.topology (direction_from setup.topology (places.Host giver)) (request_packet request (tag_number tag) giver poisoned) (λ d x. refl)))
 took_more setup m h t network map_of (Sent d what.New flit) past lawful =
-    quiet (answers_under h t past) ∙ ap (λ l. answers_under h t past ++ l) (sym (begins_nothing (took_piece m h t) setup.topology past d (unsent d past) (λ x. refl)))
+    quiet (answers_under h t past) ∙ ap (λ l. answers_under h t past ++ l) (sym (begins_nothing (took_piece m h t) setup.topology past d (awaits_first d past) (unsent d past) (λ x. refl)))
 took_more setup m h t network map_of (Landed d flit outcome) past lawful =
-    quiet (answers_under h t past) ∙ ap (λ l. answers_under h t past ++ l) (sym (lands_nothing (took_piece m h t) setup.topology d (landed_packets setup.topology d flit outcome past) (λ x. refl)))
+    let keeps = kept setup past network (lawful_past setup (Landed d flit outcome) past lawful) in
+    quiet (answers_under h t past) ∙ ap (λ l. answers_under h t past ++ l) (sym (landing_nothing (took_piece m h t) setup.topology past (Landed d flit outcome ∷ past) d outcome (passed_onto setup.topology d past) (landed_packets setup.topology d flit outcome past) (λ to is.
+    let passed = is_passed setup past d to (wired setup network) keeps (landed-real setup past d flit outcome (entry_rule setup (Landed d flit outcome) past lawful) keeps) is in
+    record { past_output = λ n x. refl; buffer = λ x. ap (λ e. item_if (is_host e h && (not x.poisoned && (x.tag == t))) (answer_of (Goes (hops.Buffer d) 0 x))) (passed_end setup.topology m past d to map_of passed); line = λ x. refl }) (λ x. refl)))
+took_more setup m h t network map_of (Unlocked d) past lawful =
+    quiet (answers_under h t past) ∙ ap (λ l. answers_under h t past ++ l) (sym (unlocks_nothing (took_piece m h t) setup.topology (Unlocked d ∷ past) (onto_there setup.topology d past) (λ to x. refl)))
 took_more setup m h t network map_of (Sent d what.Tret flit) past lawful = quiet (answers_under h t past)
 took_more setup m h t network map_of _ past lawful = quiet (answers_under h t past)
 

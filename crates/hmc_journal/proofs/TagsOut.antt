@@ -1,6 +1,6 @@
 -- The tags that are out, as the moves of a journal have them; and each request is given under a tag
 -- that isn't out.
-use Rattle.std.proofs.Common.{◌≡◌, ◌≤◌, ◌<◌, ◌∙◌, ◌==◌, ◌&&◌, ◌⊎◌, inl, inr, ℕ, zero, suc, Bool, true, false, not, if◌then◌else◌, Option, None, List, [], ◌∷◌, ◌++◌, length, slice_index_or, refl, sym, ap, ap₂, subst, arith, eqb-true, eq-eqb}
+use Rattle.std.proofs.Common.{◌≡◌, ◌<◌, ◌∙◌, ◌==◌, ◌&&◌, ◌⊎◌, inl, inr, ℕ, zero, suc, Bool, true, false, not, if◌then◌else◌, Option, None, List, [], ◌∷◌, ◌++◌, length, slice_index_or, refl, sym, ap, ap₂, subst, arith, eqb-true, eq-eqb, Some, nat_lt}
 use Rattle.std.specs.Prelude.{slice_set, replicate}
 use Rattle.std.proofs.lemmas.List.{get_or-set_same, get_or-set_other}
 use Rattle.std.proofs.lemmas.List.Quantifiers.{position-Some}
@@ -11,6 +11,8 @@ use Rattle.hmc_codes.specs.declared.family.Family.TheVariants as families
 use Rattle.hmc_codes.specs.declared.place.Place.TheVariants as places
 use Rattle.hmc_packet.specs.Packet.{PacketFields}
 use Rattle.hmc_packet.specs.Transactions.{request_packet, answer_in}
+use Rattle.hmc_packet.specs.declared.outcome.Outcome.{Outcome}
+use Rattle.hmc_packet.specs.declared.outcome.Outcome.TheVariants as outcomes
 use Rattle.hmc_packet.specs.declared.what.What.TheVariants as what
 use Rattle.hmc_host.specs.Give.{wants_tag}
 use Rattle.hmc_host.specs.Tags.{none_out, with_out, lowest_free}
@@ -24,26 +26,28 @@ use Rattle.hmc_hops.specs.Tags.{is_asks, asks_now, takes_now, out_after}
 use Rattle.hmc_hops.specs.Tags.{is_out as hop_out}
 use Rattle.hmc_journal.specs.Choice.{choose}
 use Rattle.hmc_journal.specs.declared.entry.Entry.{Entry}
-use Rattle.hmc_journal.specs.declared.entry.Entry.TheVariants.{Gave, Sent, Landed, Shifted, Dropped, Took, Discarded}
-use Rattle.hmc_journal.specs.Directions.{unsent, landed_packets}
+use Rattle.hmc_journal.specs.declared.entry.Entry.TheVariants.{Gave, Sent, Landed, Shifted, Dropped, Took, Discarded, Unlocked}
+use Rattle.hmc_journal.specs.Directions.{unsent, awaits_first, landed_packets}
+use Rattle.hmc_journal.specs.Carried.{begun_on}
+use Rattle.hmc_journal.specs.Piped.{passed_onto}
 use Rattle.hmc_journal.specs.Hosts.{host_of, tags_out}
 use Rattle.hmc_journal.specs.Lawful.{Lawful}
 use Rattle.hmc_journal.specs.Network.{IsNetwork}
 use Rattle.hmc_journal.specs.Queues.{tag_number, contents, front_of}
 use Rattle.hmc_journal.specs.Queues.{QueueId as queues}
-use Rattle.hmc_journal.specs.Setup.{Topology, Setup}
+use Rattle.hmc_journal.specs.Setup.{Topology, Setup, directions_in}
 use Rattle.hmc_journal.specs.StepView.{view_of}
 use Rattle.hmc_journal.proofs.EntryRule.{EntryRule, IsTagged, HasGiven, HasDiscarded, entry_rule, lawful_past}
 use Rattle.hmc_journal.proofs.Moves.{front_is}
-use Rattle.hmc_journal.proofs.Standing.{IsAsking, IsFor}
-use Rattle.hmc_journal.proofs.Entering.{Kept, front_stands, has_direction, given_asks}
+use Rattle.hmc_journal.proofs.Standing.{IsAsking, IsFor, IsSpoiled, GoesTo}
+use Rattle.hmc_journal.proofs.Entering.{Kept, front_stands, has_direction, given_asks, landed-real}
 use Rattle.hmc_journal.proofs.Sound.{kept}
 use Rattle.hmc_journal.proofs.Wired.{Wired, wired}
-use Rattle.hmc_journal.proofs.Seen.{seen, kind_by, hop_queue, comes_from, begins_move, lands, moves_of, moves}
+use Rattle.hmc_journal.proofs.Seen.{seen, kind_by, hop_queue, comes_from, begins_move, lands, goes_past, last_packet, copy_comes, passes_on, if_there, unlocks, moves_of, moves}
 use Rattle.hmc_journal.proofs.Agreeing.{IsMapOf, end_at}
 use Rattle.hmc_journal.proofs.Hopping.{buffer_end}
 use Rattle.hmc_journal.proofs.Hopped.{at_end}
-use Rattle.hmc_journal.proofs.MayMove.{few_moves}
+use Rattle.hmc_journal.proofs.Passed.{is_passed, passed_end}
 
 -- whether a tag of a host is out
 abbrev pub out_of : List Entry → (host tag : ℕ) → Bool
@@ -119,26 +123,77 @@ taken_there topology m cube port x d h t ends = ap (λ e. is_host e h && (not x.
 
 -- ---- every entry
 
--- what a list of at most one move does to a tag
+-- what moves do to a tag
 abbrev out_by : Map → (h t : ℕ) → List Move → Bool → Bool
 out_by m h t [] before = before
-out_by m h t (move ∷ rest) before = out_after (asks_now h t move) (takes_now m h t move) before
+out_by m h t (move ∷ []) before = out_after (asks_now h t move) (takes_now m h t move) before
+out_by m h t (move ∷ next ∷ rest) before = out_after (asks_now h t move) (takes_now m h t move) (out_by m h t (next ∷ rest) before)
 
-quiet_begins : (topology : Topology) (m : Map) (past : List Entry) (d n h t : ℕ) (before : Bool) → out_by m h t (begins_move topology past d n) before ≡ before
-quiet_begins topology m past d zero h t before = refl
-quiet_begins topology m past d (suc n) h t before = refl
+quiet_begins : (topology : Topology) (m : Map) (past : List Entry) (d : ℕ) (waiting : Bool) (n h t : ℕ) (before : Bool) → out_by m h t (begins_move topology past d waiting n) before ≡ before
+quiet_begins topology m past d false zero h t before = refl
+quiet_begins topology m past d false (suc n) h t before = refl
+quiet_begins topology m past d true n h t before = refl
 
 quiet_lands : (topology : Topology) (m : Map) (d h t : ℕ) (packets : List PacketFields) (before : Bool) → out_by m h t (lands topology d packets) before ≡ before
 quiet_lands topology m d h t [] before = refl
 quiet_lands topology m d h t (p ∷ packets) before = refl
 
--- no answer that is unpoisoned and can be read is discarded
-pub none_discarded : (setup : Setup) (past : List Entry) (host : ℕ) → (has : HasDiscarded setup past host) → IsFor setup.topology host has.at.front → ⊥
-none_discarded setup past host has is = by_cause has.is_none
+-- a move that does nothing to it
+quiet_first : (m : Map) (h t : ℕ) (move : Move) (rest : List Move) (before : Bool) → asks_now h t move ≡ false → takes_now m h t move ≡ false → out_by m h t rest before ≡ before → out_by m h t (move ∷ rest) before ≡ before
+quiet_first m h t move [] before asks takes is = ap₂ (λ (a b : Bool). out_after a b before) asks takes
+quiet_first m h t move (next ∷ rest) before asks takes is = ap₂ (λ (a b : Bool). out_after a b (out_by m h t (next ∷ rest) before)) asks takes ∙ is
+
+quiet_past : (topology : Topology) (m : Map) (past : List Entry) (d onto h t : ℕ) (packets : List PacketFields) (rest : List Move) (before : Bool) → ((x : Packet) → takes_now m h t (Goes (hops.Buffer d) 0 x) ≡ false) → out_by m h t rest before ≡ before
+    → out_by m h t (goes_past topology past d onto packets ++ rest) before ≡ before
+quiet_past topology m past d onto h t [] rest before takes is = is
+quiet_past topology m past d onto h t (p ∷ packets) rest before takes is =
+    let second = quiet_first m h t (Goes (hops.Buffer d) 0 (seen topology p)) rest before refl (takes (seen topology p)) is in
+    quiet_first m h t (Goes (hops.Output onto) (length (contents topology past (queues.Output onto))) (seen topology p)) (Goes (hops.Buffer d) 0 (seen topology p) ∷ rest) before refl refl second
+
+quiet_copy : (topology : Topology) (m : Map) (journal : List Entry) (onto h t : ℕ) (rest : List Move) (before : Bool) → out_by m h t rest before ≡ before → out_by m h t (copy_comes topology journal onto ++ rest) before ≡ before
+quiet_copy topology m journal onto h t rest before is = quiet_first m h t (Comes (hops.Line onto) (seen topology (last_packet (begun_on topology onto journal)))) rest before refl refl is
+
+quiet_passes : (topology : Topology) (m : Map) (past journal : List Entry) (d h t : ℕ) (outcome : Outcome) (onto : Option ℕ) (packets : List PacketFields) (rest : List Move) (before : Bool) → ((to : ℕ) → onto ≡ Some to → (x : Packet) → takes_now m h t (Goes (hops.Buffer d) 0 x) ≡ false)
+    → out_by m h t rest before ≡ before → out_by m h t (passes_on topology past journal d outcome onto packets ++ rest) before ≡ before
+quiet_passes topology m past journal d h t outcome None packets rest before takes is = is
+quiet_passes topology m past journal d h t outcomes.Gathered (Some onto) packets rest before takes is = is
+quiet_passes topology m past journal d h t outcomes.Accepted (Some onto) packets rest before takes is = quiet_past topology m past d onto h t packets rest before (takes onto refl) is
+quiet_passes topology m past journal d h t outcomes.Quiet (Some onto) packets rest before takes is = quiet_copy topology m journal onto h t rest before is
+quiet_passes topology m past journal d h t outcomes.Trained (Some onto) packets rest before takes is = quiet_copy topology m journal onto h t rest before is
+quiet_passes topology m past journal d h t outcomes.Poisoned (Some onto) packets rest before takes is = quiet_copy topology m journal onto h t rest before is
+quiet_passes topology m past journal d h t outcomes.Repeat (Some onto) packets rest before takes is = quiet_copy topology m journal onto h t rest before is
+quiet_passes topology m past journal d h t (outcomes.AbortedBad bad) (Some onto) packets rest before takes is = quiet_copy topology m journal onto h t rest before is
+quiet_passes topology m past journal d h t outcomes.AbortedOrder (Some onto) packets rest before takes is = quiet_copy topology m journal onto h t rest before is
+quiet_passes topology m past journal d h t (outcomes.Ran kind) (Some onto) packets rest before takes is = quiet_copy topology m journal onto h t rest before is
+
+quiet_unlocks : (topology : Topology) (m : Map) (journal : List Entry) (h t : ℕ) (onto : Option ℕ) (before : Bool) → out_by m h t (unlocks topology journal onto) before ≡ before
+quiet_unlocks topology m journal h t None before = refl
+quiet_unlocks topology m journal h t (Some onto) before = refl
+
+-- what is discarded is poisoned
+pub discards_poison : (setup : Setup) (past : List Entry) (host : ℕ) → (has : HasDiscarded setup past host) → GoesTo setup.topology (places.Host host) has.at.front → has.at.front.poisoned ≡ true
+discards_poison setup past host has goes = by_cause has.is_none
   where
-    by_cause : (has.at.front.poisoned ≡ true) ⊎ (answer_in has.at.front ≡ None) → ⊥
-    by_cause (inl poisoned) = let clash : true ≡ false = sym poisoned ∙ is.replying.unpoisoned in cc
-    by_cause (inr none) = let found = is.replying.found in cc
+    by_goal : answer_in has.at.front ≡ None → IsFor setup.topology host has.at.front ⊎ IsSpoiled setup.topology has.at.front → has.at.front.poisoned ≡ true
+    by_goal none (inl is) = absurd (let clash : None ≡ Some is.replying.answer = sym none ∙ is.replying.found in cc)
+    by_goal none (inr spoiled) = spoiled.poisoned
+
+    by_cause : (has.at.front.poisoned ≡ true) ⊎ (answer_in has.at.front ≡ None) → has.at.front.poisoned ≡ true
+    by_cause (inl poisoned) = poisoned
+    by_cause (inr none) = by_goal none goes
+
+-- and what a host takes is an answer to it
+pub takes_answer : (topology : Topology) (host : ℕ) (packet : PacketFields) → packet.poisoned ≡ false → GoesTo topology (places.Host host) packet → IsFor topology host packet
+takes_answer topology host packet clean (inl is) = is
+takes_answer topology host packet clean (inr spoiled) = absurd (let clash : true ≡ false = sym spoiled.poisoned ∙ clean in cc)
+
+poison_off : (here same : Bool) → (here && (not true && same)) ≡ false
+poison_off true same = refl
+poison_off false same = refl
+
+pub taken_not : (topology : Topology) (m : Map) (packet : PacketFields) (d h t : ℕ) → packet.poisoned ≡ true → takes_now m h t (Goes (hops.Buffer d) 0 (seen topology packet)) ≡ false
+unfolding seen
+taken_not topology m packet d h t poisoned = ap (λ (b : Bool). is_host (m.end_of d) h && (not b && (packet.tag == t))) poisoned ∙ poison_off (is_host (m.end_of d) h) (packet.tag == t)
 
 out_more : (setup : Setup) (m : Map) (past : List Entry) (entry : Entry) (h t : ℕ) → IsNetwork setup → Wired setup.topology → IsMapOf setup.topology m → Kept setup past → EntryRule setup past entry
     → out_by m h t (moves_of setup.topology past entry) (out_of past h t) ≡ out_of (entry ∷ past) h t
@@ -161,8 +216,11 @@ out_more setup m past (Took host tag answer) h t network wires map_of keeps righ
     ∙ sym (choose_at (host == h) (slice_set (tags_out h past) tag false) (tags_out h past) t)
   where
     few : tag < length (tags_out h past)
-    few = let came = front_stands setup past (queues.Host host) keeps right.at in omega (arith, came.goes.replying.counted.is_packet.ranges.tag, keeps.tags h, right.is_tag)
-out_more setup m past (Discarded host) h t network wires map_of keeps right = absurd (none_discarded setup past host right (front_stands setup past (queues.Host host) keeps right.at).goes)
+    few = let came = front_stands setup past (queues.Host host) keeps right.at in let goes = takes_answer setup.topology host right.at.front right.unpoisoned came.goes in omega (arith, goes.replying.counted.is_packet.ranges.tag, keeps.tags h, right.is_tag)
+out_more setup m past (Discarded host) h t network wires map_of keeps right =
+    let came = front_stands setup past (queues.Host host) keeps right.at in
+    ap (λ (p : PacketFields). out_after false (takes_now m h t (Goes (hop_queue setup.topology (queues.Host host)) 0 (seen setup.topology p))) (out_of past h t)) (front_is setup past (queues.Host host) right.at)
+    ∙ ap (λ (b : Bool). out_after false b (out_of past h t)) (taken_not setup.topology m right.at.front _ h t (discards_poison setup past host right came.goes))
 out_more setup m past (Shifted cube port goal) h t network wires map_of keeps right =
     let place = places.Port cube port in
     let came = front_stands setup past (queues.Port cube port) keeps right.at in
@@ -171,15 +229,23 @@ out_more setup m past (Dropped cube port) h t network wires map_of keeps right =
     let place = places.Port cube port in
     let came = front_stands setup past (queues.Port cube port) keeps right.at in
     ap (λ (b : Bool). out_after false b (out_of past h t)) (taken_there setup.topology m cube port (seen setup.topology (front_of (contents setup.topology past (queues.Port cube port)))) _ h t (buffer_end setup.topology m place map_of wires (at_end setup.topology place right.at.front came)))
-out_more setup m past (Sent d what.New flit) h t network wires map_of keeps right = quiet_begins setup.topology m past d (unsent d past) h t (out_of past h t)
-out_more setup m past (Landed d flit outcome) h t network wires map_of keeps right = quiet_lands setup.topology m d h t (landed_packets setup.topology d flit outcome past) (out_of past h t)
+out_more setup m past (Sent d what.New flit) h t network wires map_of keeps right = quiet_begins setup.topology m past d (awaits_first d past) (unsent d past) h t (out_of past h t)
+out_more setup m past (Landed d flit outcome) h t network wires map_of keeps right =
+    let landed = landed_packets setup.topology d flit outcome past in
+    quiet_passes setup.topology m past (Landed d flit outcome ∷ past) d h t outcome (passed_onto setup.topology d past) landed (lands setup.topology d landed) (out_of past h t)
+    (λ to is x.
+    let passed = is_passed setup past d to wires keeps (landed-real setup past d flit outcome right keeps) is in
+    ap (λ e. is_host e h && (not x.poisoned && (x.tag == t))) (passed_end setup.topology m past d to map_of passed))
+    (quiet_lands setup.topology m d h t landed (out_of past h t))
+out_more setup m past (Unlocked d) h t network wires map_of keeps right =
+    quiet_unlocks setup.topology m (Unlocked d ∷ past) h t (if_there (nat_lt d (directions_in setup.topology)) (passed_onto setup.topology d past)) (out_of past h t)
 out_more setup m past _ h t network wires map_of keeps right = refl
 
-joined_out : (m : Map) (h t : ℕ) (new moved : List Move) → length new ≤ 1 → hop_out m h t (new ++ moved) ≡ out_by m h t new (hop_out m h t moved)
+joined_out : (m : Map) (h t : ℕ) (new moved : List Move) → hop_out m h t (new ++ moved) ≡ out_by m h t new (hop_out m h t moved)
 unfolding hop_out
-joined_out m h t [] moved few = refl
-joined_out m h t (move ∷ []) moved few = refl
-joined_out m h t (move ∷ next ∷ rest) moved few = absurd (omega arith)
+joined_out m h t [] moved = refl
+joined_out m h t (move ∷ []) moved = refl
+joined_out m h t (move ∷ next ∷ rest) moved = ap (out_after (asks_now h t move) (takes_now m h t move)) (joined_out m h t (next ∷ rest) moved)
 
 none_out_at : (t : ℕ) → slice_index_or none_out t false ≡ false
 unfolding none_out
@@ -196,6 +262,6 @@ unfolding moves hop_out tags_out
 outs_agree setup m [] h t network map_of lawful = sym (none_out_at t)
 outs_agree setup m (entry ∷ past) h t network map_of lawful =
     let before = lawful_past setup entry past lawful in
-    joined_out m h t (moves_of setup.topology past entry) (moves setup.topology past) (few_moves setup.topology past entry)
+    joined_out m h t (moves_of setup.topology past entry) (moves setup.topology past)
     ∙ ap (out_by m h t (moves_of setup.topology past entry)) (outs_agree setup m past h t network map_of before)
     ∙ out_more setup m past entry h t network (wired setup network) map_of (kept setup past network before) (entry_rule setup entry past lawful)

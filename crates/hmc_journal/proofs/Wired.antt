@@ -119,10 +119,6 @@ pub end_cubes : (topology : Topology) → Wired topology → (d cube port : ℕ)
 end_cubes topology is d cube port less ends =
     is.cubes (other d) cube port (other_inside d (length topology.links) less) (sym (end_is_start (joins_of topology) d) ∙ ends)
 
-pub end_hosts : (topology : Topology) → Wired topology → (d host : ℕ) → d < directions_in topology → end_of topology d ≡ places.Host host → host < hosts_in topology
-end_hosts topology is d host less ends =
-    is.hosts (other d) host (other_inside d (length topology.links) less) (sym (end_is_start (joins_of topology) d) ∙ ends)
-
 -- no direction leads from a host to a host
 pub not_hosts : (topology : Topology) → Wired topology → (d host far : ℕ) → d < directions_in topology → start_of topology d ≡ places.Host host → end_of topology d ≡ places.Host far → ⊥
 not_hosts topology is d host far less starts ends =
@@ -135,7 +131,7 @@ same_buffers (places.Host h) (places.Port c p) = refl
 same_buffers (places.Port c p) (places.Host h) = refl
 same_buffers (places.Port c p) (places.Port d q) = refl
 
-some_is : (d e : ℕ) → ◌≡◌ {A = Option ℕ} (Some d) (Some e) → d ≡ e
+pub some_is : (d e : ℕ) → ◌≡◌ {A = Option ℕ} (Some d) (Some e) → d ≡ e
 some_is d e same = cc
 
 pub one_buffer : (topology : Topology) → Wired topology → (d e : ℕ) → d < directions_in topology → e < directions_in topology → same_queue (landing_buffer topology d) (landing_buffer topology e) ≡ true → d ≡ e

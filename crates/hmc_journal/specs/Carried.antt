@@ -1,6 +1,6 @@
 -- What packets carry: requests and answers with their tags. Along a route these are what each of
 -- its directions carried, and what waits on each.
-use Rattle.std.specs.Prelude.{ℕ, not, ◌==◌, ◌&&◌, if◌then◌else◌, List, [], ◌∷◌, ◌++◌, length, map, flat_map, take, drop, Option, Some, None}
+use Rattle.std.specs.Prelude.{ℕ, ◌-◌, Bool, true, false, not, ◌==◌, ◌&&◌, if◌then◌else◌, List, [], ◌∷◌, ◌++◌, length, map, zip, filter, flat_map, take, drop, Option, Some, None, is_some}
 use Rattle.hmc_codes.specs.Commands.{is_posted}
 use Rattle.hmc_codes.specs.Request.{RequestFields}
 use Rattle.hmc_codes.specs.declared.answer.Answer.{Answer}
@@ -9,15 +9,21 @@ use Rattle.hmc_codes.specs.declared.unit.Unit.TheVariants as units
 use Rattle.hmc_packet.specs.Packet.{PacketFields}
 use Rattle.hmc_packet.specs.Transactions.{request_in, answer_in}
 use Rattle.hmc_send.specs.LinkSenders.{places_in}
-use Rattle.hmc_send.specs.Places.{packet_in}
+use Rattle.hmc_codes.specs.Numbers.{upto}
+use Rattle.hmc_codes.specs.declared.profile.Profile.{Profile}
+use Rattle.hmc_packet.specs.declared.what.What.TheVariants.{New, Tret}
+use Rattle.hmc_send.specs.Copies.{place_fed}
+use Rattle.hmc_send.specs.Places.{Place, packet_in}
+use Rattle.hmc_through.specs.Pipe.{PipeFields, flit_at, feed_at}
 use Rattle.hmc_journal.specs.declared.entry.Entry.{Entry}
-use Rattle.hmc_journal.specs.declared.entry.Entry.TheVariants.{Lifted, Took}
+use Rattle.hmc_journal.specs.declared.entry.Entry.TheVariants.{Sent, Lifted, Took, Through}
 use Rattle.hmc_journal.specs.Choice.{append_if}
 use Rattle.hmc_journal.specs.Answers.{tag_of}
-use Rattle.hmc_journal.specs.Directions.{accepted}
+use Rattle.hmc_journal.specs.Directions.{accepted, profile_of, unsent, awaits_first}
+use Rattle.hmc_journal.specs.Piped.{PipeFrom, pipe_onto}
 use Rattle.hmc_journal.specs.Filters.{TaggedRequest, TaggedAnswer, same_unit}
 use Rattle.hmc_journal.specs.Links.{toward, entries_on, sizes_on}
-use Rattle.hmc_journal.specs.Queues.{QueueId, left, entered, contents, landing_buffer, queue_of, front_of}
+use Rattle.hmc_journal.specs.Queues.{QueueId, left, entered, contents, landing_buffer, queue_of, front_of, begins}
 use Rattle.hmc_journal.specs.Queues.QueueId.{Output, Host, Vault, Answers}
 use Rattle.hmc_journal.specs.Routes.{route_to_cube, route_to_host}
 use Rattle.hmc_journal.specs.Setup.{Topology, unit_in, unit_cube}
@@ -79,12 +85,43 @@ answers_taken topology c h (Took host tag answer ∷ past) =
     (record { tag = tag; answer = answer } ∷ []) (answers_taken topology c h past)
 answers_taken topology c h (_ ∷ past) = answers_taken topology c h past
 
--- the packets that were begun on a direction for the first time, with their numbers
+-- the flits of a pipe's packet before its last one
+abbrev pub front_flits : PipeFields → List (List ℕ)
+front_flits pipe = map (flit_at pipe) (upto (pipe.flits - 1))
+
+-- A place that is open is that of the copy of the latest packet that was passed on. Once the
+-- packet's gathering has ended the copy is known, also while its last flit is still to be sent.
+abbrev pub place_with : Profile → Option PipeFrom → Place → Place
+place_with profile None place = place
+place_with profile (Some p) place =
+    place_fed profile (front_flits p.pipe) (feed_at p.pipe (p.pipe.flits - 1)) place
+
+-- the packets that were begun on a direction for the first time, with their numbers; a NULL in
+-- place of a copy that isn't known yet
 abbrev pub begun_on : Topology → (direction : ℕ) → List Entry → List PacketFields
 begun_on topology direction journal =
-    map packet_in
+    map
+    (λ place. packet_in
+    (place_with (profile_of topology direction) (pipe_onto topology direction journal) place))
     (places_in (sizes_on topology direction) (toward direction)
     (entries_on topology direction journal))
+
+-- of each of them, whether it came from the output queue, or is a TRET, and is no copy of a packet
+-- that was passed on
+unfoldable pub begun_here : (direction : ℕ) → List Entry → List Bool
+begun_here d [] = []
+begun_here d (Sent direction New flit ∷ past) =
+    append_if ((direction == d) && is_some (begins (awaits_first d past) (unsent d past) d))
+    (true ∷ []) (begun_here d past)
+begun_here d (Sent direction Tret flit ∷ past) =
+    append_if (direction == d) (true ∷ []) (begun_here d past)
+begun_here d (Through cube port direction ∷ past) =
+    append_if (direction == d) (false ∷ []) (begun_here d past)
+begun_here d (_ ∷ past) = begun_here d past
+
+-- the packets that are marked so
+abbrev pub marked : (marks : List Bool) → List PacketFields → List PacketFields
+marked marks packets = map (λ pair. pair.1) (filter (λ pair. pair.0) (zip marks packets))
 
 -- those that weren't accepted yet
 abbrev pub underway_on : Topology → (direction : ℕ) → List Entry → List PacketFields

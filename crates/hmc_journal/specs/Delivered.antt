@@ -13,7 +13,7 @@ use Rattle.hmc_wire.specs.LinkLaws.{TokenLaws}
 pub use Rattle.hmc_hops.specs.Delivered.{IsPrefix, IsChain}
 use Rattle.hmc_journal.specs.declared.entry.Entry.{Entry}
 use Rattle.hmc_journal.specs.declared.entry.Entry.TheVariants.{Landed}
-use Rattle.hmc_journal.specs.Carried.{begun_on, tagged_answers, tagged_answers_gone, requests_along, requests_waiting, answers_along, answers_waiting, answers_lifted, answers_taken}
+use Rattle.hmc_journal.specs.Carried.{begun_on, begun_here, marked, tagged_answers, tagged_answers_gone, requests_along, requests_waiting, answers_along, answers_waiting, answers_lifted, answers_taken}
 use Rattle.hmc_journal.specs.Filters.{ScriptRequest, given_by, given_to, executed_by, asked_under, replies_under, answers_under, answered_into, taken_by}
 use Rattle.hmc_journal.specs.Queues.{entered}
 use Rattle.hmc_journal.specs.Queues.QueueId.{Output, Answers}
@@ -63,11 +63,15 @@ pub record LinksInOrder (setup : Setup) (journal : List Entry) : Type 0 where
   pub accepted : (direction : ℕ) →
       IsPrefix (accepted setup.topology direction journal)
       (begun_on setup.topology direction journal)
-  -- and these, without TRETs, are a prefix of those that entered its output queue, apart from what
-  -- the link sets
+  -- and these, without TRETs and copies of packets that were passed on, are a prefix of those that
+  -- entered its output queue, apart from what the link sets
   pub begun : (direction : ℕ) →
-      IsPrefix (map unnumbered (filter is_token (begun_on setup.topology direction journal)))
+      IsPrefix (map unnumbered (filter is_token
+      (marked (begun_here direction journal) (begun_on setup.topology direction journal))))
       (map unnumbered (entered setup.topology journal (Output direction)))
+  pub marks : (direction : ℕ) →
+      length (begun_here direction journal)
+      ≡ length (begun_on setup.topology direction journal)
   -- no packet lands out of order
   pub in_order : All IsInOrder journal
   -- the tokens of each direction are together those that its end advertised

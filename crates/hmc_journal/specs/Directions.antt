@@ -1,6 +1,6 @@
 -- What a journal says of the flits and packets of a direction. A journal has its newest entry
 -- first; the lists of flits and packets have the oldest first.
-use Rattle.std.specs.Prelude.{ℕ, zero, suc, ◌-◌, ◌==◌, List, [], ◌∷◌, length, Option, Some, slice_get}
+use Rattle.std.specs.Prelude.{ℕ, zero, suc, ◌-◌, Bool, true, false, ◌==◌, List, [], ◌∷◌, length, Option, Some, slice_get}
 use Rattle.hmc_codes.specs.Flit.{zero_flit}
 use Rattle.hmc_codes.specs.declared.profile.Profile.{Profile}
 use Rattle.hmc_packet.specs.declared.outcome.Outcome.{Outcome}
@@ -14,7 +14,7 @@ use Rattle.hmc_schedule.specs.declared.step.Step.TheVariants as steps
 use Rattle.hmc_send.specs.LinkEntries.{put_if}
 use Rattle.hmc_journal.specs.Choice.{choose, append_if}
 use Rattle.hmc_journal.specs.declared.entry.Entry.{Entry}
-use Rattle.hmc_journal.specs.declared.entry.Entry.TheVariants.{Sent, Landed, Unlocked, Passed}
+use Rattle.hmc_journal.specs.declared.entry.Entry.TheVariants.{Sent, Landed, Through, Unlocked, Passed}
 use Rattle.hmc_journal.specs.Setup.{Topology, link_of}
 
 -- the flits that were sent on a direction
@@ -60,6 +60,15 @@ unsent d [] = 0
 unsent d (Sent direction New flit ∷ past) =
     choose (direction == d) (one_sent (lng_of flit) (unsent d past)) (unsent d past)
 unsent d (_ ∷ past) = unsent d past
+
+-- a packet was passed onto the direction, and none of its flits was sent yet
+unfoldable pub awaits_first : ℕ → List Entry → Bool
+awaits_first d [] = false
+awaits_first d (Through cube port direction ∷ past) =
+    choose (direction == d) true (awaits_first d past)
+awaits_first d (Sent direction New flit ∷ past) =
+    choose (direction == d) false (awaits_first d past)
+awaits_first d (_ ∷ past) = awaits_first d past
 
 -- the entries of the receiver at the end of a direction: its landings and unlocks
 unfoldable pub receiver_of : ℕ → List Entry → List ReceiverEntry

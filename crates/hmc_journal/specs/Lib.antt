@@ -3,6 +3,7 @@ pub mod Setup
 pub mod Routes
 pub mod Choice
 pub mod Directions
+pub mod Piped
 pub mod Basics
 pub mod Queues
 pub mod Links
@@ -13,6 +14,7 @@ pub mod Waiting
 pub mod Answers
 pub mod LinkSteps
 pub mod CubeSteps
+pub mod ThroughSteps
 pub mod Next
 pub mod Lawful
 pub mod Network
@@ -34,3 +36,4 @@ pub mod ParseParts
 pub mod ParseHead
 pub mod ParseEntry
 pub mod ParseJournals
+pub mod PassedOn

@@ -3,7 +3,7 @@
 use Rattle.std.specs.Prelude.{ℕ, Bool, true, false, List, slice_get, Option, Some, None}
 use Rattle.hmc_codes.specs.Flit.{zero_flit}
 use Rattle.hmc_codes.specs.Link.{LinkFields}
-use Rattle.hmc_packet.specs.declared.feed.Feed.TheVariants.{Waiting}
+use Rattle.hmc_packet.specs.declared.feed.Feed.{Feed}
 use Rattle.hmc_packet.specs.declared.outcome.Outcome.{Outcome}
 use Rattle.hmc_packet.specs.Receptions.{reception_of}
 use Rattle.hmc_schedule.specs.declared.step.Step.TheVariants as steps
@@ -24,11 +24,11 @@ sent_entry direction true sending = Idle (steps.Send direction) causes.Full
 sent_entry direction false Starved = Idle (steps.Send direction) causes.Starved
 sent_entry direction false (Out flit as_what) = Sent direction as_what flit
 
--- send: the first of the ten cases that applies; nothing is fed, since no packet is passed on yet
-abbrev pub send_entry : LinkFields → (direction : ℕ) → List LinkEntry → Entry
-send_entry sizes direction past =
+-- send: the first of the ten cases that applies, with what is fed
+abbrev pub send_entry : LinkFields → (direction : ℕ) → List LinkEntry → Feed → Entry
+send_entry sizes direction past feed =
     sent_entry direction (is_full sizes (toward direction) past)
-    (cases.choice sizes.profile (view_in sizes (toward direction) past Waiting))
+    (cases.choice sizes.profile (view_in sizes (toward direction) past feed))
 
 -- a flit lands with an outcome, or passes
 abbrev pub landed_entry : (direction : ℕ) → (passed : Bool) → (flit : List ℕ) → Outcome → Entry

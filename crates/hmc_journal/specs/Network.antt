@@ -6,6 +6,7 @@ use Rattle.hmc_codes.specs.Request.{IsRequest}
 use Rattle.hmc_routes.specs.Parted.{InOnePart}
 use Rattle.hmc_routes.specs.WellFormed.{IsGraph, is_host_of}
 use Rattle.hmc_script.specs.Items.{ItemFields, IsWithin}
+use Rattle.hmc_schedule.specs.Plan.{HasFlit}
 use Rattle.hmc_case.specs.Setup.{IsCubeSetup}
 use Rattle.hmc_journal.specs.Setup.{Setup, cubes_in, hosts_in, graph_of}
 
@@ -25,7 +26,8 @@ pub record IsNetwork (setup : Setup) : Type 0 where
   -- a host has a link exactly where its number is below that of the hosts
   pub hosts : (host : ℕ) →
       is_host_of (graph_of setup.topology) host ≡ nat_lt host (hosts_in setup.topology)
-  -- the sizes of cubes and links, and the requests of the script
+  -- the sizes of cubes and links, the requests of the script, and the masks of the schedule
   pub cubes : All IsCubeSetup setup.topology.cubes
   pub sizes : All (λ link. IsLinkSetup link.setup) setup.topology.links
   pub items : All (IsItemOf (hosts_in setup.topology) (cubes_in setup.topology)) setup.script
+  pub masks : All HasFlit setup.schedule

@@ -1,9 +1,8 @@
 -- The entries that lines are read as: their numbers fit their types, and their lines show all of
 -- them.
-use Rattle.std.specs.Prelude.{◌≡◌, ◌<◌, ◌^◌, ℕ, List, ◌∷◌, [], ◌++◌, length, Option, Some, None}
+use Rattle.std.specs.Prelude.{◌≡◌, ◌<◌, ◌^◌, ℕ, List, ◌∷◌, [], ◌++◌, Option, Some, None}
 use Rattle.std.specs.List.{All, flat_map}
 use Rattle.hmc_codes.specs.Answer.{CanReply, IsAnswer}
-use Rattle.hmc_codes.specs.Bytes.{IsBytes}
 use Rattle.hmc_codes.specs.Flit.{zero_flit}
 use Rattle.hmc_codes.specs.Request.{IsRequest}
 use Rattle.hmc_codes.specs.declared.answer.Answer.{Answer}
@@ -14,6 +13,7 @@ use Rattle.hmc_codes.specs.declared.unit.Unit.{Unit as Executor}
 use Rattle.hmc_codes.specs.declared.unit.Unit.TheVariants as units
 use Rattle.hmc_schedule.specs.declared.step.Step.{Step}
 use Rattle.hmc_schedule.specs.declared.step.Step.TheVariants as steps
+use Rattle.hmc_wire.specs.Conditions.{IsFlit}
 use Rattle.hmc_journal.specs.declared.outcome.Goal.{Goal}
 use Rattle.hmc_journal.specs.declared.outcome.Goal.TheVariants as goals
 use Rattle.hmc_journal.specs.declared.entry.Entry.{Entry}
@@ -36,10 +36,6 @@ IsShown (Executed unit host tag request answer) = CanBeShown answer
 IsShown (Took host tag answer) = CanBeShown answer
 IsShown (Idle step cause) = HasNoMask step
 IsShown entry = Unit {0}
-
--- sixteen bytes
-abbrev pub IsFlit : List ℕ → Type 0
-IsFlit flit = (length flit ≡ 16) × IsBytes flit
 
 -- a tag of 16 bits, or none
 abbrev pub IsTag : Option ℕ → Type 0

@@ -24,10 +24,11 @@ pub record IsCubeRequest (here : ℕ) (packet : PacketFields) : Type 0 where
   pub asks : family_of packet.command ≡ families.Ask
   pub cube : packet.cube ≡ here
 
--- a packet on its way to a cube or a host that is there; either profile has room for its ERRSTAT
+-- a packet on its way to a cube or a host that is there; unless it is poisoned, either profile has
+-- room for its ERRSTAT
 pub record IsOnItsWay (topology : Topology) (packet : PacketFields) : Type 0 where
   pub goal : HasGoal (graph_of topology) packet (family_of packet.command)
-  pub errstat : packet.errstat < 8
+  pub errstat : packet.poisoned ≡ false → packet.errstat < 8
 
 -- an answer to a host that is there, with such an ERRSTAT
 pub record IsHostAnswer (topology : Topology) (packet : PacketFields) : Type 0 where
@@ -35,10 +36,9 @@ pub record IsHostAnswer (topology : Topology) (packet : PacketFields) : Type 0 w
   pub host : packet.slid < hosts_in topology
   pub errstat : packet.errstat < 8
 
--- an unpoisoned answer that a host awaits
-pub record IsAnswerFor (host : HostFields) (packet : PacketFields) : Type 0 where
-  pub unpoisoned : packet.poisoned ≡ false
-  pub awaited : IsAwaited host packet
+-- an answer that a host awaits, unless it is poisoned
+abbrev pub IsAnswerFor : HostFields → PacketFields → Type 0
+IsAnswerFor host packet = packet.poisoned ≡ false → IsAwaited host packet
 
 -- What the steps of a link rest on. Its entries are such as a link may have; the packets in the
 -- output queue of each direction are those that its sender hasn't begun, and those in the buffer at
@@ -70,7 +70,7 @@ pub record QueueInvariant (setup : Setup) (past : List Entry) : Type 0 where
   pub links : (direction : ℕ) → direction < directions_in setup.topology →
       LinkInvariant setup.topology past direction
 
--- The answers that wait at a host are those that it awaits: their tags are out.
+-- The unpoisoned answers that wait at a host are those that it awaits: their tags are out.
 pub record AnswersAwaited (setup : Setup) (past : List Entry) : Type 0 where
   pub hosts : (host : ℕ) →
       All (IsAnswerFor (host_of setup past host)) (contents setup.topology past (Host host))

@@ -1,6 +1,6 @@
 -- The queues that packets wait in. Each holds the packets that entered it except those that left.
 -- The tables of moves are here and nowhere else.
-use Rattle.std.specs.Prelude.{ℕ, zero, suc, ◌+◌, Bool, true, false, ◌==◌, ◌&&◌, List, [], ◌∷◌, ◌++◌, take, drop, filter, Option, Some, None, option_map}
+use Rattle.std.specs.Prelude.{ℕ, zero, ◌+◌, Bool, true, false, ◌==◌, ◌&&◌, List, [], ◌∷◌, ◌++◌, take, drop, filter, Option, Some, None, option_map}
 use Rattle.hmc_codes.specs.Commands.{is_posted}
 use Rattle.hmc_codes.specs.declared.lift.Lift.{Lift}
 use Rattle.hmc_codes.specs.declared.lift.Lift.TheVariants as lifts
@@ -17,7 +17,8 @@ use Rattle.hmc_journal.specs.declared.outcome.Goal.TheVariants as goals
 use Rattle.hmc_journal.specs.declared.entry.Entry.{Entry}
 use Rattle.hmc_journal.specs.declared.entry.Entry.TheVariants.{Gave, Sent, Landed, Shifted, Dropped, Spread, Executed, Lifted, Took, Discarded}
 use Rattle.hmc_journal.specs.Setup.{Topology, end_of, direction_from}
-use Rattle.hmc_journal.specs.Directions.{unsent, landed_packets}
+use Rattle.hmc_journal.specs.Directions.{unsent, awaits_first, landed_packets}
+use Rattle.hmc_journal.specs.Piped.{passed_onto, goes_on}
 pub use Rattle.hmc_journal.specs.Basics.{same_lift, front_of, tag_number, one_if, packet_if}
 
 -- the output queue of a direction, the input buffers of ports and hosts, the queues of vaults,
@@ -76,14 +77,15 @@ goal_queue topology cube (goals.Vault vault) = Some (Vault cube vault)
 goal_queue topology cube goals.Registers = Some (Registers cube)
 goal_queue topology cube (goals.Port port) = output_from topology (places.Port cube port)
 
--- the first flit of a packet takes it out of the output queue
-abbrev pub begins : (unsent : ℕ) → ℕ → Option QueueId
-begins zero direction = Some (Output direction)
-begins (suc left) direction = None
+-- the first flit of a packet takes it out of the output queue, unless it is passed on
+abbrev pub begins : (passed_on : Bool) → (unsent : ℕ) → ℕ → Option QueueId
+begins false zero direction = Some (Output direction)
+begins _ unsent direction = None
 
 -- the queue whose front leaves, if one does
 unfoldable pub leaves : List Entry → Entry → Option QueueId
-leaves past (Sent direction New flit) = begins (unsent direction past) direction
+leaves past (Sent direction New flit) =
+    begins (awaits_first direction past) (unsent direction past) direction
 leaves past (Shifted cube port goal) = Some (Port cube port)
 leaves past (Dropped cube port) = Some (Port cube port)
 leaves past (Spread cube vault bank) = Some (Vault cube vault)
@@ -118,9 +120,14 @@ abbrev pub arrived : QueueId → Option Arrival → List PacketFields
 arrived here None = []
 arrived here (Some arrival) = packet_if (same_queue arrival.queue here) arrival.packet
 
+-- the packets, unless they go on at once
+abbrev pub unless_gone : Bool → List PacketFields → List PacketFields
+unless_gone true packets = []
+unless_gone false packets = packets
+
 -- The packet that enters a queue, by what is inside the queues before: a request; a request or an
--- answer that a landing accepts, poisoned or not (an accepted TRET enters no buffer); an answer; or
--- the front of the queue that it leaves.
+-- answer that a landing accepts, poisoned or not (an accepted TRET enters no buffer, nor does what
+-- is accepted while it is passed on); an answer; or the front of the queue that it leaves.
 unfoldable pub enters : Topology → (inside : QueueId → List PacketFields) → List Entry → Entry →
     Option Arrival
 enters topology inside past (Gave host tag poisoned request) =
@@ -128,7 +135,8 @@ enters topology inside past (Gave host tag poisoned request) =
     (λ _. request_packet request (tag_number tag) host poisoned)
 enters topology inside past (Landed direction flit outcome) =
     arrival_of (landing_buffer topology direction)
-    (filter is_token (landed_packets topology direction flit outcome past))
+    (unless_gone (goes_on outcome (passed_onto topology direction past))
+    (filter is_token (landed_packets topology direction flit outcome past)))
 enters topology inside past (Shifted cube port goal) =
     arrival_in (goal_queue topology cube goal) (λ _. front_of (inside (Port cube port)))
 enters topology inside past (Spread cube vault bank) =

@@ -1,5 +1,5 @@
 -- The case that a journal is of.
-use Rattle.std.specs.Prelude.{ℕ, ◌*◌, ◌/◌, List, length, map, slice_index_or, Option}
+use Rattle.std.specs.Prelude.{ℕ, ◌*◌, ◌/◌, List, length, map, slice_index_or, Option, option_map}
 use Rattle.hmc_codes.specs.Graph.{GraphFields}
 use Rattle.hmc_codes.specs.Shape.{ShapeFields}
 use Rattle.hmc_codes.specs.Request.{RequestFields}
@@ -101,6 +101,10 @@ end_of topology direction = directions.end_of (joins_of topology) direction
 -- the direction that starts at a place, if it has a link
 abbrev pub direction_from : Topology → Place → Option ℕ
 direction_from topology place = directions.direction_from (joins_of topology) place
+
+-- the direction that ends at a place, if it has a link
+abbrev pub direction_to : Topology → Place → Option ℕ
+direction_to topology place = option_map other (direction_from topology place)
 
 -- the unit that executes a request, by the shape of its cube
 abbrev pub unit_in : Topology → RequestFields → RequestUnit

@@ -33,6 +33,7 @@ mod link_sent;
 mod masks;
 mod row;
 
+pub use feed::flit_is_bytes;
 pub use hmc_send::Toward;
 pub use laws::directions_are_lists;
 pub use link::Link;

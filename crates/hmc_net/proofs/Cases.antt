@@ -13,7 +13,7 @@ use Rattle.hmc_codes.specs.declared.place.Place.TheVariants as places
 use Rattle.hmc_routes.specs.Directions.{direction_among}
 use Rattle.hmc_schedule.specs.declared.step.Step.{Step}
 use Rattle.hmc_schedule.specs.declared.step.Step.TheVariants as steps
-use Rattle.hmc_schedule.specs.Plan.{IsStepOf, IsBuilt, IsPortOf, IsVaultOf, IsBankOf, IsLiftOf, CubePlanFields}
+use Rattle.hmc_schedule.specs.Plan.{IsStepOf, HasFlit, IsPortOf, IsVaultOf, IsBankOf, IsLiftOf, CubePlanFields}
 use Rattle.hmc_case.specs.Case.{CaseFields, IsCase}
 use Rattle.hmc_case.specs.Net.{NetFields}
 use Rattle.hmc_case.specs.Places.{is_taken}
@@ -93,19 +93,19 @@ lift_fits net cube (lifts.Vault vault) is = record {
 }
 lift_fits net cube lifts.Registers is = record { some_cube = cube_fits net cube is.some_cube; some_lift = tt }
 
-step_fits : (net : NetFields) (step : Step) → net.hosts ≡ hosts_in (topology_for net) → IsStepOf (plan_of net) step → IsBuilt step → IsStepFor (topology_for net) step
-step_fits net (steps.Give host) hosts is built = subst (λ (n : ℕ). host < n) hosts is
-step_fits net (steps.Send direction) hosts is built = is
-step_fits net (steps.Land direction mask) hosts is built = record { some_direction = is; long = built }
-step_fits net (steps.Shift cube port) hosts is built = port_fits net cube port is
-step_fits net (steps.Spread cube vault) hosts is built = vault_fits net cube vault is
-step_fits net (steps.Bank cube vault bank) hosts is built = bank_fits net cube vault bank is
-step_fits net (steps.Registers cube) hosts is built = cube_fits net cube is
-step_fits net (steps.Lift cube from) hosts is built = lift_fits net cube from is
-step_fits net (steps.Take host) hosts is built = subst (λ (n : ℕ). host < n) hosts is
-step_fits net (steps.Through cube port) hosts is built = tt
-step_fits net (steps.Unlock direction) hosts is built = is
-step_fits net (steps.Retire slot) hosts is built = tt
+step_fits : (net : NetFields) (step : Step) → net.hosts ≡ hosts_in (topology_for net) → IsStepOf (plan_of net) step → HasFlit step → IsStepFor (topology_for net) step
+step_fits net (steps.Give host) hosts is has = subst (λ (n : ℕ). host < n) hosts is
+step_fits net (steps.Send direction) hosts is has = is
+step_fits net (steps.Land direction mask) hosts is has = record { some_direction = is; long = has.long }
+step_fits net (steps.Shift cube port) hosts is has = port_fits net cube port is
+step_fits net (steps.Spread cube vault) hosts is has = vault_fits net cube vault is
+step_fits net (steps.Bank cube vault bank) hosts is has = bank_fits net cube vault bank is
+step_fits net (steps.Registers cube) hosts is has = cube_fits net cube is
+step_fits net (steps.Lift cube from) hosts is has = lift_fits net cube from is
+step_fits net (steps.Take host) hosts is has = subst (λ (n : ℕ). host < n) hosts is
+step_fits net (steps.Through cube port) hosts is has = port_fits net cube port is
+step_fits net (steps.Unlock direction) hosts is has = is
+step_fits net (steps.Retire slot) hosts is has = tt
 
 pub steps_fit : (case : CaseFields) (slots : List (Option UnitFields)) → IsCase case → All (IsStepFor (setup_of case slots).topology) case.schedule
-steps_fit case slots is = λ k d there. step_fits case.net (slice_index_or case.schedule k d) is.net.all_hosts (is.schedule k d there) (is.built k d there)
+steps_fit case slots is = λ k d there. step_fits case.net (slice_index_or case.schedule k d) is.net.all_hosts (is.schedule k d there) (is.masks k d there)

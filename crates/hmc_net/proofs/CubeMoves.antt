@@ -20,7 +20,7 @@ use Rattle.hmc_journal.specs.Choice.{choose}
 use Rattle.hmc_journal.specs.declared.outcome.Goal.TheVariants as goals
 use Rattle.hmc_journal.specs.declared.entry.Entry.{Entry}
 use Rattle.hmc_journal.specs.declared.entry.Entry.TheVariants.{Gave, Sent, Landed, Shifted, Dropped, Spread, Executed, Lifted, Took, Discarded, Through, Unlocked, Retired, Passed, Idle}
-use Rattle.hmc_journal.specs.Directions.{unsent}
+use Rattle.hmc_journal.specs.Directions.{unsent, awaits_first}
 use Rattle.hmc_journal.specs.Queues.{QueueId, leaves, enters, begins, buffer_at, unless_posted, front_of, tag_number, contents, arrival_in, arrival_of}
 use Rattle.hmc_journal.specs.Queues.QueueId.{Output, Port, Host, Vault, Bank, Registers, Answers}
 use Rattle.hmc_journal.specs.Setup.{Setup, direction_from, end_of}
@@ -46,9 +46,10 @@ no_arrival : (cubes : List CubeFields) (d : Option ℕ) (packet : Unit {0} → P
 no_arrival cubes None packet = (tt, refl)
 no_arrival cubes (Some d) packet = (tt, refl)
 
-no_begin : (cubes : List CubeFields) (count direction : ℕ) → IsThere cubes (begins count direction) × (cubes ≡ without cubes (begins count direction))
-no_begin cubes zero direction = (tt, refl)
-no_begin cubes (suc count) direction = (tt, refl)
+no_begin : (cubes : List CubeFields) (waiting : Bool) (count direction : ℕ) → IsThere cubes (begins waiting count direction) × (cubes ≡ without cubes (begins waiting count direction))
+no_begin cubes true count direction = (tt, refl)
+no_begin cubes false zero direction = (tt, refl)
+no_begin cubes false (suc count) direction = (tt, refl)
 
 no_landing : (cubes : List CubeFields) (place : Place) (packets : List PacketFields) → IsGoing cubes (arrival_of (buffer_at place) packets) × (cubes ≡ with_arrival cubes (arrival_of (buffer_at place) packets))
 no_landing cubes place [] = (tt, refl)
@@ -200,7 +201,7 @@ unfolding leaves enters view_of
 moves_of setup past (Gave host tag poisoned request) cubes rule told is =
     let none = no_arrival cubes (direction_from setup.topology (places.Host host)) _ in record { there = tt; going = none.0; same = λ q. ap (λ (l : List CubeFields). inside l q) none.1 }
 moves_of setup past (Sent direction New flit) cubes rule told is =
-    let none = no_begin cubes (unsent direction past) direction in record { there = none.0; going = tt; same = λ q. ap (λ (l : List CubeFields). inside l q) none.1 }
+    let none = no_begin cubes (awaits_first direction past) (unsent direction past) direction in record { there = none.0; going = tt; same = λ q. ap (λ (l : List CubeFields). inside l q) none.1 }
 moves_of setup past (Sent direction what flit) cubes rule told is = record { there = tt; going = tt; same = λ q. refl }
 moves_of setup past (Landed direction flit outcome) cubes rule told is =
     let none = no_landing cubes (end_of setup.topology direction) _ in record { there = tt; going = none.0; same = λ q. ap (λ (l : List CubeFields). inside l q) none.1 }

@@ -45,7 +45,8 @@ use Rattle.hmc_journal.specs.Queues.{tag_number, queue_of}
 use Rattle.hmc_journal.specs.Queues.QueueId.{Vault, Bank, Registers, Answers}
 use Rattle.hmc_journal.specs.Setup.{Topology, cube_setup, shape_of, cubes_in, unit_cube}
 use Rattle.hmc_journal.specs.StepView.{StepView}
-use Rattle.hmc_net.specs.Apply.{cubes_after, hosts_after, slots_after, entries_after, with_cube, IsEntryIn, IsHostIn, DoesStep}
+use Rattle.hmc_net.specs.Apply.{cubes_after, hosts_after, slots_after, piped_after, entries_after, with_cube, IsEntryIn, IsHostIn, DoesStep}
+use Rattle.hmc_net.specs.Pipes.{PipesHeld}
 use Rattle.hmc_net.specs.LinkList.{LinksStandFor}
 use Rattle.hmc_net.specs.NetState.{NetState, cube_in, no_cube, IsQueueOf}
 use Rattle.hmc_net.specs.Ready.{IsVaultIn, IsBankIn}
@@ -71,6 +72,7 @@ sized_cube net cube y links entry sized there shape size = record {
   hosts = sized.hosts;
   fits = λ k less. (let inside : k < length net.cubes = omega (arith, length-set net.cubes cube y) in
       fits_when net.topology net.cubes cube k y (cube == k) refl there (sized.fits cube there) (sized.fits k inside) shape size);
+  piped = sized.piped;
 }
 
 pub cube_inside : (net : NetState) (cube : ℕ) → IsSized net → cube < cubes_in net.topology → cube < length net.cubes
@@ -150,6 +152,11 @@ spread_slots view slots cube vault spreads.Empty = refl
 spread_slots view slots cube vault spreads.Full = refl
 spread_slots view slots cube vault (spreads.Moved bank) = refl
 
+spread_piped : (topology : Topology) (view : StepView) (piped : PipesHeld) (cube vault : ℕ) (spread : Spread) → piped ≡ piped_after topology view (spread_entry cube vault spread) piped
+spread_piped topology view piped cube vault spreads.Empty = refl
+spread_piped topology view piped cube vault spreads.Full = refl
+spread_piped topology view piped cube vault (spreads.Moved bank) = refl
+
 spread_host_in : (hosts : List HostFields) (cube vault : ℕ) (spread : Spread) → IsHostIn hosts (spread_entry cube vault spread)
 spread_host_in hosts cube vault spreads.Empty = tt
 spread_host_in hosts cube vault spreads.Full = tt
@@ -188,6 +195,7 @@ spread_does net now cube vault spread ready there parts says now_is =
       cubes_are = λ view sees. spread_cubes view net.cubes cube vault spread;
       hosts_are = spread_hosts net.hosts cube vault spread;
       slots_are = λ view sees. spread_slots view net.slots cube vault spread;
+      piped_are = λ view sees. spread_piped net.topology view net.piped cube vault spread;
       links_are = λ view sees on. subst (LinksStandFor net.topology.links net.links) (spread_links net.topology view cube vault spread) sees.shows.links;
       there = spread_in net.cubes cube vault spread less inside (λ bank is. subst (λ (n : ℕ). bank < n) (sym fits.banks) (spread_bank (vault_at x vault) x.state.shape spread bank says is));
       host = spread_host_in net.hosts cube vault spread;
@@ -254,6 +262,11 @@ ran_slots view state slots unit step runs_as.Empty same = refl
 ran_slots view state slots unit step runs_as.Full same = refl
 ran_slots view state slots unit step (runs_as.Ran host tag request answer) same = ap (λ (s : CubeState). (perform_on s slots request).slots) same
 
+ran_piped : (topology : Topology) (view : StepView) (piped : PipesHeld) (unit : RequestUnit) (step : Step) (ran : Execution) → piped ≡ piped_after topology view (ran_entry unit step ran) piped
+ran_piped topology view piped unit step runs_as.Empty = refl
+ran_piped topology view piped unit step runs_as.Full = refl
+ran_piped topology view piped unit step (runs_as.Ran host tag request answer) = refl
+
 ran_slots_idle : (state : CubeState) (slots : List (Option UnitFields)) (unit : RequestUnit) (step : Step) (ran : Execution) (cause : Cause) → cause_of (ran_entry unit step ran) ≡ Some cause → units_left ran state slots ≡ slots
 ran_slots_idle state slots unit step runs_as.Empty cause is = refl
 ran_slots_idle state slots unit step runs_as.Full cause is = refl
@@ -306,6 +319,7 @@ bank_does net now cube vault bank ran ready there parts says shape now_is =
       cubes_are = λ view sees. bank_cubes view net.cubes net.slots cube vault bank step ran (units_seen net view sees);
       hosts_are = ran_hosts net.hosts unit step ran;
       slots_are = λ view sees. ran_slots view x.state net.slots unit step ran (cube_state net view cube sees);
+      piped_are = λ view sees. ran_piped net.topology view net.piped unit step ran;
       links_are = λ view sees on. subst (LinksStandFor net.topology.links net.links) (ran_links net.topology view unit step ran) sees.shows.links;
       there = ran_in net.cubes unit step ran (less, (inside, subst (λ (n : ℕ). bank < n) (sym fits.banks) (bank_shape net cube vault bank sized there)));
       host = ran_host_in net.hosts unit step ran;
@@ -340,6 +354,7 @@ registers_does net now cube ran ready there says shape now_is =
       cubes_are = λ view sees. registers_cubes view net.cubes net.slots cube step ran (units_seen net view sees);
       hosts_are = ran_hosts net.hosts unit step ran;
       slots_are = λ view sees. ran_slots view x.state net.slots unit step ran (cube_state net view cube sees);
+      piped_are = λ view sees. ran_piped net.topology view net.piped unit step ran;
       links_are = λ view sees on. subst (LinksStandFor net.topology.links net.links) (ran_links net.topology view unit step ran) sees.shows.links;
       there = ran_in net.cubes unit step ran (less, tt);
       host = ran_host_in net.hosts unit step ran;

@@ -1,6 +1,6 @@
 -- What a step does of a network, part by part.
 use Rattle.std.proofs.Common.{◌≡◌, ◌<◌, ◌*◌, ◌/◌, ◌==◌, ◌∙◌, ℕ, Bool, true, false, not, nat_le, nat_lt, Option, Some, None, List, [], ◌∷◌, length, slice_get, refl, sym, ap, subst, arith, eqb-true}
-use Rattle.std.specs.Prelude.{option_map}
+use Rattle.std.specs.Prelude.{is_some, option_map}
 use Rattle.std.proofs.lemmas.Bool.Decides.{nat_tests}
 use Rattle.std.specs.List.{All}
 use Rattle.std.proofs.lemmas.List.{length-map}
@@ -31,8 +31,9 @@ use Rattle.hmc_journal.specs.Queues.QueueId.{Output}
 use Rattle.hmc_journal.specs.Setup.{Topology, joins_of, directions_in, direction_from, end_of}
 use Rattle.hmc_journal.specs.StepView.{StepView}
 use Rattle.hmc_journal.proofs.Joins.{from_place, start_is_end, other_inside}
-use Rattle.hmc_net.specs.Apply.{cubes_after, hosts_after, slots_after, entries_after, DoesStep, IsEntryIn, IsHostIn}
-use Rattle.hmc_net.specs.LinkList.{sizes_by, LinksStandFor, called, IsDirection, IsRoom, IsFrontAt}
+use Rattle.hmc_net.specs.Apply.{cubes_after, hosts_after, slots_after, piped_after, entries_after, DoesStep, IsEntryIn, IsHostIn}
+use Rattle.hmc_net.specs.Pipes.{PipesHeld, AreCounted}
+use Rattle.hmc_net.specs.LinkList.{sizes_by, LinksStandFor, called, IsDirection, IsRoom, IsArrival, IsFrontAt}
 use Rattle.hmc_net.specs.NetState.{NetState}
 use Rattle.hmc_net.specs.Sees.{Sees, IsSized, IsReady}
 use Rattle.hmc_net.proofs.LinkCalls.{called_here, called_other}
@@ -51,6 +52,7 @@ pub record IsDone (net : NetState) (cubes : List CubeFields) (hosts : List HostF
   pub cubes_are : (view : StepView) → Sees net view → cubes ≡ cubes_after view entry net.cubes
   pub hosts_are : hosts ≡ hosts_after entry net.hosts
   pub slots_are : (view : StepView) → Sees net view → slots ≡ slots_after view entry net.slots
+  pub piped_are : (view : StepView) → Sees net view → net.piped ≡ piped_after net.topology view entry net.piped
   pub links_are : (view : StepView) → Sees net view → is_passed entry ≡ false → LinksStandFor net.topology.links links (entries_after net.topology view entry)
   pub there : IsEntryIn net.cubes entry
   pub host : IsHostIn net.hosts entry
@@ -60,7 +62,7 @@ pub record IsDone (net : NetState) (cubes : List CubeFields) (hosts : List HostF
 pub does_by : (net now : NetState) (cubes : List CubeFields) (hosts : List HostFields) (slots : List (Option UnitFields)) (links : List LinkHeld) (entry : Entry) (step : Step) → now ≡ with_all net cubes hosts slots links entry → IsDone net cubes hosts slots links entry step → DoesStep net now step
 does_by net now cubes hosts slots links entry step same done = subst (λ (n : NetState). DoesStep net n step) (sym same) (record {
   entry = done.chosen;
-  parts = λ view sees. record { topology = refl; cubes = done.cubes_are view sees; hosts = done.hosts_are; slots = done.slots_are view sees; links = done.links_are view sees };
+  parts = λ view sees. record { topology = refl; cubes = done.cubes_are view sees; hosts = done.hosts_are; slots = done.slots_are view sees; piped = done.piped_are view sees; links = done.links_are view sees };
   there = done.there;
   host = done.host;
   sized = done.sized;
@@ -70,15 +72,39 @@ does_by net now cubes hosts slots links entry step same done = subst (λ (n : Ne
 
 -- the sizes stay where the cubes do
 pub sized_links : (net : NetState) (links : List LinkHeld) (entry : Entry) → IsSized net → IsSized (with_parts net net.cubes net.hosts links entry)
-sized_links net links entry sized = record { cubes = sized.cubes; hosts = sized.hosts; fits = sized.fits }
+sized_links net links entry sized = record { cubes = sized.cubes; hosts = sized.hosts; fits = sized.fits; piped = sized.piped }
 
 -- and where other logic units are left
 pub sized_units : (net : NetState) (slots : List (Option UnitFields)) → IsSized net → IsSized (record net { slots = slots })
-sized_units net slots sized = record { cubes = sized.cubes; hosts = sized.hosts; fits = sized.fits }
+sized_units net slots sized = record { cubes = sized.cubes; hosts = sized.hosts; fits = sized.fits; piped = sized.piped }
 
 -- the logic units are those that are seen
 pub units_seen : (net : NetState) (view : StepView) → Sees net view → net.slots ≡ view.state.slots
 units_seen net view sees = ap (λ (s : State). s.slots) sees.shows.state
+
+-- what a step has to show that changes links and pipes alone
+pub record IsLinkDone (net : NetState) (links : List LinkHeld) (piped : PipesHeld) (entry : Entry) (step : Step) : Type 0 where
+  pub chosen : (view : StepView) → Sees net view → entry ≡ choice net.topology view step
+  pub cubes_are : (view : StepView) → net.cubes ≡ cubes_after view entry net.cubes
+  pub hosts_are : net.hosts ≡ hosts_after entry net.hosts
+  pub slots_are : (view : StepView) → net.slots ≡ slots_after view entry net.slots
+  pub piped_are : (view : StepView) → Sees net view → piped ≡ piped_after net.topology view entry net.piped
+  pub links_are : (view : StepView) → Sees net view → is_passed entry ≡ false → LinksStandFor net.topology.links links (entries_after net.topology view entry)
+  pub there : IsEntryIn net.cubes entry
+  pub host : IsHostIn net.hosts entry
+  pub counted : AreCounted (directions_in net.topology) piped
+  pub idle : (cause : Cause) → cause_of entry ≡ Some cause → ◌≡◌ {A = NetState} (record net { links = links; piped = piped; last = entry }) (record net { last = entry })
+
+pub links_do : (net now : NetState) (links : List LinkHeld) (piped : PipesHeld) (entry : Entry) (step : Step) → IsSized net → now ≡ record net { links = links; piped = piped; last = entry } → IsLinkDone net links piped entry step → DoesStep net now step
+links_do net now links piped entry step sized same done = subst (λ (n : NetState). DoesStep net n step) (sym same) (record {
+  entry = done.chosen;
+  parts = λ view sees. record { topology = refl; cubes = done.cubes_are view; hosts = done.hosts_are; slots = done.slots_are view; piped = done.piped_are view sees; links = done.links_are view sees };
+  there = done.there;
+  host = done.host;
+  sized = record { cubes = sized.cubes; hosts = sized.hosts; fits = sized.fits; piped = done.counted };
+  tally = refl;
+  idle = done.idle;
+})
 
 -- an idle step
 pub idle_does : (net now : NetState) (step here : Step) (cause : Cause) → now ≡ record net { last = Idle here cause } → IsSized net → ((view : StepView) → Sees net view → Idle here cause ≡ choice net.topology view step) → DoesStep net now step
@@ -87,6 +113,7 @@ idle_does net now step here cause same sized chosen = does_by net now net.cubes 
   cubes_are = λ view sees. refl;
   hosts_are = refl;
   slots_are = λ view sees. refl;
+  piped_are = λ view sees. refl;
   links_are = λ view sees on. sees.shows.links;
   there = tt;
   host = tt;
@@ -162,6 +189,14 @@ front_seen net view place direction found sees to is =
     ap (λ (p : Place). slice_get (view.inside (buffer_at p)) 0) (sym at.ends)
     ∙ ap (λ (l : List PacketFields). slice_get l 0) (sees.laws.directions direction at.there).buffer
     ∙ sym (is net.topology.links view.entries sees.shows.links)
+
+-- where no packet came there is no front
+no_packet : (arrived : Bool) (front : Option PacketFields) → arrived ≡ false → arrived ≡ is_some front → None ≡ front
+no_packet arrived None none is = refl
+no_packet arrived (Some front) none is = absurd (let clash : false ≡ true = sym none ∙ is in cc)
+
+pub none_arrived : (links : List LinkHeld) (direction : ℕ) (arrived : Bool) → arrived ≡ false → IsArrival links direction arrived → IsFrontAt links direction None
+none_arrived links direction arrived none is = λ rows entries stand. no_packet arrived _ none (is rows entries stand)
 
 -- ---- a call of a link is an entry
 

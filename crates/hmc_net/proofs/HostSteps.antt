@@ -40,10 +40,11 @@ use Rattle.hmc_journal.specs.Next.{choice, gave_entry, took_entry}
 use Rattle.hmc_journal.specs.QueueInvariant.{IsAnswerFor}
 use Rattle.hmc_journal.specs.Queues.{tag_number}
 use Rattle.hmc_journal.specs.Queues.QueueId.{Host}
-use Rattle.hmc_journal.specs.Setup.{hosts_in, direction_from}
+use Rattle.hmc_journal.specs.Setup.{hosts_in, direction_from, Topology}
 use Rattle.hmc_journal.specs.StepView.{StepView}
-use Rattle.hmc_net.specs.Apply.{cubes_after, hosts_after, slots_after, entries_after, with_host, DoesStep, IsEntryIn, IsHostIn}
+use Rattle.hmc_net.specs.Apply.{cubes_after, hosts_after, slots_after, piped_after, entries_after, with_host, DoesStep, IsEntryIn, IsHostIn}
 use Rattle.hmc_net.specs.Gives.{IsGiven, IsRequested, given_to, cause_by}
+use Rattle.hmc_net.specs.Pipes.{PipesHeld}
 use Rattle.hmc_net.specs.LinkList.{sizes_by, LinksStandFor, called, IsRoom, IsFrontAt, MayHand}
 use Rattle.hmc_net.specs.NetState.{NetState, host_in, no_host}
 use Rattle.hmc_net.specs.Sees.{Sees, IsSized, IsReady}
@@ -192,6 +193,13 @@ gave_slots view slots host givens.Tags = refl
 gave_slots view slots host givens.Full = refl
 gave_slots view slots host (givens.Gave packet request tag poisoned) = refl
 
+gave_piped : (topology : Topology) (view : StepView) (piped : PipesHeld) (host : ℕ) (given : Given) → piped ≡ piped_after topology view (gave_entry host given) piped
+gave_piped topology view piped host givens.Ended = refl
+gave_piped topology view piped host givens.Fence = refl
+gave_piped topology view piped host givens.Tags = refl
+gave_piped topology view piped host givens.Full = refl
+gave_piped topology view piped host (givens.Gave packet request tag poisoned) = refl
+
 gave_idle : (hosts : List HostFields) (host : ℕ) (given : Given) (cause : Cause) → cause_of (gave_entry host given) ≡ Some cause → with_host host (after_give given) hosts ≡ hosts
 gave_idle hosts host givens.Ended cause is = set-get_or hosts host no_host
 gave_idle hosts host givens.Fence cause is = set-get_or hosts host no_host
@@ -200,7 +208,7 @@ gave_idle hosts host givens.Full cause is = set-get_or hosts host no_host
 gave_idle hosts host (givens.Gave packet request tag poisoned) cause is = absurd (cc)
 
 sized_host : (net : NetState) (host : ℕ) (changed : HostFields → HostFields) (links : List LinkHeld) (entry : Entry) → IsSized net → IsSized (with_parts net net.cubes (with_host host changed net.hosts) links entry)
-sized_host net host changed links entry sized = record { cubes = sized.cubes; hosts = length-set net.hosts host (changed (host_in net.hosts host)) ∙ sized.hosts; fits = sized.fits }
+sized_host net host changed links entry sized = record { cubes = sized.cubes; hosts = length-set net.hosts host (changed (host_in net.hosts host)) ∙ sized.hosts; fits = sized.fits; piped = sized.piped }
 
 pub give_does : (net now : NetState) (host direction : ℕ) (room : Bool) (given : Given) (links : List LinkHeld) → IsReady net → host < hosts_in net.topology → direction_from net.topology (places.Host host) ≡ Some direction → IsRoom net.links direction room
     → given ≡ give_says (host_in net.hosts host) room → IsRequested given
@@ -216,6 +224,7 @@ give_does net now host direction room given links ready there from is says asks 
       cubes_are = λ view sees. gave_cubes view net.cubes host given;
       hosts_are = gave_hosts net.hosts host given;
       slots_are = λ view sees. gave_slots view net.slots host given;
+      piped_are = λ view sees. gave_piped net.topology view net.piped host given;
       links_are = λ view sees on. gave_links net view host direction room given links sees from is by asks (hand net.topology.links view.entries sees.shows.links);
       there = gave_in net.cubes host given;
       host = gave_host_in net.hosts host given inside;
@@ -225,11 +234,11 @@ give_does net now host direction room given links ready there from is says asks 
 
 -- ---- take
 
-pub awaited_front : (net : NetState) (host direction : ℕ) (front : PacketFields) → IsReady net → host < hosts_in net.topology → direction_to net.topology (places.Host host) ≡ Some direction → IsFrontAt net.links direction (Some front) → IsAwaited (host_in net.hosts host) front
-awaited_front net host direction front ready there to is =
+pub awaited_front : (net : NetState) (host direction : ℕ) (front : PacketFields) → IsReady net → host < hosts_in net.topology → direction_to net.topology (places.Host host) ≡ Some direction → IsFrontAt net.links direction (Some front) → front.poisoned ≡ false → IsAwaited (host_in net.hosts host) front
+awaited_front net host direction front ready there to is good =
     let inside : host < length net.hosts = omega (arith, there, ready.sized.hosts) in
     subst (λ (h : HostFields). IsAwaited h front) (sym (ready.sees.shows.hosts host inside))
-    (front_all (IsAnswerFor (ready.view.host host)) (ready.view.inside (Host host)) front (front_seen net ready.view (places.Host host) direction (Some front) ready.sees to is) (ready.sees.laws.hosts host)).awaited
+    (front_all (IsAnswerFor (ready.view.host host)) (ready.view.inside (Host host)) front (front_seen net ready.view (places.Host host) direction (Some front) ready.sees to is) (ready.sees.laws.hosts host) good)
 
 pub nothing_taken : (net now : NetState) (host direction : ℕ) → IsSized net → direction_to net.topology (places.Host host) ≡ Some direction → IsFrontAt net.links direction None → now ≡ record net { last = Idle (steps.Take host) causes.Empty } → DoesStep net now (steps.Take host)
 unfolding choice
@@ -248,6 +257,10 @@ took_cubes view cubes host (settles.Took tag answer) = refl
 took_slots : (view : StepView) (slots : List (Option UnitFields)) (host : ℕ) (settled : Settled) → slots ≡ slots_after view (took_entry host settled) slots
 took_slots view slots host settles.Discarded = refl
 took_slots view slots host (settles.Took tag answer) = refl
+
+took_piped : (topology : Topology) (view : StepView) (piped : PipesHeld) (host : ℕ) (settled : Settled) → piped ≡ piped_after topology view (took_entry host settled) piped
+took_piped topology view piped host settles.Discarded = refl
+took_piped topology view piped host (settles.Took tag answer) = refl
 
 took_in : (cubes : List CubeFields) (host : ℕ) (settled : Settled) → IsEntryIn cubes (took_entry host settled)
 took_in cubes host settles.Discarded = tt
@@ -277,6 +290,7 @@ take_does net now host direction front settled links ready there to is says take
       cubes_are = λ view sees. took_cubes view net.cubes host settled;
       hosts_are = took_hosts net.hosts host settled;
       slots_are = λ view sees. took_slots view net.slots host settled;
+      piped_are = λ view sees. took_piped net.topology view net.piped host settled;
       links_are = λ view sees on. same_entries net.topology.links links (called net.topology.links direction LinkCall.take view.entries) (entries_after net.topology view (took_entry host settled)) (take net.topology.links view.entries sees.shows.links)
           (λ link. called_puts net.topology.links direction link LinkCall.take (λ _. LinkEntry.taken) view.entries
           (taken_call (sizes_by net.topology.links direction) (view.entries (direction / 2)) (toward direction) front (sym (is net.topology.links view.entries sees.shows.links)))

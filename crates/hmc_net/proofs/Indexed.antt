@@ -11,6 +11,7 @@ use Rattle.hmc_journal.specs.Setup.{Topology, cubes_in, hosts_in}
 use Rattle.hmc_net.specs.Apply.{with_cube, with_host}
 use Rattle.hmc_net.specs.Tally.{TallyFields}
 use Rattle.hmc_net.specs.NetState.{NetState, cube_in, no_cube, host_in, no_host}
+use Rattle.hmc_net.specs.Pipes.{PipesHeld}
 use Rattle.hmc_net.specs.Sees.{IsSized}
 use Rattle.hmc_net.proofs.Elements.{default_same}
 use Rattle.hmc_net.proofs.Doing.{with_all, with_parts}
@@ -26,23 +27,23 @@ host_found hosts net at host x same at_is found sized there =
     let inside : host < length net.hosts = omega (arith, there, sized.hosts) in
     found ∙ ap₂ (λ (l : List HostFields) (n : ℕ). slice_index_or l n x) same at_is ∙ default_same net.hosts host x no_host inside
 
-abbrev pub net_with : TallyFields → Topology → List CubeFields → List HostFields → List (Option UnitFields) → List LinkHeld → Entry → NetState
-net_with tally topology cubes hosts slots links last = record { topology = topology; cubes = cubes; hosts = hosts; slots = slots; links = links; tally = tally; last = last }
+abbrev pub net_with : TallyFields → PipesHeld → Topology → List CubeFields → List HostFields → List (Option UnitFields) → List LinkHeld → Entry → NetState
+net_with tally piped topology cubes hosts slots links last = record { topology = topology; cubes = cubes; hosts = hosts; slots = slots; links = links; tally = tally; piped = piped; last = last }
 
 -- the network with one cube changed, other links and another entry
-pub cube_changed : {tally : TallyFields} {slots : List (Option UnitFields)} (topology : Topology) (net : NetState) (cubes : List CubeFields) (at cube : ℕ) (x y : CubeFields) (changed : CubeFields → CubeFields) (hosts : List HostFields) (old links : List LinkHeld) (before last entry : Entry)
-    → net_with tally topology cubes hosts slots old before ≡ net → at ≡ cube → x ≡ cube_in net.cubes cube → y ≡ changed x → last ≡ entry
-    → net_with tally topology (slice_set cubes at y) hosts slots links last ≡ with_parts net (with_cube cube changed net.cubes) net.hosts links entry
+pub cube_changed : {tally : TallyFields} {piped : PipesHeld} {slots : List (Option UnitFields)} (topology : Topology) (net : NetState) (cubes : List CubeFields) (at cube : ℕ) (x y : CubeFields) (changed : CubeFields → CubeFields) (hosts : List HostFields) (old links : List LinkHeld) (before last entry : Entry)
+    → net_with tally piped topology cubes hosts slots old before ≡ net → at ≡ cube → x ≡ cube_in net.cubes cube → y ≡ changed x → last ≡ entry
+    → net_with tally piped topology (slice_set cubes at y) hosts slots links last ≡ with_parts net (with_cube cube changed net.cubes) net.hosts links entry
 cube_changed topology net cubes at cube x y changed hosts old links before last entry same at_is x_is y_is last_is =
     ap (λ (n : NetState). record n { cubes = slice_set n.cubes at y; links = links; last = last }) same
     ∙ ap₂ (λ (n : ℕ) (z : CubeFields). record net { cubes = slice_set net.cubes n z; links = links; last = last }) at_is (y_is ∙ ap changed x_is)
     ∙ ap (λ (e : Entry). with_parts net (with_cube cube changed net.cubes) net.hosts links e) last_is
 
 -- the network after an execution in one cube
-pub cube_ran : {tally : TallyFields} (topology : Topology) (net : NetState) (cubes : List CubeFields) (at cube : ℕ) (x y : CubeFields) (changed : List (Option UnitFields) → CubeFields → CubeFields) (hosts : List HostFields) (old slots : List (Option UnitFields))
+pub cube_ran : {tally : TallyFields} {piped : PipesHeld} (topology : Topology) (net : NetState) (cubes : List CubeFields) (at cube : ℕ) (x y : CubeFields) (changed : List (Option UnitFields) → CubeFields → CubeFields) (hosts : List HostFields) (old slots : List (Option UnitFields))
     (left : CubeState → List (Option UnitFields) → List (Option UnitFields)) (links : List LinkHeld) (before last entry : Entry)
-    → net_with tally topology cubes hosts old links before ≡ net → at ≡ cube → x ≡ cube_in net.cubes cube → y ≡ changed old x → slots ≡ left x.state old → last ≡ entry
-    → net_with tally topology (slice_set cubes at y) hosts slots links last ≡ with_all net (with_cube cube (changed net.slots) net.cubes) net.hosts (left (cube_in net.cubes cube).state net.slots) net.links entry
+    → net_with tally piped topology cubes hosts old links before ≡ net → at ≡ cube → x ≡ cube_in net.cubes cube → y ≡ changed old x → slots ≡ left x.state old → last ≡ entry
+    → net_with tally piped topology (slice_set cubes at y) hosts slots links last ≡ with_all net (with_cube cube (changed net.slots) net.cubes) net.hosts (left (cube_in net.cubes cube).state net.slots) net.links entry
 cube_ran topology net cubes at cube x y changed hosts old slots left links before last entry same at_is x_is y_is slots_are last_is =
     let units : old ≡ net.slots = ap (λ (n : NetState). n.slots) same in
     ap (λ (n : NetState). record n { cubes = slice_set n.cubes at y; slots = slots; last = last }) same
@@ -50,34 +51,34 @@ cube_ran topology net cubes at cube x y changed hosts old slots left links befor
     ∙ ap₂ (λ (s : List (Option UnitFields)) (e : Entry). with_all net (with_cube cube (changed net.slots) net.cubes) net.hosts s net.links e) (slots_are ∙ ap₂ (λ (z : CubeFields) (s : List (Option UnitFields)). left z.state s) x_is units) last_is
 
 -- the network with other logic units and another entry
-pub units_changed : {tally : TallyFields} (topology : Topology) (net : NetState) (cubes : List CubeFields) (hosts : List HostFields) (old slots : List (Option UnitFields)) (changed : List (Option UnitFields) → List (Option UnitFields)) (links : List LinkHeld) (before last entry : Entry)
-    → net_with tally topology cubes hosts old links before ≡ net → slots ≡ changed old → last ≡ entry → net_with tally topology cubes hosts slots links last ≡ record net { slots = changed net.slots; last = entry }
+pub units_changed : {tally : TallyFields} {piped : PipesHeld} (topology : Topology) (net : NetState) (cubes : List CubeFields) (hosts : List HostFields) (old slots : List (Option UnitFields)) (changed : List (Option UnitFields) → List (Option UnitFields)) (links : List LinkHeld) (before last entry : Entry)
+    → net_with tally piped topology cubes hosts old links before ≡ net → slots ≡ changed old → last ≡ entry → net_with tally piped topology cubes hosts slots links last ≡ record net { slots = changed net.slots; last = entry }
 units_changed topology net cubes hosts old slots changed links before last entry same slots_are last_is =
     ap (λ (n : NetState). record n { slots = slots; last = last }) same
     ∙ ap₂ (λ (s : List (Option UnitFields)) (e : Entry). record net { slots = s; last = e }) (slots_are ∙ ap (λ (n : NetState). changed n.slots) same) last_is
 
 -- the network with one cube changed and another entry
-pub cube_only : {tally : TallyFields} {slots : List (Option UnitFields)} (topology : Topology) (net : NetState) (cubes : List CubeFields) (at cube : ℕ) (x y : CubeFields) (changed : CubeFields → CubeFields) (hosts : List HostFields) (links : List LinkHeld) (before last entry : Entry)
-    → net_with tally topology cubes hosts slots links before ≡ net → at ≡ cube → x ≡ cube_in net.cubes cube → y ≡ changed x → last ≡ entry
-    → net_with tally topology (slice_set cubes at y) hosts slots links last ≡ with_parts net (with_cube cube changed net.cubes) net.hosts net.links entry
+pub cube_only : {tally : TallyFields} {piped : PipesHeld} {slots : List (Option UnitFields)} (topology : Topology) (net : NetState) (cubes : List CubeFields) (at cube : ℕ) (x y : CubeFields) (changed : CubeFields → CubeFields) (hosts : List HostFields) (links : List LinkHeld) (before last entry : Entry)
+    → net_with tally piped topology cubes hosts slots links before ≡ net → at ≡ cube → x ≡ cube_in net.cubes cube → y ≡ changed x → last ≡ entry
+    → net_with tally piped topology (slice_set cubes at y) hosts slots links last ≡ with_parts net (with_cube cube changed net.cubes) net.hosts net.links entry
 cube_only topology net cubes at cube x y changed hosts links before last entry same at_is x_is y_is last_is =
     ap (λ (n : NetState). record n { cubes = slice_set n.cubes at y; last = last }) same
     ∙ ap₂ (λ (n : ℕ) (z : CubeFields). record net { cubes = slice_set net.cubes n z; last = last }) at_is (y_is ∙ ap changed x_is)
     ∙ ap (λ (e : Entry). with_parts net (with_cube cube changed net.cubes) net.hosts net.links e) last_is
 
-pub host_changed : {tally : TallyFields} {slots : List (Option UnitFields)} (topology : Topology) (net : NetState) (cubes : List CubeFields) (hosts : List HostFields) (at host : ℕ) (x y : HostFields) (changed : HostFields → HostFields) (old links : List LinkHeld) (before last entry : Entry)
-    → net_with tally topology cubes hosts slots old before ≡ net → at ≡ host → x ≡ host_in net.hosts host → y ≡ changed x → last ≡ entry
-    → net_with tally topology cubes (slice_set hosts at y) slots links last ≡ with_parts net net.cubes (with_host host changed net.hosts) links entry
+pub host_changed : {tally : TallyFields} {piped : PipesHeld} {slots : List (Option UnitFields)} (topology : Topology) (net : NetState) (cubes : List CubeFields) (hosts : List HostFields) (at host : ℕ) (x y : HostFields) (changed : HostFields → HostFields) (old links : List LinkHeld) (before last entry : Entry)
+    → net_with tally piped topology cubes hosts slots old before ≡ net → at ≡ host → x ≡ host_in net.hosts host → y ≡ changed x → last ≡ entry
+    → net_with tally piped topology cubes (slice_set hosts at y) slots links last ≡ with_parts net net.cubes (with_host host changed net.hosts) links entry
 host_changed topology net cubes hosts at host x y changed old links before last entry same at_is x_is y_is last_is =
     ap (λ (n : NetState). record n { hosts = slice_set n.hosts at y; links = links; last = last }) same
     ∙ ap₂ (λ (n : ℕ) (z : HostFields). record net { hosts = slice_set net.hosts n z; links = links; last = last }) at_is (y_is ∙ ap changed x_is)
     ∙ ap (λ (e : Entry). with_parts net net.cubes (with_host host changed net.hosts) links e) last_is
 
 -- the network with other links and another entry
-pub links_changed : {tally : TallyFields} {slots : List (Option UnitFields)} (topology : Topology) (net : NetState) (cubes : List CubeFields) (hosts : List HostFields) (old links : List LinkHeld) (before last entry : Entry) → net_with tally topology cubes hosts slots old before ≡ net → last ≡ entry → net_with tally topology cubes hosts slots links last ≡ with_parts net net.cubes net.hosts links entry
+pub links_changed : {tally : TallyFields} {piped : PipesHeld} {slots : List (Option UnitFields)} (topology : Topology) (net : NetState) (cubes : List CubeFields) (hosts : List HostFields) (old links : List LinkHeld) (before last entry : Entry) → net_with tally piped topology cubes hosts slots old before ≡ net → last ≡ entry → net_with tally piped topology cubes hosts slots links last ≡ with_parts net net.cubes net.hosts links entry
 links_changed topology net cubes hosts old links before last entry same last_is =
     ap (λ (n : NetState). record n { links = links; last = last }) same ∙ ap (λ (e : Entry). with_parts net net.cubes net.hosts links e) last_is
 
 -- the network with another entry
-pub entry_changed : {tally : TallyFields} {slots : List (Option UnitFields)} (topology : Topology) (net : NetState) (cubes : List CubeFields) (hosts : List HostFields) (links : List LinkHeld) (before last entry : Entry) → net_with tally topology cubes hosts slots links before ≡ net → last ≡ entry → net_with tally topology cubes hosts slots links last ≡ record net { last = entry }
+pub entry_changed : {tally : TallyFields} {piped : PipesHeld} {slots : List (Option UnitFields)} (topology : Topology) (net : NetState) (cubes : List CubeFields) (hosts : List HostFields) (links : List LinkHeld) (before last entry : Entry) → net_with tally piped topology cubes hosts slots links before ≡ net → last ≡ entry → net_with tally piped topology cubes hosts slots links last ≡ record net { last = entry }
 entry_changed topology net cubes hosts links before last entry same last_is = ap (λ (n : NetState). record n { last = last }) same ∙ ap (λ (e : Entry). record net { last = e }) last_is

@@ -3,8 +3,10 @@ pub mod LinkCalls
 pub mod QueueChanges
 pub mod Moves
 pub mod CubeMoves
+pub mod Gathering
 pub mod Seeing
 pub mod Laws
+pub mod PassedLaw
 pub mod Standing
 pub mod Doing
 pub mod Linking
@@ -13,8 +15,12 @@ pub mod Masks
 pub mod LinkSteps
 pub mod CubeSteps
 pub mod PortSteps
-pub mod Idling
 pub mod Retiring
+pub mod PipeLemmas
+pub mod PipedThen
+pub mod Passing
+pub mod ThroughFacts
+pub mod ThroughDoes
 pub mod Indexed
 pub mod Stillness
 pub mod TokensTold

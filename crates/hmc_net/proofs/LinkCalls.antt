@@ -5,11 +5,16 @@ use Rattle.std.proofs.lemmas.List.{length-set, set-get_or}
 use Rattle.hmc_codes.specs.Link.{LinkFields}
 use Rattle.hmc_case.specs.declared.setup.LinkRow.{LinkRow}
 use Rattle.hmc_link.specs.Answers.{after_call}
-use Rattle.hmc_link.specs.Held.{LinkHeld}
+use Rattle.hmc_link.specs.Held.{LinkHeld, sending_end, is_ready}
+use Rattle.hmc_link.specs.Parts.{parts_of}
 use Rattle.hmc_link.specs.StandsFor.{LinkStandsFor}
-use Rattle.hmc_send.specs.LinkCalls.{LinkCall}
+use Rattle.hmc_packet.specs.declared.feed.Feed.TheVariants.{Waiting}
+use Rattle.hmc_send.specs.LinkCalls.{LinkCall, view_in, may_pass_on}
 use Rattle.hmc_send.specs.LinkEntries.{LinkEntry}
 use Rattle.hmc_send.specs.declared.toward.Toward.{Toward}
+use Rattle.hmc_send.specs.declared.toward.Toward.TheVariants.{Forth, Back}
+use Rattle.hmc_link.proofs.Throughs.{ready-held}
+use Rattle.hmc_link.proofs.LinkThroughs.{may-in}
 use Rattle.hmc_wire.specs.LinkLaws.{IsKept}
 use Rattle.hmc_journal.specs.Links.{toward}
 use Rattle.hmc_net.specs.LinkList.{sizes_at, sizes_by, AreGoing, LinksStandFor, called, IsDirection}
@@ -93,3 +98,8 @@ pub one_there : (rows : List LinkRow) (links : List LinkHeld) (entries : ℕ →
 one_there rows links entries direction stand there =
     let less : direction / 2 < length links = omega (arith, stand.count) in
     record { kept = (stand.stand (direction / 2) (first_held rows links entries (direction / 2) stand less) less).kept }
+
+-- whether a link can take a packet that is passed on, by its entries
+pub ready_by : (link : LinkFields) (held : LinkHeld) (past : List LinkEntry) (d : Toward) (flits : ℕ) → LinkStandsFor link held past → is_ready (sending_end d held) flits ≡ may_pass_on (view_in link d past Waiting) flits
+ready_by link held past Forth flits stands = ready-held link held.a (parts_of link Forth past) flits stands.a ∙ may-in link Forth past flits
+ready_by link held past Back flits stands = ready-held link held.b (parts_of link Back past) flits stands.b ∙ may-in link Back past flits

@@ -9,7 +9,7 @@ use Rattle.hmc_packet.specs.declared.what.What.TheVariants.{New}
 use Rattle.hmc_cube.specs.Cube.{CubeFields}
 use Rattle.hmc_journal.specs.declared.entry.Entry.{Entry}
 use Rattle.hmc_journal.specs.declared.entry.Entry.TheVariants.{Sent, Shifted, Dropped, Spread, Executed, Lifted, Took, Discarded}
-use Rattle.hmc_journal.specs.Directions.{unsent}
+use Rattle.hmc_journal.specs.Directions.{unsent, awaits_first}
 use Rattle.hmc_journal.specs.Setup.{Topology, Setup}
 use Rattle.hmc_journal.specs.Queues.{QueueId, same_queue, is_at, leaves, begins, Arrival, arrived, one_if, packet_if, left, entered, contents}
 use Rattle.hmc_journal.specs.Queues.QueueId.{Vault, Bank, Registers, Answers}
@@ -111,13 +111,14 @@ queues_step topology past entry cubes is leaves_there enters_there q cube within
 by_front : (setup : Setup) (past : List Entry) (r : QueueId) → HasFront setup past r → IsLeft setup.topology past (Some r)
 by_front setup past r at = λ cube. (at.front, at.rest, at.is)
 
-begun_left : (topology : Topology) (past : List Entry) (count direction : ℕ) → IsLeft topology past (begins count direction)
-begun_left topology past zero direction = λ none. absurd none
-begun_left topology past (suc count) direction = tt
+begun_left : (topology : Topology) (past : List Entry) (waiting : Bool) (count direction : ℕ) → IsLeft topology past (begins waiting count direction)
+begun_left topology past true count direction = tt
+begun_left topology past false zero direction = λ none. absurd none
+begun_left topology past false (suc count) direction = tt
 
 pub left_by_rule : (setup : Setup) (past : List Entry) (entry : Entry) → EntryRule setup past entry → IsLeft setup.topology past (leaves past entry)
 unfolding leaves
-left_by_rule setup past (Sent direction New flit) rule = begun_left setup.topology past (unsent direction past) direction
+left_by_rule setup past (Sent direction New flit) rule = begun_left setup.topology past (awaits_first direction past) (unsent direction past) direction
 left_by_rule setup past (Shifted cube port goal) rule = λ none. absurd none
 left_by_rule setup past (Dropped cube port) rule = λ none. absurd none
 left_by_rule setup past (Spread cube vault bank) rule = by_front setup past (Vault cube vault) rule.at

@@ -1,5 +1,6 @@
 -- Only the step of unlocking makes the entry of an unlock.
 use Rattle.std.proofs.Common.{◌≡◌, ◌∙◌, ◌/◌, ℕ, Bool, true, false, not, if◌then◌else◌, Option, Some, None, List, [], ◌∷◌, slice_get, refl, sym, ap}
+use Rattle.std.specs.Prelude.{option_and_then}
 use Rattle.hmc_codes.specs.Link.{LinkFields}
 use Rattle.hmc_codes.specs.Request.{RequestFields}
 use Rattle.hmc_codes.specs.Shape.{bank_of}
@@ -9,7 +10,7 @@ use Rattle.hmc_codes.specs.declared.unit.Unit.{Unit as RequestUnit}
 use Rattle.hmc_codes.specs.declared.unit.Unit.TheVariants as units
 use Rattle.hmc_packet.specs.Packet.{PacketFields}
 use Rattle.hmc_packet.specs.Transactions.{request_in}
-use Rattle.hmc_packet.specs.declared.feed.Feed.TheVariants.{Waiting}
+use Rattle.hmc_packet.specs.declared.head.Head.{Head}
 use Rattle.hmc_packet.specs.declared.outcome.Outcome.{Outcome}
 use Rattle.hmc_crossbar.specs.To.{where_to}
 use Rattle.hmc_host.specs.Give.{give_says}
@@ -34,15 +35,16 @@ use Rattle.hmc_vault.specs.declared.execute.Executed.TheVariants as executions
 use Rattle.hmc_journal.specs.declared.outcome.Cause.TheVariants as causes
 use Rattle.hmc_journal.specs.declared.outcome.Goal.{Goal}
 use Rattle.hmc_journal.specs.declared.entry.Entry.{Entry}
-use Rattle.hmc_journal.specs.declared.entry.Entry.TheVariants.{Shifted, Spread, Lifted, Unlocked, Retired, Idle}
+use Rattle.hmc_journal.specs.declared.entry.Entry.TheVariants.{Shifted, Spread, Lifted, Through, Unlocked, Retired, Idle}
 use Rattle.hmc_journal.specs.CubeSteps.{goal_at, execution_entry, executed_entry, lifted_entry, retired_entry, shift_entry, shifted_entry, spread_to_bank}
 use Rattle.hmc_journal.specs.Next.{choice, gave_entry, took_entry, sent_entry, send_entry, landed_entry, landed_front, land_entry, ran_entry, is_full, lacks_room, queue_size, with_front, unless_full}
-use Rattle.hmc_journal.specs.Links.{toward, sizes_on}
+use Rattle.hmc_journal.specs.Links.{toward, sizes_on, fed_after}
 use Rattle.hmc_journal.specs.Queues.{output_from, queue_of, answers_of, goal_queue}
 use Rattle.hmc_journal.specs.Queues.QueueId.{Port, Host, Vault, Bank, Answers}
 use Rattle.hmc_journal.specs.Routes.{port_towards}
-use Rattle.hmc_journal.specs.Setup.{Topology, shape_of, graph_of}
+use Rattle.hmc_journal.specs.Setup.{Topology, shape_of, graph_of, direction_from, direction_to}
 use Rattle.hmc_journal.specs.StepView.{StepView}
+use Rattle.hmc_journal.specs.ThroughSteps.{gathered_head, onward_port, passed_entry, through_entry, through_head}
 
 is_unlock : Entry → Bool
 is_unlock (Unlocked direction) = true
@@ -113,6 +115,22 @@ unfolding is_unlock
 took_other host settles.Discarded = refl
 took_other host (settles.Took tag answer) = refl
 
+busy_other : (busy : Bool) (cube port direction : ℕ) → IsOther (if busy then Idle (steps.Through cube port) causes.Busy else Through cube port direction)
+unfolding is_unlock
+busy_other true cube port direction = refl
+busy_other false cube port direction = refl
+
+passed_other : (topology : Topology) (view : StepView) (cube port : ℕ) (head : Head) (onto : Option ℕ) → IsOther (passed_entry topology view cube port head onto)
+unfolding is_unlock
+passed_other topology view cube port head None = refl
+passed_other topology view cube port head (Some direction) = busy_other _ cube port direction
+
+through_other : (topology : Topology) (view : StepView) (cube port : ℕ) (found : Option Head) → IsOther (through_head topology view cube port found)
+unfolding is_unlock
+through_other topology view cube port None = refl
+through_other topology view cube port (Some head) =
+    passed_other topology view cube port head (option_and_then (λ (onward : ℕ). direction_from topology (places.Port cube onward)) (onward_port topology cube port head))
+
 retire_other : (slot : ℕ) (live : Bool) → IsOther (if live then Retired slot else Idle (steps.Retire slot) causes.Empty)
 unfolding is_unlock
 retire_other slot true = refl
@@ -128,8 +146,9 @@ unlock_step topology view (steps.Give host) direction is =
     absurd (clash (gave_entry host (give_says (view.host host) (not (lacks_room topology view (output_from topology (places.Host host)))))) direction (gave_other host _) is)
 unlock_step topology view (steps.Send d) direction is =
     let sizes = sizes_on topology d in
-    absurd (clash (send_entry sizes d (view.entries (d / 2))) direction
-    (sent_other d (calls.is_full sizes (toward d) (view.entries (d / 2))) (sends.choice sizes.profile (calls.view_in sizes (toward d) (view.entries (d / 2)) Waiting))) is)
+    let feed = fed_after sizes (toward d) (view.entries (d / 2)) (view.pipe d) in
+    absurd (clash (send_entry sizes d (view.entries (d / 2)) feed) direction
+    (sent_other d (calls.is_full sizes (toward d) (view.entries (d / 2))) (sends.choice sizes.profile (calls.view_in sizes (toward d) (view.entries (d / 2)) feed))) is)
 unlock_step topology view (steps.Land d mask) direction is =
     let sizes = sizes_on topology d in
     absurd (clash (land_entry sizes d (view.entries (d / 2)) mask) direction (land_other sizes d (view.entries (d / 2)) mask (slice_get (line sizes.profile (toward d) (view.entries (d / 2))) 0)) is)
@@ -153,5 +172,6 @@ unlock_step topology view (steps.Take host) direction is =
     absurd (clash (with_front (steps.Take host) (view.inside (Host host)) does) direction
     (front_other (steps.Take host) (view.inside (Host host)) does (λ front. took_other host (settle_says front))) is)
 unlock_step topology view (steps.Unlock d) direction is = let same : d ≡ direction = cc in ap steps.Unlock same
-unlock_step topology view (steps.Through cube port) direction is = absurd (cc)
+unlock_step topology view (steps.Through cube port) direction is =
+    absurd (clash (through_entry topology view cube port) direction (through_other topology view cube port (gathered_head view (direction_to topology (places.Port cube port)))) is)
 unlock_step topology view (steps.Retire slot) direction is = absurd (clash (retired_entry view slot) direction (retire_other slot (is_live view.state.slots slot)) is)

@@ -1,5 +1,5 @@
 -- A new network stands for its case and the empty journal.
-use Rattle.std.proofs.Common.{◌≡◌, ◌≤◌, ◌<◌, ◌+◌, ◌^◌, ◌∙◌, ℕ, zero, suc, Result, Ok, Err, IfOk, Option, List, [], ◌∷◌, length, map, refl, sym, ap, ap₂, subst, arith}
+use Rattle.std.proofs.Common.{◌≡◌, ◌≤◌, ◌<◌, ◌+◌, ◌^◌, ◌∙◌, ℕ, zero, suc, Result, Ok, Err, IfOk, Option, None, List, [], ◌∷◌, length, map, refl, sym, ap, ap₂, subst, arith}
 use Rattle.std.specs.Prelude.{replicate, slice_index_or}
 use Rattle.std.specs.List.{All}
 use Rattle.std.proofs.lemmas.List.Elements.{All-cons}
@@ -21,9 +21,11 @@ use Rattle.hmc_journal.specs.Links.{link_entries}
 use Rattle.hmc_journal.specs.Network.{IsNetwork}
 use Rattle.hmc_journal.specs.Queues.{QueueId, left, entered, contents}
 use Rattle.hmc_journal.specs.Queues.QueueId.{Output, Port, Host, Vault, Bank, Registers, Answers}
+use Rattle.hmc_journal.specs.Piped.{passed_onto, pipe_onto}
 use Rattle.hmc_journal.specs.Serial.{state_after}
 use Rattle.hmc_journal.specs.Setup.{Topology, Setup, no_cube as no_setup, cube_setup, cubes_in, hosts_in, directions_in}
 use Rattle.hmc_journal.specs.StepView.{state_of}
+use Rattle.hmc_net.specs.Pipes.{AreCounted}
 use Rattle.hmc_net.specs.NetState.{NetState, cube_in, no_cube, no_host, packets_in, queue_cube, inside, machine_of}
 use Rattle.hmc_net.specs.Opening.{AreNewCubes, IsOpening}
 use Rattle.hmc_net.specs.Ready.{IsStepFor}
@@ -122,8 +124,9 @@ opening_fits setup own number cube is same = record {
   queue = ap (λ (c : CubeFields). c.size) is ∙ ap (λ (s : CubeSetupFields). s.queue) same;
 }
 
-opening_sized : (net : NetState) (topology : Topology) → net.topology ≡ topology → AreNewCubes topology.cubes net.cubes → length net.hosts ≡ hosts_in topology → IsSized net
-opening_sized net topology same cubes hosts = record {
+opening_sized : (net : NetState) (topology : Topology) → net.topology ≡ topology → AreNewCubes topology.cubes net.cubes → length net.hosts ≡ hosts_in topology → AreCounted (directions_in topology) net.piped → IsSized net
+opening_sized net topology same cubes hosts piped = record {
+  piped = subst (λ (t : Topology). AreCounted (directions_in t) net.piped) (sym same) piped;
   cubes = cubes.counted ∙ ap cubes_in (sym same);
   hosts = hosts ∙ ap hosts_in (sym same);
   fits = λ cube less. opening_fits (cube_setup net.topology cube) (cube_setup topology cube) cube (cube_in net.cubes cube)
@@ -137,6 +140,14 @@ opening_host_is setup host = refl
 no_entries : (topology : Topology) (link : ℕ) → ◌≡◌ {A = List LinkEntry} [] (link_entries topology link [])
 unfolding link_entries
 no_entries topology link = refl
+
+nothing_passed : (topology : Topology) (direction : ℕ) → None ≡ passed_onto topology direction []
+unfolding passed_onto
+nothing_passed topology direction = refl
+
+nothing_piped : (topology : Topology) (direction : ℕ) → None ≡ pipe_onto topology direction []
+unfolding pipe_onto
+nothing_piped topology direction = refl
 
 within_copies : {X : Type 0} (P : X → Type 0) (x : X) (n : ℕ) → P x → All P (replicate n x)
 within_copies P x zero is = λ k d there. absurd (omega arith)
@@ -156,11 +167,13 @@ opening_stands setup net network steps few is = record {
   network = network;
   steps = steps;
   topology = is.same_topology;
-  sized = opening_sized net setup.topology is.same_topology is.cubes is.hosts.counted;
+  sized = opening_sized net setup.topology is.same_topology is.cubes is.hosts.counted is.piped;
   lawful = lawful_nothing setup;
   queues = λ queue cube. nothing_inside setup.topology.cubes net.cubes queue is.cubes ∙ sym (nothing_in setup.topology queue);
   moves = λ queue cube. within_nothing setup.topology queue;
   state = new_states setup net.cubes net.slots is.cubes is.same_slots;
+  passed = λ direction there. is.unused.passed direction ∙ nothing_passed setup.topology direction;
+  pipes = λ direction there. is.unused.pipes direction ∙ nothing_piped setup.topology direction;
   hosts = λ host less. is.hosts.each host no_host (omega (arith, is.hosts.counted)) ∙ opening_host_is setup host;
   links = λ on. same_entries setup.topology.links net.links (λ link. []) (λ link. link_entries setup.topology link []) is.links (no_entries setup.topology);
   few = few;

@@ -1,6 +1,6 @@
 -- The directions of places, by what a wiring keeps.
-use Rattle.std.proofs.Common.{◌≡◌, ◌≤◌, ◌<◌, ◌*◌, ◌+◌, ◌/◌, ◌%◌, ◌∙◌, ℕ, nat_lt, true, Option, Some, None, List, length, refl, sym, ap, arith}
-use Rattle.std.specs.Prelude.{slice_index_or, IfSome}
+use Rattle.std.proofs.Common.{◌≡◌, ◌≤◌, ◌<◌, ◌*◌, ◌+◌, ◌/◌, ◌%◌, ◌↔◌, ◌∙◌, ℕ, Bool, IsTrue, nat_lt, true, Option, Some, None, List, length, refl, sym, ap, arith, ltb-true}
+use Rattle.std.specs.Prelude.{is_some, slice_index_or, IfSome}
 use Rattle.std.proofs.lemmas.Bool.Decides.{nat_tests}
 use Rattle.hmc_codes.specs.Graph.{GraphFields}
 use Rattle.hmc_codes.specs.declared.place.Place.{Place}
@@ -34,6 +34,19 @@ host_start topology hosts host laid starts less =
     let home = has_home (graph_of topology) host laid.graph (laid.hosts host ∙ lt_true host (hosts_in topology) less) in
     let found = joined_from (joins_of topology) (places.Host host) (places.Port home.cube home.port) home.joined in
     record { few = home.host_real; direction = found.0; from = found.1; kept = starts host home.host_real ∙ found.1 }
+
+-- a host at which a direction starts is there
+started : (topology : Topology) (host : ℕ) (found : Option ℕ) → IsLaidOut topology → direction_from topology (places.Host host) ≡ found → is_some found ≡ true → host < hosts_in topology
+started topology host None laid is some = absurd (cc)
+started topology host (Some direction) laid is some =
+    let at = from_place (joins_of topology) (places.Host host) direction is in
+    ltb-true host (hosts_in topology) (sym (laid.hosts host) ∙ ap (λ (place : Option Place). is_some place) at.joined)
+
+pub has_start : (topology : Topology) (hosts : List (Option ℕ)) (host : ℕ) (found : Bool) → IsLaidOut topology → AreHostStarts (joins_of topology) hosts → host < 8 → found ≡ is_some (slice_index_or hosts host None) → IsTrue found ↔ (host < hosts_in topology)
+has_start topology hosts host found laid starts few is = (
+  λ yes. started topology host (slice_index_or hosts host None) laid (sym (starts host few)) (sym is ∙ yes),
+  λ less. is ∙ ap (λ (d : Option ℕ). is_some d) (host_start topology hosts host laid starts less).kept,
+)
 
 -- ports are numbered below 4
 port_few : (topology : Topology) (cube port direction : ℕ) → IsLaidOut topology → direction_from topology (places.Port cube port) ≡ Some direction → port < 4

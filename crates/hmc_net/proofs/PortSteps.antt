@@ -80,8 +80,17 @@ goal_layout graph packet layouts.Pret goal = absurd goal
 goal_layout graph packet layouts.Tret goal = absurd goal
 goal_layout graph packet layouts.Irtry goal = absurd goal
 
-way_taken : (profile : Profile) (topology : Topology) (packet : PacketFields) → IsOnItsWay topology packet → IsTaken profile packet
-way_taken profile topology packet is = record { token = goal_layout (graph_of topology) packet (layout_of packet.command) is.goal; errstat = λ two. is.errstat }
+way_taken : (profile : Profile) (topology : Topology) (packet : PacketFields) → IsOnItsWay topology packet → packet.poisoned ≡ false → IsTaken profile packet
+way_taken profile topology packet is good = record { token = goal_layout (graph_of topology) packet (layout_of packet.command) is.goal; errstat = λ two. is.errstat good }
+
+-- a packet that goes somewhere is not poisoned
+goes_good : (topology : Topology) (cube : ℕ) (packet : PacketFields) (goal : Goal) → goal_at (where_to (graph_of topology) (shape_of topology cube) cube packet) ≡ Some goal → packet.poisoned ≡ false
+goes_good topology cube packet goal is = by_poison packet.poisoned refl
+  where
+    by_poison : (poisoned : Bool) → packet.poisoned ≡ poisoned → packet.poisoned ≡ false
+    by_poison false at = at
+    by_poison true at =
+        let nowhere = sym (ap (λ (t : Bool). goal_at (if t then tos.Nowhere else unpoisoned_to (graph_of topology) (shape_of topology cube) cube packet (family_of packet.command))) at) ∙ is in absurd (cc)
 
 reply_layout : (layout : Layout) → family_of_layout layout ≡ families.Reply → is_flow layout ≡ false
 reply_layout layouts.Reply is = refl
@@ -150,6 +159,7 @@ dropped_does net now cube port direction front to links ready ends is to_is nowh
   cubes_are = λ view sees. refl;
   hosts_are = refl;
   slots_are = λ view sees. refl;
+  piped_are = λ view sees. refl;
   links_are = λ view sees on. same_entries net.topology.links links (called net.topology.links direction LinkCall.take view.entries) (entries_after net.topology view (entries.Dropped cube port)) (take net.topology.links view.entries sees.shows.links)
       (λ link. taken_entries net view cube port direction link front sees ends is);
   there = tt;
@@ -280,6 +290,7 @@ shift_in_does net now cube port direction front goal links ready there is inner 
       cubes_are = λ view sees. shift_cubes view net.cubes cube port goal front inner (front_here (view.inside (Port cube port)) front (port_front net view cube port direction (Some front) sees is.ends is.is_front));
       hosts_are = refl;
       slots_are = λ view sees. refl;
+      piped_are = λ view sees. refl;
       links_are = λ view sees on. same_entries net.topology.links links (called net.topology.links direction LinkCall.take view.entries) (entries_after net.topology view (entries.Shifted cube port goal)) (take net.topology.links view.entries sees.shows.links)
           (λ link. taken_entries net view cube port direction link front sees is.ends is.is_front ∙ shift_links net.topology view cube port link goal inner);
       there = shift_entry_in net.cubes cube port goal less parts (shift_here net cube port direction front goal sized there is inner) inner;
@@ -315,7 +326,7 @@ shift_out_may net cube port direction out onward front links ready is way take =
   entries = called net.topology.links direction LinkCall.take ready.view.entries;
   stand = take net.topology.links ready.view.entries ready.sees.shows.links;
   room = room_after net ready.view cube port direction onward front ready.sees is.ends is.is_front ∙ way_room net ready.view cube out onward ready.sees way;
-  fit = way_taken (sizes_by net.topology.links onward).profile net.topology front (on_way net cube port direction front ready is.ends is.is_front);
+  fit = way_taken (sizes_by net.topology.links onward).profile net.topology front (on_way net cube port direction front ready is.ends is.is_front) (goes_good net.topology cube front (goals.Port out) is.goes);
 }
 
 -- the direction onward is there after the take
@@ -340,10 +351,11 @@ shift_out_does net now cube port direction out onward front taken links ready is
   cubes_are = λ view sees. refl;
   hosts_are = refl;
   slots_are = λ view sees. refl;
+  piped_are = λ view sees. refl;
   links_are = λ view sees on.
       (let rows = net.topology.links in
       let after = called rows direction LinkCall.take view.entries in
-      let fit = way_taken (sizes_by rows onward).profile net.topology front (on_way net cube port direction front ready is.ends is.is_front) in
+      let fit = way_taken (sizes_by rows onward).profile net.topology front (on_way net cube port direction front ready is.ends is.is_front) (goes_good net.topology cube front (goals.Port out) is.goes) in
       same_entries rows links (called rows onward (λ d. LinkCall.hand d front) after) (entries_after net.topology view (entries.Shifted cube port (goals.Port out)))
       (hand rows after (take rows view.entries sees.shows.links))
       (λ link. called_puts rows onward link (λ d. LinkCall.hand d front) (λ _ d. LinkEntry.handed d front) after
@@ -420,6 +432,7 @@ lift_does net now cube from front port onward links ready there parts some towar
       cubes_are = λ view sees. refl;
       hosts_are = refl;
       slots_are = λ view sees. refl;
+      piped_are = λ view sees. refl;
       links_are = λ view sees on. same_entries net.topology.links links (called net.topology.links onward (λ d. LinkCall.hand d front) view.entries) (entries_after net.topology view (entries.Lifted cube from port)) (hand net.topology.links view.entries sees.shows.links)
           (λ link. called_puts net.topology.links onward link (λ d. LinkCall.hand d front) (λ _ d. LinkEntry.handed d front) view.entries
           (handed_call (sizes_by net.topology.links onward) (view.entries (onward / 2)) (toward onward) front (way_room net view cube port onward sees way) (ap not fit.token))

@@ -39,25 +39,34 @@ use Rattle.hmc_journal.specs.declared.event.Event.TheVariants as events
 use Rattle.hmc_journal.specs.Event.{event_of, cause_of, is_passed, IsLongFlit}
 use Rattle.hmc_journal.specs.Hosts.{host_of, given_count, tags_out, count_if}
 use Rattle.hmc_journal.specs.Lawful.{Follows, Lawful}
-use Rattle.hmc_journal.specs.Links.{link_entries}
+use Rattle.hmc_codes.specs.declared.place.Place.{Place}
+use Rattle.hmc_codes.specs.declared.place.Place.TheVariants as places
+use Rattle.hmc_packet.specs.Landings.{ReceiverEntry, pending}
+use Rattle.hmc_send.specs.LinkEntries.{receiver_entries}
+use Rattle.hmc_journal.specs.Directions.{receiver_of}
+use Rattle.hmc_journal.specs.Links.{toward, entries_on, link_entries, gathered_at, passed_on}
+use Rattle.hmc_journal.specs.Piped.{pipe_of}
 use Rattle.hmc_journal.specs.Next.{next}
 use Rattle.hmc_journal.specs.QueueInvariant.{IsCubeRequest}
 use Rattle.hmc_journal.specs.Queues.{contents, front_of, tag_number}
 use Rattle.hmc_journal.specs.Queues.QueueId.{Port, Bank, Registers}
 use Rattle.hmc_journal.specs.Serial.{state_after}
-use Rattle.hmc_journal.specs.Setup.{Topology, Setup, unit_cube}
+use Rattle.hmc_journal.specs.Setup.{Topology, Setup, unit_cube, directions_in, direction_to}
 use Rattle.hmc_journal.specs.StepView.{StepView, state_of, view_of}
 use Rattle.hmc_journal.proofs.EntryRule.{EntryRule, next_rule}
-use Rattle.hmc_net.specs.Apply.{after_unit, cubes_after, hosts_after, slots_after, entries_after, IsAfter, DoesStep, IsEntryIn, IsHostIn, gave_one, with_cube, with_host}
+use Rattle.hmc_net.specs.Apply.{after_unit, cubes_after, hosts_after, slots_after, gathered_from, piped_after, entries_after, IsAfter, DoesStep, IsEntryIn, IsHostIn, gave_one, with_cube, with_host}
 use Rattle.hmc_net.specs.LinkList.{LinksStandFor}
 use Rattle.hmc_net.specs.NetState.{NetState, cube_in, no_cube, host_in, no_host, inside, machine_of}
+use Rattle.hmc_net.specs.Pipes.{AreCounted}
 use Rattle.hmc_net.specs.Sees.{Sees}
 use Rattle.hmc_net.specs.Stands.{StandsFor, IsNext}
 use Rattle.hmc_net.specs.Tally.{TallyFields, IsWithin, tallied, step_changes, unlocks_good}
 use Rattle.hmc_net.specs.Went.{went_by, went_of}
 use Rattle.hmc_net.specs.declared.went.Went.TheVariants as wents
 use Rattle.hmc_net.proofs.CubeMoves.{moves_of}
+use Rattle.hmc_net.proofs.Doing.{ends_at}
 use Rattle.hmc_net.proofs.Elements.{changed_at}
+use Rattle.hmc_net.proofs.PipedThen.{ArePiped, AreLawful, piped_then}
 use Rattle.hmc_net.proofs.LinkCalls.{same_entries}
 use Rattle.hmc_net.proofs.Moves.{left_by_rule, queues_step, within_step}
 use Rattle.hmc_net.proofs.Seeing.{IsLawBound, sees_of, choice_seen}
@@ -183,18 +192,38 @@ hosts_then setup past _ hosts is same host there = same host there
 
 -- ---- links
 
-entries_then : (setup : Setup) (past : List Entry) (entry : Entry) (link : ℕ) → entries_after setup.topology (view_of setup past) entry link ≡ link_entries setup.topology link (entry ∷ past)
+-- the flits that are gathered at the end of a direction
+gathered_same : (setup : Setup) (past : List Entry) (from : Option ℕ) → ((d : ℕ) → from ≡ Some d → receiver_of d past ≡ receiver_entries (toward d) (entries_on setup.topology d past)) → gathered_from (view_of setup past) from ≡ gathered_at from past
+unfolding view_of
+gathered_same setup past None receivers = refl
+gathered_same setup past (Some d) receivers = ap pending (sym (receivers d refl))
+
+entries_then : (setup : Setup) (past : List Entry) (entry : Entry) (link : ℕ) → ((d : ℕ) (place : Place) → direction_to setup.topology place ≡ Some d → receiver_of d past ≡ receiver_entries (toward d) (entries_on setup.topology d past))
+    → entries_after setup.topology (view_of setup past) entry link ≡ link_entries setup.topology link (entry ∷ past)
 unfolding link_entries view_of
-entries_then setup past (Gave host tag poisoned request) link = refl
-entries_then setup past (Sent direction what flit) link = refl
-entries_then setup past (Landed direction flit outcome) link = refl
-entries_then setup past (Shifted cube port goal) link = refl
-entries_then setup past (Dropped cube port) link = refl
-entries_then setup past (Lifted cube from port) link = refl
-entries_then setup past (Took host tag answer) link = refl
-entries_then setup past (Discarded host) link = refl
-entries_then setup past (Unlocked direction) link = refl
-entries_then setup past _ link = refl
+entries_then setup past (Through cube port direction) link receivers =
+    let to = direction_to setup.topology (places.Port cube port) in
+    ap (λ (came : List (List ℕ)). passed_on link direction came (link_entries setup.topology link past)) (gathered_same setup past to (λ d is. receivers d (places.Port cube port) is))
+entries_then setup past (Gave host tag poisoned request) link receivers = refl
+entries_then setup past (Sent direction what flit) link receivers = refl
+entries_then setup past (Landed direction flit outcome) link receivers = refl
+entries_then setup past (Shifted cube port goal) link receivers = refl
+entries_then setup past (Dropped cube port) link receivers = refl
+entries_then setup past (Lifted cube from port) link receivers = refl
+entries_then setup past (Took host tag answer) link receivers = refl
+entries_then setup past (Discarded host) link receivers = refl
+entries_then setup past (Unlocked direction) link receivers = refl
+entries_then setup past _ link receivers = refl
+
+-- ---- the packets that are passed on
+
+lawful_pipes : (setup : Setup) (past : List Entry) → IsLawBound setup past → ((d : ℕ) → d < directions_in setup.topology → receiver_of d past ≡ receiver_entries (toward d) (entries_on setup.topology d past)) → AreLawful setup.topology past
+unfolding view_of
+lawful_pipes setup past law receivers = record {
+  there = λ d onto inside is. (law.passed d onto inside is).there;
+  pipe = λ d onto inside is. (law.passed d onto inside is).pipe ∙ ap (λ (r : List ReceiverEntry). Some (pipe_of setup.topology d (pending r))) (sym (receivers d inside));
+  source = λ d p inside found unended. (law.onward d inside).source p found unended;
+}
 
 -- ---- the journal
 
@@ -219,20 +248,26 @@ stands_by net now tally changed was_good past setup step entry last is law next_
     let hosts : now.hosts ≡ hosts_after entry net.hosts = after.hosts ∙ ap (λ (e : Entry). hosts_after e net.hosts) (sym last) in
     let slots : now.slots ≡ slots_after view entry net.slots = after.slots ∙ ap (λ (e : Entry). slots_after view e net.slots) (sym last) in
     let moved = moves_of setup past entry net.cubes rule stands.queues there in
+    let receivers : (d : ℕ) → d < directions_in setup.topology → receiver_of d past ≡ receiver_entries (toward d) (entries_on setup.topology d past) = λ d inside. (law.queues.links d inside).receiver in
+    let piped : now.piped ≡ piped_after setup.topology view entry net.piped = after.piped ∙ ap₂ (λ (t : Topology) (e : Entry). piped_after t view e net.piped) stands.topology (sym last) in
+    let are : ArePiped setup.topology past net.piped = record { counted = subst (λ (t : Topology). AreCounted (directions_in t) net.piped) stands.topology stands.sized.piped; passed = stands.passed; pipes = stands.pipes } in
+    let next : ArePiped setup.topology (entry ∷ past) now.piped = subst (ArePiped setup.topology (entry ∷ past)) (sym piped) (piped_then setup past entry net.piped stands.network rule (lawful_pipes setup past law receivers) receivers are) in
     let left_is = left_by_rule setup past entry rule in
     record {
       network = stands.network;
       steps = stands.steps;
       topology = after.topology ∙ stands.topology;
-      sized = record { cubes = does.sized.cubes; hosts = does.sized.hosts; fits = does.sized.fits };
+      sized = record { cubes = does.sized.cubes; hosts = does.sized.hosts; fits = does.sized.fits; piped = does.sized.piped };
       lawful = lawful_then net past setup step entry is next_is;
       queues = λ queue cube. ap (λ (l : List CubeFields). inside l queue) cubes ∙ moved.same queue ∙ queues_step setup.topology past entry net.cubes left_is moved.there moved.going queue cube (stands.moves queue cube) (stands.queues queue cube);
       moves = λ queue cube. within_step setup.topology past entry queue cube left_is (stands.moves queue cube);
       state = ap₂ machine_of cubes slots ∙ state_then view setup past entry net.cubes net.slots (own_of setup past entry law rule) (sym sees.shows.state) stands.state;
       hosts = subst (λ (l : List HostFields). (host : ℕ) → host < length l → host_in l host ≡ host_of setup (entry ∷ past) host) (sym hosts) (hosts_then setup past entry net.hosts (subst (IsHostIn net.hosts) (sym last) does.host) stands.hosts);
+      passed = next.passed;
+      pipes = next.pipes;
       links = λ on. same_entries setup.topology.links now.links (entries_after setup.topology view entry) (λ link. link_entries setup.topology link (entry ∷ past))
           (subst (λ (t : Topology). LinksStandFor t.links now.links (entries_after t view entry)) stands.topology
-          (subst (λ (e : Entry). LinksStandFor net.topology.links now.links (entries_after net.topology view e)) (sym last) (after.links (ap is_passed (sym last) ∙ on)))) (entries_then setup past entry);
+          (subst (λ (e : Entry). LinksStandFor net.topology.links now.links (entries_after net.topology view e)) (sym last) (after.links (ap is_passed (sym last) ∙ on)))) (λ link. entries_then setup past entry link (λ d place is. receivers d (ends_at setup.topology place d is).there));
       few = stands.few;
       within = (let more : length past + 1 ≡ suc (length past) = omega arith in subst (λ (n : ℕ). IsWithin n tally) more within);
       tally = λ on. tally_is ∙ ap (tallied changed was_good (event_of entry)) (stands.tally is.goes_on) ∙ tally_next setup.topology past entry changed was_good on told;

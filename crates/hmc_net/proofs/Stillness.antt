@@ -187,7 +187,7 @@ still_test net setup past stands on law still =
     both_true _ _
     (list_all-append p (flat_map (direction_queues t) (upto (directions_in t))) (flat_map (cube_queues t) (upto (cubes_in t)))
     ∙ both_true _ _
-    (flat_upto p (direction_queues t) (directions_in t) (λ direction there. queues_test net setup past direction (direction_shown setup past direction (law.queues.links direction there)) (clear direction there)))
+    (flat_upto p (direction_queues t) (directions_in t) (λ direction there. queues_test net setup past direction (direction_shown setup past direction (law.queues.links direction there) (law.fed direction there)) (clear direction there)))
     (flat_upto p (cube_queues t) (cubes_in t) (λ cube there. cube_test net setup past cube stands (element IsEmptyCube net.cubes cube no_cube still.cubes (omega arith)))))
     (all_upto (λ direction. (token_counts t past direction).transit == 0) (directions_in t) (λ direction there. transit_test setup past direction (clear direction there)))
 
@@ -217,8 +217,8 @@ drained_link : (net : NetState) (setup : Setup) (past : List Entry) (link : ℕ)
 drained_link net setup past link d stands on law drained there =
     let links = stands.links on in
     let t = setup.topology in
-    let forth = drained_direction setup past (2 * link) (direction_shown setup past (2 * link) (law.queues.links (2 * link) (omega (arith, links.count)))) drained in
-    let back = drained_direction setup past (2 * link + 1) (direction_shown setup past (2 * link + 1) (law.queues.links (2 * link + 1) (omega (arith, links.count)))) drained in
+    let forth = drained_direction setup past (2 * link) (direction_shown setup past (2 * link) (law.queues.links (2 * link) (omega (arith, links.count))) (law.fed (2 * link) (omega (arith, links.count)))) drained in
+    let back = drained_direction setup past (2 * link + 1) (direction_shown setup past (2 * link + 1) (law.queues.links (2 * link + 1) (omega (arith, links.count))) (law.fed (2 * link + 1) (omega (arith, links.count)))) drained in
     quiet_of (sizes_by t.links (2 * link)) (slice_index_or net.links link d) (link_entries t link past)
     (subst (λ (n : ℕ). LinkStandsFor (slice_index_or t.links n no_link).setup (slice_index_or net.links link d) (link_entries t link past)) (sym (even_half link)) (links.stand link d there))
     (subst (λ (n : ℕ). IsClear (sizes_by t.links (2 * link)) Forth (link_entries t n past)) (even_half link) (subst (λ (w : Toward). IsClear (sizes_by t.links (2 * link)) w (entries_on t (2 * link) past)) (even_way link) forth))

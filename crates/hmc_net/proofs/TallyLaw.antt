@@ -6,7 +6,6 @@ use Rattle.hmc_codes.specs.declared.counts.CubeCounts.{CubeCounts}
 use Rattle.hmc_codes.specs.declared.profile.Profile.{Profile}
 use Rattle.hmc_packet.specs.Landings as receivers
 use Rattle.hmc_packet.specs.Landings.{ReceiverEntry, mode, pending}
-use Rattle.hmc_packet.specs.declared.feed.Feed.TheVariants.{Waiting}
 use Rattle.hmc_packet.specs.declared.outcome.Outcome.{Outcome}
 use Rattle.hmc_packet.specs.declared.outcome.Outcome.TheVariants.{Repeat, AbortedBad, AbortedOrder}
 use Rattle.hmc_send.specs.LinkEntries.{LinkEntry, same_way, put_if}
@@ -20,8 +19,8 @@ use Rattle.hmc_journal.specs.Hosts.{given_count, count_if}
 use Rattle.hmc_journal.specs.Links.{toward, landing_mask, link_sizes, link_entries, entries_on}
 use Rattle.hmc_journal.specs.Setup.{Topology, unit_cube, cubes_in, hosts_in, directions_in}
 use Rattle.hmc_journal.specs.declared.entry.Entry.{Entry}
-use Rattle.hmc_journal.specs.declared.entry.Entry.TheVariants.{Gave, Sent, Landed, Shifted, Dropped, Executed, Lifted, Took, Discarded, Unlocked, Passed}
-use Rattle.hmc_journal.proofs.Projections.{IsBlind, put_on-same, shifted-same, same_direction}
+use Rattle.hmc_journal.specs.declared.entry.Entry.TheVariants.{Gave, Sent, Landed, Shifted, Dropped, Executed, Lifted, Took, Discarded, Through, Unlocked, Passed}
+use Rattle.hmc_journal.proofs.Projections.{IsBlind, feed_in, goes_at, came_at, put_on-same, taken_if-same, passed_on-same, shifted-same, same_direction}
 use Rattle.hmc_net.specs.Tally.{no_counters, no_host_steps, no_cube_counts, is_accepted, is_repeat, is_abort, one_sent, one_landed, one_unlocked, one_given, one_taken, one_executed, one_dropped, directions_after, host_steps_after, cube_counts_after, tallied, host_steps, opening_tally, tally_of}
 use Rattle.hmc_net.specs.declared.tally.HostSteps.{HostSteps}
 use Rattle.hmc_net.proofs.Accepting.{IsCounted}
@@ -57,7 +56,7 @@ IsNoLanding _ = Unit {0}
 changed_same : (topology : Topology) (k : ℕ) (entry : Entry) (past : List Entry) → IsNoLanding entry → changed_landings (toward k) (entries_on topology k (entry ∷ past)) ≡ changed_landings (toward k) (entries_on topology k past)
 unfolding link_entries changed_landings
 changed_same topology k (Gave host tag poisoned request) past none = put_on-same (changed_landings (toward k)) (k / 2) _ (λ way. LinkEntry.handed way _) (entries_on topology k past) (λ e. refl)
-changed_same topology k (Sent direction what flit) past none = put_on-same (changed_landings (toward k)) (k / 2) (Some direction) (λ way. LinkEntry.sent way Waiting what flit) (entries_on topology k past) (λ e. refl)
+changed_same topology k (Sent direction what flit) past none = put_on-same (changed_landings (toward k)) (k / 2) (Some direction) (λ way. LinkEntry.sent way (feed_in topology (k / 2) direction past way) what flit) (entries_on topology k past) (λ e. refl)
 changed_same topology k (Landed direction flit outcome) past none = absurd none
 changed_same topology k (Unlocked direction) past none = put_on-same (changed_landings (toward k)) (k / 2) (Some direction) LinkEntry.unlocked (entries_on topology k past) (λ e. refl)
 changed_same topology k (Shifted cube port goal) past none = shifted-same (changed_landings (toward k)) (blind_changed (toward k)) topology (k / 2) cube port goal _ (entries_on topology k past)
@@ -65,6 +64,7 @@ changed_same topology k (Dropped cube port) past none = put_on-same (changed_lan
 changed_same topology k (Lifted cube from port) past none = put_on-same (changed_landings (toward k)) (k / 2) _ (λ way. LinkEntry.handed way _) (entries_on topology k past) (λ e. refl)
 changed_same topology k (Took host tag answer) past none = put_on-same (changed_landings (toward k)) (k / 2) _ LinkEntry.taken (entries_on topology k past) (λ e. refl)
 changed_same topology k (Discarded host) past none = put_on-same (changed_landings (toward k)) (k / 2) _ LinkEntry.taken (entries_on topology k past) (λ e. refl)
+changed_same topology k (Through cube port direction) past none = passed_on-same (changed_landings (toward k)) (k / 2) direction (came_at topology cube port past) (entries_on topology k past) (λ e head flits. refl)
 changed_same topology k _ past none = refl
 
 -- where a landing is one of this direction, the mask that is read off it is that of the step
@@ -78,11 +78,12 @@ masked topology past d k flit changed true n is told =
 changed_landed : (topology : Topology) (past : List Entry) (d k : ℕ) (flit : List ℕ) (outcome : Outcome) (changed : Bool)
     → changes (landing_mask (link_sizes topology (d / 2)) (toward d) (entries_on topology d past) flit) ≡ changed
     → changed_landings (toward k) (entries_on topology k (Landed d flit outcome ∷ past)) ≡ count_if ((d == k) && changed) (changed_landings (toward k) (entries_on topology k past))
-unfolding link_entries
+unfolding link_entries changed_landings
 changed_landed topology past d k flit outcome changed told =
     let mask = landing_mask (link_sizes topology (k / 2)) (toward d) (entries_on topology k past) flit in
     let n = changed_landings (toward k) (entries_on topology k past) in
-    changed_put (d / 2 == k / 2) (toward k) (toward d) mask flit outcome (entries_on topology k past)
+    taken_if-same (changed_landings (toward k)) (goes_at topology d outcome past) (k / 2) d (put_if (d / 2 == k / 2) (LinkEntry.landed (toward d) mask flit outcome) (entries_on topology k past)) (λ e. refl)
+    ∙ changed_put (d / 2 == k / 2) (toward k) (toward d) mask flit outcome (entries_on topology k past)
     ∙ ap (λ (b : Bool). count_if (b && changes mask) n) (sym (same_direction k d))
     ∙ masked topology past d k flit changed (d == k) n refl told
 

@@ -7,7 +7,7 @@ use Rattle.hmc_schedule.specs.declared.step.Step.TheVariants as steps
 use Rattle.hmc_send.specs.LinkEntries.{receiver_entries}
 use Rattle.hmc_send.specs.LinkLines.{changes}
 use Rattle.hmc_journal.proofs.EntryRule.{EntryRule, HasLanded, next_rule}
-use Rattle.hmc_journal.proofs.LinkKept.{short-line}
+use Rattle.hmc_journal.proofs.LinkKept.{line-flit}
 use Rattle.hmc_journal.proofs.Projections.{received}
 use Rattle.hmc_journal.specs.Counts.{is_good}
 use Rattle.hmc_journal.specs.Directions.{profile_of}
@@ -24,7 +24,6 @@ use Rattle.hmc_net.specs.Stands.{IsNext}
 use Rattle.hmc_net.specs.Tally.{step_changes, unlocks_good}
 use Rattle.hmc_net.proofs.Accepting.{IsCounted, accepts_counted}
 use Rattle.hmc_net.proofs.LinkCalls.{one_there}
-use Rattle.hmc_net.proofs.LinkSteps.{front_size}
 use Rattle.hmc_net.proofs.Masks.{mask_found}
 use Rattle.hmc_net.proofs.NoUnlocks.{unlock_step}
 use Rattle.hmc_net.proofs.Seeing.{step_there}
@@ -39,8 +38,7 @@ landed_tells net past setup step d flit outcome is rule long =
     let front = rule.landing.front in
     let entries = entries_on setup.topology d past in
     let kept = (one_there setup.topology.links net.links (λ link. link_entries setup.topology link past) d (is.stands.links is.goes_on) there.some_direction).kept in
-    let short = short-line (sizes_on setup.topology d) entries (toward d) front kept rule.landing.is_front in
-    let size : length front.flit ≡ 16 = front_size rule.mask front.flit (sym (ap (λ (f : List ℕ). length f) rule.landing.flit_is) ∙ long) short in
+    let size : length front.flit ≡ 16 = (line-flit (sizes_on setup.topology d) entries (toward d) front kept rule.landing.is_front).long in
     let found = mask_found (sizes_on setup.topology d) (toward d) entries front rule.mask rule.landing.is_front there.long size in
     let counted = accepts_counted (profile_of setup.topology d) (receiver_entries (toward d) entries) flit in (
       ap changes (ap (landing_mask (sizes_on setup.topology d) (toward d) entries) rule.landing.flit_is ∙ found) ∙ ap step_changes (sym same),

@@ -63,6 +63,8 @@ seen = record {
   state = opening_state (record { vault_bits = 0; bank_bits = 0; rows = 1; block = 256 } ∷ []) bench;
   host = λ host. no_host;
   entries = λ link. [];
+  passed = λ direction. None;
+  pipe = λ direction. None;
 }
 
 abbrev work : Command → RequestFields

@@ -1,4 +1,5 @@
 pub mod Tally
+pub mod Pipes
 pub mod NetState
 pub mod LinkList
 pub mod Wiring
@@ -6,6 +7,7 @@ pub mod Sees
 pub mod Apply
 pub mod Ready
 pub mod Ports
+pub mod Throughs
 pub mod Stands
 pub mod Journaled
 pub mod Opening

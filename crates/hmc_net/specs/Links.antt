@@ -1,5 +1,5 @@
--- The entries that the answers of a link are.
-use Rattle.std.specs.Prelude.{◌≡◌, ℕ, length}
+-- The entries that the answers of a link, and of a bench of logic units, are.
+use Rattle.std.specs.Prelude.{ℕ, Bool, true, false, List}
 use Rattle.hmc_codes.specs.Flit.{zero_flit}
 use Rattle.hmc_link.specs.declared.link_landed.LinkLanded.{LinkLanded}
 use Rattle.hmc_link.specs.declared.link_landed.LinkLanded.TheVariants as landings
@@ -10,9 +10,17 @@ use Rattle.hmc_packet.specs.declared.landed.Landed.TheVariants as words
 use Rattle.hmc_packet.specs.declared.outcome.Outcome.{Outcome}
 use Rattle.hmc_packet.specs.declared.outcome.Outcome.TheVariants as outcomes
 use Rattle.hmc_schedule.specs.declared.step.Step.TheVariants as steps
+use Rattle.hmc_case.specs.declared.setup.LinkRow.{LinkRow}
+use Rattle.hmc_link.specs.Held.{LinkHeld}
+use Rattle.hmc_send.specs.LinkCalls.{LinkCall}
+use Rattle.hmc_send.specs.LinkEntries.{LinkEntry}
+use Rattle.hmc_wire.specs.Conditions.{IsFlit}
 use Rattle.hmc_journal.specs.declared.outcome.Cause.TheVariants as causes
 use Rattle.hmc_journal.specs.declared.entry.Entry.{Entry}
-use Rattle.hmc_journal.specs.declared.entry.Entry.TheVariants.{Sent, Landed, Passed, Idle}
+use Rattle.hmc_journal.specs.declared.entry.Entry.TheVariants.{Sent, Landed, Retired, Passed, Idle}
+use Rattle.hmc_journal.specs.Piped.{goes_on}
+use Rattle.hmc_net.specs.LinkList.{AreGoing, IsDirection, called}
+use Rattle.hmc_net.specs.Pipes.{PipesHeld, AreGathering, IsLastOf, passed_at, after_flit}
 
 -- an outcome without its packet
 abbrev pub outcome_of : Landing → Outcome
@@ -40,5 +48,36 @@ landed_by direction (landings.Came flit landed) = Landed direction flit (outcome
 
 -- a flit that came has 16 bytes
 abbrev pub IsCameFlit : LinkLanded → Type 0
-IsCameFlit (landings.Came flit landed) = length flit ≡ 16
+IsCameFlit (landings.Came flit landed) = IsFlit flit
 IsCameFlit _ = Unit {0}
+
+-- the entry of a retirement, by whether the slot had a unit
+abbrev pub retired_by : (slot : ℕ) → (live : Bool) → Entry
+retired_by slot true = Retired slot
+retired_by slot false = Idle (steps.Retire slot) causes.Empty
+
+-- a landing goes on at once: its packet was accepted while it was passed on
+abbrev pub landing_goes_on : PipesHeld → (direction : ℕ) → LinkLanded → Bool
+landing_goes_on held direction (landings.Came flit landed) =
+    goes_on (outcome_of landed) (passed_at held direction)
+landing_goes_on held direction _ = false
+
+-- the packets that are passed on after a landing
+abbrev pub after_landing : (direction : ℕ) → LinkLanded → PipesHeld → PipesHeld
+after_landing direction (landings.Came flit landed) held =
+    after_flit direction flit (outcome_of landed) held
+after_landing direction _ held = held
+
+-- the entries of the links, where what landed in a direction is taken if it goes on
+abbrev pub taken_where : Bool → List LinkRow → (direction : ℕ) → (ℕ → List LinkEntry) → ℕ →
+    List LinkEntry
+taken_where true rows direction entries = called rows direction LinkCall.take entries
+taken_where false rows direction entries = entries
+
+-- what a landing rests on: the direction is there, no landing has passed, flits are still to come
+-- of what is passed on, and none is missing of a packet that came whole
+abbrev pub MayPass : List LinkHeld → PipesHeld → (direction : ℕ) → LinkLanded → Type 0
+MayPass links held direction (landings.Came flit landed) =
+    IsDirection links direction × AreGoing links × AreGathering held direction
+    × IsLastOf held direction (outcome_of landed)
+MayPass links held direction _ = Unit {0}

@@ -13,16 +13,18 @@ use Rattle.hmc_journal.specs.declared.entry.Entry.{Entry}
 use Rattle.hmc_journal.specs.Queues.{QueueId}
 use Rattle.hmc_journal.specs.Queues.QueueId.{Output, Port, Host, Vault, Bank, Registers, Answers}
 use Rattle.hmc_journal.specs.Setup.{Topology}
+use Rattle.hmc_net.specs.Pipes.{PipesHeld}
 use Rattle.hmc_net.specs.Tally.{TallyFields}
 
--- its cubes, hosts and links, each by its number, the slots of its logic units, what is counted,
--- and the entry of the latest step
+-- its cubes, hosts and links, each by its number, the slots of its logic units, the packets that
+-- are passed on, what is counted, and the entry of the latest step
 pub record NetState : Type 0 where
   pub topology : Topology
   pub cubes : List CubeFields
   pub hosts : List HostFields
   pub slots : List (Option UnitFields)
   pub links : List LinkHeld
+  pub piped : PipesHeld
   pub tally : TallyFields
   pub last : Entry
 
@@ -33,6 +35,7 @@ pub record NetParts (B : Type 0) : Type 0 where
   pub hosts : List HostFields
   pub bench : B
   pub links : List LinkHeld
+  pub piped : PipesHeld
   pub tally : TallyFields
   pub last : Entry
 
@@ -44,6 +47,7 @@ net_of slots parts = record {
   hosts = parts.hosts;
   slots = slots parts.bench;
   links = parts.links;
+  piped = parts.piped;
   tally = parts.tally;
   last = parts.last;
 }

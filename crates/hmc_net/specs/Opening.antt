@@ -5,8 +5,9 @@ use Rattle.hmc_case.specs.Setup.{CubeSetupFields}
 use Rattle.hmc_units.specs.Unit.{UnitFields}
 use Rattle.hmc_cube.specs.Cube.{CubeFields, opening_cube}
 use Rattle.hmc_host.specs.Host.{HostFields, opening_host}
-use Rattle.hmc_journal.specs.Setup.{Topology, hosts_in}
+use Rattle.hmc_journal.specs.Setup.{Topology, hosts_in, directions_in}
 use Rattle.hmc_net.specs.LinkList.{LinksStandFor}
+use Rattle.hmc_net.specs.Pipes.{AreCounted, AreUnused}
 use Rattle.hmc_net.specs.NetState.{NetState}
 use Rattle.hmc_net.specs.Tally.{opening_tally}
 
@@ -25,12 +26,14 @@ pub record AreNewHosts (count : ℕ) (script : List ItemFields) (hosts : List Ho
       slice_index_or hosts host d ≡ opening_host host script
 
 -- Nothing happened: the cubes and the hosts are new, the logic units are those that were handed in,
--- the links stand for no entries, and nothing is counted.
+-- no packet is passed on, the links stand for no entries, and nothing is counted.
 pub record IsOpening (net : NetState) (topology : Topology) (slots : List (Option UnitFields))
     (script : List ItemFields) : Type 0 where
   pub same_topology : net.topology ≡ topology
   pub same_slots : net.slots ≡ slots
   pub cubes : AreNewCubes topology.cubes net.cubes
+  pub piped : AreCounted (directions_in topology) net.piped
+  pub unused : AreUnused net.piped
   pub hosts : AreNewHosts (hosts_in topology) script net.hosts
   pub links : LinksStandFor topology.links net.links (λ link. [])
   pub tally : net.tally ≡ opening_tally topology

@@ -38,13 +38,13 @@ pub record IsLandingIn (topology : Topology) (direction mask : ℕ) : Type 0 whe
   pub some_direction : direction < directions_in topology
   pub long : mask ≡ 16
 
--- a step of a part that is there, or a retirement of any slot; the step through is in no schedule
--- yet
+-- a step of a part that is there, or a retirement of any slot
 abbrev pub IsStepFor : Topology → Step → Type 0
 IsStepFor topology (steps.Give host) = host < hosts_in topology
 IsStepFor topology (steps.Send direction) = direction < directions_in topology
 IsStepFor topology (steps.Land direction mask) = IsLandingIn topology direction (length mask)
 IsStepFor topology (steps.Shift cube port) = IsPortIn topology cube port
+IsStepFor topology (steps.Through cube port) = IsPortIn topology cube port
 IsStepFor topology (steps.Spread cube vault) = IsVaultIn topology cube vault
 IsStepFor topology (steps.Bank cube vault bank) = IsBankIn topology cube vault bank
 IsStepFor topology (steps.Registers cube) = cube < cubes_in topology

@@ -29,13 +29,15 @@
 //! proof: the links by the numbers of directions (`LinkList`), where directions start (`Wiring`),
 //! what a step sees (`Sees`), which steps there are (`Ready`), what a step does (`Apply`), what a
 //! give hands to a link (`Gives`), which entry an answer of a link is (`Links`), where a packet
-//! goes from a port (`Ports`), when no packet is on its way (`Quiescent`), what is counted
-//! (`Tally`), what is shown at the end (`Finished`), and `Went`.
+//! goes from a port (`Ports`), which packets are passed on before they have come whole (`Pipes`),
+//! which one the step through passes on (`Throughs`), when no packet is on its way (`Quiescent`),
+//! what is counted (`Tally`), what is shown at the end (`Finished`), and `Went`.
 #![tactic(auto)]
 
 mod link_list;
 mod net;
 mod network;
+mod pipes;
 mod shown;
 mod starts;
 mod tally;

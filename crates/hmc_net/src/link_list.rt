@@ -1,21 +1,21 @@
 //! The links of a network, called by the numbers of directions: link i has the direction 2i, which
 //! goes Forth, and 2i + 1, which goes Back.
 
-ghost use Rattle.std.specs.Prelude.{◌≡◌, ◌<◌, ◌≤◌, ◌/◌, ◌↔◌, [], ℕ, List, All, IfOk, IsTrue, Some, false, true, length, slice_get};
+ghost use Rattle.std.specs.Prelude.{◌≡◌, ◌<◌, ◌≤◌, ◌/◌, ◌↔◌, [], ℕ, List, All, IfOk, IsTrue, false, true, length, slice_get, option_map};
 ghost use Rattle.hmc_codes.specs.Limits.{most_links};
 ghost use Rattle.hmc_case.specs.declared.setup.LinkRow.{LinkRow};
 ghost use Rattle.hmc_journal.specs.Links.{toward};
 ghost use Rattle.hmc_link.specs.Answers.{link_sent, sends_none};
 ghost use Rattle.hmc_link.specs.Landings.{link_landed, has_passed, lands_none};
 ghost use Rattle.hmc_link.specs.StandsFor.{LinkStandsFor};
-ghost use Rattle.hmc_packet.specs.declared.feed.Feed.TheVariants.{Waiting};
+ghost use Rattle.hmc_packet.specs.Head.{head_in};
 ghost use Rattle.hmc_send.specs.Choice.{choice};
-ghost use Rattle.hmc_send.specs.LinkCalls.{LinkCall, is_full, view_in};
+ghost use Rattle.hmc_send.specs.LinkCalls.{LinkCall, is_full, view_in, names_flits};
 ghost use Rattle.hmc_packet.specs.Landings.{mode};
 ghost use Rattle.hmc_send.specs.LinkEntries.{LinkEntry, receiver_entries};
 ghost use Rattle.hmc_send.specs.LinkLines.{line};
 ghost use Rattle.hmc_send.specs.LinkSenders.{tokens};
-ghost use Rattle.hmc_net.specs.LinkList.{sizes_by, AreGoing, LinksStandFor, called, IsDirection, IsRoom, IsFrontAt, MayHand, MaySend};
+ghost use Rattle.hmc_net.specs.LinkList.{sizes_by, AreGoing, LinksStandFor, called, IsDirection, IsRoom, IsArrival, IsFrontAt, IsGathered, IsThroughAt, IsTaking, MayHand, MaySend, MayBegin};
 ghost use Rattle.hmc_net.specs.Finished.{tokens_at};
 ghost use Rattle.hmc_net.specs.Quiescent.{IsQuietLink};
 
@@ -86,6 +86,14 @@ impl LinkList {
         link.hand(toward_of(direction), packet);
     }
 
+    /// Whether the buffer at the end of a direction holds a packet.
+    pub fn has_arrived(&self, direction: u8) -> bool
+        requires { IsDirection self.now direction }
+        ensures { IsArrival self.now direction result }
+    {
+        self.links[usize::from(direction / 2)].has_arrived(toward_of(direction))
+    }
+
     /// The packet that has been longest in the buffer at the end of a direction.
     pub fn front(&self, direction: u8) -> Option<Packet>
         requires { IsDirection self.now direction }
@@ -106,23 +114,23 @@ impl LinkList {
         let _ = link.take(toward_of(direction));
     }
 
-    /// Sends the next flit of a direction.
-    pub fn send(&mut self, direction: u8) -> LinkSent
+    /// Sends the next flit of a direction, with what is fed to the packet that is passed onto it.
+    pub fn send(&mut self, direction: u8, feed: Feed) -> LinkSent
         requires there { IsDirection self.old direction }
-        requires may { MaySend self.old direction }
+        requires may { MaySend self.old direction feed }
         ensures answer { (rows : List LinkRow) (entries : ℕ → List LinkEntry) →
             LinksStandFor rows self.old entries → result
             ≡ link_sent
             (is_full (sizes_by rows direction) (toward direction) (entries (direction / 2)))
             (choice (sizes_by rows direction).profile (view_in (sizes_by rows direction)
-            (toward direction) (entries (direction / 2)) Waiting)) }
+            (toward direction) (entries (direction / 2)) feed)) }
         ensures stand { (rows : List LinkRow) (entries : ℕ → List LinkEntry) →
             LinksStandFor rows self.old entries → LinksStandFor rows self.new
-            (called rows direction (λ d. LinkCall.send d Waiting) entries) }
+            (called rows direction (λ d. LinkCall.send d feed) entries) }
         ensures idle { sends_none result ≡ true → self.new ≡ self.old }
     {
         let link = &mut self.links[usize::from(direction / 2)];
-        link.send(toward_of(direction), Feed::Waiting)
+        link.send(toward_of(direction), feed)
     }
 
     /// Lands the front of the line of a direction, with the bits of the mask inverted.
@@ -143,6 +151,46 @@ impl LinkList {
     {
         let link = &mut self.links[usize::from(direction / 2)];
         link.land(toward_of(direction), *mask)
+    }
+
+    /// The flits that are gathered at the end of a direction, at least one. `None` where none are.
+    pub fn through_view(&self, direction: u8) -> Option<&[Flit]>
+        requires { IsDirection self.now direction }
+        ensures { IsGathered self.now direction (option_map (λ flits. flits.now) result) }
+    {
+        self.links[usize::from(direction / 2)].through_view(toward_of(direction))
+    }
+
+    /// The place, from 0, of the next flit of a packet that is passed onto a direction and
+    /// unfinished. `None` where there is none.
+    pub fn through_at(&self, direction: u8) -> Option<u8>
+        requires { IsDirection self.now direction }
+        ensures { IsThroughAt self.now direction result }
+    {
+        self.links[usize::from(direction / 2)].through_at(toward_of(direction))
+    }
+
+    /// Whether a direction can take a packet of so many flits that is passed on.
+    pub fn through_ready(&self, direction: u8, flits: u8) -> bool
+        requires there { IsDirection self.now direction }
+        requires going { AreGoing self.now }
+        ensures { IsTaking self.now direction flits result }
+    {
+        self.links[usize::from(direction / 2)].through_ready(toward_of(direction), flits)
+    }
+
+    /// Begins a packet of so many flits in a direction, with this first flit, before it has come
+    /// whole.
+    pub fn begin_through(&mut self, direction: u8, head: Flit, flits: u8)
+        requires there { IsDirection self.old direction }
+        requires may { MayBegin self.old direction flits }
+        requires named { names_flits flits (head_in head) ≡ true }
+        ensures { (rows : List LinkRow) (entries : ℕ → List LinkEntry) →
+            LinksStandFor rows self.old entries → LinksStandFor rows self.new
+            (called rows direction (λ d. LinkCall.begin d head flits) entries) }
+    {
+        let link = &mut self.links[usize::from(direction / 2)];
+        link.begin_through(toward_of(direction), head, flits);
     }
 
     /// The receiver of a direction loses its framing.

@@ -64,12 +64,14 @@ impl<B: Workbench> Net<B> {
         ensures stands { (setup : Setup) →
             IsNetNext (journaled_of B.slots self.old) setup step.now →
             NetStandsFor (journaled_of B.slots self.new) setup }
-        ensures past { (setup : Setup) → IsNetNext (journaled_of B.slots self.old) setup step.now →
+        ensures past { (setup : Setup) →
+            IsNetNext (journaled_of B.slots self.old) setup step.now →
             self.new.journal.past ≡ next setup self.old.journal.past step.now ∷
             self.old.journal.past }
 
         // Idle or passed exactly where the entry is; an idle step changes nothing else.
-        ensures went { (setup : Setup) → IsNetNext (journaled_of B.slots self.old) setup step.now →
+        ensures went { (setup : Setup) →
+            IsNetNext (journaled_of B.slots self.old) setup step.now →
             result ≡ went_of (next setup self.old.journal.past step.now) }
         ensures idle { (cause : Cause) → result ≡ Went.Idle cause →
             net_of B.slots self.new.network

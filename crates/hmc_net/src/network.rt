@@ -6,6 +6,7 @@ ghost use Rattle.hmc_codes.specs.Limits.{most_hosts};
 ghost use Rattle.hmc_host.specs.Tags.{number_out};
 ghost use Rattle.hmc_journal.specs.Counts.{token_counts};
 ghost use Rattle.hmc_journal.specs.declared.entry.Entry.{Entry};
+ghost use Rattle.hmc_journal.specs.declared.outcome.Cause.{Cause};
 ghost use Rattle.hmc_journal.specs.Drained.{is_drained};
 ghost use Rattle.hmc_journal.specs.Lawful.{has_passed};
 ghost use Rattle.hmc_journal.specs.Next.{next};
@@ -22,6 +23,7 @@ ghost use Rattle.hmc_net.specs.Wiring.{IsLaidOut};
 
 use crate::Went;
 use crate::link_list::LinkList;
+use crate::pipes::Pipes;
 use crate::tally::Tally;
 use crate::went::went_of;
 use crate::wiring::Wiring;
@@ -29,7 +31,7 @@ use hmc_case::{Case, CubeSetup, LinkRow};
 use hmc_codes::{Memory, TokenRow};
 use hmc_cube::Cube;
 use hmc_host::Host;
-use hmc_journal::{Cause, LastEntry};
+use hmc_journal::LastEntry;
 use hmc_schedule::Step;
 use hmc_script::Script;
 use hmc_units::Workbench;
@@ -43,6 +45,7 @@ mod hosts;
 mod links;
 mod opening;
 mod ports;
+mod throughs;
 mod units;
 
 use opening::{new_cubes, new_hosts, new_tally};
@@ -55,6 +58,7 @@ pub struct Network<B: Workbench> {
     hosts: Vec<Host>,
     bench: B,
     links: LinkList,
+    piped: Pipes,
     tally: Tally,
     last: LastEntry,
 }
@@ -70,6 +74,7 @@ impl<B: Workbench> Model for Network<B> {
       hosts = n.hosts.items;
       bench = n.bench;
       links = n.links;
+      piped = n.piped;
       tally = n.tally;
       last = n.last;
     } };
@@ -114,6 +119,7 @@ impl<B: Workbench> Network<B> {
         let tally = new_tally(alloc, cubes, links, hosts)?;
         let cubes = new_cubes(alloc, cubes)?;
         let hosts = new_hosts(alloc, hosts, script)?;
+        let piped = Pipes::build(alloc, 2 * links.len())?;
         let links = LinkList::build(alloc, links)?;
         Ok(Network {
             wiring,
@@ -121,6 +127,7 @@ impl<B: Workbench> Network<B> {
             hosts,
             bench,
             links,
+            piped,
             tally,
             last: LastEntry::new(),
         })
@@ -174,7 +181,7 @@ impl<B: Workbench> Network<B> {
             Step::Lift(cube, from) => self.lift(*cube, *from),
             Step::Take(host) => self.take(*host),
             Step::Unlock(direction) => self.unlock(*direction),
-            Step::Through(..) => self.last.idle(step, Cause::Empty),
+            Step::Through(cube, port) => self.through(*cube, *port),
             Step::Retire(slot) => self.retire(*slot),
         }
     }

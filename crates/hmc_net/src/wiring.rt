@@ -1,22 +1,24 @@
 //! Where directions start and where packets go.
 
-ghost use Rattle.std.specs.Prelude.{◌≡◌, ◌<◌, ◌*◌, IfOk, IfSome, Some, length, map};
+ghost use Rattle.std.specs.Prelude.{◌≡◌, ◌<◌, ◌*◌, ◌↔◌, IfOk, IsTrue, IfSome, Some, length, map};
 ghost use Rattle.hmc_codes.specs.declared.place.Place.TheVariants as places;
 ghost use Rattle.hmc_crossbar.specs.To.{HasWay, where_to};
 ghost use Rattle.hmc_journal.specs.Links.{direction_to};
 ghost use Rattle.hmc_journal.specs.Routes.{port_towards};
 ghost use Rattle.hmc_journal.specs.Setup.{Topology, cubes_in, hosts_in, graph_of, shape_of, direction_from};
+ghost use Rattle.hmc_journal.specs.Directions.{profile_of};
+ghost use Rattle.hmc_journal.specs.ThroughSteps.{onward_port};
 ghost use Rattle.hmc_routes.specs.Directions.{other};
 ghost use Rattle.hmc_routes.specs.Parted.{InOnePart};
 ghost use Rattle.hmc_routes.specs.WellFormed.{IsGraph};
 ghost use Rattle.hmc_net.specs.Ready.{IsPortIn};
-ghost use Rattle.hmc_net.specs.Wiring.{IsLaidOut};
+ghost use Rattle.hmc_net.specs.Wiring.{IsLaidOut, towards_cube, towards_host};
 
 use crate::starts::{HOSTS, PORT_PLACES, host_starts, port_starts};
 use hmc_case::{CubeSetup, LinkRow};
-use hmc_codes::{Graph, Join, Memory, PORTS};
+use hmc_codes::{Family, Graph, Join, Memory, PORTS, Profile};
 use hmc_crossbar::{To, way_of};
-use hmc_packet::Packet;
+use hmc_packet::{Head, Packet};
 use hmc_routes::{RouteFault, Routes};
 use std::alloc::Global;
 use std::marker::Model;
@@ -116,6 +118,59 @@ impl Wiring {
     {
         let setup = self.cubes[usize::from(cube)];
         way_of(&self.routes, setup.shape, cube, packet)
+    }
+
+    /// The port by which a packet with this head goes on that arrives at a port of a cube, if it
+    /// may go on there before it has come whole.
+    pub fn onward_port(&self, cube: u8, port: u8, head: &Head) -> Option<u8>
+        requires { cube < cubes_in self.now }
+        ensures { result ≡ onward_port self.now cube port head.now }
+    {
+        let onward = match head.command.family() {
+            Family::Ask => self.port_to_cube(cube, head.cube)?,
+            Family::Reply => self.port_to_host(cube, head.slid)?,
+            Family::Flow => return None,
+        };
+        if onward == port { None } else { Some(onward) }
+    }
+
+    // The port towards another cube, if it is there.
+    fn port_to_cube(&self, cube: u8, goal: u8) -> Option<u8>
+        requires { cube < cubes_in self.now }
+        ensures { result ≡ towards_cube self.now cube goal }
+    {
+        if usize::from(goal) < self.cubes.len() {
+            self.routes.to_cube(cube, goal)
+        } else {
+            None
+        }
+    }
+
+    // The port towards a host, if it is there.
+    fn port_to_host(&self, cube: u8, host: u8) -> Option<u8>
+        requires { cube < cubes_in self.now }
+        ensures { result ≡ towards_host self.now cube host }
+    {
+        if self.has_host(host) {
+            Some(self.port_towards(cube, host))
+        } else {
+            None
+        }
+    }
+
+    // Whether there is a host with this number.
+    fn has_host(&self, host: u8) -> bool
+        ensures { IsTrue result ↔ (host < hosts_in self.now) }
+    {
+        usize::from(host) < HOSTS && self.hosts[usize::from(host)].is_some()
+    }
+
+    /// The profile of the link of a direction.
+    pub fn profile(&self, direction: u8) -> Profile
+        requires { direction < 2 * length self.now.links }
+        ensures { result ≡ profile_of self.now direction }
+    {
+        self.links[usize::from(direction / 2)].setup.profile
     }
 
     /// The port through which an answer leaves a cube towards a host.

@@ -53,8 +53,8 @@ fn replay_with<S: Source, O: Sink, U: LogicUnit>(
 /// | `run` | what the source gives | the line of each step, and all final lines |
 /// | `make N` | that of the number N | the final lines from those of tokens on |
 ///
-/// N has one to twenty decimal digits and is below 2^64, and `make` reads nothing. There are at most
-/// eight units: the one at place i is in slot i.
+/// N has one to twenty decimal digits and is below 2^64, and `make` reads nothing. There are at
+/// most eight units: the one at place i is in slot i.
 ///
 /// A source may show the bytes that are left, and a sink the pieces that were written, as those in
 /// memory do; standard input and output don't. What is said of bytes holds where they are shown.

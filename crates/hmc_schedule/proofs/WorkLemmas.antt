@@ -5,15 +5,17 @@ use Rattle.std.proofs.lemmas.Bool.Decides.{nat_tests}
 use Rattle.std.proofs.lemmas.List.Elements.{All-nil, All-cons, All-head, All-tail, All-append, All-map}
 use Rattle.std.proofs.lemmas.List.FromFn.{length-range_with_len, get_or-range_with_len}
 use Rattle.hmc_codes.specs.declared.lift.Lift.TheVariants as lifts
+use Rattle.hmc_codes.proofs.BytesLemmas.{IsBytes-zeros}
 use Rattle.hmc_schedule.specs.declared.meaning.Meaning.{Meaning}
 use Rattle.hmc_schedule.specs.declared.meaning.Meaning.TheVariants.{Nothing, One, Rounds, Noisy}
 use Rattle.hmc_schedule.specs.declared.step.Step.{Step}
 use Rattle.hmc_schedule.specs.declared.step.Step.TheVariants.{Give, Send, Land, Shift, Spread, Bank, Registers, Lift, Take}
 use Rattle.hmc_schedule.specs.declared.noise.Noise.{Noise}
 use Rattle.hmc_schedule.specs.Meaning.{IsMeaning}
+use Rattle.hmc_schedule.specs.Mask.{IsMask}
 use Rattle.hmc_schedule.specs.Noise.{lands_in, new_noise, counted, noisy_if, IsNoise}
 use Rattle.hmc_schedule.proofs.NoiseLemmas.{lands-le, noisy_if-length, noisy_if-works}
-use Rattle.hmc_schedule.specs.Plan.{PlanFields, IsStepOf, IsBuilt, IsWorking, is_joined, vaults_at, banks_at}
+use Rattle.hmc_schedule.specs.Plan.{PlanFields, IsStepOf, HasFlit, IsWorking, is_joined, vaults_at, banks_at}
 use Rattle.hmc_codes.specs.Flit.{zero_flit}
 use Rattle.hmc_schedule.specs.Round.{shifts_of, spreads_of, banks_of, lifts_of, round_of, rounds_of}
 use Rattle.hmc_codes.specs.Numbers.{upto}
@@ -59,30 +61,30 @@ unfolding shifts_of
 shifts_work plan cube some =
     let P = IsWorking plan in
     All-map P (Shift cube) (filter (is_joined plan cube) (upto 4))
-    (filter_all (is_joined plan cube) (λ port. P (Shift cube port)) (upto 4) (upto_all (λ port. is_joined plan cube port ≡ true → P (Shift cube port)) 4 (λ port small joined. record { within = record { some_cube = some; some_port = small; joined = joined }; built = tt })))
+    (filter_all (is_joined plan cube) (λ port. P (Shift cube port)) (upto 4) (upto_all (λ port. is_joined plan cube port ≡ true → P (Shift cube port)) 4 (λ port small joined. record { within = record { some_cube = some; some_port = small; joined = joined }; mask = tt })))
 
 spreads_work : (plan : PlanFields) (cube : ℕ) → cube < length plan.cubes → All (IsWorking plan) (spreads_of plan cube)
 unfolding spreads_of
 spreads_work plan cube some =
-    map_all (IsWorking plan) (Spread cube) (vaults_at plan cube) (λ vault small. record { within = record { some_cube = some; some_vault = small }; built = tt })
+    map_all (IsWorking plan) (Spread cube) (vaults_at plan cube) (λ vault small. record { within = record { some_cube = some; some_vault = small }; mask = tt })
 
 banks_work : (plan : PlanFields) (cube : ℕ) → cube < length plan.cubes → All (IsWorking plan) (banks_of plan cube)
 unfolding banks_of
 banks_work plan cube some =
-    each_all (IsWorking plan) (λ vault. map (Bank cube vault) (upto (banks_at plan cube))) (vaults_at plan cube) (λ vault in_cube. map_all (IsWorking plan) (Bank cube vault) (banks_at plan cube) (λ bank in_vault. record { within = record { some_vault = record { some_cube = some; some_vault = in_cube }; some_bank = in_vault }; built = tt }))
+    each_all (IsWorking plan) (λ vault. map (Bank cube vault) (upto (banks_at plan cube))) (vaults_at plan cube) (λ vault in_cube. map_all (IsWorking plan) (Bank cube vault) (banks_at plan cube) (λ bank in_vault. record { within = record { some_vault = record { some_cube = some; some_vault = in_cube }; some_bank = in_vault }; mask = tt }))
 
 lifts_work : (plan : PlanFields) (cube : ℕ) → cube < length plan.cubes → All (IsWorking plan) (lifts_of plan cube)
 unfolding lifts_of
 lifts_work plan cube some =
     let P = IsWorking plan in
-    let last : P (Lift cube lifts.Registers) = record { within = record { some_cube = some; some_lift = tt }; built = tt } in
+    let last : P (Lift cube lifts.Registers) = record { within = record { some_cube = some; some_lift = tt }; mask = tt } in
     All-append P (map (λ vault. Lift cube (lifts.Vault vault)) (upto (vaults_at plan cube))) (Lift cube lifts.Registers ∷ [])
-    (map_all P (λ vault. Lift cube (lifts.Vault vault)) (vaults_at plan cube) (λ vault small. record { within = record { some_cube = some; some_lift = small }; built = tt }))
+    (map_all P (λ vault. Lift cube (lifts.Vault vault)) (vaults_at plan cube) (λ vault small. record { within = record { some_cube = some; some_lift = small }; mask = tt }))
     (All-cons P (Lift cube lifts.Registers) [] last (All-nil P))
 
-zero_long : length zero_flit ≡ 16
+zero_mask : IsMask zero_flit
 unfolding zero_flit
-zero_long = refl
+zero_mask = record { long = refl; bytes = IsBytes-zeros 16 }
 
 round_works : (plan : PlanFields) → All (IsWorking plan) (round_of plan)
 unfolding round_of
@@ -90,15 +92,15 @@ round_works plan =
     let P = IsWorking plan in
     let n = length plan.cubes in
     All-append P _ _ (All-append P _ _ (All-append P _ _ (All-append P _ _ (All-append P _ _ (All-append P _ _ (All-append P _ _ (All-append P _ _
-    (map_all P Give plan.hosts (λ host small. record { within = small; built = tt }))
-    (map_all P Send plan.directions (λ direction small. record { within = small; built = tt })))
-    (map_all P (λ direction. Land direction zero_flit) plan.directions (λ direction small. record { within = small; built = zero_long })))
+    (map_all P Give plan.hosts (λ host small. record { within = small; mask = tt }))
+    (map_all P Send plan.directions (λ direction small. record { within = small; mask = tt })))
+    (map_all P (λ direction. Land direction zero_flit) plan.directions (λ direction small. record { within = small; mask = zero_mask })))
     (each_all P (shifts_of plan) n (shifts_work plan)))
     (each_all P (spreads_of plan) n (spreads_work plan)))
     (each_all P (banks_of plan) n (banks_work plan)))
-    (map_all P Registers n (λ cube small. record { within = small; built = tt })))
+    (map_all P Registers n (λ cube small. record { within = small; mask = tt })))
     (each_all P (lifts_of plan) n (lifts_work plan)))
-    (map_all P Take plan.hosts (λ host small. record { within = small; built = tt }))
+    (map_all P Take plan.hosts (λ host small. record { within = small; mask = tt }))
 
 repeated_works : (plan : PlanFields) (n : ℕ) → All (IsWorking plan) (rounds_of plan n)
 unfolding rounds_of
@@ -123,10 +125,10 @@ noise_counted None n m more le is = tt
 noise_counted (Some noise) n m more le is =
     record { some = is.some; few = omega (arith, is.few, le); mask = is.mask }
 
-mask_long : (noise : Option Noise) (n : ℕ) → IfSome noise (IsNoise n) → (one : Noise) → noise ≡ Some one → length one.mask ≡ 16
-mask_long None n is one same = absurd (cc (same))
-mask_long (Some noise) n is one same =
-    let equal : noise ≡ one = cc (same) in subst (λ (o : Noise). length o.mask ≡ 16) equal is.mask
+noise_mask : (noise : Option Noise) (n : ℕ) → IfSome noise (IsNoise n) → (one : Noise) → noise ≡ Some one → IsMask one.mask
+noise_mask None n is one same = absurd (cc (same))
+noise_mask (Some noise) n is one same =
+    let equal : noise ≡ one = cc (same) in subst (λ (o : Noise). IsMask o.mask) equal is.mask
 
 one_added : (plan : PlanFields) (progress new : Progress) (step : Step) → IsProgress plan progress → IsWorking plan step → add_one progress step ≡ Ok new → IsProgress plan new
 unfolding add_one
@@ -157,7 +159,7 @@ rounds_added plan progress new rounds is works made =
           let same : record { steps = steps; noise = option_map (counted (lands_in rounds)) progress.noise } ≡ new = cc (made) in
           subst (IsProgress plan) same record {
             few = omega (arith, all.1, long);
-            works = subst (All (IsWorking plan)) (sym all.0) (All-append (IsWorking plan) progress.steps more is.works (noisy_if-works plan progress.noise rounds (mask_long progress.noise (length progress.steps) is.noise) works));
+            works = subst (All (IsWorking plan)) (sym all.0) (All-append (IsWorking plan) progress.steps more is.works (noisy_if-works plan progress.noise rounds (noise_mask progress.noise (length progress.steps) is.noise) works));
             noise = noise_counted progress.noise (length progress.steps) (length steps) (lands_in rounds) (omega (arith, long, noisy_if-length progress.noise rounds, lands-le rounds)) is.noise;
           }
 
@@ -177,23 +179,23 @@ still_progress plan progress new (Noisy noise) is works made =
       noise = noise_kept noise 0 (length progress.steps) (omega arith) works;
     }
 
-some_mask : (noise : Option Noise) → IfSome noise (λ n. length n.mask ≡ 16) → (one : Noise) → noise ≡ Some one → length one.mask ≡ 16
+some_mask : (noise : Option Noise) → IfSome noise (λ n. IsMask n.mask) → (one : Noise) → noise ≡ Some one → IsMask one.mask
 some_mask None long one same = absurd (cc (same))
 some_mask (Some noise) long one same =
-    let equal : noise ≡ one = cc (same) in subst (λ (o : Noise). length o.mask ≡ 16) equal long
+    let equal : noise ≡ one = cc (same) in subst (λ (o : Noise). IsMask o.mask) equal long
 
-rounds_work : (plan : PlanFields) (noise : Option (ℕ × List ℕ)) (n : ℕ) → IfSome (option_map new_noise noise) (λ n. length n.mask ≡ 16) → All (IsWorking plan) (noisy_if (option_map new_noise noise) (rounds_of plan n))
+rounds_work : (plan : PlanFields) (noise : Option (ℕ × List ℕ)) (n : ℕ) → IfSome (option_map new_noise noise) (λ n. IsMask n.mask) → All (IsWorking plan) (noisy_if (option_map new_noise noise) (rounds_of plan n))
 rounds_work plan noise n long =
     noisy_if-works plan (option_map new_noise noise) (rounds_of plan n) (some_mask (option_map new_noise noise) long) (repeated_works plan n)
 
 -- rounds that are appended name parts of the plan
-pub rounds_within : (plan : PlanFields) (noise : Option (ℕ × List ℕ)) (n : ℕ) (before : List Step) → IfSome (option_map new_noise noise) (λ n. length n.mask ≡ 16) → All (IsStepOf plan) before → All (IsStepOf plan) (before ++ noisy_if (option_map new_noise noise) (rounds_of plan n))
+pub rounds_within : (plan : PlanFields) (noise : Option (ℕ × List ℕ)) (n : ℕ) (before : List Step) → IfSome (option_map new_noise noise) (λ n. IsMask n.mask) → All (IsStepOf plan) before → All (IsStepOf plan) (before ++ noisy_if (option_map new_noise noise) (rounds_of plan n))
 rounds_within plan noise n before long all =
     let work = rounds_work plan noise n long in
     All-append (IsStepOf plan) before (noisy_if (option_map new_noise noise) (rounds_of plan n)) all (λ k d small. (work k d small).within)
 
--- and are built so far
-pub rounds_built : (plan : PlanFields) (noise : Option (ℕ × List ℕ)) (n : ℕ) (before : List Step) → IfSome (option_map new_noise noise) (λ n. length n.mask ≡ 16) → All IsBuilt before → All IsBuilt (before ++ noisy_if (option_map new_noise noise) (rounds_of plan n))
-rounds_built plan noise n before long all =
+-- and have masks as long as a flit
+pub rounds_masks : (plan : PlanFields) (noise : Option (ℕ × List ℕ)) (n : ℕ) (before : List Step) → IfSome (option_map new_noise noise) (λ n. IsMask n.mask) → All HasFlit before → All HasFlit (before ++ noisy_if (option_map new_noise noise) (rounds_of plan n))
+rounds_masks plan noise n before long all =
     let work = rounds_work plan noise n long in
-    All-append IsBuilt before (noisy_if (option_map new_noise noise) (rounds_of plan n)) all (λ k d small. (work k d small).built)
+    All-append HasFlit before (noisy_if (option_map new_noise noise) (rounds_of plan n)) all (λ k d small. (work k d small).mask)

@@ -49,7 +49,7 @@ round_of-two_cubes : round_of two_cubes ≡
 unfolding round_of shifts_of spreads_of banks_of lifts_of
 round_of-two_cubes = refl
 
--- the words of a step that isn't built yet are read all the same
+-- a packet that still arrives goes on: a cube and a joined port
 step_of-through : step_of two_cubes verbs.Through (codes "1" ∷ codes "1" ∷ codes "x" ∷ []) ≡ Ok (steps.Through 1 1, codes "x" ∷ [])
 unfolding step_of port_step port_words number_word number_of number_in number_after
 step_of-through = refl
@@ -67,11 +67,10 @@ step_of-retire : map (λ slot. step_of two_cubes verbs.Retire (slot ∷ [])) (co
 unfolding step_of numbered_step number_word number_of number_in number_after
 step_of-retire = refl
 
--- so far a packet that goes on while it still arrives is not a step
-one_of-unbuilt : map (λ first. one_of two_cubes first (codes "0" ∷ [])) (codes "through" ∷ codes "unlock" ∷ codes "retire" ∷ codes "Unlock" ∷ []) ≡
-    Err kinds.Step ∷ Ok (meanings.One (steps.Unlock 0)) ∷ Ok (meanings.One (steps.Retire 0)) ∷ Err kinds.Step ∷ []
-unfolding one_of verb_of all_verbs step_of numbered_step number_word number_of number_in number_after
-one_of-unbuilt = refl
+one_of-rows : map (λ first. one_of two_cubes first (codes "0" ∷ codes "2" ∷ [])) (codes "through" ∷ codes "shift" ∷ codes "unlock" ∷ codes "Through" ∷ []) ≡
+    Ok (meanings.One (steps.Through 0 2)) ∷ Ok (meanings.One (steps.Shift 0 2)) ∷ Err kinds.Words ∷ Err kinds.Step ∷ []
+unfolding one_of verb_of all_verbs step_of numbered_step port_step port_words number_word number_of number_in number_after
+one_of-rows = refl
 
 count_word-ends : map (λ count. count_word (count ∷ [])) (codes "0" ∷ codes "1" ∷ codes "1000000" ∷ codes "1000001" ∷ []) ≡
     Err kinds.Range ∷ Ok (1, []) ∷ Ok (1000000, []) ∷ Err kinds.Range ∷ []

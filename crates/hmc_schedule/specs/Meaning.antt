@@ -14,7 +14,7 @@ use Rattle.hmc_schedule.specs.declared.verb.Verb.TheVariants.{Give, Send, Land, 
 use Rattle.hmc_schedule.specs.Operands.{index_word, port_words, vault_words, lift_word, mask_words, due_mask, count_word}
 use Rattle.hmc_schedule.specs.Noise.{IsNoise}
 use Rattle.hmc_schedule.specs.Plan.{PlanFields, IsWorking, slots, vaults_at, banks_at}
-use Rattle.hmc_schedule.specs.Verb.{verb_of, verb_if_built}
+use Rattle.hmc_schedule.specs.Verb.{verb_of}
 
 -- a step with one number below the limit
 unfoldable pub numbered_step : (ℕ → Step) → ℕ → List (List ℕ)
@@ -77,7 +77,6 @@ step_of plan Retire words = numbered_step steps.Retire slots words
 unfoldable pub one_of : PlanFields → List ℕ → List (List ℕ) → Result Meaning ScheduleKind
 one_of plan first words = do
   verb ← or_fault kinds.Step (verb_of first)
-  verb ← or_fault kinds.Step (verb_if_built verb)
   step ← step_of plan verb words
   end ← no_word kinds.Words step.1
   Ok (One step.0)

@@ -5,6 +5,7 @@ use Rattle.hmc_codes.specs.Numbers.{upto}
 use Rattle.hmc_schedule.specs.declared.noise.Noise.{Noise}
 use Rattle.hmc_schedule.specs.declared.step.Step.{Step}
 use Rattle.hmc_schedule.specs.declared.step.Step.TheVariants.{Land}
+use Rattle.hmc_schedule.specs.Mask.{IsMask}
 
 -- whether the step is a landing; an idle one is one too
 abbrev pub is_land : Step → Bool
@@ -55,4 +56,4 @@ noisy_if (Some noise) steps = noisy noise noise.count steps
 pub record IsNoise (steps : ℕ) (noise : Noise) : Type 0 where
   pub some : 1 ≤ noise.every
   pub few : noise.count ≤ steps
-  pub mask : length noise.mask ≡ 16
+  pub mask : IsMask noise.mask

@@ -7,6 +7,7 @@ use Rattle.hmc_codes.specs.declared.lift.Lift.TheVariants as lifts
 use Rattle.hmc_schedule.specs.declared.plan.CubePlan.{CubePlan}
 use Rattle.hmc_schedule.specs.declared.step.Step.{Step}
 use Rattle.hmc_schedule.specs.declared.step.Step.TheVariants as steps
+use Rattle.hmc_schedule.specs.Mask.{IsMask}
 
 -- a cube, as contracts see it: its shape, and which of its ports a link joins
 abbrev pub CubePlanFields : Type 0
@@ -90,13 +91,12 @@ IsStepOf plan (steps.Through cube port) = IsPortOf plan cube port
 IsStepOf plan (steps.Unlock direction) = direction < plan.directions
 IsStepOf plan (steps.Retire slot) = slot < slots
 
--- a step that is built so far: it doesn't go through, and each mask has 16 bytes
-abbrev pub IsBuilt : Step → Type 0
-IsBuilt (steps.Land direction mask) = length mask ≡ 16
-IsBuilt (steps.Through cube port) = ⊥
-IsBuilt step = Unit {0}
+-- the mask of a landing is as long as a flit
+abbrev pub HasFlit : Step → Type 0
+HasFlit (steps.Land direction mask) = IsMask mask
+HasFlit step = Unit {0}
 
--- a step of the plan that is built so far
+-- a step of the plan, with a mask as long as a flit if it has one
 pub record IsWorking (plan : PlanFields) (step : Step) : Type 0 where
   pub within : IsStepOf plan step
-  pub built : IsBuilt step
+  pub mask : HasFlit step

@@ -28,8 +28,3 @@ verbs =
 -- the kind of step with this word
 unfoldable pub verb_of : List ℕ → Option Verb
 verb_of word = find (λ verb. bytes_eq (word_of verb) word) verbs
-
--- the kind of step, if it is built so far
-abbrev pub verb_if_built : Verb → Option Verb
-verb_if_built Through = None
-verb_if_built verb = Some verb

@@ -1,11 +1,10 @@
 //! What a line of a schedule states.
 
-ghost use Rattle.std.specs.Prelude.{◌≡◌, IfOk, IsSome};
+ghost use Rattle.std.specs.Prelude.{◌≡◌, IfOk};
 ghost use Rattle.hmc_text.specs.Reading.{Gives};
 ghost use Rattle.hmc_text.specs.Words.{words_of};
 ghost use Rattle.hmc_schedule.specs.Meaning.{numbered_step, port_step, land_of, spread_of, bank_of, lift_of, step_of, one_of, rounds_meaning, noise_end, noise_begin, noise_meaning, noise_or_one, statement_of, meaning_of, IsMeaning};
-ghost use Rattle.hmc_schedule.specs.Plan.{PlanFields, IsStepOf, IsBuilt};
-ghost use Rattle.hmc_schedule.specs.Verb.{verb_if_built};
+ghost use Rattle.hmc_schedule.specs.Plan.{PlanFields, IsStepOf, HasFlit};
 
 use crate::noise::Noise;
 use crate::operands::{
@@ -37,7 +36,7 @@ fn land<'a>(plan: &Plan, line: &'a [u8]) -> Result<(Step, &'a [u8]), ScheduleKin
     ensures value { Gives (λ p. (p.0, words_of p.1.now)) result
         (land_of plan.now (words_of line.now)) }
     ensures within { IfOk result (λ p. IsStepOf plan.now p.0) }
-    ensures built { IfOk result (λ p. IsBuilt p.0) }
+    ensures mask { IfOk result (λ p. HasFlit p.0) }
 {
     let (direction, rest) = index_word(plan.directions, line)?;
     let (mask, rest) = mask_words(rest)?;
@@ -49,7 +48,7 @@ fn shift<'a>(plan: &Plan, line: &'a [u8]) -> Result<(Step, &'a [u8]), ScheduleKi
     ensures value { Gives (λ p. (p.0, words_of p.1.now)) result
         (port_step Step.Shift plan.now (words_of line.now)) }
     ensures within { IfOk result (λ p. IsStepOf plan.now p.0) }
-    ensures built { IfOk result (λ p. IsBuilt p.0) }
+    ensures mask { IfOk result (λ p. HasFlit p.0) }
 {
     let (cube, port, rest) = port_words(plan, line)?;
     Ok((Step::Shift(cube, port), rest))
@@ -60,6 +59,7 @@ fn through<'a>(plan: &Plan, line: &'a [u8]) -> Result<(Step, &'a [u8]), Schedule
     ensures value { Gives (λ p. (p.0, words_of p.1.now)) result
         (port_step Step.Through plan.now (words_of line.now)) }
     ensures within { IfOk result (λ p. IsStepOf plan.now p.0) }
+    ensures mask { IfOk result (λ p. HasFlit p.0) }
 {
     let (cube, port, rest) = port_words(plan, line)?;
     Ok((Step::Through(cube, port), rest))
@@ -70,7 +70,7 @@ fn spread<'a>(plan: &Plan, line: &'a [u8]) -> Result<(Step, &'a [u8]), ScheduleK
     ensures value { Gives (λ p. (p.0, words_of p.1.now)) result
         (spread_of plan.now (words_of line.now)) }
     ensures within { IfOk result (λ p. IsStepOf plan.now p.0) }
-    ensures built { IfOk result (λ p. IsBuilt p.0) }
+    ensures mask { IfOk result (λ p. HasFlit p.0) }
 {
     let (cube, vault, rest) = vault_words(plan, line)?;
     Ok((Step::Spread(cube, vault), rest))
@@ -81,7 +81,7 @@ fn bank<'a>(plan: &Plan, line: &'a [u8]) -> Result<(Step, &'a [u8]), ScheduleKin
     ensures value { Gives (λ p. (p.0, words_of p.1.now)) result
         (bank_of plan.now (words_of line.now)) }
     ensures within { IfOk result (λ p. IsStepOf plan.now p.0) }
-    ensures built { IfOk result (λ p. IsBuilt p.0) }
+    ensures mask { IfOk result (λ p. HasFlit p.0) }
 {
     let (cube, vault, rest) = vault_words(plan, line)?;
     let (bank, rest) = index_word(plan.banks(cube), rest)?;
@@ -93,7 +93,7 @@ fn lift<'a>(plan: &Plan, line: &'a [u8]) -> Result<(Step, &'a [u8]), ScheduleKin
     ensures value { Gives (λ p. (p.0, words_of p.1.now)) result
         (lift_of plan.now (words_of line.now)) }
     ensures within { IfOk result (λ p. IsStepOf plan.now p.0) }
-    ensures built { IfOk result (λ p. IsBuilt p.0) }
+    ensures mask { IfOk result (λ p. HasFlit p.0) }
 {
     let (cube, rest) = index_word(plan.cube_count(), line)?;
     let (lift, rest) = lift_word(plan.vaults(cube), rest)?;
@@ -106,7 +106,7 @@ fn step<'a>(plan: &Plan, verb: Verb, line: &'a [u8]) -> Result<(Step, &'a [u8]),
     ensures value { Gives (λ p. (p.0, words_of p.1.now)) result
         (step_of plan.now verb (words_of line.now)) }
     ensures within { IfOk result (λ p. IsStepOf plan.now p.0) }
-    ensures built { IsSome (verb_if_built verb) → IfOk result (λ p. IsBuilt p.0) }
+    ensures mask { IfOk result (λ p. HasFlit p.0) }
 {
     match verb {
         Verb::Give => {
@@ -149,9 +149,6 @@ fn one(plan: &Plan, first: &[u8], line: &[u8]) -> Result<Meaning, ScheduleKind>
     ensures works { IfOk result (IsMeaning plan.now) }
 {
     let Some(verb) = verb_of(first) else {
-        return Err(ScheduleKind::Step);
-    };
-    let Some(verb) = verb.if_built() else {
         return Err(ScheduleKind::Step);
     };
     let (step, rest) = step(plan, verb, line)?;

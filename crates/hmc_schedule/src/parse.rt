@@ -7,7 +7,7 @@ ghost use Rattle.hmc_text.specs.InTurn.{at_line, Answers};
 ghost use Rattle.hmc_schedule.specs.declared.written.Stretch.TheVariants as stretch;
 ghost use Rattle.hmc_schedule.specs.Meaning.{IsMeaning};
 ghost use Rattle.hmc_schedule.specs.Noise.{counted, IsNoise};
-ghost use Rattle.hmc_schedule.specs.Plan.{PlanFields, IsStepOf, IsBuilt, IsWorking};
+ghost use Rattle.hmc_schedule.specs.Plan.{PlanFields, IsStepOf, HasFlit, IsWorking};
 ghost use Rattle.hmc_schedule.specs.Round.{repeated, round_of};
 ghost use Rattle.hmc_schedule.specs.Schedule.{Progress, add_steps, add_rounds, add_one, after_meaning, after_line, schedule_of, IsProgress};
 ghost use Rattle.hmc_schedule.specs.Written.{round_at, stretch_of, IsKept, IsStretch, IsRoundOf};
@@ -182,8 +182,8 @@ impl Schedule {
         ensures few { IfOk result (λ schedule. length schedule ≤ most_steps) }
         ensures within { IfOk result (All (IsStepOf plan.now)) }
 
-        // So far no step goes through. Each mask has 16 bytes.
-        ensures built { IfOk result (All IsBuilt) }
+        // Each mask is as long as a flit.
+        ensures masks { IfOk result (All HasFlit) }
     {
         let mut written = Written::new(alloc);
         let steps = round(alloc, plan)?;

@@ -3,7 +3,8 @@
 ghost use Rattle.std.specs.Prelude.{◌≡◌, ◌<◌, ◌≤◌, ◌+◌, ◌*◌, ◌++◌, [], length, option_map, slice_get, Some, IfSome, OnOk, OnErr};
 ghost use Rattle.std.specs.List.{All};
 ghost use Rattle.hmc_codes.specs.Limits.{most_steps};
-ghost use Rattle.hmc_schedule.specs.Plan.{IsStepOf, IsBuilt};
+ghost use Rattle.hmc_schedule.specs.Mask.{IsMask};
+ghost use Rattle.hmc_schedule.specs.Plan.{IsStepOf, HasFlit};
 ghost use Rattle.hmc_schedule.specs.Noise.{new_noise, noisy_if};
 ghost use Rattle.hmc_schedule.specs.Round.{round_of, rounds_of};
 ghost use Rattle.hmc_schedule.specs.Written.{IsRoundOf};
@@ -39,7 +40,7 @@ impl Model for Schedule {
 // Noise of this number and mask that has counted nothing yet.
 fn new_noise(noise: Option<(u32, Flit)>) -> Option<Noise>
     ensures value { result ≡ option_map new_noise noise }
-    ensures mask { IfSome result (λ noise. length noise.mask ≡ 16) }
+    ensures mask { IfSome result (λ noise. IsMask noise.mask) }
 {
     match noise {
         Some(pair) => {
@@ -98,10 +99,10 @@ impl Schedule {
             (self.new ≡ self.old ++ noisy_if (option_map new_noise noise) (rounds_of plan.now n)) }
         ensures err { OnErr result (self.new ≡ self.old) }
 
-        // Each step of the rounds names parts that the plan has, and is built so far.
+        // Each step of the rounds names parts that the plan has. Each mask is as long as a flit.
         ensures within { All (IsStepOf plan.now) self.old
             → OnOk result (All (IsStepOf plan.now) self.new) }
-        ensures built { All IsBuilt self.old → OnOk result (All IsBuilt self.new) }
+        ensures masks { All HasFlit self.old → OnOk result (All HasFlit self.new) }
     {
         let steps = round(self.alloc, plan)?;
         let kept = self.written.keep(&steps, plan.directions)?;

@@ -1,7 +1,7 @@
 //! The first words of lines.
 
 ghost use Rattle.std.specs.Prelude.{◌≡◌};
-ghost use Rattle.hmc_schedule.specs.Verb.{word_of, verb_of, verb_if_built};
+ghost use Rattle.hmc_schedule.specs.Verb.{word_of, verb_of};
 
 /// A kind of step.
 #[derive(Clone, Copy)]
@@ -52,16 +52,6 @@ impl Verb {
             Verb::Through => "through",
             Verb::Unlock => "unlock",
             Verb::Retire => "retire",
-        }
-    }
-
-    /// The kind of step, if it is built so far.
-    pub fn if_built(self) -> Option<Verb>
-        ensures { result ≡ verb_if_built self }
-    {
-        match self {
-            Verb::Through => None,
-            _ => Some(self),
         }
     }
 }

@@ -57,7 +57,7 @@ fn wide(alloc: Global) -> Result<Plan, AllocError> {
 // The mask of the last bit of a flit.
 const LAST_BIT: [u8; 16] = [0, 0, 0, 0, 0, 0, 0, 0, 0, 0, 0, 0, 0, 0, 0, 0x80];
 
-const STEPS: [(&str, Step); 20] = [
+const STEPS: [(&str, Step); 23] = [
     ("give 1", Step::Give(1)),
     ("send 5", Step::Send(5)),
     ("land 5", Step::Land(5, [0; 16])),
@@ -83,6 +83,9 @@ const STEPS: [(&str, Step); 20] = [
     ("lift 0 1", Step::Lift(0, Lift::Vault(1))),
     ("lift 1 r", Step::Lift(1, Lift::Registers)),
     ("take 0", Step::Take(0)),
+    ("through 0 2", Step::Through(0, 2)),
+    ("through 0x1 01", Step::Through(1, 1)),
+    ("retire 7", Step::Retire(7)),
     ("\t send \t 3 \r", Step::Send(3)),
     ("send 0x5", Step::Send(5)),
     ("send 00000000000000000003", Step::Send(3)),

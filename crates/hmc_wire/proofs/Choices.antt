@@ -39,7 +39,8 @@ use Rattle.hmc_numbers.specs.Events.{Event}
 use Rattle.hmc_numbers.specs.Events.Event.{begins, begins_again}
 use Rattle.hmc_numbers.specs.Pair.{Half}
 use Rattle.hmc_numbers.specs.Tokens.{cost}
-use Rattle.hmc_wire.specs.Conditions.{IsFeed}
+use Rattle.hmc_wire.specs.Conditions.{IsFeed, IsFlit}
+use Rattle.hmc_wire.proofs.Flits.{irtry-flit, null-flit, pret-flit, training-is_flit}
 use Rattle.hmc_wire.proofs.Spelled.{Sent}
 use Rattle.hmc_wire.proofs.PacketGrammar.{grammar, IsSequenced}
 use Rattle.hmc_wire.specs.EntryTurns.{weight}
@@ -283,7 +284,7 @@ feed-by q s retry adv t given own oth env o flit (Whole whole) fed fits is next 
       last = ap (λ (u : Option Part). if is_none u then suc (length l) else entries.last_begun q t) o.under;
       unfinished = grown;
       clears = refl;
-    }))
+    }) (subst IsFlit same is))
 feed-by q s retry adv t given own oth env o flit (Last half slid errstat good) fed fits is next =
     let l = entries.places q t in
     let x : Place = open_place o in
@@ -347,7 +348,7 @@ steers-case q s retry adv t given own oth env ready nothing kinds.Clear =
     clear-done q s retry adv t _ given own oth env ready nothing refl refl refl refl refl
 steers-case q s retry adv t given own oth env ready nothing kinds.Start =
     filler-done q s retry adv t _ given fill.start _ own oth env (record { first = refl; acked = refl; last = refl; unfinished = refl; clears = refl }) (env.ready ready, left-none q t own.direction env.sends nothing)
-    (mark-start q s own.direction.first oth.direction.first oth.direction.accepted given.own.rrp env.below env.rrp)
+    (mark-start q s own.direction.first oth.direction.first oth.direction.accepted given.own.rrp env.below env.rrp) (irtry-flit q kinds.Start given.own.rrp)
 
 -- ---- each case
 
@@ -360,7 +361,7 @@ by-case : (q : Profile) (s : Sent (grammar q)) (retry adv : ℕ) (t : List Sende
     (x : outer_sent.Sent) → Case q (view_after q retry t given) x → DoneAs q s retry adv t given own oth x
 unfolding DoneAs view_after entries.places entries.acked entries.last_begun entries.unfinished entries.clears
 by-case q s retry adv t given own oth env fronts fed is x (case.trains train) =
-    filler-done q s retry adv t _ given fill.train _ own oth env (record { first = refl; acked = refl; last = refl; unfinished = refl; clears = refl }) (env.train train) (mark-train q s own.direction.first oth.direction.first oth.direction.accepted)
+    filler-done q s retry adv t _ given fill.train _ own oth env (record { first = refl; acked = refl; last = refl; unfinished = refl; clears = refl }) (env.train train) (mark-train q s own.direction.first oth.direction.first oth.direction.accepted) training-is_flit
 by-case q s retry adv t given own oth env fronts fed is x (case.goes_on ready begun some flit next) =
     let found = some-begun (place_at (entries.places q t) (entries.last_begun q t)) (entries.unfinished t) begun (sym some) in
     goes-by q s retry adv t given own oth env fed is env.places begun.part found.part flit
@@ -379,11 +380,11 @@ by-case q s retry adv t given own oth env fronts fed is x (case.returns free ope
 by-case q s retry adv t given own oth env fronts fed is x (case.points free other) =
     let b = free.between in
     filler-done q s retry adv t _ given fill.pret _ own oth env (record { first = refl; acked = refl; last = refl; unfinished = refl; clears = refl }) (env.ready b.trained, left-none q t own.direction env.sends (bare q retry t given b.nothing))
-    (mark-pret q s own.direction.first oth.direction.first oth.direction.accepted given.own.rrp env.below env.rrp)
+    (mark-pret q s own.direction.first oth.direction.first oth.direction.accepted given.own.rrp env.below env.rrp) (pret-flit q given.own.rrp)
 by-case q s retry adv t given own oth env fronts fed is x (case.idles free same) =
     let b = free.between in
     filler-done q s retry adv t _ given fill.null _ own oth env (record { first = refl; acked = refl; last = refl; unfinished = refl; clears = refl }) (env.ready b.trained, left-none q t own.direction env.sends (bare q retry t given b.nothing))
-    (mark-null q s own.direction.first oth.direction.first oth.direction.accepted)
+    (mark-null q s own.direction.first oth.direction.first oth.direction.accepted) null-flit
 
 -- a flit that is the choice is sent as the numbers allow
 pub sent-done : (q : Profile) (s : Sent (grammar q)) (retry adv : ℕ) (t : List SenderEntry) (given : Given) (own oth : Half) → Env q s retry adv t given own oth → ((p : PacketFields) → given.front ≡ Some p → IsGood q p) → IsFed (entries.under_way q t) given.feed → IsFeed given.feed →

@@ -44,7 +44,6 @@ use Rattle.hmc_wire.proofs.OpenPlaces.{open-place}
 use Rattle.hmc_wire.proofs.Places.{Weighs, AgreesWith}
 use Rattle.hmc_wire.proofs.Choices.{IsGood, sent-done}
 use Rattle.hmc_wire.proofs.Throughs.{Begun, through-done}
-use Rattle.hmc_wire.proofs.Short.{sent-short}
 use Rattle.hmc_wire.proofs.Ways.{Lists, lists_in, lists_sent, Way, way-sent, way-landed}
 use Rattle.hmc_wire.proofs.Others.{way-landed_other, way-taken, way-unlocked, way-handed, way-through}
 use Rattle.hmc_wire.proofs.Links.{given_by, env-of, may-land, may-take, fronts-good}
@@ -83,7 +82,7 @@ way-none link d = record {
   takes = omega arith;
   moved = refl;
   handed = tt;
-  short = tt;
+  whole = tt;
 }
 
 -- A send
@@ -109,7 +108,7 @@ sent-on q retry adv mine theirs s t own oth feed w flit is other linked back agr
     record {
       may = record { adds = done.adds; may = done.may; mark = done.mark agree };
       side = way-sent q retry mine own oth given w flit (sent_event q mine.sender given w) (length (receipts.accepted q theirs.receiver)) is
-          (record { sends = done.sends; parts = done.parts; fit = done.fit; chosen = (chosen, is.chosen) }) done.adds count (sent-short q view flit w fed.1 taken);
+          (record { sends = done.sends; parts = done.parts; fit = done.fit; chosen = (chosen, is.chosen) }) done.adds count done.whole;
     }
 
 pub sent-forth : (link : LinkFields) (s t : Sent (grammar link.profile)) (past : List LinkEntry) (feed : Feed) (w : What) (flit : List ℕ) → link.retry ≤ most_retry link.profile → IsLawful link (entry.sent Forth feed w flit ∷ past) →

@@ -37,6 +37,7 @@ use Rattle.hmc_wire.proofs.Steps.{some_packet, packet_in, sent_of, steps_of}
 use Rattle.hmc_wire.proofs.Mirrors.{mirrored}
 use Rattle.hmc_wire.proofs.Places.{packet_of, HasPacket, AllFit, fit-at, upto-sum, upto-all, Agrees, AgreesWith, agrees-packet}
 use Rattle.hmc_wire.proofs.Senders.{begun-length}
+use Rattle.hmc_wire.proofs.Flits.{flits-left}
 use Rattle.hmc_wire.proofs.Ways.{Lists, lists_in, Way, front-drop}
 use Rattle.hmc_wire.proofs.Links.{accepted-is, accepted-count, may-land}
 use Rattle.hmc_wire.proofs.Repeats.{side-old, packet-at}
@@ -220,6 +221,7 @@ laws-forth link past kept =
       queued = queued link Forth past kept.lawful;
       contents = contents q link.retry mine.sender j.forth.chosen kept.met.forth;
       numbered = first-numbered q link.retry mine.sender j.forth.chosen kept.met.forth;
+      flits = λ n sent is. flits-left mine.sent mine.landed n sent j.forth.whole is;
       ordered = λ mask flit o next.
           let is = lawful-landed link past Forth mask flit o next in
           let may = may-land q link.retry mine l.forth mask flit is.front j.forth is.is_front is.flit_is is.caught in
@@ -257,6 +259,7 @@ laws-back link past kept =
       queued = queued link Back past kept.lawful;
       contents = contents q link.retry mine.sender j.back.chosen kept.met.back;
       numbered = first-numbered q link.retry mine.sender j.back.chosen kept.met.back;
+      flits = λ n sent is. flits-left mine.sent mine.landed n sent j.back.whole is;
       ordered = λ mask flit o next.
           let is = lawful-landed link past Back mask flit o next in
           let may = may-land q link.retry mine l.back mask flit is.front j.back is.is_front is.flit_is is.caught in

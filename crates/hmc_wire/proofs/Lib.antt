@@ -34,11 +34,11 @@ pub mod LandingCases
 pub mod Readings
 pub mod Mirrors
 pub mod Marks
+pub mod Flits
 pub mod Filled
 pub mod Senders
 pub mod Choices
 pub mod Throughs
-pub mod Short
 pub mod Ways
 pub mod Others
 pub mod Links

@@ -43,7 +43,8 @@ use Rattle.hmc_wire.proofs.Parts.{Sends}
 use Rattle.hmc_wire.proofs.Mirrors.{mirrored, flits-same}
 use Rattle.hmc_wire.proofs.Senders.{Env, begun-length}
 use Rattle.hmc_wire.proofs.Choices.{IsGood}
-use Rattle.hmc_wire.proofs.Short.{IsShort, short-front}
+use Rattle.hmc_wire.specs.Conditions.{IsFlit}
+use Rattle.hmc_wire.proofs.Flits.{flits-left}
 use Rattle.hmc_wire.proofs.Ways.{Lists, Way, AllGood, front-drop}
 
 -- Modes
@@ -214,11 +215,11 @@ not-true : (b : Bool) → not b ≡ false → b ≡ true
 not-true true e = refl
 not-true false e = let clash : true ≡ false = e in absurd cc
 
-pub unchanged : (mask flit : List ℕ) → IsShort flit → changes mask ≡ false → under_mask mask flit ≡ flit
+pub unchanged : (mask flit : List ℕ) → IsFlit flit → changes mask ≡ false → under_mask mask flit ≡ flit
 unfolding zero_flit
-unchanged mask flit short is =
+unchanged mask flit whole is =
     let same : mask ≡ zero_flit = (bytes_eq-Decides mask zero_flit).0 (not-true (bytes_eq mask zero_flit) is) in
-    ap (λ (m : List ℕ). under_mask m flit) same ∙ unchanged-by 16 flit short
+    ap (λ (m : List ℕ). under_mask m flit) same ∙ unchanged-by 16 flit (let long = whole.long in omega arith)
 
 -- where a check succeeds nothing that it covers is changed
 caught-by : (checked pending here : Bool) → (checked && (pending || here)) ≡ false → (here || pending) ≡ true → checked ≡ false
@@ -235,7 +236,7 @@ may-land q retry mine own mask flit front is at masked caught =
       sent = front.flit;
       others = map (λ (x : StampedFlit). x.flit) (drop (suc mine.landed) mine.sent);
       line = is.flits ∙ ap (map (λ (x : StampedFlit). x.flit)) (front-drop mine.sent mine.landed front at);
-      same = λ e. masked ∙ unchanged mask front.flit (short-front mine.sent mine.landed front is.short at) e;
+      same = λ e. masked ∙ unchanged mask front.flit (flits-left mine.sent mine.landed 0 front is.whole at) e;
       sound = λ e.
           (λ i. inner.checks (grammar q) (inner.mode (grammar q) (is.received i)) (is.received i) flit) ∙ sym said.checked
           ∙ caught-by (reception_of q mine.receiver flit).checked mine.changed (changes mask) caught ((λ i. changes mask || (sym is.spoilt ∙ ap (inner.is_spoilt (grammar q)) (sym is.received)) i) ∙ e);

@@ -38,6 +38,8 @@ use Rattle.hmc_wire.specs.EntryTurns.{weight, left_of}
 use Rattle.hmc_wire.proofs.SenderLists.{Chosen, within}
 use Rattle.hmc_wire.proofs.OpenPlaces.{AreKnown, IsOpen}
 use Rattle.hmc_wire.proofs.Places.{packet_of, Fits, AllFit, fit-push, upto-sum, upto-all, size-weight, AreNumbered, numbered-at, Agrees, AgreesWith, agrees-packet}
+use Rattle.hmc_wire.specs.Conditions.{IsFlit}
+use Rattle.hmc_wire.proofs.Flits.{first-flit, irtry-flit, packet-flit}
 use Rattle.hmc_wire.proofs.Marks.{mark-clear, mark-part, mark-open, first-lng}
 use Rattle.hmc_wire.proofs.Parts.{Sends, IsPart, PartsFit, grown-left, part-grows, part-begins}
 
@@ -67,6 +69,7 @@ pub record Done (q : Profile) (s : Sent (grammar q)) (retry adv : ℕ) (T : List
   pub sends : Sends q T (happens own.direction e)
   pub parts : PartsFit q T
   pub fit : AllFit q (entries.places q T)
+  pub whole : IsFlit flit
 
 -- an entry leaves the places, what is acknowledged and begun, and the Clears
 pub record Stays (q : Profile) (t T : List SenderEntry) : Type 0 where
@@ -96,8 +99,9 @@ pub left-none : (q : Profile) (t : List SenderEntry) (w : Direction) → Sends q
 left-none q t w sends nothing = sends.left ∙ ap left_of nothing
 
 pub filler-done : (q : Profile) (s : Sent (grammar q)) (retry adv : ℕ) (t T : List SenderEntry) (given : Given) (f : Filler) (flit : List ℕ) (own oth : Half) → Env q s retry adv t given own oth → Stays q t T → MayHere retry adv own oth (sends_filler f) →
-    Mark (grammar q) s own.direction.first oth.direction.first (filler f) oth.direction.accepted flit → Done q s retry adv T (sends_filler f) flit own oth
-filler-done q s retry adv t T given f flit own oth env k may mark = record {
+    Mark (grammar q) s own.direction.first oth.direction.first (filler f) oth.direction.accepted flit → IsFlit flit → Done q s retry adv T (sends_filler f) flit own oth
+filler-done q s retry adv t T given f flit own oth env k may mark whole = record {
+  whole = whole;
   adds = refl;
   may = may;
   mark = λ agree. mark;
@@ -122,6 +126,7 @@ pub clear-done : (q : Profile) (s : Sent (grammar q)) (retry adv : ℕ) (t T : L
     entries.places q T ≡ entries.places q t → entries.acked T ≡ entries.acked t → entries.last_begun q T ≡ (if are_bursts (entries.clears t) then 0 else entries.last_begun q t) → entries.unfinished T ≡ entries.unfinished t →
     entries.clears T ≡ suc (entries.clears t) → Done q s retry adv T sends_clear (irtry_flit q kinds.Clear given.own.rrp) own oth
 clear-done q s retry adv t T given own oth env ready nothing first acked last unfinished clears = record {
+  whole = irtry-flit q kinds.Clear given.own.rrp;
   adds = refl;
   may = (env.ready ready, left-none q t own.direction env.sends nothing);
   mark = λ agree. mark-clear q s own.direction.first oth.direction.first oth.direction.accepted given.own.rrp env.below env.rrp;
@@ -210,6 +215,7 @@ begun-done q s retry adv t T given own oth x p u env fits new is_part numbers re
     let d = env.back.due in
     let size-x = new_item own.direction (weight x) in
     record {
+      whole = first-flit q p given.own.rrp fits.packet;
       adds = refl;
       may = (env.ready ready, (free-at q s retry adv t given own oth env nothing whole again, (omega arith, omega arith), room-at q retry t own.direction x env.sends (omega arith) room), (omega arith, omega arith));
       mark = λ agree.
@@ -255,6 +261,7 @@ again-done q s retry adv t T given own oth p env fits new ready nothing whole in
     let np : position own.direction + 1 ≡ n = omega arith in
     let sized : size own.direction.first (position own.direction + 1) ≡ flits_of p = (λ i. size (env.sends.first i) (np i)) ∙ size-weight l n (omega arith) (omega arith) ∙ sym fits-at.flits in
     record {
+      whole = first-flit q p given.own.rrp fits.packet;
       adds = refl;
       may = (env.ready ready, (left-none q t own.direction env.sends nothing, ap (λ (c : ℕ). c % 32) env.sends.clears ∙ whole-zero (entries.clears t) whole, omega arith));
       mark = λ agree.
@@ -346,6 +353,7 @@ goes-done q s retry adv t T given own oth under p env some fit fits numbers new 
     let numbered : IsNumbered q w.first n p = subst (λ ps. IsNumbered q ps n p) (new.weights ∙ sym env.sends.first) (numbered-at q l n p numbers least (omega arith) fits) in
     let flit = flit_of q p given.own.rrp (length under.sent) in
     record {
+      whole = packet-flit q p given.own.rrp (length under.sent) fits.packet (omega arith);
       adds = refl;
       may = omega arith;
       mark = λ agree.
@@ -366,8 +374,8 @@ at-end (y ∷ l) x = at-end l x
 -- a flit of a packet that is passed on, before its last
 pub goes-open : (q : Profile) (s : Sent (grammar q)) (retry adv : ℕ) (t T : List SenderEntry) (given : Given) (own oth : Half) (under : Part) (flit : List ℕ) → Env q s retry adv t given own oth → entries.unfinished t ≡ Some under →
     entries.places q T ≡ entries.places q t → packet_of (place_at (entries.places q t) (entries.last_begun q t)) ≡ None → 1 < under.flits - length under.sent → entries.unfinished T ≡ Some (record under { sent = under.sent ++ flit ∷ [] }) →
-    (length under.sent ≡ 0 → lng_of flit ≡ under.flits) → GoesOn q t T under flit → Done q s retry adv T goes_on flit own oth
-goes-open q s retry adv t T given own oth under flit env some first none long grown_is lng new =
+    (length under.sent ≡ 0 → lng_of flit ≡ under.flits) → GoesOn q t T under flit → IsFlit flit → Done q s retry adv T goes_on flit own oth
+goes-open q s retry adv t T given own oth under flit env some first none long grown_is lng new whole =
     let l = entries.places q t in
     let n = entries.last_begun q t in
     let w = own.direction in
@@ -378,6 +386,7 @@ goes-open q s retry adv t T given own oth under flit env some first none long gr
     let left = g.left in
     let sized = g.size in
     record {
+      whole = whole;
       adds = refl;
       may = omega arith;
       mark = λ agree.

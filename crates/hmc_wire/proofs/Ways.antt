@@ -42,7 +42,8 @@ use Rattle.hmc_wire.proofs.Places.{AllFit}
 use Rattle.hmc_wire.proofs.Parts.{Sends, PartsFit}
 use Rattle.hmc_wire.proofs.Senders.{sends-stay}
 use Rattle.hmc_wire.proofs.Choices.{IsGood}
-use Rattle.hmc_wire.proofs.Short.{IsShort, AreShort, short-push}
+use Rattle.hmc_wire.specs.Conditions.{IsFlit}
+use Rattle.hmc_wire.proofs.Flits.{AreFlits, flits-push}
 
 abbrev pub AllGood : Profile → List PacketFields → Type 0
 AllGood q [] = Unit {0}
@@ -81,7 +82,7 @@ pub record Way (q : Profile) (retry : ℕ) (mine : Lists q) (own : SideOf (gramm
   pub parts : PartsFit q mine.sender
   pub fit : AllFit q (turns.places q mine.sender)
   pub count : mine.landed ≤ length mine.sent
-  pub short : AreShort mine.sent
+  pub whole : AreFlits mine.sent
   pub flits : own.flits ≡ map (λ (x : StampedFlit). x.flit) (drop mine.landed mine.sent)
   pub stamps : own.half.stamps ≡ map (λ (x : StampedFlit). x.stamp) (drop mine.landed mine.sent)
   pub received : own.received ≡ mine.landings
@@ -110,9 +111,9 @@ stamps-sent ways.lands n ss e = absurd cc
 stamps-sent ways.stays n ss e = absurd cc
 
 pub way-sent : (q : Profile) (retry : ℕ) (mine : Lists q) (own oth : SideOf (grammar q)) (given : Given) (w : What) (flit : List ℕ) (e : Event) (n : ℕ) →
-    Way q retry mine own → SentFits q retry (SenderEntry.sent given w flit ∷ mine.sender) (happens own.half.direction e) → way e ≡ ways.sends → n ≡ oth.half.direction.accepted → IsShort flit →
+    Way q retry mine own → SentFits q retry (SenderEntry.sent given w flit ∷ mine.sender) (happens own.half.direction e) → way e ≡ ways.sends → n ≡ oth.half.direction.accepted → IsFlit flit →
     Way q retry (lists_sent mine (SenderEntry.sent given w flit) (record { flit = flit; stamp = n })) (own_side (grammar q) own oth (acts.sends e flit))
-way-sent q retry mine own oth given w flit e n is new adds stamp short =
+way-sent q retry mine own oth given w flit e n is new adds stamp whole =
     let x : StampedFlit = record { flit = flit; stamp = n } in
     let more = drop-append-le mine.landed mine.sent (x ∷ []) is.count in
     let len = length-append mine.sent (x ∷ []) in
@@ -123,7 +124,7 @@ way-sent q retry mine own oth given w flit e n is new adds stamp short =
       parts = new.parts;
       fit = new.fit;
       count = omega arith;
-      short = short-push mine.sent x is.short short;
+      whole = flits-push mine.sent x is.whole whole;
       flits = ap (λ fs. fs ++ flit ∷ []) is.flits ∙ sym (map_push (λ (y : StampedFlit). y.flit) (drop mine.landed mine.sent) x) ∙ ap (map (λ (y : StampedFlit). y.flit)) (sym more);
       stamps = stamps-sent (way e) oth.half.direction.accepted own.half.stamps adds ∙ (λ i. is.stamps i ++ sym stamp i ∷ []) ∙ sym (map_push (λ (y : StampedFlit). y.stamp) (drop mine.landed mine.sent) x) ∙ ap (map (λ (y : StampedFlit). y.stamp)) (sym more);
       received = is.received;
@@ -248,7 +249,7 @@ way-landed q retry mine own oth mask flit o front is at outcome_is = by_counted 
           parts = is.parts;
           fit = is.fit;
           count = below;
-          short = is.short;
+          whole = is.whole;
           flits = ap rest_of (is.flits ∙ ap (map (λ (x : StampedFlit). x.flit)) dropped);
           stamps = stamps ∙ stamps-landed (way e) oth.half.direction.accepted own.half.stamps lands_e ∙ ap rest_of_stamps (is.stamps ∙ ap (map (λ (x : StampedFlit). x.stamp)) dropped);
           received = (λ i. lands.landed c flit (inner.outcome (grammar q) (is.received i) flit) ∷ is.received i) ∙ ap (λ (x : Outcome Bad). lands.landed c flit x ∷ mine.landings) (sym said.outcome ∙ ap outcome_as (sym outcome_is));

@@ -20,7 +20,7 @@ use Rattle.hmc_send.specs.LinkLines.{StampedFlit, line}
 use Rattle.hmc_send.specs.LinkSenders.{sender_entries, places_in, queue_in, tokens}
 use Rattle.hmc_send.specs.LinkTokens.{flits_begun, flits_accepted, flits_taken, tokens_returned, tokens_credited}
 use Rattle.hmc_send.specs.Places.{Place, flits_in, numbers_at, pointer_of, with_numbers, tret_packet}
-use Rattle.hmc_wire.specs.Conditions.{AreMet}
+use Rattle.hmc_wire.specs.Conditions.{AreMet, IsFlit}
 
 -- how many packets of a direction are acknowledged
 abbrev pub acked_in : LinkFields → Toward → List LinkEntry → ℕ
@@ -133,6 +133,9 @@ pub record DirectionLaws (link : LinkFields) (d : Toward) (past : List LinkEntry
   -- the packets begun are numbered in their order, an open place too
   pub numbered : (n : ℕ) → n < length (places_in link d past) →
       HasNumbers link.profile (places_in link d past) n
+  -- each flit on its way is 16 bytes
+  pub flits : (n : ℕ) (sent : StampedFlit) →
+      slice_get (line link.profile d past) n ≡ Some sent → IsFlit sent.flit
   -- no packet lands out of order
   pub ordered : (mask flit : List ℕ) (outcome : Outcome) →
       IsLawful link (LinkEntry.landed d mask flit outcome ∷ past) → outcome ≢ AbortedOrder

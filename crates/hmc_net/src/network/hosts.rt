@@ -5,10 +5,7 @@ ghost use Rattle.hmc_case.specs.declared.setup.LinkRow.{LinkRow};
 ghost use Rattle.hmc_codes.specs.declared.place.Place.TheVariants as places;
 ghost use Rattle.hmc_journal.specs.Answers.{gave_entry, took_entry};
 ghost use Rattle.hmc_journal.specs.Event.{cause_of};
-ghost use Rattle.hmc_journal.specs.Links.{toward, direction_to};
 ghost use Rattle.hmc_journal.specs.Setup.{hosts_in, direction_from};
-ghost use Rattle.hmc_journal.specs.StepView.{StepView};
-ghost use Rattle.hmc_send.specs.LinkCalls.{has_room};
 ghost use Rattle.hmc_send.specs.LinkEntries.{LinkEntry};
 ghost use Rattle.hmc_net.specs.Apply.{DoesStep};
 ghost use Rattle.hmc_net.specs.Gives.{IsGiven, IsRequested, given_to, cause_by};
@@ -55,6 +52,20 @@ impl<B: Workbench> Network<B> {
 
     // The host takes the answer of the packet that came first, or drops that.
     pub(crate) fn take(&mut self, host: u8)
+        requires there { host < hosts_in self.old.topology }
+        requires ready { IsReady (net_of B.slots self.old) }
+        ensures { DoesStep (net_of B.slots self.old) (net_of B.slots self.new) (Step.Take host) }
+    {
+        let direction = self.wiring.to_host(host);
+        if !self.links.has_arrived(direction) {
+            self.last.idle(&Step::Take(host), Cause::Empty);
+            return;
+        }
+        self.take_front(host);
+    }
+
+    // The same. Where no packet came, none is to be moved.
+    fn take_front(&mut self, host: u8)
         requires there { host < hosts_in self.old.topology }
         requires ready { IsReady (net_of B.slots self.old) }
         ensures { DoesStep (net_of B.slots self.old) (net_of B.slots self.new) (Step.Take host) }

@@ -1,17 +1,24 @@
 //! The steps of links.
 
-ghost use Rattle.std.specs.Prelude.{◌≡◌, ◌<◌, length};
+ghost use Rattle.std.specs.Prelude.{◌≡◌, ◌<◌, ℕ, false, List, length};
 ghost use Rattle.hmc_journal.specs.Setup.{directions_in};
+ghost use Rattle.hmc_case.specs.declared.setup.LinkRow.{LinkRow};
+ghost use Rattle.hmc_send.specs.LinkEntries.{LinkEntry};
 ghost use Rattle.hmc_net.specs.Apply.{DoesStep};
-ghost use Rattle.hmc_net.specs.Links.{sent_by, landed_by, outcome_of, IsCameFlit};
+ghost use Rattle.hmc_journal.specs.Piped.{goes_on};
+ghost use Rattle.hmc_net.specs.LinkList.{AreGoing, LinksStandFor, IsDirection};
+ghost use Rattle.hmc_net.specs.Links.{sent_by, landed_by, outcome_of, landing_goes_on, after_landing, taken_where, IsCameFlit, MayPass};
+ghost use Rattle.hmc_net.specs.Pipes.{AreGathering, IsLastOf, passed_at, after_flit};
 ghost use Rattle.hmc_net.specs.Ready.{IsLandingIn};
 ghost use Rattle.hmc_net.specs.NetState.{net_of};
 ghost use Rattle.hmc_net.specs.Sees.{IsReady};
 
 use crate::Network;
+use crate::link_list::LinkList;
+use crate::pipes::Pipes;
 use hmc_codes::{Flit, ZERO_FLIT};
 use hmc_journal::{Cause, LastEntry};
-use hmc_link::{LinkLanded, LinkSent};
+use hmc_link::{LinkLanded, LinkSent, flit_is_bytes};
 use hmc_packet::{Landed, Outcome, constant_flits};
 use hmc_schedule::Step;
 use hmc_units::Workbench;
@@ -24,7 +31,9 @@ impl<B: Workbench> Network<B> {
         ensures { DoesStep (net_of B.slots self.old) (net_of B.slots self.new)
             (Step.Send direction) }
     {
-        let sent = self.links.send(direction);
+        let place = self.links.through_at(direction);
+        let feed = self.piped.feed(direction, place);
+        let sent = self.links.send(direction, feed);
         note_sent(&mut self.last, direction, &sent);
     }
 
@@ -36,6 +45,7 @@ impl<B: Workbench> Network<B> {
             (Step.Land direction mask.now) }
     {
         let landed = self.links.land(direction, mask);
+        pass_landed(&mut self.links, &mut self.piped, direction, &landed);
         note_landed(&mut self.last, direction, &landed);
     }
 
@@ -47,7 +57,70 @@ impl<B: Workbench> Network<B> {
             (Step.Unlock direction) }
     {
         self.links.unlock(direction);
+        self.piped.lose(direction);
         self.last.unlocked(direction);
+    }
+}
+
+// A flit that came belongs to the packet that is passed on from the end of its direction, if one
+// is.
+fn pass_landed(links: &mut LinkList, piped: &mut Pipes, direction: u8, landed: &LinkLanded)
+    requires count { direction < length piped.old.passed }
+    requires may { MayPass links.old piped.old direction landed.now }
+    ensures stands { (rows : List LinkRow) (entries : ℕ → List LinkEntry) →
+        LinksStandFor rows links.old entries → LinksStandFor rows links.new
+        (taken_where (landing_goes_on piped.old direction landed.now) rows direction entries) }
+    ensures piped { piped.new ≡ after_landing direction landed.now piped.old }
+    ensures idle { landing_goes_on piped.old direction landed.now ≡ false →
+        links.new ≡ links.old }
+{
+    match landed {
+        LinkLanded::Came { flit, outcome } => pass_came(links, piped, direction, flit, outcome),
+        LinkLanded::Empty | LinkLanded::Passed(_) => {}
+    }
+}
+
+// The same of a flit that came. An accepted packet has then gone on, and leaves its buffer.
+fn pass_came(links: &mut LinkList, piped: &mut Pipes, direction: u8, flit: &Flit, landed: &Landed)
+    requires there { IsDirection links.old direction }
+    requires going { AreGoing links.old }
+    requires count { direction < length piped.old.passed }
+    requires gathering { AreGathering piped.old direction }
+    requires last { IsLastOf piped.old direction (outcome_of landed.now) }
+    ensures stands { (rows : List LinkRow) (entries : ℕ → List LinkEntry) →
+        LinksStandFor rows links.old entries → LinksStandFor rows links.new
+        (taken_where (goes_on (outcome_of landed.now) (passed_at piped.old direction))
+        rows direction entries) }
+    ensures piped { piped.new ≡ after_flit direction flit.now (outcome_of landed.now) piped.old }
+    ensures idle { goes_on (outcome_of landed.now) (passed_at piped.old direction) ≡ false →
+        links.new ≡ links.old }
+{
+    let goes = goes_on(landed, piped.onto(direction));
+    piped.land(direction, flit, landed);
+    take_where(links, direction, goes);
+}
+
+// Takes the front of a direction's buffer where its packet has gone on.
+fn take_where(links: &mut LinkList, direction: u8, goes: bool)
+    requires there { IsDirection links.old direction }
+    requires going { AreGoing links.old }
+    ensures stands { (rows : List LinkRow) (entries : ℕ → List LinkEntry) →
+        LinksStandFor rows links.old entries →
+        LinksStandFor rows links.new (taken_where goes rows direction entries) }
+    ensures idle { goes ≡ false → links.new ≡ links.old }
+{
+    if goes {
+        links.take(direction);
+    }
+}
+
+// Whether a landing ends a packet that is passed on, and that is accepted.
+fn goes_on(landed: &Landed, onto: Option<u8>) -> bool
+    ensures { result ≡ goes_on (outcome_of landed.now) onto }
+{
+    match landed {
+        Landed::Accepted(_) => onto.is_some(),
+        _ => false,
     }
 }
 
@@ -62,13 +135,6 @@ fn note_sent(last: &mut LastEntry, direction: u8, sent: &LinkSent)
     }
 }
 
-// A flit is 16 bytes.
-fn flit_is_long(flit: &Flit)
-    ensures { length flit.now ≡ 16 }
-{
-    let _ = flit.len();
-}
-
 // The last entry becomes that of a landing.
 fn note_landed(last: &mut LastEntry, direction: u8, landed: &LinkLanded)
     ensures entry { last.new ≡ landed_by direction landed.now }
@@ -79,7 +145,7 @@ fn note_landed(last: &mut LastEntry, direction: u8, landed: &LinkLanded)
         LinkLanded::Empty => last.idle(&Step::Land(direction, ZERO_FLIT), Cause::Empty),
         LinkLanded::Passed(flit) => last.passed(direction, flit),
         LinkLanded::Came { flit, outcome } => {
-            flit_is_long(flit);
+            flit_is_bytes(flit);
             last.landed(direction, flit, outcome_of(outcome));
         }
     }

@@ -25,6 +25,21 @@ impl<B: Workbench> Network<B> {
             (Step.Shift cube port) }
     {
         let direction = self.wiring.to_port(cube, port);
+        if !self.links.has_arrived(direction) {
+            self.last.idle(&Step::Shift(cube, port), Cause::Empty);
+            return;
+        }
+        self.shift_front(cube, port);
+    }
+
+    // The same. Where no packet came, none is to be moved.
+    fn shift_front(&mut self, cube: u8, port: u8)
+        requires there { IsPortIn self.old.topology cube port }
+        requires ready { IsReady (net_of B.slots self.old) }
+        ensures { DoesStep (net_of B.slots self.old) (net_of B.slots self.new)
+            (Step.Shift cube port) }
+    {
+        let direction = self.wiring.to_port(cube, port);
         let Some(front) = self.links.front(direction) else {
             self.last.idle(&Step::Shift(cube, port), Cause::Empty);
             return;

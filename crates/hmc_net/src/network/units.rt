@@ -1,11 +1,13 @@
 //! The step of logic units: retire.
 
+ghost use Rattle.std.specs.Prelude.{◌≡◌};
 ghost use Rattle.hmc_net.specs.Apply.{DoesStep};
+ghost use Rattle.hmc_net.specs.Links.{retired_by};
 ghost use Rattle.hmc_net.specs.NetState.{net_of};
 ghost use Rattle.hmc_net.specs.Sees.{IsReady};
 
 use crate::Network;
-use hmc_journal::Cause;
+use hmc_journal::{Cause, LastEntry};
 use hmc_schedule::Step;
 use hmc_units::Workbench;
 
@@ -15,10 +17,18 @@ impl<B: Workbench> Network<B> {
         requires { IsReady (net_of B.slots self.old) }
         ensures { DoesStep (net_of B.slots self.old) (net_of B.slots self.new) (Step.Retire slot) }
     {
-        if self.bench.retire(slot) {
-            self.last.retired(slot);
-        } else {
-            self.last.idle(&Step::Retire(slot), Cause::Empty);
-        }
+        let live = self.bench.retire(slot);
+        note_retired(&mut self.last, slot, live);
+    }
+}
+
+// The last entry becomes that of a retirement of a slot that has a unit, or has none.
+fn note_retired(last: &mut LastEntry, slot: u8, live: bool)
+    ensures { last.new ≡ retired_by slot live }
+{
+    if live {
+        last.retired(slot);
+    } else {
+        last.idle(&Step::Retire(slot), Cause::Empty);
     }
 }

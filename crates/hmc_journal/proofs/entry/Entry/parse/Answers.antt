@@ -1,4 +1,4 @@
-use Rattle.std.proofs.Common.{◌≡◌, ◌∙◌, None, Some, sym}
+use Rattle.std.proofs.Common.{◌≡◌, None, Some, sym}
 use Rattle.hmc_text.specs.Words.{words_of}
 use Rattle.hmc_journal.specs.ParseEntry.{entry_in}
 use Rattle.hmc_journal.proofs.ParseSame.{nothing_read, found_read, other_read}

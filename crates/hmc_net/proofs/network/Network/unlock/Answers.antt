@@ -1,8 +1,21 @@
 -- The framing that is lost is the entry of the definition.
-use Rattle.std.proofs.Common.{ap}
-use Rattle.hmc_net.specs.NetState.{net_of}
+use Rattle.std.proofs.Common.{◌<◌, length, ap, sym, subst, arith}
+use Rattle.hmc_net.specs.NetState.{net_of, NetState}
+use Rattle.hmc_net.specs.Pipes.{AreGathering}
 use Rattle.hmc_net.proofs.LinkDoes.{unlock_for}
+use Rattle.hmc_net.proofs.Passing.{are_gathering}
 use Rattle.hmc_net.proofs.network.Network.unlock.Goals as goal
 
+pub lose-requires-clause-there : goal.lose-requires-clause-there
+lose-requires-clause-there g c =
+    let view = ap (net_of g.B.Workbench.slots) c.self.view_is in
+    subst (λ (n : NetState). c.args.direction < length n.piped.passed) (sym view) (omega (arith, c.requires.there, c.requires.ready.sized.piped.passed))
+
+pub lose-requires-clause-gathering : goal.lose-requires-clause-gathering
+lose-requires-clause-gathering g c =
+    let net = net_of g.B.Workbench.slots c.args.self.now in
+    let view = ap (net_of g.B.Workbench.slots) c.self.view_is in
+    subst (λ (n : NetState). AreGathering n.piped c.args.direction) (sym view) (are_gathering net c.args.direction c.requires.ready c.requires.there)
+
 pub returns : goal.returns
-returns g c = unlock_for _ (net_of g.B.Workbench.slots c.args.self.now) c.unlock.new.self c.unlocked.new.self c.args.direction (ap (net_of g.B.Workbench.slots) c.self.view_is) c.requires.ready c.unlocked.ensures c.unlock.ensures
+returns g c = unlock_for _ (net_of g.B.Workbench.slots c.args.self.now) c.unlock.new.self c.lose.new.self c.unlocked.new.self c.args.direction (ap (net_of g.B.Workbench.slots) c.self.view_is) c.requires.ready c.unlocked.ensures c.unlock.ensures c.lose.ensures

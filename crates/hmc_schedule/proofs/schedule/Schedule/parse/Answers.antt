@@ -27,8 +27,8 @@ returns-clause-exact c =
 pub returns-clause-within : goal.returns-clause-within
 returns-clause-within c = rw c.of.ensures.steps (λ k d small. (c.lines.invariant.read.works k d small).within)
 
-pub returns-clause-built : goal.returns-clause-built
-returns-clause-built c = rw c.of.ensures.steps (λ k d small. (c.lines.invariant.read.works k d small).built)
+pub returns-clause-masks : goal.returns-clause-masks
+returns-clause-masks c = rw c.of.ensures.steps (λ k d small. (c.lines.invariant.read.works k d small).mask)
 
 pub keep-requires : goal.keep-requires
 keep-requires c =

@@ -1,0 +1,117 @@
+//! The step through: a packet goes on that is still being gathered at a port.
+
+ghost use Rattle.std.specs.Prelude.{◌≡◌, ◌<◌, ◌≤◌, ◌*◌, ◌&&◌, not, [], length, slice_index_or};
+ghost use Rattle.hmc_packet.specs.Head.{head_in};
+ghost use Rattle.hmc_packet.specs.Parts.{lng_of};
+ghost use Rattle.hmc_net.specs.Apply.{DoesStep};
+ghost use Rattle.hmc_net.specs.NetState.{net_of};
+ghost use Rattle.hmc_net.specs.Ready.{IsPortIn};
+ghost use Rattle.hmc_net.specs.Sees.{IsReady};
+ghost use Rattle.hmc_net.specs.Throughs.{IsHeadAt, IsOnto, IsFree, IsComing, pipe_fields};
+
+use crate::Network;
+use hmc_codes::{Flit, Profile};
+use hmc_journal::Cause;
+use hmc_packet::{Head, head_of, lng_of};
+use hmc_schedule::Step;
+use hmc_through::Pipe;
+use hmc_units::Workbench;
+
+impl<B: Workbench> Network<B> {
+    // The packet that is gathered at a port goes on, if there is one that may.
+    pub(crate) fn through(&mut self, cube: u8, port: u8)
+        requires there { IsPortIn self.old.topology cube port }
+        requires ready { IsReady (net_of B.slots self.old) }
+        ensures { DoesStep (net_of B.slots self.old) (net_of B.slots self.new)
+            (Step.Through cube port) }
+    {
+        let from = self.wiring.to_port(cube, port);
+        let Some(head) = self.gathered_head(from) else {
+            self.last.idle(&Step::Through(cube, port), Cause::NoPacket);
+            return;
+        };
+        let Some(onto) = self.way_on(cube, port, &head) else {
+            self.last.idle(&Step::Through(cube, port), Cause::NoPacket);
+            return;
+        };
+        if !self.may_pass_on(from, onto, head.flits) {
+            self.last.idle(&Step::Through(cube, port), Cause::Busy);
+            return;
+        }
+        self.begin(cube, port, from, onto);
+    }
+
+    // The head of the packet that is gathered at the end of a direction.
+    fn gathered_head(&self, from: u8) -> Option<Head>
+        requires there { from < 2 * length self.now.topology.links }
+        requires ready { IsReady (net_of B.slots self.now) }
+        ensures { IsHeadAt (net_of B.slots self.now) from result }
+    {
+        let flits = self.links.through_view(from)?;
+        let first = flits.first()?;
+        head_of(first)
+    }
+
+    // The direction onto which a packet with this head goes on.
+    fn way_on(&self, cube: u8, port: u8, head: &Head) -> Option<u8>
+        requires there { IsPortIn self.now.topology cube port }
+        requires ready { IsReady (net_of B.slots self.now) }
+        ensures { IsOnto (net_of B.slots self.now) cube port head.now result }
+    {
+        let onward = self.wiring.onward_port(cube, port, head)?;
+        self.wiring.from_port(cube, onward)
+    }
+
+    // Whether a packet of so many flits can go on now from one direction onto another.
+    fn may_pass_on(&self, from: u8, onto: u8, flits: u8) -> bool
+        requires from { from < 2 * length self.now.topology.links }
+        requires onto { onto < 2 * length self.now.topology.links }
+        requires ready { IsReady (net_of B.slots self.now) }
+        ensures { IsFree (net_of B.slots self.now) from onto flits result }
+    {
+        let passed = self.piped.onto(from);
+        let arrived = self.links.has_arrived(from);
+        let ready = self.links.through_ready(onto, flits);
+        may_go(passed.is_some(), arrived, ready)
+    }
+
+    // The packet goes on: a cut-through is begun, and its pipe has the flits that came.
+    fn begin(&mut self, cube: u8, port: u8, from: u8, onto: u8)
+        requires there { IsPortIn self.old.topology cube port }
+        requires ready { IsReady (net_of B.slots self.old) }
+        requires coming { IsComing (net_of B.slots self.old) cube port from onto }
+        ensures { DoesStep (net_of B.slots self.old) (net_of B.slots self.new)
+            (Step.Through cube port) }
+    {
+        let profile = self.wiring.profile(from);
+        let Some(flits) = self.links.through_view(from) else {
+            unreachable!()
+        };
+        let pipe = pipe_of(flits, profile);
+        let head = flits[0];
+        self.links.begin_through(onto, head, lng_of(&head));
+        self.piped.begin(from, onto, pipe);
+        self.last.through(cube, port, onto);
+    }
+}
+
+// A packet may go on that is not passed on yet, that no packet waits before, and that is taken.
+fn may_go(passed: bool, arrived: bool, ready: bool) -> bool
+    ensures { result ≡ ((not passed && not arrived) && ready) }
+{
+    !passed && !arrived && ready
+}
+
+// A pipe of the flits that came so far.
+fn pipe_of(came: &[Flit], profile: Profile) -> Pipe
+    requires some { 1 ≤ length came.now }
+    requires more { length came.now < lng_of (slice_index_or came.now 0 []) }
+    requires few { lng_of (slice_index_or came.now 0 []) ≤ 17 }
+    ensures { result ≡ pipe_fields came.now profile }
+{
+    let mut pipe = Pipe::new(came[0], lng_of(&came[0]), profile);
+    for flit in &came[1..] {
+        pipe.more(*flit);
+    }
+    pipe
+}
