@@ -1,6 +1,6 @@
 -- The packets that a link accepted are the first of those that it began. The requests and answers
 -- among them are those that were handed to it, apart from their numbers, and copies of packets that
--- were passed on.
+-- were forwarded.
 use Rattle.std.proofs.Common.{◌≡◌, ◌∙◌, inl, inr, ℕ, zero, suc, Bool, true, false, if◌then◌else◌, List, [], ◌∷◌, ◌++◌, All, Some, None, length, take, drop, refl, sym, ap, ap₂, subst, take-append-drop}
 use Rattle.std.specs.Prelude.{filter, map}
 use Rattle.std.proofs.lemmas.List.{map-append}
@@ -68,7 +68,7 @@ alike_first P alike (p ∷ packets) (h ∷ handed) waiting are fits all =
     All-cons P p packets (alike p h (sym first) (All-head IsPacket p packets fits) (All-head P h handed all))
     (alike_first P alike packets handed waiting rest (All-tail IsPacket p packets fits) (All-tail P h handed all))
 
--- it holds of each packet that isn't marked, once it is known: of the copies of packets that were passed on
+-- it holds of each packet that isn't marked, once it is known: of the copies of packets that were forwarded
 abbrev pub OthersHold : (PacketFields → Type 0) → List Bool → List Place → Type 0
 OthersHold P [] l = Unit {0}
 OthersHold P (mark ∷ marks) [] = Unit {0}

@@ -15,7 +15,7 @@ use Rattle.hmc_journal.specs.Choice.{append_if}
 use Rattle.hmc_journal.specs.declared.entry.Entry.{Entry}
 use Rattle.hmc_journal.specs.declared.entry.Entry.TheVariants.{Gave, Sent, Landed, Shifted, Dropped, Lifted, Took, Discarded, Unlocked}
 use Rattle.hmc_journal.specs.Directions.{unsent, awaits_first, landed_packets}
-use Rattle.hmc_journal.specs.Piped.{passed_onto}
+use Rattle.hmc_journal.specs.Piped.{forwarded_onto}
 use Rattle.hmc_journal.specs.Filters.{TaggedAnswer}
 use Rattle.hmc_journal.specs.Lawful.{Lawful}
 use Rattle.hmc_journal.specs.Network.{IsNetwork}
@@ -30,7 +30,7 @@ use Rattle.hmc_journal.proofs.Wired.{wired}
 use Rattle.hmc_journal.proofs.Seen.{seen, arriving, moves_of, moves}
 use Rattle.hmc_journal.proofs.Agreeing.{IsMapOf}
 use Rattle.hmc_journal.proofs.Hopping.{buffer_end}
-use Rattle.hmc_journal.proofs.Passed.{is_passed, passed_end}
+use Rattle.hmc_journal.proofs.Forwarded.{forwarded_packet, forwarded_end}
 use Rattle.hmc_journal.proofs.Hopped.{at_end}
 use Rattle.hmc_journal.proofs.TagsOut.{discards_poison, takes_answer}
 use Rattle.hmc_journal.proofs.Flowing.{answers_seen}
@@ -58,7 +58,7 @@ lifted_more setup c h (Sent d what.New flit) past lawful =
     ∙ ap (λ l. answers_lifted setup.topology c h past ++ l) (sym (begins_nothing (lifted_piece c h) setup.topology past d (awaits_first d past) (unsent d past) (λ x. refl)))
 lifted_more setup c h (Landed d flit outcome) past lawful =
     quiet (answers_lifted setup.topology c h past)
-    ∙ ap (λ l. answers_lifted setup.topology c h past ++ l) (sym (landing_nothing (lifted_piece c h) setup.topology past (Landed d flit outcome ∷ past) d outcome (passed_onto setup.topology d past) (landed_packets setup.topology d flit outcome past) (λ to is. record { past_output = λ n x. refl; buffer = λ x. refl; line = λ x. refl }) (λ x. refl)))
+    ∙ ap (λ l. answers_lifted setup.topology c h past ++ l) (sym (landing_nothing (lifted_piece c h) setup.topology past (Landed d flit outcome ∷ past) d outcome (forwarded_onto setup.topology d past) (landed_packets setup.topology d flit outcome past) (λ to is. record { past_output = λ n x. refl; buffer = λ x. refl; line = λ x. refl }) (λ x. refl)))
 lifted_more setup c h (Unlocked d) past lawful =
     quiet (answers_lifted setup.topology c h past)
     ∙ ap (λ l. answers_lifted setup.topology c h past ++ l) (sym (unlocks_nothing (lifted_piece c h) setup.topology (Unlocked d ∷ past) (onto_there setup.topology d past) (λ to x. refl)))
@@ -151,9 +151,9 @@ taken_more setup m c h network map_of (Sent d what.New flit) past lawful =
 taken_more setup m c h network map_of (Landed d flit outcome) past lawful =
     let keeps = kept setup past network (lawful_past setup (Landed d flit outcome) past lawful) in
     quiet (answers_taken setup.topology c h past)
-    ∙ ap (λ l. answers_taken setup.topology c h past ++ l) (sym (landing_nothing (taken_piece m c h) setup.topology past (Landed d flit outcome ∷ past) d outcome (passed_onto setup.topology d past) (landed_packets setup.topology d flit outcome past) (λ to is.
-    let passed = is_passed setup past d to (wired setup network) keeps (landed-real setup past d flit outcome (entry_rule setup (Landed d flit outcome) past lawful) keeps) is in
-    record { past_output = λ n x. refl; buffer = λ x. ap (λ e. pick (hop_answers_to c h) (hop_if (is_host e h) x)) (passed_end setup.topology m past d to map_of passed); line = λ x. refl }) (λ x. refl)))
+    ∙ ap (λ l. answers_taken setup.topology c h past ++ l) (sym (landing_nothing (taken_piece m c h) setup.topology past (Landed d flit outcome ∷ past) d outcome (forwarded_onto setup.topology d past) (landed_packets setup.topology d flit outcome past) (λ to is.
+    let forwarded = forwarded_packet setup past d to (wired setup network) keeps (landed-real setup past d flit outcome (entry_rule setup (Landed d flit outcome) past lawful) keeps) is in
+    record { past_output = λ n x. refl; buffer = λ x. ap (λ e. pick (hop_answers_to c h) (hop_if (is_host e h) x)) (forwarded_end setup.topology m past d to map_of forwarded); line = λ x. refl }) (λ x. refl)))
 taken_more setup m c h network map_of (Unlocked d) past lawful =
     quiet (answers_taken setup.topology c h past)
     ∙ ap (λ l. answers_taken setup.topology c h past ++ l) (sym (unlocks_nothing (taken_piece m c h) setup.topology (Unlocked d ∷ past) (onto_there setup.topology d past) (λ to x. refl)))

@@ -28,7 +28,7 @@ use Rattle.hmc_journal.specs.declared.entry.Entry.{Entry}
 use Rattle.hmc_journal.specs.declared.entry.Entry.TheVariants.{Gave, Sent, Landed, Shifted, Dropped, Spread, Executed, Lifted, Took, Discarded, Unlocked}
 use Rattle.hmc_journal.specs.Directions.{unsent, awaits_first, landed_packets}
 use Rattle.hmc_journal.specs.Carried.{begun_on}
-use Rattle.hmc_journal.specs.Piped.{passed_onto}
+use Rattle.hmc_journal.specs.Piped.{forwarded_onto}
 use Rattle.hmc_journal.specs.Hosts.{host_of, tags_out}
 use Rattle.hmc_journal.specs.Lawful.{Lawful}
 use Rattle.hmc_journal.specs.Network.{IsNetwork}
@@ -41,7 +41,7 @@ use Rattle.hmc_journal.proofs.EntryRule.{EntryRule, IsTagged, HasGiven, entry_ru
 use Rattle.hmc_journal.proofs.Standing.{IsReplying, IsAtEnd}
 use Rattle.hmc_journal.proofs.Entering.{Kept, contents_stand, has_direction, given_asks}
 use Rattle.hmc_journal.proofs.Sound.{kept}
-use Rattle.hmc_journal.proofs.Seen.{seen, kind_by, hop_queue, comes_from, begins_move, lands, goes_past, last_packet, copy_comes, passes_on, if_there, unlocks, moves_of, moves}
+use Rattle.hmc_journal.proofs.Seen.{seen, kind_by, hop_queue, comes_from, begins_move, lands, goes_past, last_packet, copy_comes, forward_moves, if_there, unlocks, moves_of, moves}
 use Rattle.hmc_journal.proofs.Agreeing.{IsMapOf}
 use Rattle.hmc_journal.proofs.Hopped.{at_end, agrees}
 use Rattle.hmc_journal.proofs.MayMove.{may_all}
@@ -96,18 +96,18 @@ past_keep topology m past moved d onto (p ∷ packets) rest is =
 copy_keep : (topology : Topology) (m : Map) (journal : List Entry) (moved : List Move) (onto : ℕ) (rest : List Move) → KeepsOf m moved rest → KeepsOf m moved (copy_comes topology journal onto ++ rest)
 copy_keep topology m journal moved onto rest is = asks_not m moved (Comes (hops.Line onto) (seen topology (last_packet (begun_on topology onto journal)))) rest (λ h t asks. cc) is
 
-passes_keep : (topology : Topology) (m : Map) (past journal : List Entry) (moved : List Move) (d : ℕ) (outcome : Outcome) (onto : Option ℕ) (packets : List PacketFields) (rest : List Move) → KeepsOf m moved rest
-    → KeepsOf m moved (passes_on topology past journal d outcome onto packets ++ rest)
-passes_keep topology m past journal moved d outcome None packets rest is = is
-passes_keep topology m past journal moved d outcomes.Gathered (Some onto) packets rest is = is
-passes_keep topology m past journal moved d outcomes.Accepted (Some onto) packets rest is = past_keep topology m past moved d onto packets rest is
-passes_keep topology m past journal moved d outcomes.Quiet (Some onto) packets rest is = copy_keep topology m journal moved onto rest is
-passes_keep topology m past journal moved d outcomes.Trained (Some onto) packets rest is = copy_keep topology m journal moved onto rest is
-passes_keep topology m past journal moved d outcomes.Poisoned (Some onto) packets rest is = copy_keep topology m journal moved onto rest is
-passes_keep topology m past journal moved d outcomes.Repeat (Some onto) packets rest is = copy_keep topology m journal moved onto rest is
-passes_keep topology m past journal moved d (outcomes.AbortedBad bad) (Some onto) packets rest is = copy_keep topology m journal moved onto rest is
-passes_keep topology m past journal moved d outcomes.AbortedOrder (Some onto) packets rest is = copy_keep topology m journal moved onto rest is
-passes_keep topology m past journal moved d (outcomes.Ran kind) (Some onto) packets rest is = copy_keep topology m journal moved onto rest is
+forward_keeps : (topology : Topology) (m : Map) (past journal : List Entry) (moved : List Move) (d : ℕ) (outcome : Outcome) (onto : Option ℕ) (packets : List PacketFields) (rest : List Move) → KeepsOf m moved rest
+    → KeepsOf m moved (forward_moves topology past journal d outcome onto packets ++ rest)
+forward_keeps topology m past journal moved d outcome None packets rest is = is
+forward_keeps topology m past journal moved d outcomes.Gathered (Some onto) packets rest is = is
+forward_keeps topology m past journal moved d outcomes.Accepted (Some onto) packets rest is = past_keep topology m past moved d onto packets rest is
+forward_keeps topology m past journal moved d outcomes.Quiet (Some onto) packets rest is = copy_keep topology m journal moved onto rest is
+forward_keeps topology m past journal moved d outcomes.Trained (Some onto) packets rest is = copy_keep topology m journal moved onto rest is
+forward_keeps topology m past journal moved d outcomes.Poisoned (Some onto) packets rest is = copy_keep topology m journal moved onto rest is
+forward_keeps topology m past journal moved d outcomes.Repeat (Some onto) packets rest is = copy_keep topology m journal moved onto rest is
+forward_keeps topology m past journal moved d (outcomes.AbortedBad bad) (Some onto) packets rest is = copy_keep topology m journal moved onto rest is
+forward_keeps topology m past journal moved d outcomes.AbortedOrder (Some onto) packets rest is = copy_keep topology m journal moved onto rest is
+forward_keeps topology m past journal moved d (outcomes.Ran kind) (Some onto) packets rest is = copy_keep topology m journal moved onto rest is
 
 unlocks_keep : (topology : Topology) (m : Map) (journal : List Entry) (moved : List Move) (onto : Option ℕ) → KeepsOf m moved (unlocks topology journal onto)
 unlocks_keep topology m journal moved None = tt
@@ -124,9 +124,9 @@ keeps_one setup m past (Sent d what.New flit) network keeps outs right = begins_
 keeps_one setup m past (Sent d what.Tret flit) network keeps outs right = λ h t asks. absurd (cc)
 keeps_one setup m past (Landed d flit outcome) network keeps outs right =
     let landed = landed_packets setup.topology d flit outcome past in
-    passes_keep setup.topology m past (Landed d flit outcome ∷ past) (moves setup.topology past) d outcome (passed_onto setup.topology d past) landed (lands setup.topology d landed) (lands_keep setup.topology m (moves setup.topology past) d landed)
+    forward_keeps setup.topology m past (Landed d flit outcome ∷ past) (moves setup.topology past) d outcome (forwarded_onto setup.topology d past) landed (lands setup.topology d landed) (lands_keep setup.topology m (moves setup.topology past) d landed)
 keeps_one setup m past (Unlocked d) network keeps outs right =
-    unlocks_keep setup.topology m (Unlocked d ∷ past) (moves setup.topology past) (if_there (nat_lt d (directions_in setup.topology)) (passed_onto setup.topology d past))
+    unlocks_keep setup.topology m (Unlocked d ∷ past) (moves setup.topology past) (if_there (nat_lt d (directions_in setup.topology)) (forwarded_onto setup.topology d past))
 keeps_one setup m past (Shifted cube port goal) network keeps outs right = λ h t asks. absurd (cc)
 keeps_one setup m past (Dropped cube port) network keeps outs right = λ h t asks. absurd (cc)
 keeps_one setup m past (Spread cube vault bank) network keeps outs right = λ h t asks. absurd (cc)

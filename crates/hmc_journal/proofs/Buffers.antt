@@ -24,7 +24,7 @@ use Rattle.hmc_journal.specs.Setup.{Topology}
 use Rattle.hmc_journal.specs.Directions.{unsent, awaits_first, receiver_of, profile_of, landed_packets, accepted}
 use Rattle.hmc_journal.specs.Queues.{QueueId, same_queue, leaves, one_if, packet_if, arrival_in, arrival_of, arrived, goal_queue, queue_of, answers_of, unless_posted, landing_buffer, unless_gone, enters, left, entered}
 use Rattle.hmc_journal.specs.Queues.QueueId.{Output, Port, Host, Vault, Bank, Registers, Answers}
-use Rattle.hmc_journal.specs.Piped.{passed_onto, goes_on}
+use Rattle.hmc_journal.specs.Piped.{forwarded_onto, goes_on}
 use Rattle.hmc_journal.proofs.Moves.{begins_off}
 
 -- the buffer of a port or of a host
@@ -155,7 +155,7 @@ tokens_landed topology d flit outcome past = filter is_token (landed_packets top
 
 -- what a landing puts into the buffer: all of them, unless they go on at once
 abbrev pub coming : Topology → (direction : ℕ) → (flit : List ℕ) → Outcome → List Entry → List PacketFields
-coming topology d flit outcome past = unless_gone (goes_on outcome (passed_onto topology d past)) (tokens_landed topology d flit outcome past)
+coming topology d flit outcome past = unless_gone (goes_on outcome (forwarded_onto topology d past)) (tokens_landed topology d flit outcome past)
 
 few_coming : (gone : Bool) (packets : List PacketFields) → length packets ≤ 1 → length (unless_gone gone packets) ≤ 1
 few_coming true packets few = omega arith
@@ -168,7 +168,7 @@ unfolding entered enters
 landed-enters topology d flit outcome past same =
     ap (λ l. entered topology past (landing_buffer topology d) ++ l)
     (first-arrives (landing_buffer topology d) (coming topology d flit outcome past) same
-    (few_coming (goes_on outcome (passed_onto topology d past)) (tokens_landed topology d flit outcome past) (tokens-few (landed_packets topology d flit outcome past) (few_landed topology d flit outcome past))))
+    (few_coming (goes_on outcome (forwarded_onto topology d past)) (tokens_landed topology d flit outcome past) (tokens-few (landed_packets topology d flit outcome past) (few_landed topology d flit outcome past))))
 
 pub accepted_more : (topology : Topology) (d : ℕ) (flit : List ℕ) (outcome : Outcome) (past : List Entry) → accepted topology d (Landed d flit outcome ∷ past) ≡ accepted topology d past ++ landed_packets topology d flit outcome past
 unfolding accepted receiver_of landed_packets landings.accepted

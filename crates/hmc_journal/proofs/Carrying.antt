@@ -13,12 +13,12 @@ use Rattle.hmc_hops.specs.Queues.{QueueId as hops}
 use Rattle.hmc_journal.specs.declared.entry.Entry.{Entry}
 use Rattle.hmc_journal.specs.declared.entry.Entry.TheVariants.{Gave, Sent, Landed, Shifted, Dropped, Spread, Executed, Lifted, Took, Discarded, Through, Unlocked, Retired, Passed, Idle}
 use Rattle.hmc_journal.specs.Directions.{unsent, awaits_first, receiver_of, landed_packets, accepted}
-use Rattle.hmc_journal.specs.Piped.{passed_onto}
+use Rattle.hmc_journal.specs.Piped.{forwarded_onto}
 use Rattle.hmc_journal.specs.Lawful.{Lawful}
 use Rattle.hmc_journal.specs.Queues.{tag_number}
 use Rattle.hmc_journal.specs.Setup.{Topology, Setup, direction_from}
 use Rattle.hmc_journal.proofs.Buffers.{IsNoLanding, accepted-same, few_landed, accepted_more, accepted_off}
-use Rattle.hmc_journal.proofs.Collecting.{piece_of, collected, quiet, begins_nothing, passes_nothing, unlocks_nothing, onto_there, comes_nothing}
+use Rattle.hmc_journal.proofs.Collecting.{piece_of, collected, quiet, begins_nothing, forward_nothing, unlocks_nothing, onto_there, comes_nothing}
 use Rattle.hmc_journal.proofs.Seen.{seen, comes_from, begins_move, lands, moves_of, moves}
 
 -- what is read off packets, and off those that are seen
@@ -64,7 +64,7 @@ carried_more setup f said d reads (Landed e flit outcome) past lawful =
     let landed = landed_packets t e flit outcome past in
     landed_on t f said d e flit outcome past landed (e == d) reads refl (few_landed t e flit outcome past) refl
     ∙ ap (λ l. said (accepted t d past) ++ l)
-    (sym (passes_nothing (off_line f d) t past (Landed e flit outcome ∷ past) e outcome (passed_onto t e past) landed (lands t e landed) (λ to is. record { past_output = λ n x. refl; buffer = λ x. refl; line = λ x. refl })))
+    (sym (forward_nothing (off_line f d) t past (Landed e flit outcome ∷ past) e outcome (forwarded_onto t e past) landed (lands t e landed) (λ to is. record { past_output = λ n x. refl; buffer = λ x. refl; line = λ x. refl })))
 carried_more setup f said d reads (Gave giver tag poisoned request) past lawful =
     quiet_entry setup.topology f said d (Gave giver tag poisoned request) past (comes_from setup.topology (direction_from setup.topology (places.Host giver)) (request_packet request (tag_number tag) giver poisoned)) tt
     (comes_nothing (off_line f d) setup.topology (direction_from setup.topology (places.Host giver)) (request_packet request (tag_number tag) giver poisoned) (λ n x. refl))

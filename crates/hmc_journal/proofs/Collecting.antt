@@ -25,7 +25,7 @@ use Rattle.hmc_journal.specs.declared.entry.Entry.{Entry}
 use Rattle.hmc_journal.specs.declared.entry.Entry.TheVariants.{Gave, Sent, Landed, Unlocked}
 use Rattle.hmc_journal.specs.Directions.{unsent, awaits_first, landed_packets}
 use Rattle.hmc_journal.specs.Carried.{begun_on}
-use Rattle.hmc_journal.specs.Piped.{passed_onto}
+use Rattle.hmc_journal.specs.Piped.{forwarded_onto}
 use Rattle.hmc_journal.specs.Filters.{TaggedRequest, same_unit, given_to}
 use Rattle.hmc_journal.specs.Lawful.{Lawful}
 use Rattle.hmc_journal.specs.Network.{IsNetwork}
@@ -36,13 +36,13 @@ use Rattle.hmc_journal.specs.StepView.{view_of}
 use Rattle.hmc_journal.proofs.EntryRule.{IsTagged, HasGiven, entry_rule, lawful_past}
 use Rattle.hmc_journal.proofs.Entering.{has_direction, own_item}
 use Rattle.hmc_journal.proofs.Flowing.{requests_seen}
-use Rattle.hmc_journal.proofs.Seen.{seen, spot_of, comes_from, begins_move, lands, goes_past, last_packet, passes_on, if_there, unlocks, moves_of, moves}
+use Rattle.hmc_journal.proofs.Seen.{seen, spot_of, comes_from, begins_move, lands, goes_past, last_packet, forward_moves, if_there, unlocks, moves_of, moves}
 
 -- ---- one entry adds what its moves add
 
 -- where the packet goes that an unlock spoils
 abbrev pub onto_there : Topology → (direction : ℕ) → List Entry → Option ℕ
-onto_there topology d past = if_there (nat_lt d (directions_in topology)) (passed_onto topology d past)
+onto_there topology d past = if_there (nat_lt d (directions_in topology)) (forwarded_onto topology d past)
 
 abbrev pub piece_of : {X : Type 0} → (Move → List X) → List Move → List X
 piece_of piece [] = []
@@ -100,24 +100,24 @@ past_nothing piece topology past d onto (p ∷ packets) rest none =
     before_nothing piece (Goes (hops.Output onto) (length (contents topology past (queues.Output onto))) (seen topology p)) (Goes (hops.Buffer d) 0 (seen topology p) ∷ rest) (none.past_output _ _)
     ∙ before_nothing piece (Goes (hops.Buffer d) 0 (seen topology p)) rest (none.buffer _)
 
-pub passes_nothing : {X : Type 0} (piece : Move → List X) (topology : Topology) (past journal : List Entry) (d : ℕ) (outcome : Outcome) (onto : Option ℕ) (packets : List PacketFields) (rest : List Move) → ((to : ℕ) → onto ≡ Some to → AddsNothing piece d to)
-    → piece_of piece (passes_on topology past journal d outcome onto packets ++ rest) ≡ piece_of piece rest
-passes_nothing piece topology past journal d outcome None packets rest none = refl
-passes_nothing piece topology past journal d outcomes.Gathered (Some onto) packets rest none = refl
-passes_nothing piece topology past journal d outcomes.Accepted (Some onto) packets rest none = past_nothing piece topology past d onto packets rest (none onto refl)
-passes_nothing piece topology past journal d outcomes.Quiet (Some onto) packets rest none = before_nothing piece (Comes (hops.Line onto) (seen topology (last_packet (begun_on topology onto journal)))) rest ((none onto refl).line _)
-passes_nothing piece topology past journal d outcomes.Trained (Some onto) packets rest none = before_nothing piece (Comes (hops.Line onto) (seen topology (last_packet (begun_on topology onto journal)))) rest ((none onto refl).line _)
-passes_nothing piece topology past journal d outcomes.Poisoned (Some onto) packets rest none = before_nothing piece (Comes (hops.Line onto) (seen topology (last_packet (begun_on topology onto journal)))) rest ((none onto refl).line _)
-passes_nothing piece topology past journal d outcomes.Repeat (Some onto) packets rest none = before_nothing piece (Comes (hops.Line onto) (seen topology (last_packet (begun_on topology onto journal)))) rest ((none onto refl).line _)
-passes_nothing piece topology past journal d (outcomes.AbortedBad bad) (Some onto) packets rest none = before_nothing piece (Comes (hops.Line onto) (seen topology (last_packet (begun_on topology onto journal)))) rest ((none onto refl).line _)
-passes_nothing piece topology past journal d outcomes.AbortedOrder (Some onto) packets rest none = before_nothing piece (Comes (hops.Line onto) (seen topology (last_packet (begun_on topology onto journal)))) rest ((none onto refl).line _)
-passes_nothing piece topology past journal d (outcomes.Ran kind) (Some onto) packets rest none = before_nothing piece (Comes (hops.Line onto) (seen topology (last_packet (begun_on topology onto journal)))) rest ((none onto refl).line _)
+pub forward_nothing : {X : Type 0} (piece : Move → List X) (topology : Topology) (past journal : List Entry) (d : ℕ) (outcome : Outcome) (onto : Option ℕ) (packets : List PacketFields) (rest : List Move) → ((to : ℕ) → onto ≡ Some to → AddsNothing piece d to)
+    → piece_of piece (forward_moves topology past journal d outcome onto packets ++ rest) ≡ piece_of piece rest
+forward_nothing piece topology past journal d outcome None packets rest none = refl
+forward_nothing piece topology past journal d outcomes.Gathered (Some onto) packets rest none = refl
+forward_nothing piece topology past journal d outcomes.Accepted (Some onto) packets rest none = past_nothing piece topology past d onto packets rest (none onto refl)
+forward_nothing piece topology past journal d outcomes.Quiet (Some onto) packets rest none = before_nothing piece (Comes (hops.Line onto) (seen topology (last_packet (begun_on topology onto journal)))) rest ((none onto refl).line _)
+forward_nothing piece topology past journal d outcomes.Trained (Some onto) packets rest none = before_nothing piece (Comes (hops.Line onto) (seen topology (last_packet (begun_on topology onto journal)))) rest ((none onto refl).line _)
+forward_nothing piece topology past journal d outcomes.Poisoned (Some onto) packets rest none = before_nothing piece (Comes (hops.Line onto) (seen topology (last_packet (begun_on topology onto journal)))) rest ((none onto refl).line _)
+forward_nothing piece topology past journal d outcomes.Repeat (Some onto) packets rest none = before_nothing piece (Comes (hops.Line onto) (seen topology (last_packet (begun_on topology onto journal)))) rest ((none onto refl).line _)
+forward_nothing piece topology past journal d (outcomes.AbortedBad bad) (Some onto) packets rest none = before_nothing piece (Comes (hops.Line onto) (seen topology (last_packet (begun_on topology onto journal)))) rest ((none onto refl).line _)
+forward_nothing piece topology past journal d outcomes.AbortedOrder (Some onto) packets rest none = before_nothing piece (Comes (hops.Line onto) (seen topology (last_packet (begun_on topology onto journal)))) rest ((none onto refl).line _)
+forward_nothing piece topology past journal d (outcomes.Ran kind) (Some onto) packets rest none = before_nothing piece (Comes (hops.Line onto) (seen topology (last_packet (begun_on topology onto journal)))) rest ((none onto refl).line _)
 
 -- so a landing adds nothing where a packet that leaves the line adds nothing
 pub landing_nothing : {X : Type 0} (piece : Move → List X) (topology : Topology) (past journal : List Entry) (d : ℕ) (outcome : Outcome) (onto : Option ℕ) (packets : List PacketFields) → ((to : ℕ) → onto ≡ Some to → AddsNothing piece d to) → ((x : Packet) → piece (Goes (hops.Line d) 0 x) ≡ [])
-    → piece_of piece (passes_on topology past journal d outcome onto packets ++ lands topology d packets) ≡ []
+    → piece_of piece (forward_moves topology past journal d outcome onto packets ++ lands topology d packets) ≡ []
 landing_nothing piece topology past journal d outcome onto packets none line =
-    passes_nothing piece topology past journal d outcome onto packets (lands topology d packets) none ∙ lands_nothing piece topology d packets line
+    forward_nothing piece topology past journal d outcome onto packets (lands topology d packets) none ∙ lands_nothing piece topology d packets line
 
 pub unlocks_nothing : {X : Type 0} (piece : Move → List X) (topology : Topology) (journal : List Entry) (onto : Option ℕ) → ((to : ℕ) (x : Packet) → piece (Comes (hops.Line to) x) ≡ []) → piece_of piece (unlocks topology journal onto) ≡ []
 unlocks_nothing piece topology journal None none = refl
@@ -177,7 +177,7 @@ given_more setup host unit network (Sent d what.New flit) past lawful =
     ∙ ap (λ l. given_to setup.topology host unit past ++ l) (sym (begins_nothing (λ move. pick (requests_to host (unit_cube unit) (spot_of unit)) (given_packets move)) setup.topology past d (awaits_first d past) (unsent d past) (λ x. refl)))
 given_more setup host unit network (Landed d flit outcome) past lawful =
     quiet (given_to setup.topology host unit past)
-    ∙ ap (λ l. given_to setup.topology host unit past ++ l) (sym (landing_nothing (λ move. pick (requests_to host (unit_cube unit) (spot_of unit)) (given_packets move)) setup.topology past (Landed d flit outcome ∷ past) d outcome (passed_onto setup.topology d past) (landed_packets setup.topology d flit outcome past) (λ to is. record { past_output = λ n x. refl; buffer = λ x. refl; line = λ x. refl }) (λ x. refl)))
+    ∙ ap (λ l. given_to setup.topology host unit past ++ l) (sym (landing_nothing (λ move. pick (requests_to host (unit_cube unit) (spot_of unit)) (given_packets move)) setup.topology past (Landed d flit outcome ∷ past) d outcome (forwarded_onto setup.topology d past) (landed_packets setup.topology d flit outcome past) (λ to is. record { past_output = λ n x. refl; buffer = λ x. refl; line = λ x. refl }) (λ x. refl)))
 given_more setup host unit network (Unlocked d) past lawful =
     quiet (given_to setup.topology host unit past)
     ∙ ap (λ l. given_to setup.topology host unit past ++ l) (sym (unlocks_nothing (λ move. pick (requests_to host (unit_cube unit) (spot_of unit)) (given_packets move)) setup.topology (Unlocked d ∷ past) (onto_there setup.topology d past) (λ to x. refl)))

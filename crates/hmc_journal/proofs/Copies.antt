@@ -1,4 +1,4 @@
--- What holds of each copy of a packet that was passed on, through every entry of a link.
+-- What holds of each copy of a packet that was forwarded, through every entry of a link.
 use Rattle.std.proofs.Common.{◌≡◌, ◌∙◌, inl, inr, ℕ, Bool, true, false, List, [], ◌∷◌, ◌++◌, Option, Some, None, refl, sym, ap, subst}
 use Rattle.std.specs.Prelude.{is_none}
 use Rattle.hmc_codes.specs.Link.{LinkFields}

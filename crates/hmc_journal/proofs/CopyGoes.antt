@@ -1,4 +1,4 @@
--- Where the copy of a packet goes that was passed on: where the packet was accepted as that packet, and
+-- Where the copy of a packet goes that was forwarded: where the packet was accepted as that packet, and
 -- else it is poisoned, and has the goal of its head.
 use Rattle.std.proofs.Common.{◌≡◌, ◌≤◌, ◌<◌, ◌∙◌, ◌-◌, ◌==◌, inl, inr, ℕ, suc, Bool, true, false, not, if◌then◌else◌, nat_lt, Option, Some, None, List, [], ◌∷◌, ◌++◌, length, map, take, drop, get_or, refl, sym, ap, subst, arith, eqb-true, ltb-true}
 use Rattle.std.specs.Prelude.{◌&&◌, option_and_then}
@@ -51,7 +51,7 @@ use Rattle.hmc_journal.specs.Setup.{Topology, graph_of, cubes_in, hosts_in, end_
 use Rattle.hmc_journal.specs.ThroughSteps.{if_below, port_by}
 use Rattle.hmc_journal.proofs.CopyWhole.{copy_from, copy-poisoned, copy-whole, same-unnumbered, no_null}
 use Rattle.hmc_journal.proofs.Entering.{at_cube, answer_goes}
-use Rattle.hmc_journal.proofs.Passing.{IsGood, Way}
+use Rattle.hmc_journal.proofs.Forwarding.{IsGood, Way}
 use Rattle.hmc_journal.proofs.Piping.{IsPiped}
 use Rattle.hmc_journal.proofs.Standing.{IsCounted-moving, IsMoving, IsSpoiled, GoesTo, Stands}
 use Rattle.hmc_journal.proofs.Standing.IsMoving.{ToCube, ToHost, Spoiled}
@@ -164,7 +164,7 @@ goes_by topology cube onward d x wires (ToHost replying) clean is starts =
     answer_goes topology cube onward d x wires replying (below x.slid (hosts_in topology) (nat_lt x.slid (hosts_in topology)) (λ goal. port_to_host (graph_of topology) goal cube) onward by_host).1 starts
 goes_by topology cube onward d x wires (Spoiled spoiled) clean is starts = absurd (let clash : true ≡ false = sym spoiled.poisoned ∙ clean in cc)
 
--- an accepted packet goes by the direction onto which it was passed
+-- an accepted packet goes by the direction onto which it was forwarded
 pub good_goes : (topology : Topology) (d : ℕ) (p : PipeFrom) (good : IsGood topology p) → Wired topology → Way topology p d → 1 ≤ length p.pipe.came → Stands topology (Output d) good.packet
 good_goes topology d p good wires way some =
     let x = good.packet in

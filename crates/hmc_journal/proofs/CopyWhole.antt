@@ -1,4 +1,4 @@
--- The copy of a packet that is passed on, once its gathering has ended: where the packet was accepted
+-- The copy of a packet that is forwarded, once its gathering has ended: where the packet was accepted
 -- the copy is that packet with other numbers, and else it is poisoned.
 use Rattle.std.proofs.Common.{◌≡◌, ◌≢◌, ◌≤◌, ◌<◌, ◌∙◌, ◌-◌, ◌==◌, ℕ, zero, suc, Bool, true, false, not, if◌then◌else◌, List, [], ◌∷◌, ◌++◌, length, map, take, drop, get_or, Some, None, refl, sym, ap, arith, eq-eqb}
 use Rattle.std.specs.Prelude.{nat_lt}

@@ -18,7 +18,7 @@ use Rattle.hmc_hops.specs.Queues.{QueueId as hops}
 use Rattle.hmc_hops.specs.Moves.{Move, enters, remaining, without, without_if, packet_if, answer_queue, contents as hop_contents}
 use Rattle.hmc_hops.specs.Moves.Move.{Rests, Comes, Goes, Executes}
 use Rattle.hmc_hops.specs.Delivered.{IsNoLine, NoTokens, IsDrained as MovesDrained}
-use Rattle.hmc_journal.specs.Piped.{passed_onto}
+use Rattle.hmc_journal.specs.Piped.{forwarded_onto}
 use Rattle.hmc_journal.specs.Counts.{token_counts}
 use Rattle.hmc_journal.specs.declared.entry.Entry.{Entry}
 use Rattle.hmc_journal.specs.declared.entry.Entry.TheVariants.{Gave, Sent, Landed, Shifted, Dropped, Spread, Executed, Lifted, Took, Discarded, Unlocked}
@@ -35,7 +35,7 @@ use Rattle.hmc_journal.proofs.Entering.{Kept, landed-real}
 use Rattle.hmc_journal.proofs.EntryRule.{EntryRule, entry_rule, lawful_past}
 use Rattle.hmc_journal.proofs.Hopped.{agrees}
 use Rattle.hmc_journal.proofs.LandingMoves.{buffer_hop, buffer_real, token_seen}
-use Rattle.hmc_journal.proofs.Seen.{seen, hop_queue, comes_from, begins_move, lands, passes_on, if_there, unlocks, moves_of, moves}
+use Rattle.hmc_journal.proofs.Seen.{seen, hop_queue, comes_from, begins_move, lands, forward_moves, if_there, unlocks, moves_of, moves}
 use Rattle.hmc_journal.proofs.Sound.{kept}
 use Rattle.hmc_journal.proofs.Transit.{none_in_transit}
 use Rattle.hmc_journal.proofs.Underway.{line_on}
@@ -136,18 +136,18 @@ near_comes : (topology : Topology) (found : Option ℕ) (packet : PacketFields) 
 near_comes topology None packet n = tt
 near_comes topology (Some d) packet n = (tt, tt)
 
-near_passes : (topology : Topology) (past journal : List Entry) (d n : ℕ) (outcome : Outcome) (onto : Option ℕ) (packets : List PacketFields) → AreNear n (passes_on topology past journal d outcome onto packets)
-near_passes topology past journal d n outcome None packets = tt
-near_passes topology past journal d n outcomes.Gathered (Some onto) packets = tt
-near_passes topology past journal d n outcomes.Accepted (Some onto) [] = tt
-near_passes topology past journal d n outcomes.Accepted (Some onto) (p ∷ packets) = (tt, (tt, tt))
-near_passes topology past journal d n outcomes.Quiet (Some onto) packets = (tt, tt)
-near_passes topology past journal d n outcomes.Trained (Some onto) packets = (tt, tt)
-near_passes topology past journal d n outcomes.Poisoned (Some onto) packets = (tt, tt)
-near_passes topology past journal d n outcomes.Repeat (Some onto) packets = (tt, tt)
-near_passes topology past journal d n (outcomes.AbortedBad bad) (Some onto) packets = (tt, tt)
-near_passes topology past journal d n outcomes.AbortedOrder (Some onto) packets = (tt, tt)
-near_passes topology past journal d n (outcomes.Ran kind) (Some onto) packets = (tt, tt)
+near_forward : (topology : Topology) (past journal : List Entry) (d n : ℕ) (outcome : Outcome) (onto : Option ℕ) (packets : List PacketFields) → AreNear n (forward_moves topology past journal d outcome onto packets)
+near_forward topology past journal d n outcome None packets = tt
+near_forward topology past journal d n outcomes.Gathered (Some onto) packets = tt
+near_forward topology past journal d n outcomes.Accepted (Some onto) [] = tt
+near_forward topology past journal d n outcomes.Accepted (Some onto) (p ∷ packets) = (tt, (tt, tt))
+near_forward topology past journal d n outcomes.Quiet (Some onto) packets = (tt, tt)
+near_forward topology past journal d n outcomes.Trained (Some onto) packets = (tt, tt)
+near_forward topology past journal d n outcomes.Poisoned (Some onto) packets = (tt, tt)
+near_forward topology past journal d n outcomes.Repeat (Some onto) packets = (tt, tt)
+near_forward topology past journal d n (outcomes.AbortedBad bad) (Some onto) packets = (tt, tt)
+near_forward topology past journal d n outcomes.AbortedOrder (Some onto) packets = (tt, tt)
+near_forward topology past journal d n (outcomes.Ran kind) (Some onto) packets = (tt, tt)
 
 near_unlocks : (topology : Topology) (journal : List Entry) (n : ℕ) (onto : Option ℕ) → AreNear n (unlocks topology journal onto)
 near_unlocks topology journal n None = tt
@@ -160,11 +160,11 @@ near_one setup past (Sent d what.New flit) right keeps = near_begins setup.topol
 near_one setup past (Sent d what.Tret flit) right keeps = (tt, tt)
 near_one setup past (Landed d flit outcome) right keeps =
     let landed = landed_packets setup.topology d flit outcome past in
-    near-append (directions_in setup.topology) (passes_on setup.topology past (Landed d flit outcome ∷ past) d outcome (passed_onto setup.topology d past) landed) (lands setup.topology d landed)
-    (near_passes setup.topology past (Landed d flit outcome ∷ past) d (directions_in setup.topology) outcome (passed_onto setup.topology d past) landed)
+    near-append (directions_in setup.topology) (forward_moves setup.topology past (Landed d flit outcome ∷ past) d outcome (forwarded_onto setup.topology d past) landed) (lands setup.topology d landed)
+    (near_forward setup.topology past (Landed d flit outcome ∷ past) d (directions_in setup.topology) outcome (forwarded_onto setup.topology d past) landed)
     (near_lands setup.topology d (directions_in setup.topology) landed (landed-real setup past d flit outcome right keeps))
 near_one setup past (Unlocked d) right keeps =
-    near_unlocks setup.topology (Unlocked d ∷ past) (directions_in setup.topology) (if_there (nat_lt d (directions_in setup.topology)) (passed_onto setup.topology d past))
+    near_unlocks setup.topology (Unlocked d ∷ past) (directions_in setup.topology) (if_there (nat_lt d (directions_in setup.topology)) (forwarded_onto setup.topology d past))
 near_one setup past (Shifted cube port goal) right keeps = (tt, tt)
 near_one setup past (Dropped cube port) right keeps = (tt, tt)
 near_one setup past (Spread cube vault bank) right keeps = (tt, tt)

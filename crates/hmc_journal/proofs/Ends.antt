@@ -21,7 +21,7 @@ use Rattle.hmc_journal.specs.Carried.{tagged_answer, tagged_answers, tagged_answ
 use Rattle.hmc_journal.specs.Choice.{append_if}
 use Rattle.hmc_journal.specs.Delivered.{IsPrefix, accepted_on, accepted_by}
 use Rattle.hmc_journal.specs.Directions.{unsent, awaits_first, landed_packets, accepted}
-use Rattle.hmc_journal.specs.Piped.{goes_on, passed_onto}
+use Rattle.hmc_journal.specs.Piped.{goes_on, forwarded_onto}
 use Rattle.hmc_journal.specs.declared.entry.Entry.{Entry}
 use Rattle.hmc_journal.specs.declared.entry.Entry.TheVariants.{Gave, Sent, Landed, Shifted, Executed, Lifted, Took, Discarded}
 use Rattle.hmc_journal.specs.declared.outcome.Goal.{Goal}
@@ -96,7 +96,7 @@ answers-more : (setup : Setup) (cube : ℕ) (from : Lift) (entry : Entry) (past 
 unfolding answered_into enters
 answers-more setup cube from (Executed unit host tag request answer) past right keeps = executed_answers setup past unit host tag request answer (Answers cube from) right keeps
 answers-more setup cube from (Landed d flit outcome) past right keeps =
-    none_answers setup.topology past (Landed d flit outcome) (Answers cube from) (arrived_first (landing_buffer setup.topology d) (Answers cube from) (unless_gone (goes_on outcome (passed_onto setup.topology d past)) (filter is_token (landed_packets setup.topology d flit outcome past))) (buffer_not_answers (end_of setup.topology d) cube from))
+    none_answers setup.topology past (Landed d flit outcome) (Answers cube from) (arrived_first (landing_buffer setup.topology d) (Answers cube from) (unless_gone (goes_on outcome (forwarded_onto setup.topology d past)) (filter is_token (landed_packets setup.topology d flit outcome past))) (buffer_not_answers (end_of setup.topology d) cube from))
 answers-more setup cube from (Shifted c here goal) past right keeps = none_answers setup.topology past (Shifted c here goal) (Answers cube from) (arrived_off (goal_queue setup.topology c goal) _ (Answers cube from) (goal_not_answers setup.topology c goal cube from))
 answers-more setup cube from (Gave host tag poisoned request) past right keeps =
     none_answers setup.topology past (Gave host tag poisoned request) (Answers cube from) (arrived_off (output_from setup.topology (places.Host host)) _ (Answers cube from) (output_off (direction_from setup.topology (places.Host host)) (Answers cube from) (λ d. refl)))

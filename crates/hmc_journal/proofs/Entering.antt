@@ -66,7 +66,7 @@ use Rattle.hmc_journal.proofs.UnsentFlits.{AreGathered}
 use Rattle.hmc_journal.proofs.Piping.{sender_on}
 use Rattle.hmc_journal.proofs.PipeSteps.{IsUp, ArePending}
 use Rattle.hmc_journal.proofs.GoodLandings.{AreShort}
-use Rattle.hmc_journal.proofs.Passing.{ArePiped, ArePassing}
+use Rattle.hmc_journal.proofs.Forwarding.{ArePiped, AreForwarding}
 use Rattle.hmc_journal.proofs.Buffers.{coming}
 use Rattle.hmc_journal.proofs.AcceptedTokens.{OthersHold, tokens_alike}
 use Rattle.hmc_journal.proofs.Projections.{goes_at, flits_of_line, received, handed_are, sent_are}
@@ -98,13 +98,13 @@ pub record Kept (setup : Setup) (past : List Entry) : Type 0 where
   pub none : (d : ℕ) → directions_in setup.topology ≤ d → sent_flits d past ≡ []
   pub state : HasCubes setup.topology (state_of setup past)
   pub tags : (host : ℕ) → length (tags_out host past) ≡ 2048
-  -- what is passed on
+  -- what is forwarded
   pub gathered : AreGathered setup.topology past
   pub pendings : ArePending setup.topology past
   pub short : AreShort past
   pub up : (d : ℕ) → IsUp setup.topology d past
   pub piped : ArePiped setup.topology past
-  pub passing : ArePassing setup.topology past
+  pub forwarding : AreForwarding setup.topology past
   pub copies : (d : ℕ) → CopiesStand setup.topology past d
 
 pub contents_stand : (setup : Setup) (past : List Entry) (room : QueueId) → Kept setup past → All (Stands setup.topology room) (contents setup.topology past room)

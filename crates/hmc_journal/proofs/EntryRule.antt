@@ -50,12 +50,12 @@ use Rattle.hmc_journal.specs.Routes.{port_towards}
 use Rattle.hmc_journal.specs.Queues.{QueueId, contents, queue_of, output_from, goal_queue}
 use Rattle.hmc_journal.specs.Queues.QueueId.{Port, Host, Vault, Answers}
 use Rattle.hmc_journal.specs.Hosts.{host_of}
-use Rattle.hmc_journal.specs.Piped.{passed_onto, pipe_onto}
+use Rattle.hmc_journal.specs.Piped.{forwarded_onto, pipe_onto}
 use Rattle.hmc_journal.specs.StepView.{state_of, view_of}
 use Rattle.hmc_journal.specs.Links.{toward, sizes_on, entries_on, direction_to, fed_after}
 use Rattle.hmc_journal.specs.Waiting.{lacks_room}
 use Rattle.hmc_journal.specs.Next.{next, choice, lifted_entry, with_front, unless_full, gave_entry, sent_entry, landed_entry, landed_front, goal_at, shifted_entry, tag_of, execution_entry, ran_entry, took_entry}
-use Rattle.hmc_journal.specs.ThroughSteps.{port_by, other_than, gathered_head, is_passed_on, takes_on, passed_entry, through_head}
+use Rattle.hmc_journal.specs.ThroughSteps.{port_by, other_than, gathered_head, is_forwarded, takes_on, forwarded_entry, through_head}
 use Rattle.hmc_journal.specs.Lawful.{Follows, has_passed, Lawful}
 
 -- the room has this front
@@ -158,7 +158,7 @@ pub record HasThrough (setup : Setup) (past : List Entry) (cube port direction :
   pub is_onward : port_by setup.topology cube head (family_of head.command) ≡ Some onward
   pub other_port : (onward == port) ≡ false
   pub starts : direction_from setup.topology (places.Port cube onward) ≡ Some direction
-  pub alone : passed_onto setup.topology from past ≡ None
+  pub alone : forwarded_onto setup.topology from past ≡ None
   pub empty : contents setup.topology past (Port cube port) ≡ []
   pub may : may_pass_on (view_in (sizes_on setup.topology direction) (toward direction) (entries_on setup.topology direction past) Waiting) head.flits ≡ true
 
@@ -301,9 +301,9 @@ retire setup past slot true = tt
 retire setup past slot false = tt
 
 -- through
-none_passed : (onto : Option ℕ) → is_some onto ≡ false → onto ≡ None
-none_passed None is = refl
-none_passed (Some direction) is = absurd (cc)
+none_forwarded : (onto : Option ℕ) → is_some onto ≡ false → onto ≡ None
+none_forwarded None is = refl
+none_forwarded (Some direction) is = absurd (cc)
 
 none_inside : (packets : List PacketFields) → not (is_none (slice_get packets 0)) ≡ false → packets ≡ []
 none_inside [] is = refl
@@ -320,14 +320,14 @@ record IsGathered (setup : Setup) (past : List Entry) (cube port : ℕ) (head : 
 
 through_busy : (setup : Setup) (past : List Entry) (cube port : ℕ) (head : Head) (onward direction : ℕ) (on held full : Bool) → IsGathered setup past cube port head
     → port_by setup.topology cube head (family_of head.command) ≡ Some onward → (onward == port) ≡ false → direction_from setup.topology (places.Port cube onward) ≡ Some direction
-    → is_passed_on (view_of setup past) (direction_to setup.topology (places.Port cube port)) ≡ on → not (is_none (slice_get (contents setup.topology past (Port cube port)) 0)) ≡ held
+    → is_forwarded (view_of setup past) (direction_to setup.topology (places.Port cube port)) ≡ on → not (is_none (slice_get (contents setup.topology past (Port cube port)) 0)) ≡ held
     → not (takes_on setup.topology (view_of setup past) direction head.flits) ≡ full
     → EntryRule setup past (if on || held || full then Idle (steps.Through cube port) causes.Busy else Through cube port direction)
 unfolding view_of
-through_busy setup past cube port head onward direction true held full is towards other_port starts passed holds takes = tt
-through_busy setup past cube port head onward direction false true full is towards other_port starts passed holds takes = tt
-through_busy setup past cube port head onward direction false false true is towards other_port starts passed holds takes = tt
-through_busy setup past cube port head onward direction false false false is towards other_port starts passed holds takes = record {
+through_busy setup past cube port head onward direction true held full is towards other_port starts forwarded holds takes = tt
+through_busy setup past cube port head onward direction false true full is towards other_port starts forwarded holds takes = tt
+through_busy setup past cube port head onward direction false false true is towards other_port starts forwarded holds takes = tt
+through_busy setup past cube port head onward direction false false false is towards other_port starts forwarded holds takes = record {
   from = is.from;
   arrives = is.arrives;
   flit = is.flit;
@@ -339,7 +339,7 @@ through_busy setup past cube port head onward direction false false false is tow
   is_onward = towards;
   other_port = other_port;
   starts = starts;
-  alone = none_passed (passed_onto setup.topology is.from past) (sym (ap (is_passed_on (view_of setup past)) is.arrives) ∙ passed);
+  alone = none_forwarded (forwarded_onto setup.topology is.from past) (sym (ap (is_forwarded (view_of setup past)) is.arrives) ∙ forwarded);
   empty = none_inside (contents setup.topology past (Port cube port)) holds;
   may = not_false (may_pass_on (view_in (sizes_on setup.topology direction) (toward direction) (entries_on setup.topology direction past) Waiting) head.flits) takes;
 }
@@ -350,19 +350,19 @@ through_busy setup past cube port head onward direction false false false is tow
 
 through_onto : (setup : Setup) (past : List Entry) (cube port : ℕ) (head : Head) (onward : ℕ) (found : Option ℕ) → IsGathered setup past cube port head
     → port_by setup.topology cube head (family_of head.command) ≡ Some onward → (onward == port) ≡ false → direction_from setup.topology (places.Port cube onward) ≡ found
-    → EntryRule setup past (passed_entry setup.topology (view_of setup past) cube port head found)
+    → EntryRule setup past (forwarded_entry setup.topology (view_of setup past) cube port head found)
 unfolding view_of
 through_onto setup past cube port head onward None is towards other_port starts = tt
 through_onto setup past cube port head onward (Some direction) is towards other_port starts = through_busy setup past cube port head onward direction _ _ _ is towards other_port starts refl refl refl
 
 through_port : (setup : Setup) (past : List Entry) (cube port : ℕ) (head : Head) (onward : ℕ) (same : Bool) → IsGathered setup past cube port head
     → port_by setup.topology cube head (family_of head.command) ≡ Some onward → (onward == port) ≡ same
-    → EntryRule setup past (passed_entry setup.topology (view_of setup past) cube port head (option_and_then (λ there. direction_from setup.topology (places.Port cube there)) (if same then None else Some onward)))
+    → EntryRule setup past (forwarded_entry setup.topology (view_of setup past) cube port head (option_and_then (λ there. direction_from setup.topology (places.Port cube there)) (if same then None else Some onward)))
 through_port setup past cube port head onward true is towards same = tt
 through_port setup past cube port head onward false is towards same = through_onto setup past cube port head onward _ is towards same refl
 
 through_towards : (setup : Setup) (past : List Entry) (cube port : ℕ) (head : Head) (found : Option ℕ) → IsGathered setup past cube port head → port_by setup.topology cube head (family_of head.command) ≡ found
-    → EntryRule setup past (passed_entry setup.topology (view_of setup past) cube port head (option_and_then (λ there. direction_from setup.topology (places.Port cube there)) (other_than port found)))
+    → EntryRule setup past (forwarded_entry setup.topology (view_of setup past) cube port head (option_and_then (λ there. direction_from setup.topology (places.Port cube there)) (other_than port found)))
 through_towards setup past cube port head None is towards = tt
 through_towards setup past cube port head (Some onward) is towards = through_port setup past cube port head onward _ is towards refl
 

@@ -17,7 +17,7 @@ use Rattle.hmc_journal.specs.Answers.{tag_of}
 use Rattle.hmc_journal.specs.declared.entry.Entry.{Entry}
 use Rattle.hmc_journal.specs.declared.entry.Entry.TheVariants.{Gave, Sent, Landed, Executed, Unlocked}
 use Rattle.hmc_journal.specs.Directions.{unsent, awaits_first, landed_packets}
-use Rattle.hmc_journal.specs.Piped.{passed_onto}
+use Rattle.hmc_journal.specs.Piped.{forwarded_onto}
 use Rattle.hmc_journal.specs.Filters.{TaggedRequest, same_unit, executed_by}
 use Rattle.hmc_journal.specs.Lawful.{Lawful}
 use Rattle.hmc_journal.specs.Network.{IsNetwork}
@@ -77,7 +77,7 @@ executed_more setup host unit network (Sent d what.New flit) past lawful =
     ∙ ap (λ l. executed_by host unit past ++ l) (sym (begins_nothing (executed_requests host (unit_cube unit) (spot_of unit)) setup.topology past d (awaits_first d past) (unsent d past) (λ x. refl)))
 executed_more setup host unit network (Landed d flit outcome) past lawful =
     quiet (executed_by host unit past)
-    ∙ ap (λ l. executed_by host unit past ++ l) (sym (landing_nothing (executed_requests host (unit_cube unit) (spot_of unit)) setup.topology past (Landed d flit outcome ∷ past) d outcome (passed_onto setup.topology d past) (landed_packets setup.topology d flit outcome past) (λ to is. record { past_output = λ n x. refl; buffer = λ x. refl; line = λ x. refl }) (λ x. refl)))
+    ∙ ap (λ l. executed_by host unit past ++ l) (sym (landing_nothing (executed_requests host (unit_cube unit) (spot_of unit)) setup.topology past (Landed d flit outcome ∷ past) d outcome (forwarded_onto setup.topology d past) (landed_packets setup.topology d flit outcome past) (λ to is. record { past_output = λ n x. refl; buffer = λ x. refl; line = λ x. refl }) (λ x. refl)))
 executed_more setup host unit network (Unlocked d) past lawful =
     quiet (executed_by host unit past)
     ∙ ap (λ l. executed_by host unit past ++ l) (sym (unlocks_nothing (executed_requests host (unit_cube unit) (spot_of unit)) setup.topology (Unlocked d ∷ past) (onto_there setup.topology d past) (λ to x. refl)))

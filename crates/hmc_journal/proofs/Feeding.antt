@@ -1,4 +1,4 @@
--- What a pipe feeds fits a packet that is passed on.
+-- What a pipe feeds fits a packet that is forwarded.
 use Rattle.std.proofs.Common.{◌≡◌, ◌≤◌, ◌∙◌, ◌==◌, ℕ, suc, Bool, true, false, if◌then◌else◌, List, Option, Some, None, length, take, drop, refl, sym, ap, arith, eqb-true, eq-eqb, nat_lt, ltb-false}
 use Rattle.std.proofs.lemmas.List.{length-take}
 use Rattle.hmc_codes.proofs.BytesLemmas.{IsBytes-take}

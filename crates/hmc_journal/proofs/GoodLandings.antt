@@ -1,4 +1,4 @@
--- What is accepted while it is passed on: one packet, a request or an answer that is on its way. And
+-- What is accepted while it is forwarded: one packet, a request or an answer that is on its way. And
 -- what is gathered is shorter than its first flit says.
 use Rattle.std.proofs.Common.{◌≡◌, ◌≢◌, ◌≤◌, ◌<◌, ◌+◌, ◌∙◌, ◌==◌, ℕ, zero, suc, Bool, true, false, not, if◌then◌else◌, nat_le, nat_lt, Option, Some, None, Result, Ok, Err, List, [], ◌∷◌, ◌++◌, All, length, get_or, refl, sym, ap, subst, arith, eq-eqb, eqb-true, ltb-true}
 use Rattle.std.proofs.lemmas.Bool.{le-leb}
@@ -46,11 +46,11 @@ use Rattle.hmc_journal.specs.declared.entry.Entry.{Entry}
 use Rattle.hmc_journal.specs.declared.entry.Entry.TheVariants.{Gave, Sent, Landed, Shifted, Dropped, Spread, Executed, Lifted, Took, Discarded, Through, Unlocked, Retired, Passed, Idle}
 use Rattle.hmc_journal.specs.Directions.{receiver_of, profile_of, landed_packets}
 use Rattle.hmc_journal.specs.Links.{sizes_on}
-use Rattle.hmc_journal.specs.Piped.{passed_onto}
+use Rattle.hmc_journal.specs.Piped.{forwarded_onto}
 use Rattle.hmc_journal.specs.Queues.QueueId.{Output}
 use Rattle.hmc_journal.specs.Setup.{Setup, Topology, directions_in, end_of}
 use Rattle.hmc_journal.proofs.EntryRule.{EntryRule, HasLanded}
-use Rattle.hmc_journal.proofs.Passing.{OnPipe, PipeKept, ArePiped, ArePassing, GoodLanding}
+use Rattle.hmc_journal.proofs.Forwarding.{OnPipe, PipeKept, ArePiped, AreForwarding, GoodLanding}
 use Rattle.hmc_journal.proofs.Piping.{each-push}
 use Rattle.hmc_journal.proofs.PipeSteps.{ArePending}
 use Rattle.hmc_journal.proofs.Projections.{received}
@@ -238,7 +238,7 @@ names_more e past flit rest head short came is =
       long,
     )
 
--- ---- a packet that is accepted while it is passed on
+-- ---- a packet that is accepted while it is forwarded
 
 pub get-any : (l : List (List ℕ)) (i : ℕ) (a b : List ℕ) → i < length l → get_or l i a ≡ get_or l i b
 get-any [] i a b lt = absurd (omega arith)
@@ -281,9 +281,9 @@ landed_is : (topology : Topology) (d : ℕ) (flit : List ℕ) (past : List Entry
 unfolding landed_packets
 landed_is topology d flit past seen is = ap packets_in is
 
-pub lands_one : (setup : Setup) (past : List Entry) (d onto : ℕ) (flit : List ℕ) → (reception_of (sizes_on setup.topology d).profile (receiver_of d past) flit).outcome ≡ outcomes.Accepted → IsFlit flit → ArePending setup.topology past → ArePiped setup.topology past → ArePassing setup.topology past → d < directions_in setup.topology
-    → passed_onto setup.topology d past ≡ Some onto → LandsOne setup past d flit
-lands_one setup past d onto flit accepts is_flit pendings piped passing less is =
+pub lands_one : (setup : Setup) (past : List Entry) (d onto : ℕ) (flit : List ℕ) → (reception_of (sizes_on setup.topology d).profile (receiver_of d past) flit).outcome ≡ outcomes.Accepted → IsFlit flit → ArePending setup.topology past → ArePiped setup.topology past → AreForwarding setup.topology past → d < directions_in setup.topology
+    → forwarded_onto setup.topology d past ≡ Some onto → LandsOne setup past d flit
+lands_one setup past d onto flit accepts is_flit pendings piped forwarding less is =
     let t = setup.topology in
     let q = profile_of t d in
     let before = pending (receiver_of d past) in
@@ -291,9 +291,9 @@ lands_one setup past d onto flit accepts is_flit pendings piped passing less is 
     let reads = accepted_reads q (receiver_of d past) flit accepts in
     let each : (k : ℕ) → IsFlit (get_or flits k zero_flit) = each-push before flit (pendings d) is_flit in
     let found = read_of-found q flits reads.seen (are_flits flits each) (λ null. are_bytes flits each) reads.read in
-    let pass = passing d onto less is in
-    let kept : PipeKept t past onto pass.pipe = subst (OnPipe t past onto) pass.is (piped onto) in
-    let came : pass.pipe.pipe.came ≡ before = (kept.gathering pass.gathers).came ∙ ap (λ (n : ℕ). pending (receiver_of n past)) pass.from in
+    let forward = forwarding d onto less is in
+    let kept : PipeKept t past onto forward.pipe = subst (OnPipe t past onto) forward.is (piped onto) in
+    let came : forward.pipe.pipe.came ≡ before = (kept.gathering forward.gathers).came ∙ ap (λ (n : ℕ). pending (receiver_of n past)) forward.from in
     let long = ap length came in
     let some = kept.some in
     let head : head_in (get_or before 0 zero_flit) ≡ Some kept.way.head = ap (λ (l : List (List ℕ)). head_in (get_or l 0 zero_flit)) (sym came) ∙ kept.way.is_head in
@@ -306,7 +306,7 @@ lands_one setup past d onto flit accepts is_flit pendings piped passing less is 
       spelled = found.spelled;
       cube = kept.way.cube;
       port = kept.way.port;
-      lands = ap (end_of t) (sym pass.from) ∙ kept.way.lands;
+      lands = ap (end_of t) (sym forward.from) ∙ kept.way.lands;
     }
 
 -- so it is good

@@ -54,13 +54,13 @@ use Rattle.hmc_journal.proofs.Standing.{IsAtEnd, request_of_packet, clean_reply,
 use Rattle.hmc_journal.proofs.Entering.{Kept, front_stands, has_direction, runs_request, sends, reply_tag, executed_reply}
 use Rattle.hmc_journal.proofs.Sound.{kept, has_begun, through_of}
 use Rattle.hmc_packet.specs.Landings.{pending}
-use Rattle.hmc_journal.specs.Piped.{passed_onto, pipe_onto}
+use Rattle.hmc_journal.specs.Piped.{forwarded_onto, pipe_onto}
 use Rattle.hmc_journal.proofs.PipeSteps.{IsUp}
 use Rattle.hmc_journal.proofs.UnsentFlits.{AreGathered}
 use Rattle.hmc_journal.proofs.LandingMoves.{line_off, landed_step, unlocked_step}
 use Rattle.hmc_journal.proofs.Underway.{line_on, begins_with, new_begun, underway-sent, underway-elsewhere, underway-quiet, underway-through}
 use Rattle.hmc_journal.proofs.Wired.{Wired, wired, end_cubes}
-use Rattle.hmc_journal.proofs.Seen.{seen, all_seen, kind_by, spot_of, spot_by, request_or, answer_or, hop_queue, comes_from, begins_move, lands, passes_on, moves_of, moves}
+use Rattle.hmc_journal.proofs.Seen.{seen, all_seen, kind_by, spot_of, spot_by, request_or, answer_or, hop_queue, comes_from, begins_move, lands, forward_moves, moves_of, moves}
 use Rattle.hmc_journal.proofs.Agreeing.{IsMapOf, EndsAt, IsReal, Agrees, same_hops, if_seen}
 use Rattle.hmc_journal.proofs.Hopping.{queue-more, still_step, RealTo, front_step, host_next, shifted_next, dropped_next, spread_next, lifted_next}
 
@@ -306,9 +306,9 @@ agrees_more setup m past moved (Sent d what.Again flit) network wires map_of kee
 agrees_more setup m past moved (Landed d flit outcome) network wires map_of keeps now agrees right =
     let t = setup.topology in
     let landed = landed_packets t d flit outcome past in
-    let passed = passed_onto t d past in
-    subst (Agrees t m (Landed d flit outcome ∷ past)) (sym (append_assoc (passes_on t past (Landed d flit outcome ∷ past) d outcome passed landed) (lands t d landed) moved))
-    (landed_step setup m past moved d flit outcome passed map_of wires keeps now agrees right refl)
+    let forwarded = forwarded_onto t d past in
+    subst (Agrees t m (Landed d flit outcome ∷ past)) (sym (append_assoc (forward_moves t past (Landed d flit outcome ∷ past) d outcome forwarded landed) (lands t d landed) moved))
+    (landed_step setup m past moved d flit outcome forwarded map_of wires keeps now agrees right refl)
 agrees_more setup m past moved (Shifted cube port goal) network wires map_of keeps now agrees right =
     let t = setup.topology in
     let came = front_stands setup past (queues.Port cube port) keeps right.at in

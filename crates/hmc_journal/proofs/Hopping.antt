@@ -44,7 +44,7 @@ use Rattle.hmc_journal.proofs.Wired.{Wired}
 use Rattle.hmc_journal.proofs.Seen.{seen, kind_by, spot_of, spot_by, hop_queue, arriving}
 use Rattle.hmc_journal.proofs.Underway.{line_on}
 use Rattle.hmc_journal.proofs.Agreeing.{IsMapOf, EndsAt, IsReal, Agrees, end_at, out_by, arriving_is, same_hops, not_line, pop, contents-more, pop_seen, if_seen}
-use Rattle.hmc_journal.proofs.Passing.{back_false}
+use Rattle.hmc_journal.proofs.Forwarding.{back_false}
 
 -- ---- a queue after one more entry
 

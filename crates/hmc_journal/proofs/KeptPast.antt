@@ -14,7 +14,7 @@ use Rattle.hmc_journal.specs.declared.entry.Entry.TheVariants.{Gave, Sent, Lande
 use Rattle.hmc_journal.specs.Setup.{Topology}
 use Rattle.hmc_journal.specs.Queues.{front_of, contents}
 use Rattle.hmc_journal.specs.Queues.QueueId.{Port}
-use Rattle.hmc_journal.specs.Links.{toward, put_on, taken_at, handed_on, landing_mask, taken_if, passed_on, link_sizes, link_entries}
+use Rattle.hmc_journal.specs.Links.{toward, put_on, taken_at, handed_on, landing_mask, taken_if, forwarded_on, link_sizes, link_entries}
 use Rattle.hmc_journal.proofs.Projections.{feed_in, goes_at, came_at}
 use Rattle.hmc_wire.proofs.EntryTurns.{kept-before}
 
@@ -35,9 +35,9 @@ kept-taken_if : (sizes : LinkFields) (gone : Bool) (link direction : ℕ) (past 
 kept-taken_if sizes false link direction past is = is
 kept-taken_if sizes true link direction past is = kept-put sizes link (Some direction) LinkEntry.taken past is
 
-kept-passed_on : (sizes : LinkFields) (link direction : ℕ) (came : List (List ℕ)) (past : List LinkEntry) → IsKept sizes (passed_on link direction came past) → IsKept sizes past
-kept-passed_on sizes link direction [] past is = is
-kept-passed_on sizes link direction (head ∷ rest) past is = kept-put sizes link (Some direction) (λ d. LinkEntry.through d head (lng_of head)) past is
+kept-forwarded_on : (sizes : LinkFields) (link direction : ℕ) (came : List (List ℕ)) (past : List LinkEntry) → IsKept sizes (forwarded_on link direction came past) → IsKept sizes past
+kept-forwarded_on sizes link direction [] past is = is
+kept-forwarded_on sizes link direction (head ∷ rest) past is = kept-put sizes link (Some direction) (λ d. LinkEntry.through d head (lng_of head)) past is
 
 pub kept_past : (sizes : LinkFields) (topology : Topology) (link : ℕ) (entry : Entry) (past : List Entry) → IsKept sizes (link_entries topology link (entry ∷ past)) → IsKept sizes (link_entries topology link past)
 unfolding link_entries
@@ -56,6 +56,6 @@ kept_past sizes topology link (Discarded host) past is = kept-put sizes link _ L
 kept_past sizes topology link (Executed unit host tag request answer) past is = is
 kept_past sizes topology link (Spread cube vault bank) past is = is
 kept_past sizes topology link (Passed direction flit) past is = is
-kept_past sizes topology link (Through cube port direction) past is = kept-passed_on sizes link direction (came_at topology cube port past) (link_entries topology link past) is
+kept_past sizes topology link (Through cube port direction) past is = kept-forwarded_on sizes link direction (came_at topology cube port past) (link_entries topology link past) is
 kept_past sizes topology link (Retired slot) past is = is
 kept_past sizes topology link (Idle step cause) past is = is

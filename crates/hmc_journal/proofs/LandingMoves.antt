@@ -1,4 +1,4 @@
--- What a landing moves: a packet that is accepted leaves the line, and one that is passed on goes on at once, or its poisoned copy comes.
+-- What a landing moves: a packet that is accepted leaves the line, and one that is forwarded goes on at once, or its poisoned copy comes.
 use Rattle.std.proofs.Common.{◌≡◌, ◌≤◌, ◌<◌, ◌/◌, ◌∙◌, ◌==◌, ◌&&◌, ℕ, Bool, true, false, not, if◌then◌else◌, Option, Some, None, List, [], ◌∷◌, ◌++◌, map, length, drop, refl, sym, ap, ap₂, subst, arith, append-nil, eqb-true, eq-eqb, nat_lt, lt-ltb, ltb-true}
 use Rattle.std.specs.Prelude.{option_map, filter}
 use Rattle.std.proofs.lemmas.List.{map-append, length-map, drop-append-le}
@@ -33,7 +33,7 @@ use Rattle.hmc_journal.specs.declared.entry.Entry.TheVariants.{Landed, Unlocked}
 use Rattle.hmc_journal.specs.Carried.{begun_on}
 use Rattle.hmc_journal.specs.Directions.{profile_of, landed_packets, accepted}
 use Rattle.hmc_journal.specs.Links.{sizes_on, entries_on}
-use Rattle.hmc_journal.specs.Piped.{PipeFrom, passed_onto, pipe_onto, goes_on, with_landing, with_unlock, while_gathering}
+use Rattle.hmc_journal.specs.Piped.{PipeFrom, forwarded_onto, pipe_onto, goes_on, with_landing, with_unlock, while_gathering}
 use Rattle.hmc_journal.specs.Queues.{QueueId, same_queue, arrival_of, arrived, unless_gone, leaves, enters, contents, buffer_at, landing_buffer}
 use Rattle.hmc_journal.specs.Queues.{QueueId as queues}
 use Rattle.hmc_journal.specs.Setup.{Topology, Setup, directions_in, end_of}
@@ -42,15 +42,15 @@ use Rattle.hmc_journal.proofs.Moves.{entering}
 use Rattle.hmc_journal.proofs.Buffers.{accepted-same, few_landed, accepted_off}
 use Rattle.hmc_journal.proofs.Standing.{IsCounted, IsCounted-moving}
 use Rattle.hmc_journal.proofs.Entering.{Kept, landed-real}
-use Rattle.hmc_journal.proofs.Passing.{PipeKept, OnPipe, back_false}
+use Rattle.hmc_journal.proofs.Forwarding.{PipeKept, OnPipe, back_false}
 use Rattle.hmc_journal.proofs.PipeSteps.{pipe_landed, pipe_unlocked}
 use Rattle.hmc_journal.proofs.Wired.{Wired, some_is}
-use Rattle.hmc_journal.proofs.Seen.{seen, kind_by, hop_queue, arriving, lands, goes_past, copy_comes, passes_on, if_there, unlocks, last_packet}
+use Rattle.hmc_journal.proofs.Seen.{seen, kind_by, hop_queue, arriving, lands, goes_past, copy_comes, forward_moves, if_there, unlocks, last_packet}
 use Rattle.hmc_journal.proofs.Agreeing.{IsMapOf, IsReal, Agrees, arriving_is, same_hops, if_seen}
 use Rattle.hmc_journal.proofs.Hopping.{queue-more}
 use Rattle.hmc_journal.proofs.Underway.{known_on, line_on, piped_with, copy_on, CopyKnown, copy_known, copy_waits, places_landed, pipe_elsewhere, known-quiet, accepted_within, underway-landed}
 use Rattle.hmc_journal.proofs.CopyWhole.{copy-poisoned}
-use Rattle.hmc_journal.proofs.Passed.{IsPassed, IsCome, is_passed, passed_next, come_head, come_copy}
+use Rattle.hmc_journal.proofs.Forwarded.{ForwardedPacket, IsCome, forwarded_packet, forwarded_next, come_head, come_copy}
 
 pub line_off : (topology : Topology) (q : QueueId) (d : ℕ) → same_hop (hops.Line d) (hop_queue topology q) ≡ false
 line_off topology (queues.Output e) d = refl
@@ -157,7 +157,7 @@ no_line true = refl
 no_line false = refl
 
 landed_held : (setup : Setup) (m : Map) (past : List Entry) (moved : List Move) (d : ℕ) (flit : List ℕ) (outcome : Outcome) (landed : List PacketFields) → Wired setup.topology → Kept setup past → Kept setup (Landed d flit outcome ∷ past) → Agrees setup.topology m past moved
-    → EntryRule setup past (Landed d flit outcome) → goes_on outcome (passed_onto setup.topology d past) ≡ false → known_on setup.topology d (Landed d flit outcome ∷ past) ≡ known_on setup.topology d past → landed_packets setup.topology d flit outcome past ≡ landed → length landed ≤ 1
+    → EntryRule setup past (Landed d flit outcome) → goes_on outcome (forwarded_onto setup.topology d past) ≡ false → known_on setup.topology d (Landed d flit outcome ∷ past) ≡ known_on setup.topology d past → landed_packets setup.topology d flit outcome past ≡ landed → length landed ≤ 1
     → Held setup.topology m (contents setup.topology (Landed d flit outcome ∷ past)) (left_on setup.topology (Landed d flit outcome) past) (lands setup.topology d landed ++ moved)
 unfolding entering enters leaves hop_contents
 landed_held setup m past moved d flit outcome [] wires keeps now agrees right stays known is few =
@@ -217,8 +217,8 @@ copy_lines topology entry past onto copy e false at known others within =
 
 -- ---- what a landing or an unlock leaves of pipes
 
--- the pipe of what is passed on takes the change
-change_pipe : (topology : Topology) (past : List Entry) (d onto : ℕ) (change : PipeFields → PipeFields) → (is : IsPassed topology past d onto)
+-- the pipe of what is forwarded takes the change
+change_pipe : (topology : Topology) (past : List Entry) (d onto : ℕ) (change : PipeFields → PipeFields) → (is : ForwardedPacket topology past d onto)
     → option_map (while_gathering d change) (pipe_onto topology onto past) ≡ Some (record { from = is.pipe.from; pipe = change (piped_with is.pipe is.pipe.pipe.came None).pipe })
 change_pipe topology past d onto change is =
     let p = piped_with is.pipe is.pipe.pipe.came None in
@@ -229,20 +229,20 @@ none_ℕ : (a : ℕ) → ◌≡◌ {A = Option ℕ} None (Some a) → ⊥
 none_ℕ a is = cc
 
 -- the pipes of other directions stay
-gathering_at : (setup : Setup) (past : List Entry) (e : ℕ) → Kept setup past → (p : PipeFrom) → pipe_onto setup.topology e past ≡ Some p → p.pipe.good ≡ None → passed_onto setup.topology p.from past ≡ Some e
+gathering_at : (setup : Setup) (past : List Entry) (e : ℕ) → Kept setup past → (p : PipeFrom) → pipe_onto setup.topology e past ≡ Some p → p.pipe.good ≡ None → forwarded_onto setup.topology p.from past ≡ Some e
 gathering_at setup past e keeps p is none =
-    let kept : PipeKept setup.topology past e p = subst (OnPipe setup.topology past e) is (keeps.piped e) in (kept.gathering none).passed
+    let kept : PipeKept setup.topology past e p = subst (OnPipe setup.topology past e) is (keeps.piped e) in (kept.gathering none).forwarded
 
-other_pipe : (setup : Setup) (past : List Entry) (d onto e : ℕ) (change : PipeFields → PipeFields) → Kept setup past → passed_onto setup.topology d past ≡ Some onto → (onto == e) ≡ false → option_map (while_gathering d change) (pipe_onto setup.topology e past) ≡ pipe_onto setup.topology e past
-other_pipe setup past d onto e change keeps passed off =
+other_pipe : (setup : Setup) (past : List Entry) (d onto e : ℕ) (change : PipeFields → PipeFields) → Kept setup past → forwarded_onto setup.topology d past ≡ Some onto → (onto == e) ≡ false → option_map (while_gathering d change) (pipe_onto setup.topology e past) ≡ pipe_onto setup.topology e past
+other_pipe setup past d onto e change keeps forwarded off =
     pipe_elsewhere setup.topology e d past change
     (λ p is none from.
-    let also : passed_onto setup.topology d past ≡ Some e = ap (λ (n : ℕ). passed_onto setup.topology n past) (sym from) ∙ gathering_at setup past e keeps p is none in
-    let clash : true ≡ false = sym (eq-eqb onto e (some_is onto e (sym passed ∙ also))) ∙ off in cc)
+    let also : forwarded_onto setup.topology d past ≡ Some e = ap (λ (n : ℕ). forwarded_onto setup.topology n past) (sym from) ∙ gathering_at setup past e keeps p is none in
+    let clash : true ≡ false = sym (eq-eqb onto e (some_is onto e (sym forwarded ∙ also))) ∙ off in cc)
 
-idle_pipe : (setup : Setup) (past : List Entry) (d e : ℕ) (change : PipeFields → PipeFields) → Kept setup past → passed_onto setup.topology d past ≡ None → option_map (while_gathering d change) (pipe_onto setup.topology e past) ≡ pipe_onto setup.topology e past
-idle_pipe setup past d e change keeps passed =
-    pipe_elsewhere setup.topology e d past change (λ p is none from. none_ℕ e (sym passed ∙ ap (λ (n : ℕ). passed_onto setup.topology n past) (sym from) ∙ gathering_at setup past e keeps p is none))
+idle_pipe : (setup : Setup) (past : List Entry) (d e : ℕ) (change : PipeFields → PipeFields) → Kept setup past → forwarded_onto setup.topology d past ≡ None → option_map (while_gathering d change) (pipe_onto setup.topology e past) ≡ pipe_onto setup.topology e past
+idle_pipe setup past d e change keeps forwarded =
+    pipe_elsewhere setup.topology e d past change (λ p is none from. none_ℕ e (sym forwarded ∙ ap (λ (n : ℕ). forwarded_onto setup.topology n past) (sym from) ∙ gathering_at setup past e keeps p is none))
 
 -- no packet is gathered at a direction that isn't there
 far_pipe : (setup : Setup) (past : List Entry) (d e : ℕ) (change : PipeFields → PipeFields) → Kept setup past → nat_lt d (directions_in setup.topology) ≡ false → option_map (while_gathering d change) (pipe_onto setup.topology e past) ≡ pipe_onto setup.topology e past
@@ -253,41 +253,41 @@ far_pipe setup past d e change keeps far =
     let inside : d < directions_in setup.topology = subst (λ (n : ℕ). n < directions_in setup.topology) from kept.way.inside in
     let clash : true ≡ false = sym (lt-ltb d (directions_in setup.topology) inside) ∙ far in cc)
 
--- ---- a landing of what isn't passed on
+-- ---- a landing of what isn't forwarded
 
 never_goes : (outcome : Outcome) → goes_on outcome None ≡ false
 never_goes outcomes.Accepted = refl
 never_goes _ = refl
 
 idle_landed : (setup : Setup) (m : Map) (past : List Entry) (moved : List Move) (d : ℕ) (flit : List ℕ) (outcome : Outcome) → Wired setup.topology → Kept setup past → Kept setup (Landed d flit outcome ∷ past) → Agrees setup.topology m past moved
-    → EntryRule setup past (Landed d flit outcome) → passed_onto setup.topology d past ≡ None → Agrees setup.topology m (Landed d flit outcome ∷ past) (lands setup.topology d (landed_packets setup.topology d flit outcome past) ++ moved)
-idle_landed setup m past moved d flit outcome wires keeps now agrees right passed =
+    → EntryRule setup past (Landed d flit outcome) → forwarded_onto setup.topology d past ≡ None → Agrees setup.topology m (Landed d flit outcome ∷ past) (lands setup.topology d (landed_packets setup.topology d flit outcome past) ++ moved)
+idle_landed setup m past moved d flit outcome wires keeps now agrees right forwarded =
     let t = setup.topology in
-    let known = λ (e : ℕ). known-quiet t e (Landed d flit outcome) past tt (pipe_landed t e d flit outcome past ∙ idle_pipe setup past d e (with_landing flit outcome) keeps passed) in
+    let known = λ (e : ℕ). known-quiet t e (Landed d flit outcome) past tt (pipe_landed t e d flit outcome past ∙ idle_pipe setup past d e (with_landing flit outcome) keeps forwarded) in
     lines_same t m (Landed d flit outcome) past (lands t d (landed_packets t d flit outcome past) ++ moved) known
-    (landed_held setup m past moved d flit outcome (landed_packets t d flit outcome past) wires keeps now agrees right (ap (goes_on outcome) passed ∙ never_goes outcome) (known d) refl (few_landed t d flit outcome past))
+    (landed_held setup m past moved d flit outcome (landed_packets t d flit outcome past) wires keeps now agrees right (ap (goes_on outcome) forwarded ∙ never_goes outcome) (known d) refl (few_landed t d flit outcome past))
 
--- ---- a flit more of what is passed on
+-- ---- a flit more of what is forwarded
 
-other_known : (setup : Setup) (past : List Entry) (d onto e : ℕ) (flit : List ℕ) (outcome : Outcome) → Kept setup past → passed_onto setup.topology d past ≡ Some onto → (onto == e) ≡ false → known_on setup.topology e (Landed d flit outcome ∷ past) ≡ known_on setup.topology e past
-other_known setup past d onto e flit outcome keeps passed off =
-    known-quiet setup.topology e (Landed d flit outcome) past tt (pipe_landed setup.topology e d flit outcome past ∙ other_pipe setup past d onto e (with_landing flit outcome) keeps passed off)
+other_known : (setup : Setup) (past : List Entry) (d onto e : ℕ) (flit : List ℕ) (outcome : Outcome) → Kept setup past → forwarded_onto setup.topology d past ≡ Some onto → (onto == e) ≡ false → known_on setup.topology e (Landed d flit outcome ∷ past) ≡ known_on setup.topology e past
+other_known setup past d onto e flit outcome keeps forwarded off =
+    known-quiet setup.topology e (Landed d flit outcome) past tt (pipe_landed setup.topology e d flit outcome past ∙ other_pipe setup past d onto e (with_landing flit outcome) keeps forwarded off)
 
 gathered_step : (setup : Setup) (m : Map) (past : List Entry) (moved : List Move) (d onto : ℕ) (flit : List ℕ) → Wired setup.topology → Kept setup past → Kept setup (Landed d flit outcomes.Gathered ∷ past) → Agrees setup.topology m past moved
-    → EntryRule setup past (Landed d flit outcomes.Gathered) → passed_onto setup.topology d past ≡ Some onto → Agrees setup.topology m (Landed d flit outcomes.Gathered ∷ past) (lands setup.topology d (landed_packets setup.topology d flit outcomes.Gathered past) ++ moved)
-gathered_step setup m past moved d onto flit wires keeps now agrees right passed =
+    → EntryRule setup past (Landed d flit outcomes.Gathered) → forwarded_onto setup.topology d past ≡ Some onto → Agrees setup.topology m (Landed d flit outcomes.Gathered ∷ past) (lands setup.topology d (landed_packets setup.topology d flit outcomes.Gathered past) ++ moved)
+gathered_step setup m past moved d onto flit wires keeps now agrees right forwarded =
     let t = setup.topology in
     let entry = Landed d flit outcomes.Gathered in
-    let is : IsPassed t past d onto = is_passed setup past d onto wires keeps (landed-real setup past d flit outcomes.Gathered right keeps) passed in
+    let is : ForwardedPacket t past d onto = forwarded_packet setup past d onto wires keeps (landed-real setup past d flit outcomes.Gathered right keeps) forwarded in
     let here : known_on t onto (entry ∷ past) ≡ known_on t onto past =
     copy_waits t onto (entry ∷ past) past is.pipe is.pipe.pipe.came (is.pipe.pipe.came ++ flit ∷ []) is.up is.is (pipe_landed t onto d flit outcomes.Gathered past ∙ change_pipe t past d onto (with_landing flit outcomes.Gathered) is) (places_landed t onto entry past tt) in
     let by_same = λ (e : ℕ) (same : Bool) (at : (onto == e) ≡ same). known_at e same at here in
     lines_same t m entry past (lands t d (landed_packets t d flit outcomes.Gathered past) ++ moved) (λ e. by_same e (onto == e) refl)
-    (landed_held setup m past moved d flit outcomes.Gathered (landed_packets t d flit outcomes.Gathered past) wires keeps now agrees right (ap (goes_on outcomes.Gathered) passed) (by_same d (onto == d) refl) refl (few_landed t d flit outcomes.Gathered past))
+    (landed_held setup m past moved d flit outcomes.Gathered (landed_packets t d flit outcomes.Gathered past) wires keeps now agrees right (ap (goes_on outcomes.Gathered) forwarded) (by_same d (onto == d) refl) refl (few_landed t d flit outcomes.Gathered past))
   where
     known_at : (e : ℕ) (same : Bool) → (onto == e) ≡ same → known_on setup.topology onto (Landed d flit outcomes.Gathered ∷ past) ≡ known_on setup.topology onto past → known_on setup.topology e (Landed d flit outcomes.Gathered ∷ past) ≡ known_on setup.topology e past
     known_at e true at here = subst (λ (k : ℕ). known_on setup.topology k (Landed d flit outcomes.Gathered ∷ past) ≡ known_on setup.topology k past) (eqb-true onto e at) here
-    known_at e false at here = other_known setup past d onto e flit outcomes.Gathered keeps passed at
+    known_at e false at here = other_known setup past d onto e flit outcomes.Gathered keeps forwarded at
 
 -- ---- the gathering ends with nothing accepted, or a poisoned packet
 
@@ -296,13 +296,13 @@ abbrev pub Spoils : List ℕ → Outcome → Type 0
 Spoils flit outcome = (pipe : PipeFields) → with_landing flit outcome pipe ≡ record { flits = pipe.flits; profile = pipe.profile; came = pipe.came ++ flit ∷ []; good = Some false }
 
 spoiled_step : (setup : Setup) (m : Map) (past : List Entry) (moved : List Move) (d onto : ℕ) (flit : List ℕ) (outcome : Outcome) → Wired setup.topology → Kept setup past → Kept setup (Landed d flit outcome ∷ past) → Agrees setup.topology m past moved
-    → EntryRule setup past (Landed d flit outcome) → passed_onto setup.topology d past ≡ Some onto → goes_on outcome (Some onto) ≡ false
+    → EntryRule setup past (Landed d flit outcome) → forwarded_onto setup.topology d past ≡ Some onto → goes_on outcome (Some onto) ≡ false
     → Spoils flit outcome
     → Agrees setup.topology m (Landed d flit outcome ∷ past) (copy_comes setup.topology (Landed d flit outcome ∷ past) onto ++ (lands setup.topology d (landed_packets setup.topology d flit outcome past) ++ moved))
-spoiled_step setup m past moved d onto flit outcome wires keeps now agrees right passed stays ends =
+spoiled_step setup m past moved d onto flit outcome wires keeps now agrees right forwarded stays ends =
     let t = setup.topology in
     let entry = Landed d flit outcome in
-    let is : IsPassed t past d onto = is_passed setup past d onto wires keeps (landed-real setup past d flit outcome right keeps) passed in
+    let is : ForwardedPacket t past d onto = forwarded_packet setup past d onto wires keeps (landed-real setup past d flit outcome right keeps) forwarded in
     let came = is.pipe.pipe.came ++ flit ∷ [] in
     let pipe : pipe_onto t onto (entry ∷ past) ≡ Some (piped_with is.pipe came (Some false)) =
     pipe_landed t onto d flit outcome past ∙ change_pipe t past d onto (with_landing flit outcome) is ∙ ap (λ (x : PipeFields). Some (record { from = is.pipe.from; pipe = x })) (ends (piped_with is.pipe is.pipe.pipe.came None).pipe) in
@@ -310,12 +310,12 @@ spoiled_step setup m past moved d onto flit outcome wires keeps now agrees right
     let known : CopyKnown t onto (entry ∷ past) past copy = copy_known t onto (entry ∷ past) past is.pipe is.pipe.pipe.came came false is.up is.some is.is pipe (places_landed t onto entry past tt) in
     let within : length (accepted t onto (entry ∷ past)) ≤ length (known_on t onto past) =
     subst (λ l. length l ≤ length (known_on t onto past)) (sym (accepted_off t onto d flit outcome past is.apart)) (accepted_within t onto past (keeps.links (onto / 2))) in
-    let held = landed_held setup m past moved d flit outcome (landed_packets t d flit outcome past) wires keeps now agrees right (ap (goes_on outcome) passed ∙ stays)
-    (other_known setup past d onto d flit outcome keeps passed (back_false d onto is.apart)) refl (few_landed t d flit outcome past) in
+    let held = landed_held setup m past moved d flit outcome (landed_packets t d flit outcome past) wires keeps now agrees right (ap (goes_on outcome) forwarded ∙ stays)
+    (other_known setup past d onto d flit outcome keeps forwarded (back_false d onto is.apart)) refl (few_landed t d flit outcome past) in
     subst (λ (x : PacketFields). Agrees t m (entry ∷ past) (Comes (hops.Line onto) (seen t x) ∷ (lands t d (landed_packets t d flit outcome past) ++ moved))) (sym known.last)
     (agrees_held t m (entry ∷ past) (Comes (hops.Line onto) (seen t copy) ∷ (lands t d (landed_packets t d flit outcome past) ++ moved))
     (comes_held t m (contents t (entry ∷ past)) (left_on t entry past) (λ e. line_on t e (entry ∷ past)) (lands t d (landed_packets t d flit outcome past) ++ moved) onto copy held
-    (λ e. copy_lines t entry past onto copy e (onto == e) refl known.known (λ k off. other_known setup past d onto k flit outcome keeps passed off) within)))
+    (λ e. copy_lines t entry past onto copy e (onto == e) refl known.known (λ k off. other_known setup past d onto k flit outcome keeps forwarded off) within)))
 
 -- ---- it is accepted: the packet goes on at once
 
@@ -342,12 +342,12 @@ through_same false true n inside x none long =
 through_same true c n inside x none long = through_empty c n inside x (none refl) long
 
 goes_held : (setup : Setup) (m : Map) (past : List Entry) (moved : List Move) (d onto : ℕ) (flit : List ℕ) (x copy : PacketFields) → Wired setup.topology → Kept setup past → Kept setup (Landed d flit outcomes.Accepted ∷ past) → Agrees setup.topology m past moved
-    → EntryRule setup past (Landed d flit outcomes.Accepted) → passed_onto setup.topology d past ≡ Some onto → (is : IsPassed setup.topology past d onto) → landed_packets setup.topology d flit outcomes.Accepted past ≡ x ∷ [] → is_token x ≡ true
+    → EntryRule setup past (Landed d flit outcomes.Accepted) → forwarded_onto setup.topology d past ≡ Some onto → (is : ForwardedPacket setup.topology past d onto) → landed_packets setup.topology d flit outcomes.Accepted past ≡ x ∷ [] → is_token x ≡ true
     → next_queue m (hops.Buffer d) (seen setup.topology x) ≡ Some (hops.Output onto) → seen setup.topology copy ≡ seen setup.topology x
     → known_on setup.topology onto (Landed d flit outcomes.Accepted ∷ past) ≡ known_on setup.topology onto past ++ copy ∷ []
     → Agrees setup.topology m (Landed d flit outcomes.Accepted ∷ past) (goes_past setup.topology past d onto (x ∷ []) ++ (lands setup.topology d (x ∷ []) ++ moved))
 unfolding entering enters leaves hop_contents
-goes_held setup m past moved d onto flit x copy wires keeps now agrees right passed is landed token goes same known =
+goes_held setup m past moved d onto flit x copy wires keeps now agrees right forwarded is landed token goes same known =
     let t = setup.topology in
     let entry = Landed d flit outcomes.Accepted in
     let y = seen t x in
@@ -355,7 +355,7 @@ goes_held setup m past moved d onto flit x copy wires keeps now agrees right pas
     let line_next : next_queue m (hops.Line d) y ≡ Some (hops.Buffer d) = ap (λ (b : Bool). after_line b d) (token_seen t x ∙ token) in
     let within : length (accepted t onto (entry ∷ past)) ≤ length (known_on t onto past) =
     subst (λ l. length l ≤ length (known_on t onto past)) (sym (accepted_off t onto d flit outcomes.Accepted past is.apart)) (accepted_within t onto past (keeps.links (onto / 2))) in
-    let others = λ (k : ℕ) (off : (onto == k) ≡ false). other_known setup past d onto k flit outcomes.Accepted keeps passed off in record {
+    let others = λ (k : ℕ) (off : (onto == k) ≡ false). other_known setup past d onto k flit outcomes.Accepted keeps forwarded off in record {
       queues = λ q real.
           let hop = hop_queue t q in
           let inside = hop_contents m moved hop in
@@ -364,7 +364,7 @@ goes_held setup m past moved d onto flit x copy wires keeps now agrees right pas
           let at_output : same_hop (hops.Output onto) hop ≡ true → n ≡ length inside = λ at.
           sym (length-map (contents t past (queues.Output onto)) (seen t)) ∙ ap (λ (l : List Packet). length l) (agrees.queues (queues.Output onto) tt ∙ ap (hop_contents m moved) (queue_is (hops.Output onto) hop at)) in
           queue-more setup entry past q false [] inside right tt keeps.within refl
-          (ap (λ (o : Option ℕ). map (seen t) (arrived q (arrival_of (landing_buffer t d) (unless_gone (goes_on outcomes.Accepted o) (filter is_token (landed_packets t d flit outcomes.Accepted past)))))) passed)
+          (ap (λ (o : Option ℕ). map (seen t) (arrived q (arrival_of (landing_buffer t d) (unless_gone (goes_on outcomes.Accepted o) (filter is_token (landed_packets t d flit outcomes.Accepted past)))))) forwarded)
           (agrees.queues q real)
           ∙ append-nil inside
           ∙ sym ((λ i. without_if (same_hop (hops.Output onto) hop) n (without_if (same_hop (hops.Buffer d) hop) 0 (without_if (line_off t q d i) 0 inside ++ hop_if (is_at_hop (line_next i) hop) y) ++ hop_if (is_at_hop (goes i) hop) y) ++ hop_if (line_off t q onto i) y)
@@ -382,7 +382,7 @@ goes_held setup m past moved d onto flit x copy wires keeps now agrees right pas
     }
 
 -- the packet that is accepted
-pub come_of : (setup : Setup) (past : List Entry) (d onto : ℕ) (flit : List ℕ) → Kept setup (Landed d flit outcomes.Accepted ∷ past) → (is : IsPassed setup.topology past d onto)
+pub come_of : (setup : Setup) (past : List Entry) (d onto : ℕ) (flit : List ℕ) → Kept setup (Landed d flit outcomes.Accepted ∷ past) → (is : ForwardedPacket setup.topology past d onto)
     → (x : PacketFields) × (IsCome setup.topology past d flit x) × (landed_packets setup.topology d flit outcomes.Accepted past ≡ x ∷ [])
 unfolding landed_packets
 come_of setup past d onto flit now is =
@@ -401,12 +401,12 @@ come_of setup past d onto flit now is =
     )
 
 accepted_step : (setup : Setup) (m : Map) (past : List Entry) (moved : List Move) (d onto : ℕ) (flit : List ℕ) → IsMapOf setup.topology m → Wired setup.topology → Kept setup past → Kept setup (Landed d flit outcomes.Accepted ∷ past) → Agrees setup.topology m past moved
-    → EntryRule setup past (Landed d flit outcomes.Accepted) → passed_onto setup.topology d past ≡ Some onto
+    → EntryRule setup past (Landed d flit outcomes.Accepted) → forwarded_onto setup.topology d past ≡ Some onto
     → Agrees setup.topology m (Landed d flit outcomes.Accepted ∷ past) (goes_past setup.topology past d onto (landed_packets setup.topology d flit outcomes.Accepted past) ++ (lands setup.topology d (landed_packets setup.topology d flit outcomes.Accepted past) ++ moved))
-accepted_step setup m past moved d onto flit map_of wires keeps now agrees right passed =
+accepted_step setup m past moved d onto flit map_of wires keeps now agrees right forwarded =
     let t = setup.topology in
     let entry = Landed d flit outcomes.Accepted in
-    let is : IsPassed t past d onto = is_passed setup past d onto wires keeps (landed-real setup past d flit outcomes.Accepted right keeps) passed in
+    let is : ForwardedPacket t past d onto = forwarded_packet setup past d onto wires keeps (landed-real setup past d flit outcomes.Accepted right keeps) forwarded in
     let found = come_of setup past d onto flit now is in
     let x = found.0 in
     let come = found.1 in
@@ -416,25 +416,25 @@ accepted_step setup m past moved d onto flit map_of wires keeps now agrees right
     let copy = copy_on t onto is.pipe came true is.up.numbers in
     let known : CopyKnown t onto (entry ∷ past) past copy = copy_known t onto (entry ∷ past) past is.pipe is.pipe.pipe.came came true is.up is.some is.is pipe (places_landed t onto entry past tt) in
     subst (λ l. Agrees t m (entry ∷ past) (goes_past t past d onto l ++ (lands t d l ++ moved))) (sym found.2)
-    (goes_held setup m past moved d onto flit x copy wires keeps now agrees right passed is found.2 (ap not counted.layout)
-    (passed_next t m past d onto x map_of wires is come.moving come.clean (come_head t past d onto flit x is come).0) (come_copy t past d onto flit x is.up.numbers is come) known.known)
+    (goes_held setup m past moved d onto flit x copy wires keeps now agrees right forwarded is found.2 (ap not counted.layout)
+    (forwarded_next t m past d onto x map_of wires is come.moving come.clean (come_head t past d onto flit x is come).0) (come_copy t past d onto flit x is.up.numbers is come) known.known)
 
 -- ---- every landing
 
 pub landed_step : (setup : Setup) (m : Map) (past : List Entry) (moved : List Move) (d : ℕ) (flit : List ℕ) (outcome : Outcome) (onto : Option ℕ) → IsMapOf setup.topology m → Wired setup.topology → Kept setup past → Kept setup (Landed d flit outcome ∷ past)
-    → Agrees setup.topology m past moved → EntryRule setup past (Landed d flit outcome) → passed_onto setup.topology d past ≡ onto
+    → Agrees setup.topology m past moved → EntryRule setup past (Landed d flit outcome) → forwarded_onto setup.topology d past ≡ onto
     → Agrees setup.topology m (Landed d flit outcome ∷ past)
-    (passes_on setup.topology past (Landed d flit outcome ∷ past) d outcome onto (landed_packets setup.topology d flit outcome past) ++ (lands setup.topology d (landed_packets setup.topology d flit outcome past) ++ moved))
-landed_step setup m past moved d flit outcome None map_of wires keeps now agrees right passed = idle_landed setup m past moved d flit outcome wires keeps now agrees right passed
-landed_step setup m past moved d flit outcomes.Gathered (Some onto) map_of wires keeps now agrees right passed = gathered_step setup m past moved d onto flit wires keeps now agrees right passed
-landed_step setup m past moved d flit outcomes.Accepted (Some onto) map_of wires keeps now agrees right passed = accepted_step setup m past moved d onto flit map_of wires keeps now agrees right passed
-landed_step setup m past moved d flit outcomes.Quiet (Some onto) map_of wires keeps now agrees right passed = spoiled_step setup m past moved d onto flit outcomes.Quiet wires keeps now agrees right passed refl (λ pipe. refl)
-landed_step setup m past moved d flit outcomes.Trained (Some onto) map_of wires keeps now agrees right passed = spoiled_step setup m past moved d onto flit outcomes.Trained wires keeps now agrees right passed refl (λ pipe. refl)
-landed_step setup m past moved d flit outcomes.Poisoned (Some onto) map_of wires keeps now agrees right passed = spoiled_step setup m past moved d onto flit outcomes.Poisoned wires keeps now agrees right passed refl (λ pipe. refl)
-landed_step setup m past moved d flit outcomes.Repeat (Some onto) map_of wires keeps now agrees right passed = spoiled_step setup m past moved d onto flit outcomes.Repeat wires keeps now agrees right passed refl (λ pipe. refl)
-landed_step setup m past moved d flit (outcomes.AbortedBad bad) (Some onto) map_of wires keeps now agrees right passed = spoiled_step setup m past moved d onto flit (outcomes.AbortedBad bad) wires keeps now agrees right passed refl (λ pipe. refl)
-landed_step setup m past moved d flit outcomes.AbortedOrder (Some onto) map_of wires keeps now agrees right passed = spoiled_step setup m past moved d onto flit outcomes.AbortedOrder wires keeps now agrees right passed refl (λ pipe. refl)
-landed_step setup m past moved d flit (outcomes.Ran kind) (Some onto) map_of wires keeps now agrees right passed = spoiled_step setup m past moved d onto flit (outcomes.Ran kind) wires keeps now agrees right passed refl (λ pipe. refl)
+    (forward_moves setup.topology past (Landed d flit outcome ∷ past) d outcome onto (landed_packets setup.topology d flit outcome past) ++ (lands setup.topology d (landed_packets setup.topology d flit outcome past) ++ moved))
+landed_step setup m past moved d flit outcome None map_of wires keeps now agrees right forwarded = idle_landed setup m past moved d flit outcome wires keeps now agrees right forwarded
+landed_step setup m past moved d flit outcomes.Gathered (Some onto) map_of wires keeps now agrees right forwarded = gathered_step setup m past moved d onto flit wires keeps now agrees right forwarded
+landed_step setup m past moved d flit outcomes.Accepted (Some onto) map_of wires keeps now agrees right forwarded = accepted_step setup m past moved d onto flit map_of wires keeps now agrees right forwarded
+landed_step setup m past moved d flit outcomes.Quiet (Some onto) map_of wires keeps now agrees right forwarded = spoiled_step setup m past moved d onto flit outcomes.Quiet wires keeps now agrees right forwarded refl (λ pipe. refl)
+landed_step setup m past moved d flit outcomes.Trained (Some onto) map_of wires keeps now agrees right forwarded = spoiled_step setup m past moved d onto flit outcomes.Trained wires keeps now agrees right forwarded refl (λ pipe. refl)
+landed_step setup m past moved d flit outcomes.Poisoned (Some onto) map_of wires keeps now agrees right forwarded = spoiled_step setup m past moved d onto flit outcomes.Poisoned wires keeps now agrees right forwarded refl (λ pipe. refl)
+landed_step setup m past moved d flit outcomes.Repeat (Some onto) map_of wires keeps now agrees right forwarded = spoiled_step setup m past moved d onto flit outcomes.Repeat wires keeps now agrees right forwarded refl (λ pipe. refl)
+landed_step setup m past moved d flit (outcomes.AbortedBad bad) (Some onto) map_of wires keeps now agrees right forwarded = spoiled_step setup m past moved d onto flit (outcomes.AbortedBad bad) wires keeps now agrees right forwarded refl (λ pipe. refl)
+landed_step setup m past moved d flit outcomes.AbortedOrder (Some onto) map_of wires keeps now agrees right forwarded = spoiled_step setup m past moved d onto flit outcomes.AbortedOrder wires keeps now agrees right forwarded refl (λ pipe. refl)
+landed_step setup m past moved d flit (outcomes.Ran kind) (Some onto) map_of wires keeps now agrees right forwarded = spoiled_step setup m past moved d onto flit (outcomes.Ran kind) wires keeps now agrees right forwarded refl (λ pipe. refl)
 
 -- ---- unlocks
 
@@ -454,12 +454,12 @@ idle_unlock : (setup : Setup) (m : Map) (past : List Entry) (moved : List Move) 
     → Agrees setup.topology m (Unlocked d ∷ past) moved
 idle_unlock setup m past moved d keeps agrees same = lines_same setup.topology m (Unlocked d) past moved (λ e. known_unlocked setup past d e (same e)) (unlock_held setup m past moved d keeps agrees)
 
-spoiled_unlock : (setup : Setup) (m : Map) (past : List Entry) (moved : List Move) (d onto : ℕ) → Wired setup.topology → Kept setup past → Agrees setup.topology m past moved → d < directions_in setup.topology → passed_onto setup.topology d past ≡ Some onto
+spoiled_unlock : (setup : Setup) (m : Map) (past : List Entry) (moved : List Move) (d onto : ℕ) → Wired setup.topology → Kept setup past → Agrees setup.topology m past moved → d < directions_in setup.topology → forwarded_onto setup.topology d past ≡ Some onto
     → Agrees setup.topology m (Unlocked d ∷ past) (copy_comes setup.topology (Unlocked d ∷ past) onto ++ moved)
-spoiled_unlock setup m past moved d onto wires keeps agrees inside passed =
+spoiled_unlock setup m past moved d onto wires keeps agrees inside forwarded =
     let t = setup.topology in
     let entry = Unlocked d in
-    let is : IsPassed t past d onto = is_passed setup past d onto wires keeps inside passed in
+    let is : ForwardedPacket t past d onto = forwarded_packet setup past d onto wires keeps inside forwarded in
     let came = is.pipe.pipe.came in
     let pipe : pipe_onto t onto (entry ∷ past) ≡ Some (piped_with is.pipe came (Some false)) = pipe_unlocked t onto d past ∙ change_pipe t past d onto with_unlock is in
     let copy = copy_on t onto is.pipe came false is.up.numbers in
@@ -469,37 +469,37 @@ spoiled_unlock setup m past moved d onto wires keeps agrees inside passed =
     subst (λ (x : PacketFields). Agrees t m (entry ∷ past) (Comes (hops.Line onto) (seen t x) ∷ moved)) (sym known.last)
     (agrees_held t m (entry ∷ past) (Comes (hops.Line onto) (seen t copy) ∷ moved)
     (comes_held t m (contents t (entry ∷ past)) (left_on t entry past) (λ e. line_on t e (entry ∷ past)) moved onto copy (unlock_held setup m past moved d keeps agrees)
-    (λ e. copy_lines t entry past onto copy e (onto == e) refl known.known (λ k off. known_unlocked setup past d k (other_pipe setup past d onto k with_unlock keeps passed off)) within)))
+    (λ e. copy_lines t entry past onto copy e (onto == e) refl known.known (λ k off. known_unlocked setup past d k (other_pipe setup past d onto k with_unlock keeps forwarded off)) within)))
 
-there_unlock : (setup : Setup) (m : Map) (past : List Entry) (moved : List Move) (d : ℕ) (onto : Option ℕ) → Wired setup.topology → Kept setup past → Agrees setup.topology m past moved → d < directions_in setup.topology → passed_onto setup.topology d past ≡ onto
+there_unlock : (setup : Setup) (m : Map) (past : List Entry) (moved : List Move) (d : ℕ) (onto : Option ℕ) → Wired setup.topology → Kept setup past → Agrees setup.topology m past moved → d < directions_in setup.topology → forwarded_onto setup.topology d past ≡ onto
     → Agrees setup.topology m (Unlocked d ∷ past) (unlocks setup.topology (Unlocked d ∷ past) onto ++ moved)
-there_unlock setup m past moved d None wires keeps agrees inside passed = idle_unlock setup m past moved d keeps agrees (λ e. idle_pipe setup past d e with_unlock keeps passed)
-there_unlock setup m past moved d (Some onto) wires keeps agrees inside passed = spoiled_unlock setup m past moved d onto wires keeps agrees inside passed
+there_unlock setup m past moved d None wires keeps agrees inside forwarded = idle_unlock setup m past moved d keeps agrees (λ e. idle_pipe setup past d e with_unlock keeps forwarded)
+there_unlock setup m past moved d (Some onto) wires keeps agrees inside forwarded = spoiled_unlock setup m past moved d onto wires keeps agrees inside forwarded
 
 pub unlocked_step : (setup : Setup) (m : Map) (past : List Entry) (moved : List Move) (d : ℕ) (there : Bool) → Wired setup.topology → Kept setup past → Agrees setup.topology m past moved → nat_lt d (directions_in setup.topology) ≡ there
-    → Agrees setup.topology m (Unlocked d ∷ past) (unlocks setup.topology (Unlocked d ∷ past) (if_there there (passed_onto setup.topology d past)) ++ moved)
-unlocked_step setup m past moved d true wires keeps agrees at = there_unlock setup m past moved d (passed_onto setup.topology d past) wires keeps agrees (ltb-true d (directions_in setup.topology) at) refl
+    → Agrees setup.topology m (Unlocked d ∷ past) (unlocks setup.topology (Unlocked d ∷ past) (if_there there (forwarded_onto setup.topology d past)) ++ moved)
+unlocked_step setup m past moved d true wires keeps agrees at = there_unlock setup m past moved d (forwarded_onto setup.topology d past) wires keeps agrees (ltb-true d (directions_in setup.topology) at) refl
 unlocked_step setup m past moved d false wires keeps agrees at = idle_unlock setup m past moved d keeps agrees (λ e. far_pipe setup past d e with_unlock keeps at)
 
 -- ---- copies that come are poisoned
 
-pub landing_spoils : (setup : Setup) (past : List Entry) (d onto : ℕ) (flit : List ℕ) (outcome : Outcome) → Wired setup.topology → Kept setup past → EntryRule setup past (Landed d flit outcome) → passed_onto setup.topology d past ≡ Some onto → Spoils flit outcome
+pub landing_spoils : (setup : Setup) (past : List Entry) (d onto : ℕ) (flit : List ℕ) (outcome : Outcome) → Wired setup.topology → Kept setup past → EntryRule setup past (Landed d flit outcome) → forwarded_onto setup.topology d past ≡ Some onto → Spoils flit outcome
     → (last_packet (begun_on setup.topology onto (Landed d flit outcome ∷ past))).poisoned ≡ true
-landing_spoils setup past d onto flit outcome wires keeps right passed ends =
+landing_spoils setup past d onto flit outcome wires keeps right forwarded ends =
     let t = setup.topology in
     let entry = Landed d flit outcome in
-    let is : IsPassed t past d onto = is_passed setup past d onto wires keeps (landed-real setup past d flit outcome right keeps) passed in
+    let is : ForwardedPacket t past d onto = forwarded_packet setup past d onto wires keeps (landed-real setup past d flit outcome right keeps) forwarded in
     let came = is.pipe.pipe.came ++ flit ∷ [] in
     let pipe : pipe_onto t onto (entry ∷ past) ≡ Some (piped_with is.pipe came (Some false)) =
     pipe_landed t onto d flit outcome past ∙ change_pipe t past d onto (with_landing flit outcome) is ∙ ap (λ (x : PipeFields). Some (record { from = is.pipe.from; pipe = x })) (ends (piped_with is.pipe is.pipe.pipe.came None).pipe) in
     let known : CopyKnown t onto (entry ∷ past) past (copy_on t onto is.pipe came false is.up.numbers) = copy_known t onto (entry ∷ past) past is.pipe is.pipe.pipe.came came false is.up is.some is.is pipe (places_landed t onto entry past tt) in
     ap (λ (x : PacketFields). x.poisoned) known.last ∙ copy-poisoned (profile_of t onto) is.pipe.pipe.flits is.pipe.pipe.profile came false is.up.numbers
 
-pub unlock_spoils : (setup : Setup) (past : List Entry) (d onto : ℕ) → Wired setup.topology → Kept setup past → d < directions_in setup.topology → passed_onto setup.topology d past ≡ Some onto → (last_packet (begun_on setup.topology onto (Unlocked d ∷ past))).poisoned ≡ true
-unlock_spoils setup past d onto wires keeps inside passed =
+pub unlock_spoils : (setup : Setup) (past : List Entry) (d onto : ℕ) → Wired setup.topology → Kept setup past → d < directions_in setup.topology → forwarded_onto setup.topology d past ≡ Some onto → (last_packet (begun_on setup.topology onto (Unlocked d ∷ past))).poisoned ≡ true
+unlock_spoils setup past d onto wires keeps inside forwarded =
     let t = setup.topology in
     let entry = Unlocked d in
-    let is : IsPassed t past d onto = is_passed setup past d onto wires keeps inside passed in
+    let is : ForwardedPacket t past d onto = forwarded_packet setup past d onto wires keeps inside forwarded in
     let came = is.pipe.pipe.came in
     let pipe : pipe_onto t onto (entry ∷ past) ≡ Some (piped_with is.pipe came (Some false)) = pipe_unlocked t onto d past ∙ change_pipe t past d onto with_unlock is in
     let known : CopyKnown t onto (entry ∷ past) past (copy_on t onto is.pipe came false is.up.numbers) = copy_known t onto (entry ∷ past) past is.pipe came came false is.up is.some is.is pipe (places_landed t onto entry past tt) in
@@ -507,10 +507,10 @@ unlock_spoils setup past d onto wires keeps inside passed =
 
 -- a landing leaves what is known on its own direction
 pub known_here : (setup : Setup) (past : List Entry) (d : ℕ) (flit : List ℕ) (outcome : Outcome) → Wired setup.topology → Kept setup past → EntryRule setup past (Landed d flit outcome) → known_on setup.topology d (Landed d flit outcome ∷ past) ≡ known_on setup.topology d past
-known_here setup past d flit outcome wires keeps right = by_onto (passed_onto setup.topology d past) refl
+known_here setup past d flit outcome wires keeps right = by_onto (forwarded_onto setup.topology d past) refl
   where
-    by_onto : (onto : Option ℕ) → passed_onto setup.topology d past ≡ onto → known_on setup.topology d (Landed d flit outcome ∷ past) ≡ known_on setup.topology d past
-    by_onto None passed = known-quiet setup.topology d (Landed d flit outcome) past tt (pipe_landed setup.topology d d flit outcome past ∙ idle_pipe setup past d d (with_landing flit outcome) keeps passed)
-    by_onto (Some onto) passed =
-        let is : IsPassed setup.topology past d onto = is_passed setup past d onto wires keeps (landed-real setup past d flit outcome right keeps) passed in
-        other_known setup past d onto d flit outcome keeps passed (back_false d onto is.apart)
+    by_onto : (onto : Option ℕ) → forwarded_onto setup.topology d past ≡ onto → known_on setup.topology d (Landed d flit outcome ∷ past) ≡ known_on setup.topology d past
+    by_onto None forwarded = known-quiet setup.topology d (Landed d flit outcome) past tt (pipe_landed setup.topology d d flit outcome past ∙ idle_pipe setup past d d (with_landing flit outcome) keeps forwarded)
+    by_onto (Some onto) forwarded =
+        let is : ForwardedPacket setup.topology past d onto = forwarded_packet setup past d onto wires keeps (landed-real setup past d flit outcome right keeps) forwarded in
+        other_known setup past d onto d flit outcome keeps forwarded (back_false d onto is.apart)

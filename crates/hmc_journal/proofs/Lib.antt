@@ -19,7 +19,7 @@ pub mod OpenSends
 pub mod Piping
 pub mod PipeSteps
 pub mod Copies
-pub mod Passing
+pub mod Forwarding
 pub mod AcceptedTokens
 pub mod Order
 pub mod Moves
@@ -42,7 +42,7 @@ pub mod KnownCopies
 pub mod Seen
 pub mod Agreeing
 pub mod Hopping
-pub mod Passed
+pub mod Forwarded
 pub mod LandingMoves
 pub mod Hopped
 pub mod MayMove
@@ -80,4 +80,4 @@ pub mod ParseShown
 pub mod ParseJournals
 mod CopyGoes
 mod GoodLandings
-pub mod PassedOnKept
+pub mod ForwardedKept

@@ -11,7 +11,7 @@ use Rattle.hmc_send.proofs.LinkProjections.{sender-through}
 use Rattle.hmc_wire.specs.LinkLaws.{IsKept}
 use Rattle.hmc_journal.specs.Choice.{append_if}
 use Rattle.hmc_journal.specs.declared.entry.Entry.{Entry}
-use Rattle.hmc_journal.specs.declared.entry.Entry.TheVariants.{Gave, Sent, Landed, Shifted, Dropped, Spread, Executed, Lifted, Took, Discarded, Through, Unlocked, Retired, Passed, Idle}
+use Rattle.hmc_journal.specs.declared.entry.Entry.TheVariants.{Sent, Through}
 use Rattle.hmc_journal.specs.Setup.{Topology}
 use Rattle.hmc_journal.specs.Carried.{begun_here}
 use Rattle.hmc_journal.specs.Directions.{unsent, awaits_first}
@@ -20,7 +20,7 @@ use Rattle.hmc_journal.specs.Links.{toward, link_entries, sizes_on, entries_on}
 use Rattle.hmc_journal.proofs.LinkHanded.{IsSentAs, new_left, own_marks}
 use Rattle.hmc_journal.proofs.KeptPast.{kept_past}
 use Rattle.hmc_journal.proofs.Projections.{came_at}
-use Rattle.hmc_journal.proofs.NoSends.{IsOfSends, IsNoSend, IsSome, of_sends, no-send, sent-elsewhere, through-elsewhere, through-here}
+use Rattle.hmc_journal.proofs.NoSends.{IsOfSends, IsNoSend, IsSome, of_sends, no-send, by_sending, sent-elsewhere, through-elsewhere, through-here}
 use Rattle.hmc_journal.proofs.UnsentFlits.{waits, left_begun, UnsentIs, SendFacts, new_left-some, is_sending, AreGathered, gathered_past, unsent_is}
 
 pub of_sends-marks : IsOfSends own_marks
@@ -98,11 +98,11 @@ begun_here-through : (d cube port direction : ℕ) (past : List Entry) → begun
 unfolding begun_here
 begun_here-through d cube port direction past = refl
 
-passed_marks : (topology : Topology) (d cube port direction : ℕ) (past : List Entry) (here : Bool) → (direction == d) ≡ here → IsSome (came_at topology cube port past)
+forwarded_marks : (topology : Topology) (d cube port direction : ℕ) (past : List Entry) (here : Bool) → (direction == d) ≡ here → IsSome (came_at topology cube port past)
     → begun_here d past ≡ marks_on topology d (entries_on topology d past) → begun_here d (Through cube port direction ∷ past) ≡ marks_on topology d (entries_on topology d (Through cube port direction ∷ past))
-passed_marks topology d cube port direction past false here some is =
+forwarded_marks topology d cube port direction past false here some is =
     begun_here-through d cube port direction past ∙ ap (λ (b : Bool). append_if b (false ∷ []) (begun_here d past)) here ∙ is ∙ sym (through-elsewhere own_marks topology d cube port direction past here)
-passed_marks topology d cube port direction past true here some is =
+forwarded_marks topology d cube port direction past true here some is =
     let one : direction ≡ d = eqb-true direction d here in
     begun_here-through d cube port direction past ∙ ap (λ (b : Bool). append_if b (false ∷ []) (begun_here d past)) here ∙ ap (λ (m : List Bool). m ++ false ∷ []) is
     ∙ sym (ap (λ (e : ℕ). marks_on topology d (entries_on topology d (Through cube port e ∷ past))) one ∙ by_came (came_at topology cube port past) refl some)
@@ -124,21 +124,12 @@ quiet_marks topology d entry past quiet is = begun_here-same d entry past quiet 
 
 marks-step : (topology : Topology) (d : ℕ) (entry : Entry) (past : List Entry) → AreGathered topology (entry ∷ past) → IsKept (sizes_on topology d) (entries_on topology d (entry ∷ past)) → begun_here d past ≡ marks_on topology d (entries_on topology d past)
     → begun_here d (entry ∷ past) ≡ marks_on topology d (entries_on topology d (entry ∷ past))
-marks-step topology d (Sent direction as_what flit) past gathered kept is = sent_marks topology d direction as_what flit past (direction == d) refl gathered kept is
-marks-step topology d (Through cube port direction) past gathered kept is = passed_marks topology d cube port direction past (direction == d) refl gathered.0 is
-marks-step topology d (Gave host tag poisoned request) past gathered kept is = quiet_marks topology d (Gave host tag poisoned request) past tt is
-marks-step topology d (Landed direction flit outcome) past gathered kept is = quiet_marks topology d (Landed direction flit outcome) past tt is
-marks-step topology d (Shifted cube port goal) past gathered kept is = quiet_marks topology d (Shifted cube port goal) past tt is
-marks-step topology d (Dropped cube port) past gathered kept is = quiet_marks topology d (Dropped cube port) past tt is
-marks-step topology d (Spread cube vault bank) past gathered kept is = quiet_marks topology d (Spread cube vault bank) past tt is
-marks-step topology d (Executed unit host tag request answer) past gathered kept is = quiet_marks topology d (Executed unit host tag request answer) past tt is
-marks-step topology d (Lifted cube from port) past gathered kept is = quiet_marks topology d (Lifted cube from port) past tt is
-marks-step topology d (Took host tag answer) past gathered kept is = quiet_marks topology d (Took host tag answer) past tt is
-marks-step topology d (Discarded host) past gathered kept is = quiet_marks topology d (Discarded host) past tt is
-marks-step topology d (Unlocked direction) past gathered kept is = quiet_marks topology d (Unlocked direction) past tt is
-marks-step topology d (Retired slot) past gathered kept is = quiet_marks topology d (Retired slot) past tt is
-marks-step topology d (Passed direction flit) past gathered kept is = quiet_marks topology d (Passed direction flit) past tt is
-marks-step topology d (Idle step cause) past gathered kept is = quiet_marks topology d (Idle step cause) past tt is
+marks-step topology d entry past gathered kept is =
+    by_sending (λ (e : Entry). AreGathered topology (e ∷ past) → IsKept (sizes_on topology d) (entries_on topology d (e ∷ past)) → begun_here d (e ∷ past) ≡ marks_on topology d (entries_on topology d (e ∷ past)))
+    (λ direction as_what flit gathers keeps. sent_marks topology d direction as_what flit past (direction == d) refl gathers keeps is)
+    (λ cube port direction gathers keeps. forwarded_marks topology d cube port direction past (direction == d) refl gathers.0 is)
+    (λ e quiet gathers keeps. quiet_marks topology d e past quiet is)
+    entry gathered kept
 
 -- they are those of the sender
 pub marks_are : (topology : Topology) (d : ℕ) (past : List Entry) → AreGathered topology past → IsKept (sizes_on topology d) (entries_on topology d past) → begun_here d past ≡ marks_on topology d (entries_on topology d past)

@@ -37,7 +37,7 @@ use Rattle.hmc_journal.specs.declared.entry.Entry.TheVariants.{Gave, Sent, Lande
 use Rattle.hmc_journal.specs.Carried.{begun_on}
 use Rattle.hmc_journal.specs.Choice.{choose}
 use Rattle.hmc_journal.specs.Links.{toward, sizes_on, entries_on}
-use Rattle.hmc_journal.specs.Piped.{lands_at, while_gathered, passed_onto}
+use Rattle.hmc_journal.specs.Piped.{lands_at, while_gathered, forwarded_onto}
 use Rattle.hmc_journal.specs.Directions.{unsent, awaits_first, landed_packets}
 use Rattle.hmc_journal.specs.Lawful.{Lawful}
 use Rattle.hmc_journal.specs.Network.{IsNetwork}
@@ -54,12 +54,12 @@ use Rattle.hmc_journal.proofs.PipeSteps.{IsNoPipe}
 use Rattle.hmc_journal.proofs.Sound.{kept, has_begun, output_is}
 use Rattle.hmc_journal.proofs.Underway.{line_on, underway-landed}
 use Rattle.hmc_journal.proofs.Wired.{Wired, wired}
-use Rattle.hmc_journal.proofs.Seen.{seen, kind_by, spot_of, hop_queue, front_goes, comes_from, begins_move, lands, goes_past, last_packet, copy_comes, passes_on, if_there, unlocks, moves_of, moves}
+use Rattle.hmc_journal.proofs.Seen.{seen, kind_by, spot_of, hop_queue, front_goes, comes_from, begins_move, lands, goes_past, last_packet, copy_comes, forward_moves, if_there, unlocks, moves_of, moves}
 use Rattle.hmc_journal.proofs.Agreeing.{IsMapOf, IsReal, Agrees, not_line}
-use Rattle.hmc_journal.proofs.Passed.{IsPassed, is_passed, passed_next, come_head}
+use Rattle.hmc_journal.proofs.Forwarded.{ForwardedPacket, forwarded_packet, forwarded_next, come_head}
 use Rattle.hmc_journal.proofs.LandingMoves.{buffer_hop, buffer_real, token_seen, Spoils, come_of, landing_spoils, unlock_spoils, known_here}
 use Rattle.hmc_journal.proofs.Hopped.{unit_hop, unit_real, at_end, agrees}
-use Rattle.hmc_journal.proofs.Passing.{passed_landed, passed_unlocked, passed_through, passed_same, still_gathered}
+use Rattle.hmc_journal.proofs.Forwarding.{forwarded_landed, forwarded_unlocked, forwarded_through, forwarded_same, still_gathered}
 
 -- ---- a front has the first place
 
@@ -124,7 +124,7 @@ unit_may setup m past moved unit agreed at =
     let t = setup.topology in
     subst (λ (q : HopQueue). IsPlaced 0 (seen t (front_of (contents t past (queue_of unit)))) (hop_contents m moved q)) (unit_hop t unit) (front_placed setup m past moved (queue_of unit) agreed (unit_real t unit) at)
 
--- a landing is more than one where what is passed on ends
+-- a landing is more than one where what is forwarded ends
 abbrev IsOne : Entry → Type 0
 IsOne (Landed d flit outcome) = ⊥
 IsOne (Unlocked d) = ⊥
@@ -161,11 +161,11 @@ may_joined m moved [] now before = before
 may_joined m moved (move ∷ []) now before = (now, before)
 may_joined m moved (move ∷ next ∷ rest) now before = (now.0, may_joined m moved (next ∷ rest) now.1 before)
 
--- ---- the way of a packet that is passed on is free
+-- ---- the way of a packet that is forwarded is free
 
--- from the end of a direction onto the one that its packet is passed onto
+-- from the end of a direction onto the one that its packet is forwarded onto
 abbrev AreFree : Topology → Map → List Entry → List Move → Type 0
-AreFree topology m past moved = (e onto : ℕ) → e < directions_in topology → passed_onto topology e past ≡ Some onto → HasFreeWay m moved e onto
+AreFree topology m past moved = (e onto : ℕ) → e < directions_in topology → forwarded_onto topology e past ≡ Some onto → HasFreeWay m moved e onto
 
 -- moves that take nothing off a line
 abbrev AreOff : ℕ → List Move → Type 0
@@ -201,17 +201,17 @@ past_off : (topology : Topology) (past : List Entry) (d onto e : ℕ) (packets :
 past_off topology past d onto e [] = tt
 past_off topology past d onto e (p ∷ packets) = (refl, (refl, tt))
 
-passes_off : (topology : Topology) (past journal : List Entry) (d e : ℕ) (outcome : Outcome) (onto : Option ℕ) (packets : List PacketFields) → AreOff e (passes_on topology past journal d outcome onto packets)
-passes_off topology past journal d e outcome None packets = tt
-passes_off topology past journal d e outcomes.Gathered (Some onto) packets = tt
-passes_off topology past journal d e outcomes.Accepted (Some onto) packets = past_off topology past d onto e packets
-passes_off topology past journal d e outcomes.Quiet (Some onto) packets = (refl, tt)
-passes_off topology past journal d e outcomes.Trained (Some onto) packets = (refl, tt)
-passes_off topology past journal d e outcomes.Poisoned (Some onto) packets = (refl, tt)
-passes_off topology past journal d e outcomes.Repeat (Some onto) packets = (refl, tt)
-passes_off topology past journal d e (outcomes.AbortedBad bad) (Some onto) packets = (refl, tt)
-passes_off topology past journal d e outcomes.AbortedOrder (Some onto) packets = (refl, tt)
-passes_off topology past journal d e (outcomes.Ran kind) (Some onto) packets = (refl, tt)
+forward_off : (topology : Topology) (past journal : List Entry) (d e : ℕ) (outcome : Outcome) (onto : Option ℕ) (packets : List PacketFields) → AreOff e (forward_moves topology past journal d outcome onto packets)
+forward_off topology past journal d e outcome None packets = tt
+forward_off topology past journal d e outcomes.Gathered (Some onto) packets = tt
+forward_off topology past journal d e outcomes.Accepted (Some onto) packets = past_off topology past d onto e packets
+forward_off topology past journal d e outcomes.Quiet (Some onto) packets = (refl, tt)
+forward_off topology past journal d e outcomes.Trained (Some onto) packets = (refl, tt)
+forward_off topology past journal d e outcomes.Poisoned (Some onto) packets = (refl, tt)
+forward_off topology past journal d e outcomes.Repeat (Some onto) packets = (refl, tt)
+forward_off topology past journal d e (outcomes.AbortedBad bad) (Some onto) packets = (refl, tt)
+forward_off topology past journal d e outcomes.AbortedOrder (Some onto) packets = (refl, tt)
+forward_off topology past journal d e (outcomes.Ran kind) (Some onto) packets = (refl, tt)
 
 unlocks_off : (topology : Topology) (journal : List Entry) (onto : Option ℕ) (e : ℕ) → AreOff e (unlocks topology journal onto)
 unlocks_off topology journal None e = tt
@@ -234,45 +234,45 @@ one_off topology past (Took host tag answer) e one = front_off topology past (qu
 one_off topology past (Discarded host) e one = front_off topology past (queues.Host host) e
 one_off topology past _ e one = tt
 
--- ---- what is passed on, entry by entry
+-- ---- what is forwarded, entry by entry
 
 -- where it stays so
 free_one : (topology : Topology) (m : Map) (past : List Entry) (moved : List Move) (entry : Entry) → IsMap m → IsOne entry → IsNoPipe entry → MayAll m (moves_of topology past entry ++ moved) → AreFree topology m past moved → AreFree topology m (entry ∷ past) (moves_of topology past entry ++ moved)
 free_one topology m past moved entry map one quiet may free e onto less is =
-    stays_all m e onto (moves_of topology past entry) moved map (one_off topology past entry e one) may (free e onto less (sym (passed_same topology e entry past quiet) ∙ is))
+    stays_all m e onto (moves_of topology past entry) moved map (one_off topology past entry e one) may (free e onto less (sym (forwarded_same topology e entry past quiet) ∙ is))
 
-gathered_moves : (topology : Topology) (past : List Entry) (d onto : ℕ) (flit : List ℕ) → passed_onto topology d past ≡ Some onto → moves_of topology past (Landed d flit outcomes.Gathered) ≡ []
+gathered_moves : (topology : Topology) (past : List Entry) (d onto : ℕ) (flit : List ℕ) → forwarded_onto topology d past ≡ Some onto → moves_of topology past (Landed d flit outcomes.Gathered) ≡ []
 unfolding moves_of landed_packets
 gathered_moves topology past d onto flit is =
-    ap (λ (o : Option ℕ). passes_on topology past (Landed d flit outcomes.Gathered ∷ past) d outcomes.Gathered o [] ++ []) is
+    ap (λ (o : Option ℕ). forward_moves topology past (Landed d flit outcomes.Gathered ∷ past) d outcomes.Gathered o [] ++ []) is
 
 landed_off : (topology : Topology) (past : List Entry) (d e : ℕ) (flit : List ℕ) (outcome : Outcome) → (d == e) ≡ false → AreOff e (moves_of topology past (Landed d flit outcome))
 unfolding moves_of
 landed_off topology past d e flit outcome other =
     let landed = landed_packets topology d flit outcome past in
-    off-append e (passes_on topology past (Landed d flit outcome ∷ past) d outcome (passed_onto topology d past) landed) (lands topology d landed)
-    (passes_off topology past (Landed d flit outcome ∷ past) d e outcome (passed_onto topology d past) landed) (lands_off topology d e landed other)
+    off-append e (forward_moves topology past (Landed d flit outcome ∷ past) d outcome (forwarded_onto topology d past) landed) (lands topology d landed)
+    (forward_off topology past (Landed d flit outcome ∷ past) d e outcome (forwarded_onto topology d past) landed) (lands_off topology d e landed other)
 
 free_landed : (topology : Topology) (m : Map) (past : List Entry) (moved : List Move) (d : ℕ) (flit : List ℕ) (outcome : Outcome) → IsMap m → MayAll m (moves_of topology past (Landed d flit outcome) ++ moved) → AreFree topology m past moved
     → AreFree topology m (Landed d flit outcome ∷ past) (moves_of topology past (Landed d flit outcome) ++ moved)
-free_landed topology m past moved d flit outcome map may free e onto less is = by_here (d == e) refl (sym (passed_landed topology e d flit outcome past) ∙ is)
+free_landed topology m past moved d flit outcome map may free e onto less is = by_here (d == e) refl (sym (forwarded_landed topology e d flit outcome past) ∙ is)
   where
-    by_here : (here : Bool) → (d == e) ≡ here → choose here (while_gathered outcome (passed_onto topology e past)) (passed_onto topology e past) ≡ Some onto → HasFreeWay m (moves_of topology past (Landed d flit outcome) ++ moved) e onto
+    by_here : (here : Bool) → (d == e) ≡ here → choose here (while_gathered outcome (forwarded_onto topology e past)) (forwarded_onto topology e past) ≡ Some onto → HasFreeWay m (moves_of topology past (Landed d flit outcome) ++ moved) e onto
     by_here false at was = stays_all m e onto (moves_of topology past (Landed d flit outcome)) moved map (landed_off topology past d e flit outcome at) may (free e onto less was)
     by_here true at was =
-        let still = still_gathered outcome (passed_onto topology e past) onto was in
+        let still = still_gathered outcome (forwarded_onto topology e past) onto was in
         let one : d ≡ e = eqb-true d e at in
-        let none : moves_of topology past (Landed d flit outcome) ≡ [] = ap (λ (o : Outcome). moves_of topology past (Landed d flit o)) still.0 ∙ gathered_moves topology past d onto flit (ap (λ (n : ℕ). passed_onto topology n past) one ∙ still.1) in
+        let none : moves_of topology past (Landed d flit outcome) ≡ [] = ap (λ (o : Outcome). moves_of topology past (Landed d flit o)) still.0 ∙ gathered_moves topology past d onto flit (ap (λ (n : ℕ). forwarded_onto topology n past) one ∙ still.1) in
         subst (λ (l : List Move). HasFreeWay m (l ++ moved) e onto) (sym none) (free e onto less still.1)
 
 free_unlocked : (topology : Topology) (m : Map) (past : List Entry) (moved : List Move) (d : ℕ) → IsMap m → MayAll m (moves_of topology past (Unlocked d) ++ moved) → AreFree topology m past moved → AreFree topology m (Unlocked d ∷ past) (moves_of topology past (Unlocked d) ++ moved)
 unfolding moves_of
-free_unlocked topology m past moved d map may free e onto less is = by_here (d == e) (sym (passed_unlocked topology e d past) ∙ is)
+free_unlocked topology m past moved d map may free e onto less is = by_here (d == e) (sym (forwarded_unlocked topology e d past) ∙ is)
   where
     gone : Option ℕ
-    gone = if_there (nat_lt d (directions_in topology)) (passed_onto topology d past)
+    gone = if_there (nat_lt d (directions_in topology)) (forwarded_onto topology d past)
 
-    by_here : (here : Bool) → choose here None (passed_onto topology e past) ≡ Some onto → HasFreeWay m (unlocks topology (Unlocked d ∷ past) gone ++ moved) e onto
+    by_here : (here : Bool) → choose here None (forwarded_onto topology e past) ≡ Some onto → HasFreeWay m (unlocks topology (Unlocked d ∷ past) gone ++ moved) e onto
     by_here true was = absurd (cc)
     by_here false was = stays_all m e onto (unlocks topology (Unlocked d ∷ past) gone) moved map (unlocks_off topology (Unlocked d ∷ past) gone e) may (free e onto less was)
 
@@ -300,7 +300,7 @@ none_waits setup past direction flits keeps may =
 
 free_through : (setup : Setup) (m : Map) (past : List Entry) (moved : List Move) (cube port direction : ℕ) → Wired setup.topology → Kept setup past → Agrees setup.topology m past moved → HasThrough setup past cube port direction → AreFree setup.topology m past moved
     → AreFree setup.topology m (Through cube port direction ∷ past) moved
-free_through setup m past moved cube port direction wires keeps agreed has free e onto less is = by_here (lands_at setup.topology e cube port) refl (sym (passed_through setup.topology e cube port direction past) ∙ is)
+free_through setup m past moved cube port direction wires keeps agreed has free e onto less is = by_here (lands_at setup.topology e cube port) refl (sym (forwarded_through setup.topology e cube port direction past) ∙ is)
   where
     t : Topology
     t = setup.topology
@@ -308,7 +308,7 @@ free_through setup m past moved cube port direction wires keeps agreed has free 
     same_ℕ : (a b : ℕ) → ◌≡◌ {A = Option ℕ} (Some a) (Some b) → a ≡ b
     same_ℕ a b same = cc
 
-    by_here : (here : Bool) → lands_at t e cube port ≡ here → choose here (Some direction) (passed_onto t e past) ≡ Some onto → HasFreeWay m moved e onto
+    by_here : (here : Bool) → lands_at t e cube port ≡ here → choose here (Some direction) (forwarded_onto t e past) ≡ Some onto → HasFreeWay m moved e onto
     by_here false at was = free e onto less was
     by_here true at was =
         let ends : end_of t e ≡ places.Port cube port = same_place_is (end_of t e) (places.Port cube port) at in
@@ -335,22 +335,22 @@ unfolding seen
 poison_seen topology packet = refl
 
 forward_may : (setup : Setup) (m : Map) (past : List Entry) (moved : List Move) (d onto : ℕ) (flit : List ℕ) (landed : List PacketFields) → IsMapOf setup.topology m → Wired setup.topology → Kept setup past → Kept setup (Landed d flit outcomes.Accepted ∷ past) → Agrees setup.topology m past moved
-    → EntryRule setup past (Landed d flit outcomes.Accepted) → MayAll m moved → AreFree setup.topology m past moved → passed_onto setup.topology d past ≡ Some onto → landed_packets setup.topology d flit outcomes.Accepted past ≡ landed
+    → EntryRule setup past (Landed d flit outcomes.Accepted) → MayAll m moved → AreFree setup.topology m past moved → forwarded_onto setup.topology d past ≡ Some onto → landed_packets setup.topology d flit outcomes.Accepted past ≡ landed
     → MayAll m (goes_past setup.topology past d onto landed ++ (lands setup.topology d landed ++ moved))
-forward_may setup m past moved d onto flit landed map_of wires keeps now agreed right may free passed landed_is =
+forward_may setup m past moved d onto flit landed map_of wires keeps now agreed right may free forwarded landed_is =
     let t = setup.topology in
     let inside = landed-real setup past d flit outcomes.Accepted right keeps in
-    let is : IsPassed t past d onto = is_passed setup past d onto wires keeps inside passed in
+    let is : ForwardedPacket t past d onto = forwarded_packet setup past d onto wires keeps inside forwarded in
     let found = come_of setup past d onto flit now is in
     let x = found.0 in
     let come = found.1 in
     let y = seen t x in
     let counted : IsCounted x = IsCounted-moving t x come.clean come.moving in
     let front = line_placed setup m past moved d flit outcomes.Accepted x [] wires keeps agreed now right found.2 in
-    let way = free d onto inside passed in
+    let way = free d onto inside forwarded in
     let token : is_hop_token y.kind ≡ true = token_seen t x ∙ ap not counted.layout in
     let live : is_live y ≡ true = live_seen t x come.clean ∙ token in
-    let goes = passed_next t m past d onto x map_of wires is come.moving come.clean (come_head t past d onto flit x is come).0 in
+    let goes = forwarded_next t m past d onto x map_of wires is come.moving come.clean (come_head t past d onto flit x is come).0 in
     let route = route_of m d y (mover_on_way m map_of.is moved may (hops.Line d) 0 y front) live in
     let forwards = is_forwarded m moved d onto y may (record { front = front; token = token; empty = way.empty; goes = goes; apart = way.apart y route.index live route.is goes; other = is.apart }) in
     let many : length (hop_contents m moved (hops.Output onto)) ≡ length (contents t past (queues.Output onto)) = ap length (sym (agreed.queues (queues.Output onto) tt)) ∙ length-map (contents t past (queues.Output onto)) (seen t) in
@@ -361,38 +361,38 @@ forward_may setup m past moved d onto flit landed map_of wires keeps now agreed 
     live_seen topology packet clean = ap (λ (b : Bool). not b && is_hop_token (seen topology packet).kind) (poison_seen topology packet ∙ clean)
 
 spoiled_may : (setup : Setup) (m : Map) (past : List Entry) (moved : List Move) (d onto : ℕ) (flit : List ℕ) (outcome : Outcome) → Wired setup.topology → Kept setup past → Kept setup (Landed d flit outcome ∷ past) → Agrees setup.topology m past moved
-    → EntryRule setup past (Landed d flit outcome) → MayAll m moved → passed_onto setup.topology d past ≡ Some onto → Spoils flit outcome
+    → EntryRule setup past (Landed d flit outcome) → MayAll m moved → forwarded_onto setup.topology d past ≡ Some onto → Spoils flit outcome
     → MayAll m (copy_comes setup.topology (Landed d flit outcome ∷ past) onto ++ (lands setup.topology d (landed_packets setup.topology d flit outcome past) ++ moved))
-spoiled_may setup m past moved d onto flit outcome wires keeps now agreed right may passed ends =
-    copy_may setup.topology m (Landed d flit outcome ∷ past) onto (lands setup.topology d (landed_packets setup.topology d flit outcome past) ++ moved) (landing_spoils setup past d onto flit outcome wires keeps right passed ends)
+spoiled_may setup m past moved d onto flit outcome wires keeps now agreed right may forwarded ends =
+    copy_may setup.topology m (Landed d flit outcome ∷ past) onto (lands setup.topology d (landed_packets setup.topology d flit outcome past) ++ moved) (landing_spoils setup past d onto flit outcome wires keeps right forwarded ends)
     (lands_may setup m past moved d flit outcome (landed_packets setup.topology d flit outcome past) wires keeps agreed now right refl may)
 
 landing_may : (setup : Setup) (m : Map) (past : List Entry) (moved : List Move) (d : ℕ) (flit : List ℕ) (outcome : Outcome) (onto : Option ℕ) → IsMapOf setup.topology m → Wired setup.topology → Kept setup past → Kept setup (Landed d flit outcome ∷ past) → Agrees setup.topology m past moved
-    → EntryRule setup past (Landed d flit outcome) → MayAll m moved → AreFree setup.topology m past moved → passed_onto setup.topology d past ≡ onto
-    → MayAll m (passes_on setup.topology past (Landed d flit outcome ∷ past) d outcome onto (landed_packets setup.topology d flit outcome past) ++ (lands setup.topology d (landed_packets setup.topology d flit outcome past) ++ moved))
-landing_may setup m past moved d flit outcome None map_of wires keeps now agreed right may free passed = lands_may setup m past moved d flit outcome (landed_packets setup.topology d flit outcome past) wires keeps agreed now right refl may
-landing_may setup m past moved d flit outcomes.Accepted (Some onto) map_of wires keeps now agreed right may free passed =
-    forward_may setup m past moved d onto flit (landed_packets setup.topology d flit outcomes.Accepted past) map_of wires keeps now agreed right may free passed refl
-landing_may setup m past moved d flit outcomes.Gathered (Some onto) map_of wires keeps now agreed right may free passed =
+    → EntryRule setup past (Landed d flit outcome) → MayAll m moved → AreFree setup.topology m past moved → forwarded_onto setup.topology d past ≡ onto
+    → MayAll m (forward_moves setup.topology past (Landed d flit outcome ∷ past) d outcome onto (landed_packets setup.topology d flit outcome past) ++ (lands setup.topology d (landed_packets setup.topology d flit outcome past) ++ moved))
+landing_may setup m past moved d flit outcome None map_of wires keeps now agreed right may free forwarded = lands_may setup m past moved d flit outcome (landed_packets setup.topology d flit outcome past) wires keeps agreed now right refl may
+landing_may setup m past moved d flit outcomes.Accepted (Some onto) map_of wires keeps now agreed right may free forwarded =
+    forward_may setup m past moved d onto flit (landed_packets setup.topology d flit outcomes.Accepted past) map_of wires keeps now agreed right may free forwarded refl
+landing_may setup m past moved d flit outcomes.Gathered (Some onto) map_of wires keeps now agreed right may free forwarded =
     lands_may setup m past moved d flit outcomes.Gathered (landed_packets setup.topology d flit outcomes.Gathered past) wires keeps agreed now right refl may
-landing_may setup m past moved d flit outcomes.Quiet (Some onto) map_of wires keeps now agreed right may free passed = spoiled_may setup m past moved d onto flit outcomes.Quiet wires keeps now agreed right may passed (λ pipe. refl)
-landing_may setup m past moved d flit outcomes.Trained (Some onto) map_of wires keeps now agreed right may free passed = spoiled_may setup m past moved d onto flit outcomes.Trained wires keeps now agreed right may passed (λ pipe. refl)
-landing_may setup m past moved d flit outcomes.Poisoned (Some onto) map_of wires keeps now agreed right may free passed = spoiled_may setup m past moved d onto flit outcomes.Poisoned wires keeps now agreed right may passed (λ pipe. refl)
-landing_may setup m past moved d flit outcomes.Repeat (Some onto) map_of wires keeps now agreed right may free passed = spoiled_may setup m past moved d onto flit outcomes.Repeat wires keeps now agreed right may passed (λ pipe. refl)
-landing_may setup m past moved d flit (outcomes.AbortedBad bad) (Some onto) map_of wires keeps now agreed right may free passed = spoiled_may setup m past moved d onto flit (outcomes.AbortedBad bad) wires keeps now agreed right may passed (λ pipe. refl)
-landing_may setup m past moved d flit outcomes.AbortedOrder (Some onto) map_of wires keeps now agreed right may free passed = spoiled_may setup m past moved d onto flit outcomes.AbortedOrder wires keeps now agreed right may passed (λ pipe. refl)
-landing_may setup m past moved d flit (outcomes.Ran kind) (Some onto) map_of wires keeps now agreed right may free passed = spoiled_may setup m past moved d onto flit (outcomes.Ran kind) wires keeps now agreed right may passed (λ pipe. refl)
+landing_may setup m past moved d flit outcomes.Quiet (Some onto) map_of wires keeps now agreed right may free forwarded = spoiled_may setup m past moved d onto flit outcomes.Quiet wires keeps now agreed right may forwarded (λ pipe. refl)
+landing_may setup m past moved d flit outcomes.Trained (Some onto) map_of wires keeps now agreed right may free forwarded = spoiled_may setup m past moved d onto flit outcomes.Trained wires keeps now agreed right may forwarded (λ pipe. refl)
+landing_may setup m past moved d flit outcomes.Poisoned (Some onto) map_of wires keeps now agreed right may free forwarded = spoiled_may setup m past moved d onto flit outcomes.Poisoned wires keeps now agreed right may forwarded (λ pipe. refl)
+landing_may setup m past moved d flit outcomes.Repeat (Some onto) map_of wires keeps now agreed right may free forwarded = spoiled_may setup m past moved d onto flit outcomes.Repeat wires keeps now agreed right may forwarded (λ pipe. refl)
+landing_may setup m past moved d flit (outcomes.AbortedBad bad) (Some onto) map_of wires keeps now agreed right may free forwarded = spoiled_may setup m past moved d onto flit (outcomes.AbortedBad bad) wires keeps now agreed right may forwarded (λ pipe. refl)
+landing_may setup m past moved d flit outcomes.AbortedOrder (Some onto) map_of wires keeps now agreed right may free forwarded = spoiled_may setup m past moved d onto flit outcomes.AbortedOrder wires keeps now agreed right may forwarded (λ pipe. refl)
+landing_may setup m past moved d flit (outcomes.Ran kind) (Some onto) map_of wires keeps now agreed right may free forwarded = spoiled_may setup m past moved d onto flit (outcomes.Ran kind) wires keeps now agreed right may forwarded (λ pipe. refl)
 
-unlock_may : (setup : Setup) (m : Map) (past : List Entry) (moved : List Move) (d : ℕ) (there : Bool) (onto : Option ℕ) → Wired setup.topology → Kept setup past → MayAll m moved → nat_lt d (directions_in setup.topology) ≡ there → passed_onto setup.topology d past ≡ onto
+unlock_may : (setup : Setup) (m : Map) (past : List Entry) (moved : List Move) (d : ℕ) (there : Bool) (onto : Option ℕ) → Wired setup.topology → Kept setup past → MayAll m moved → nat_lt d (directions_in setup.topology) ≡ there → forwarded_onto setup.topology d past ≡ onto
     → MayAll m (unlocks setup.topology (Unlocked d ∷ past) (if_there there onto) ++ moved)
-unlock_may setup m past moved d false onto wires keeps may at passed = may
-unlock_may setup m past moved d true None wires keeps may at passed = may
-unlock_may setup m past moved d true (Some onto) wires keeps may at passed =
-    copy_may setup.topology m (Unlocked d ∷ past) onto moved (unlock_spoils setup past d onto wires keeps (ltb-true d (directions_in setup.topology) at) passed) may
+unlock_may setup m past moved d false onto wires keeps may at forwarded = may
+unlock_may setup m past moved d true None wires keeps may at forwarded = may
+unlock_may setup m past moved d true (Some onto) wires keeps may at forwarded =
+    copy_may setup.topology m (Unlocked d ∷ past) onto moved (unlock_spoils setup past d onto wires keeps (ltb-true d (directions_in setup.topology) at) forwarded) may
 
 -- ---- every entry
 
--- the moves of a lawful journal may come, and the way of what is passed on is free
+-- the moves of a lawful journal may come, and the way of what is forwarded is free
 record Moved (setup : Setup) (m : Map) (past : List Entry) (moved : List Move) : Type 0 where
   may : MayAll m moved
   free : AreFree setup.topology m past moved
@@ -409,12 +409,12 @@ unfolding moves_of
 moved_more setup m past moved (Landed d flit outcome) network wires map_of keeps now agreed right before =
     let t = setup.topology in
     let landed = landed_packets t d flit outcome past in
-    let passed = passed_onto t d past in
-    let may = subst (MayAll m) (sym (append_assoc (passes_on t past (Landed d flit outcome ∷ past) d outcome passed landed) (lands t d landed) moved))
-    (landing_may setup m past moved d flit outcome passed map_of wires keeps now agreed right before.may before.free refl) in
+    let forwarded = forwarded_onto t d past in
+    let may = subst (MayAll m) (sym (append_assoc (forward_moves t past (Landed d flit outcome ∷ past) d outcome forwarded landed) (lands t d landed) moved))
+    (landing_may setup m past moved d flit outcome forwarded map_of wires keeps now agreed right before.may before.free refl) in
     record { may = may; free = free_landed t m past moved d flit outcome map_of.is may before.free }
 moved_more setup m past moved (Unlocked d) network wires map_of keeps now agreed right before =
-    let may = unlock_may setup m past moved d (nat_lt d (directions_in setup.topology)) (passed_onto setup.topology d past) wires keeps before.may refl refl in
+    let may = unlock_may setup m past moved d (nat_lt d (directions_in setup.topology)) (forwarded_onto setup.topology d past) wires keeps before.may refl refl in
     record { may = may; free = free_unlocked setup.topology m past moved d map_of.is may before.free }
 moved_more setup m past moved (Through cube port direction) network wires map_of keeps now agreed right before =
     record { may = before.may; free = free_through setup m past moved cube port direction wires keeps agreed right before.free }
@@ -432,7 +432,7 @@ moved_more setup m past moved (Passed direction flit) network wires map_of keeps
 moved_more setup m past moved (Idle step cause) network wires map_of keeps now agreed right before = moved_one setup m past moved (Idle step cause) network wires map_of keeps now agreed right before tt tt
 
 moved_all : (setup : Setup) (m : Map) (past : List Entry) → IsNetwork setup → IsMapOf setup.topology m → Lawful setup past → Moved setup m past (moves setup.topology past)
-unfolding moves MayAll passed_onto
+unfolding moves MayAll forwarded_onto
 moved_all setup m [] network map_of lawful = record { may = tt; free = λ e onto less is. absurd (cc) }
 moved_all setup m (entry ∷ past) network map_of lawful =
     let before = lawful_past setup entry past lawful in

@@ -19,7 +19,7 @@ use Rattle.hmc_journal.specs.declared.entry.Entry.TheVariants.{Gave, Sent, Lande
 use Rattle.hmc_journal.specs.Setup.{Topology}
 use Rattle.hmc_journal.specs.Queues.{front_of, contents}
 use Rattle.hmc_journal.specs.Queues.QueueId.{Port}
-use Rattle.hmc_journal.specs.Links.{toward, taken_at, handed_on, landing_mask, passed_on, link_sizes, link_entries, sizes_on, entries_on}
+use Rattle.hmc_journal.specs.Links.{toward, taken_at, handed_on, landing_mask, forwarded_on, link_sizes, link_entries, sizes_on, entries_on}
 use Rattle.hmc_journal.proofs.LinkHanded.{landing-same}
 use Rattle.hmc_journal.proofs.Projections.{feed_in, goes_at, came_at, same_direction, put_on-same, taken_if-same}
 
@@ -46,6 +46,24 @@ abbrev pub IsNoSend : Entry → Type 0
 IsNoSend (Sent direction what flit) = ⊥
 IsNoSend (Through cube port direction) = ⊥
 IsNoSend _ = Unit {0}
+
+-- what holds of each entry: shown of a send, of a cut-through, and of all others at once
+pub by_sending : (P : Entry → Type 0) → ((direction : ℕ) (as_what : What) (flit : List ℕ) → P (Sent direction as_what flit)) → ((cube port direction : ℕ) → P (Through cube port direction)) → ((entry : Entry) → IsNoSend entry → P entry) → (entry : Entry) → P entry
+by_sending P sent through quiet (Sent direction as_what flit) = sent direction as_what flit
+by_sending P sent through quiet (Through cube port direction) = through cube port direction
+by_sending P sent through quiet (Gave host tag poisoned request) = quiet (Gave host tag poisoned request) tt
+by_sending P sent through quiet (Landed direction flit outcome) = quiet (Landed direction flit outcome) tt
+by_sending P sent through quiet (Shifted cube port goal) = quiet (Shifted cube port goal) tt
+by_sending P sent through quiet (Dropped cube port) = quiet (Dropped cube port) tt
+by_sending P sent through quiet (Spread cube vault bank) = quiet (Spread cube vault bank) tt
+by_sending P sent through quiet (Executed unit host tag request answer) = quiet (Executed unit host tag request answer) tt
+by_sending P sent through quiet (Lifted cube from port) = quiet (Lifted cube from port) tt
+by_sending P sent through quiet (Took host tag answer) = quiet (Took host tag answer) tt
+by_sending P sent through quiet (Discarded host) = quiet (Discarded host) tt
+by_sending P sent through quiet (Unlocked direction) = quiet (Unlocked direction) tt
+by_sending P sent through quiet (Retired slot) = quiet (Retired slot) tt
+by_sending P sent through quiet (Passed direction flit) = quiet (Passed direction flit) tt
+by_sending P sent through quiet (Idle step cause) = quiet (Idle step cause) tt
 
 abbrev pub of_sends : {X : Type 0} → (List SenderEntry → X) → Topology → ℕ → List LinkEntry → X
 of_sends f topology d past = f (sender_entries (sizes_on topology d) (toward d) past)
@@ -104,7 +122,7 @@ sent-here topology d as_what flit past = ap (λ (b : Bool). put_if b (LinkEntry.
 
 -- ---- cut-throughs
 
--- a packet is there that is passed on
+-- a packet is there that is forwarded
 abbrev pub IsSome : List (List ℕ) → Type 0
 IsSome [] = ⊥
 IsSome (head ∷ rest) = Unit {0}
@@ -118,10 +136,10 @@ other-through f sizes Back Forth head flits past is = refl
 other-through f sizes Forth Forth head flits past is = absurd (let clash : true ≡ false = is in cc)
 other-through f sizes Back Back head flits past is = absurd (let clash : true ≡ false = is in cc)
 
-passed-elsewhere : {X : Type 0} (f : List SenderEntry → X) (topology : Topology) (d direction : ℕ) (came : List (List ℕ)) (past : List Entry) → (direction == d) ≡ false
-    → of_sends f topology d (passed_on (d / 2) direction came (entries_on topology d past)) ≡ of_sends f topology d (entries_on topology d past)
-passed-elsewhere f topology d direction [] past off = refl
-passed-elsewhere f topology d direction (head ∷ rest) past off = by_here (direction / 2 == d / 2) (sym (same_direction d direction) ∙ off)
+forwarded-elsewhere : {X : Type 0} (f : List SenderEntry → X) (topology : Topology) (d direction : ℕ) (came : List (List ℕ)) (past : List Entry) → (direction == d) ≡ false
+    → of_sends f topology d (forwarded_on (d / 2) direction came (entries_on topology d past)) ≡ of_sends f topology d (entries_on topology d past)
+forwarded-elsewhere f topology d direction [] past off = refl
+forwarded-elsewhere f topology d direction (head ∷ rest) past off = by_here (direction / 2 == d / 2) (sym (same_direction d direction) ∙ off)
   where
     by_here : (here : Bool) → (here && same_way (toward d) (toward direction)) ≡ false
         → of_sends f topology d (put_if here (LinkEntry.through (toward direction) head (lng_of head)) (entries_on topology d past)) ≡ of_sends f topology d (entries_on topology d past)
@@ -131,15 +149,15 @@ passed-elsewhere f topology d direction (head ∷ rest) past off = by_here (dire
 pub through-elsewhere : {X : Type 0} (f : List SenderEntry → X) (topology : Topology) (d cube port direction : ℕ) (past : List Entry) → (direction == d) ≡ false
     → of_sends f topology d (entries_on topology d (Through cube port direction ∷ past)) ≡ of_sends f topology d (entries_on topology d past)
 unfolding link_entries
-through-elsewhere f topology d cube port direction past off = passed-elsewhere f topology d direction (came_at topology cube port past) past off
+through-elsewhere f topology d cube port direction past off = forwarded-elsewhere f topology d direction (came_at topology cube port past) past off
 
 -- onto this one
-passed-here : (topology : Topology) (d : ℕ) (came : List (List ℕ)) (head : List ℕ) (rest : List (List ℕ)) (past : List LinkEntry) → came ≡ head ∷ rest
-    → passed_on (d / 2) d came past ≡ LinkEntry.through (toward d) head (lng_of head) ∷ past
-passed-here topology d came head rest past is =
-    ap (λ (c : List (List ℕ)). passed_on (d / 2) d c past) is ∙ ap (λ (b : Bool). put_if b (LinkEntry.through (toward d) head (lng_of head)) past) (eq-eqb (d / 2) (d / 2) refl)
+forwarded-here : (topology : Topology) (d : ℕ) (came : List (List ℕ)) (head : List ℕ) (rest : List (List ℕ)) (past : List LinkEntry) → came ≡ head ∷ rest
+    → forwarded_on (d / 2) d came past ≡ LinkEntry.through (toward d) head (lng_of head) ∷ past
+forwarded-here topology d came head rest past is =
+    ap (λ (c : List (List ℕ)). forwarded_on (d / 2) d c past) is ∙ ap (λ (b : Bool). put_if b (LinkEntry.through (toward d) head (lng_of head)) past) (eq-eqb (d / 2) (d / 2) refl)
 
 pub through-here : (topology : Topology) (d cube port : ℕ) (head : List ℕ) (rest : List (List ℕ)) (past : List Entry) → came_at topology cube port past ≡ head ∷ rest
     → entries_on topology d (Through cube port d ∷ past) ≡ LinkEntry.through (toward d) head (lng_of head) ∷ entries_on topology d past
 unfolding link_entries
-through-here topology d cube port head rest past is = passed-here topology d (came_at topology cube port past) head rest (entries_on topology d past) is
+through-here topology d cube port head rest past is = forwarded-here topology d (came_at topology cube port past) head rest (entries_on topology d past) is

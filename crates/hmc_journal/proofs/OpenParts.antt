@@ -1,4 +1,4 @@
--- What of a packet under way was sent: none of its flits only where it is passed on.
+-- What of a packet under way was sent: none of its flits only where it is forwarded.
 use Rattle.std.proofs.Common.{◌≡◌, ◌≤◌, ◌∙◌, inl, inr, ℕ, suc, Bool, true, false, List, [], ◌∷◌, ◌++◌, Option, Some, None, length, if◌then◌else◌, sym, ap, subst, arith, length-append, eqb-true}
 use Rattle.std.specs.Prelude.{is_none}
 use Rattle.hmc_codes.specs.Link.{LinkFields}
@@ -88,7 +88,7 @@ again_some link d past kept part is again =
           let clash : false ≡ true = sym o.new ∙ ap (λ (p : Part). p.again) same ∙ again in absurd cc
     ]
 
--- ---- the first flit of a packet that is passed on is its head
+-- ---- the first flit of a packet that is forwarded is its head
 
 -- what a send was fed fits the packet under way
 pub sent-fed : (link : LinkFields) (d : Toward) (feed : Feed) (as_what : What) (flit : List ℕ) (past : List LinkEntry) → IsKept link (LinkEntry.sent d feed as_what flit ∷ past) → IsFed (under_way link.profile (sender_entries link d past)) feed

@@ -53,7 +53,7 @@ use Rattle.hmc_journal.specs.Waiting.{is_full, queue_size}
 use Rattle.hmc_journal.specs.Setup.{Setup, Topology, graph_of, shape_of, direction_from, direction_to}
 use Rattle.hmc_journal.specs.StepView.{StepView, state_of}
 use Rattle.hmc_journal.specs.Next.{next, choice, with_front, unless_full, gave_entry, took_entry, ran_entry, sent_entry, landed_entry, landed_front, goal_at, shifted_entry, shift_entry, spread_to_bank, execution_entry, executed_entry, lifted_entry}
-use Rattle.hmc_journal.specs.ThroughSteps.{onward_port, gathered_head, is_passed_on, takes_on, passed_entry, through_head}
+use Rattle.hmc_journal.specs.ThroughSteps.{onward_port, gathered_head, is_forwarded, takes_on, forwarded_entry, through_head}
 use Rattle.hmc_journal.specs.Parse.{CanBeShown, HasNoMask, IsShown}
 use Rattle.hmc_journal.proofs.EntryRule.{EntryRule, HasExecuted, HasTaken, entry_rule, lawful_past}
 use Rattle.hmc_journal.proofs.Entering.{Kept, front_stands, runs_request, sends}
@@ -130,16 +130,16 @@ begun : (cube port direction : ℕ) (busy : Bool) → IsUnmasked (if busy then I
 begun cube port direction true = tt
 begun cube port direction false = tt
 
-passed_on : (topology : Topology) (view : StepView) (cube port : ℕ) (head : Head) (onto : Option ℕ) → IsUnmasked (passed_entry topology view cube port head onto)
-passed_on topology view cube port head None = tt
-passed_on topology view cube port head (Some direction) =
+forwarded_on : (topology : Topology) (view : StepView) (cube port : ℕ) (head : Head) (onto : Option ℕ) → IsUnmasked (forwarded_entry topology view cube port head onto)
+forwarded_on topology view cube port head None = tt
+forwarded_on topology view cube port head (Some direction) =
     begun cube port direction
-    (is_passed_on view (direction_to topology (places.Port cube port)) || not (is_none (slice_get (view.inside (Port cube port)) 0)) || not (takes_on topology view direction head.flits))
+    (is_forwarded view (direction_to topology (places.Port cube port)) || not (is_none (slice_get (view.inside (Port cube port)) 0)) || not (takes_on topology view direction head.flits))
 
 through : (topology : Topology) (view : StepView) (cube port : ℕ) (found : Option Head) → IsUnmasked (through_head topology view cube port found)
 through topology view cube port None = tt
 through topology view cube port (Some head) =
-    passed_on topology view cube port head (option_and_then (λ onward. direction_from topology (places.Port cube onward)) (onward_port topology cube port head))
+    forwarded_on topology view cube port head (option_and_then (λ onward. direction_from topology (places.Port cube onward)) (onward_port topology cube port head))
 
 choice_unmasked : (topology : Topology) (view : StepView) (step : Step) → IsUnmasked (choice topology view step)
 unfolding choice

@@ -1,4 +1,4 @@
--- What each entry leaves of the packet under way on a direction, where it is passed on.
+-- What each entry leaves of the packet under way on a direction, where it is forwarded.
 use Rattle.std.proofs.Common.{◌≡◌, ◌≤◌, ◌∙◌, ◌/◌, ◌==◌, ℕ, suc, Bool, true, false, Option, Some, List, [], ◌∷◌, length, refl, sym, ap, subst, arith, eqb-true, eq-eqb}
 use Rattle.std.specs.Prelude.{option_map, slice_index_or}
 use Rattle.hmc_codes.specs.Flit.{zero_flit}
@@ -121,7 +121,7 @@ up_send topology d direction as_what flit past true here kept is =
 abbrev pub ArePending : Topology → List Entry → Type 0
 ArePending topology past = (e k : ℕ) → IsFlit (slice_index_or (pending (receiver_of e past)) k zero_flit)
 
--- what is known of a packet that is passed on
+-- what is known of a packet that is forwarded
 pub record IsThrough (topology : Topology) (past : List Entry) (cube port : ℕ) : Type 0 where
   pub from : ℕ
   pub arrives : direction_to topology (places.Port cube port) ≡ Some from
@@ -161,14 +161,14 @@ new_pipe topology past from head rest came is each many =
       inside = λ none. omega arith;
     }
 
-up_passed : (topology : Topology) (d cube port direction : ℕ) (past : List Entry) (here : Bool) → (direction == d) ≡ here → IsThrough topology past cube port → ArePending topology past
+up_forwarded : (topology : Topology) (d cube port direction : ℕ) (past : List Entry) (here : Bool) → (direction == d) ≡ here → IsThrough topology past cube port → ArePending topology past
     → IsKept (sizes_on topology d) (entries_on topology d (Through cube port direction ∷ past)) → IsUp topology d past → IsUp topology d (Through cube port direction ∷ past)
-up_passed topology d cube port direction past false here through pendings kept is =
+up_forwarded topology d cube port direction past false here through pendings kept is =
     moved (pipe_onto topology d (Through cube port direction ∷ past)) (pipe_onto topology d past) (up_on topology d (Through cube port direction ∷ past)) (up_on topology d past)
     (pipe_through topology d cube port direction past
     ∙ ap (λ (b : Bool). choose b (option_map (λ from. pipe_of topology from (pending (receiver_of from past))) (direction_to topology (places.Port cube port))) (pipe_onto topology d past)) here)
     (through-elsewhere (under_way (sizes_on topology d).profile) topology d cube port direction past here) is
-up_passed topology d cube port direction past true here through pendings kept is =
+up_forwarded topology d cube port direction past true here through pendings kept is =
     let one : direction ≡ d = eqb-true direction d here in
     subst (λ (e : ℕ). IsUp topology d (Through cube port e ∷ past)) (sym one) (up_here (subst (λ (e : ℕ). IsKept (sizes_on topology d) (entries_on topology d (Through cube port e ∷ past))) one kept))
   where
@@ -191,7 +191,7 @@ up_passed topology d cube port direction past true here through pendings kept is
 
 -- ---- every entry
 
--- what an entry brings: a flit that lands is one, and a packet that is passed on was being gathered
+-- what an entry brings: a flit that lands is one, and a packet that is forwarded was being gathered
 abbrev pub Brings : Topology → List Entry → Entry → Type 0
 Brings topology past (Landed direction flit outcome) = IsFlit flit
 Brings topology past (Through cube port direction) = IsThrough topology past cube port
@@ -201,7 +201,7 @@ pub up_step : (topology : Topology) (d : ℕ) (entry : Entry) (past : List Entry
 up_step topology d (Landed direction flit outcome) past brings pendings kept is = up_landing topology d direction flit outcome past brings is
 up_step topology d (Unlocked direction) past brings pendings kept is = up_unlock topology d direction past is
 up_step topology d (Sent direction as_what flit) past brings pendings kept is = up_send topology d direction as_what flit past (direction == d) refl kept is
-up_step topology d (Through cube port direction) past brings pendings kept is = up_passed topology d cube port direction past (direction == d) refl brings pendings kept is
+up_step topology d (Through cube port direction) past brings pendings kept is = up_forwarded topology d cube port direction past (direction == d) refl brings pendings kept is
 up_step topology d (Gave host tag poisoned request) past brings pendings kept is = up_quiet topology d (Gave host tag poisoned request) past tt tt is
 up_step topology d (Shifted cube port goal) past brings pendings kept is = up_quiet topology d (Shifted cube port goal) past tt tt is
 up_step topology d (Dropped cube port) past brings pendings kept is = up_quiet topology d (Dropped cube port) past tt tt is

@@ -1,4 +1,4 @@
--- The packet under way on a direction, where it is passed on, and the pipe that feeds it.
+-- The packet under way on a direction, where it is forwarded, and the pipe that feeds it.
 use Rattle.std.proofs.Common.{◌≡◌, ◌≤◌, ◌<◌, ◌-◌, ◌∙◌, ◌==◌, ◌&&◌, ℕ, zero, suc, Bool, true, false, if◌then◌else◌, Option, Some, None, List, [], ◌∷◌, ◌++◌, length, get_or, refl, sym, ap, subst, arith, length-append, nat_lt, ltb-true, ltb-false}
 use Rattle.std.specs.Prelude.{is_none, option_map, slice_index_or}
 use Rattle.hmc_codes.specs.Flit.{zero_flit}
@@ -39,7 +39,7 @@ sender_on topology d past = sender_entries (sizes_on topology d) (toward d) (ent
 abbrev pub up_on : Topology → ℕ → List Entry → Option UnderWay
 up_on topology d past = under_way (sizes_on topology d).profile (sender_on topology d past)
 
--- a packet under way is passed on, and its flits are those of the pipe
+-- a packet under way is forwarded, and its flits are those of the pipe
 pub record IsPiped (pipe : PipeFields) (part : Part) (head : List ℕ) (count : ℕ) : Type 0 where
   pub for : IsPipeFor pipe head count
   pub flits : part.flits ≡ count

@@ -28,8 +28,8 @@ use Rattle.hmc_journal.specs.Setup.{Topology, end_of, direction_from}
 use Rattle.hmc_journal.specs.Queues.{buffer_at, goal_queue, answers_of, unless_posted, tag_number, front_of, packet_if, arrival_in, arrival_of, arrived, enters, entered, contents}
 use Rattle.hmc_journal.specs.Queues.QueueId.{Output, Port, Answers}
 use Rattle.hmc_journal.specs.Directions.{sent_flits, receiver_of, profile_of}
-use Rattle.hmc_journal.specs.Links.{toward, put_on, taken_at, handed_on, landing_mask, fed_after, taken_if, passed_on, gathered_at, direction_to, link_sizes, link_entries, entries_on}
-use Rattle.hmc_journal.specs.Piped.{passed_onto, goes_on, pipe_onto}
+use Rattle.hmc_journal.specs.Links.{toward, put_on, taken_at, handed_on, landing_mask, fed_after, taken_if, forwarded_on, gathered_at, direction_to, link_sizes, link_entries, entries_on}
+use Rattle.hmc_journal.specs.Piped.{forwarded_onto, goes_on, pipe_onto}
 
 -- two directions are one where they are of one link and of one way
 pub never : (b : Bool) → (b ≡ true → ⊥) → b ≡ false
@@ -93,14 +93,14 @@ taken_if-same f true link direction past same = put_on-same f link (Some directi
 
 -- whether a landing goes on at once
 abbrev pub goes_at : Topology → (direction : ℕ) → Outcome → List Entry → Bool
-goes_at topology direction outcome past = goes_on outcome (passed_onto topology direction past)
+goes_at topology direction outcome past = goes_on outcome (forwarded_onto topology direction past)
 
--- a packet that is passed on
-pub passed_on-same : {X : Type 0} (f : List LinkEntry → X) (link direction : ℕ) (came : List (List ℕ)) (past : List LinkEntry) → ((d : Toward) (head : List ℕ) (flits : ℕ) → f (LinkEntry.through d head flits ∷ past) ≡ f past) → f (passed_on link direction came past) ≡ f past
-passed_on-same f link direction [] past same = refl
-passed_on-same f link direction (head ∷ rest) past same = put_on-same f link (Some direction) (λ d. LinkEntry.through d head (lng_of head)) past (λ d. same d head (lng_of head))
+-- a packet that is forwarded
+pub forwarded_on-same : {X : Type 0} (f : List LinkEntry → X) (link direction : ℕ) (came : List (List ℕ)) (past : List LinkEntry) → ((d : Toward) (head : List ℕ) (flits : ℕ) → f (LinkEntry.through d head flits ∷ past) ≡ f past) → f (forwarded_on link direction came past) ≡ f past
+forwarded_on-same f link direction [] past same = refl
+forwarded_on-same f link direction (head ∷ rest) past same = put_on-same f link (Some direction) (λ d. LinkEntry.through d head (lng_of head)) past (λ d. same d head (lng_of head))
 
--- the flits that a packet has which is passed on at a port
+-- the flits that a packet has which is forwarded at a port
 abbrev pub came_at : Topology → (cube port : ℕ) → List Entry → List (List ℕ)
 came_at topology cube port past = gathered_at (direction_to topology (places.Port cube port)) past
 
@@ -150,7 +150,7 @@ received-step topology d (Discarded host) past is = is ∙ sym (put_on-same (rec
 received-step topology d (Spread cube vault bank) past is = is
 received-step topology d (Executed unit host tag request answer) past is = is
 received-step topology d (Passed direction flit) past is = is
-received-step topology d (Through cube port direction) past is = is ∙ sym (passed_on-same (receiver_entries (toward d)) (d / 2) direction (came_at topology cube port past) (entries_on topology d past) (λ e head flits. refl))
+received-step topology d (Through cube port direction) past is = is ∙ sym (forwarded_on-same (receiver_entries (toward d)) (d / 2) direction (came_at topology cube port past) (entries_on topology d past) (λ e head flits. refl))
 received-step topology d (Retired slot) past is = is
 received-step topology d (Idle step cause) past is = is
 
@@ -201,7 +201,7 @@ sent-step topology d (Discarded host) past is = is ∙ sym (put_on-same (link_fl
 sent-step topology d (Spread cube vault bank) past is = is
 sent-step topology d (Executed unit host tag request answer) past is = is
 sent-step topology d (Passed direction flit) past is = is
-sent-step topology d (Through cube port direction) past is = is ∙ sym (passed_on-same (link_flits topology d) (d / 2) direction (came_at topology cube port past) (entries_on topology d past) (λ e head flits. refl))
+sent-step topology d (Through cube port direction) past is = is ∙ sym (forwarded_on-same (link_flits topology d) (d / 2) direction (came_at topology cube port past) (entries_on topology d past) (λ e head flits. refl))
 sent-step topology d (Retired slot) past is = is
 sent-step topology d (Idle step cause) past is = is
 
@@ -246,7 +246,7 @@ landed-step topology d (Discarded host) past is = is ∙ sym (put_on-same (lines
 landed-step topology d (Spread cube vault bank) past is = is
 landed-step topology d (Executed unit host tag request answer) past is = is
 landed-step topology d (Passed direction flit) past is = is
-landed-step topology d (Through cube port direction) past is = is ∙ sym (passed_on-same (lines.landings (toward d)) (d / 2) direction (came_at topology cube port past) (entries_on topology d past) (λ e head flits. refl))
+landed-step topology d (Through cube port direction) past is = is ∙ sym (forwarded_on-same (lines.landings (toward d)) (d / 2) direction (came_at topology cube port past) (entries_on topology d past) (λ e head flits. refl))
 landed-step topology d (Retired slot) past is = is
 landed-step topology d (Idle step cause) past is = is
 
@@ -313,7 +313,7 @@ handed-step topology d (Dropped cube port) past is = append-nil _ ∙ is ∙ sym
 handed-step topology d (Took host tag answer) past is = append-nil _ ∙ is ∙ sym (put_on-same (handed_packets (toward d)) (d / 2) _ LinkEntry.taken (entries_on topology d past) (λ e. refl))
 handed-step topology d (Discarded host) past is = append-nil _ ∙ is ∙ sym (put_on-same (handed_packets (toward d)) (d / 2) _ LinkEntry.taken (entries_on topology d past) (λ e. refl))
 handed-step topology d (Passed direction flit) past is = append-nil _ ∙ is
-handed-step topology d (Through cube port direction) past is = append-nil _ ∙ is ∙ sym (passed_on-same (handed_packets (toward d)) (d / 2) direction (came_at topology cube port past) (entries_on topology d past) (λ e head flits. refl))
+handed-step topology d (Through cube port direction) past is = append-nil _ ∙ is ∙ sym (forwarded_on-same (handed_packets (toward d)) (d / 2) direction (came_at topology cube port past) (entries_on topology d past) (λ e head flits. refl))
 handed-step topology d (Retired slot) past is = append-nil _ ∙ is
 handed-step topology d (Idle step cause) past is = append-nil _ ∙ is
 

@@ -11,7 +11,7 @@ use Rattle.hmc_send.specs.LinkSenders.{sender_entries}
 use Rattle.hmc_send.proofs.LinkProjections.{sender-through}
 use Rattle.hmc_wire.specs.LinkLaws.{IsKept}
 use Rattle.hmc_journal.specs.declared.entry.Entry.{Entry}
-use Rattle.hmc_journal.specs.declared.entry.Entry.TheVariants.{Gave, Sent, Landed, Shifted, Dropped, Spread, Executed, Lifted, Took, Discarded, Through, Unlocked, Retired, Passed, Idle}
+use Rattle.hmc_journal.specs.declared.entry.Entry.TheVariants.{Sent, Executed, Through}
 use Rattle.hmc_journal.specs.Setup.{Topology}
 use Rattle.hmc_journal.specs.Directions.{unsent, awaits_first}
 use Rattle.hmc_journal.specs.Queues.{begins, is_at, leaves, one_if, left}
@@ -19,7 +19,7 @@ use Rattle.hmc_journal.specs.Queues.QueueId.{Output}
 use Rattle.hmc_journal.specs.Links.{toward, link_entries, sizes_on, entries_on}
 use Rattle.hmc_journal.proofs.LinkHanded.{IsSentAs, new_left}
 use Rattle.hmc_journal.proofs.KeptPast.{kept_past}
-use Rattle.hmc_journal.proofs.NoSends.{IsOfSends, IsNoSend, IsSome, of_sends, no-send, sent-elsewhere, through-elsewhere, through-here}
+use Rattle.hmc_journal.proofs.NoSends.{IsOfSends, IsNoSend, IsSome, of_sends, no-send, by_sending, sent-elsewhere, through-elsewhere, through-here}
 use Rattle.hmc_journal.proofs.Projections.{came_at}
 use Rattle.hmc_journal.proofs.UnsentFlits.{waits, left_begun, UnsentIs, SendFacts, new_left-some, is_sending, AreGathered, gathered_past, unsent_is}
 
@@ -143,21 +143,12 @@ through_begun topology d cube port direction past true here some =
 begun-step : (topology : Topology) (d : ℕ) (entry : Entry) (past : List Entry) → AreGathered topology (entry ∷ past) → IsKept (sizes_on topology d) (entries_on topology d (entry ∷ past)) → left past (Output d) ≡ fronts_on topology d (entries_on topology d past)
     → left (entry ∷ past) (Output d) ≡ fronts_on topology d (entries_on topology d (entry ∷ past))
 unfolding left
-begun-step topology d (Sent direction as_what flit) past gathered kept is = sent-begun topology d direction as_what flit past (direction == d) refl gathered kept is
-begun-step topology d (Through cube port direction) past gathered kept is = left_through d cube port direction past ∙ is ∙ sym (through_begun topology d cube port direction past (direction == d) refl gathered.0)
-begun-step topology d (Gave host tag poisoned request) past gathered kept is = quiet_begun topology d (Gave host tag poisoned request) past tt is
-begun-step topology d (Landed direction flit outcome) past gathered kept is = quiet_begun topology d (Landed direction flit outcome) past tt is
-begun-step topology d (Shifted cube port goal) past gathered kept is = quiet_begun topology d (Shifted cube port goal) past tt is
-begun-step topology d (Dropped cube port) past gathered kept is = quiet_begun topology d (Dropped cube port) past tt is
-begun-step topology d (Spread cube vault bank) past gathered kept is = quiet_begun topology d (Spread cube vault bank) past tt is
-begun-step topology d (Executed unit host tag request answer) past gathered kept is = quiet_begun topology d (Executed unit host tag request answer) past tt is
-begun-step topology d (Lifted cube from port) past gathered kept is = quiet_begun topology d (Lifted cube from port) past tt is
-begun-step topology d (Took host tag answer) past gathered kept is = quiet_begun topology d (Took host tag answer) past tt is
-begun-step topology d (Discarded host) past gathered kept is = quiet_begun topology d (Discarded host) past tt is
-begun-step topology d (Unlocked direction) past gathered kept is = quiet_begun topology d (Unlocked direction) past tt is
-begun-step topology d (Retired slot) past gathered kept is = quiet_begun topology d (Retired slot) past tt is
-begun-step topology d (Passed direction flit) past gathered kept is = quiet_begun topology d (Passed direction flit) past tt is
-begun-step topology d (Idle step cause) past gathered kept is = quiet_begun topology d (Idle step cause) past tt is
+begun-step topology d entry past gathered kept is =
+    by_sending (λ (e : Entry). AreGathered topology (e ∷ past) → IsKept (sizes_on topology d) (entries_on topology d (e ∷ past)) → left (e ∷ past) (Output d) ≡ fronts_on topology d (entries_on topology d (e ∷ past)))
+    (λ direction as_what flit gathers keeps. sent-begun topology d direction as_what flit past (direction == d) refl gathers keeps is)
+    (λ cube port direction gathers keeps. left_through d cube port direction past ∙ is ∙ sym (through_begun topology d cube port direction past (direction == d) refl gathers.0))
+    (λ e quiet gathers keeps. quiet_begun topology d e past quiet is)
+    entry gathered kept
 
 pub begun_are : (topology : Topology) (d : ℕ) (past : List Entry) → AreGathered topology past → IsKept (sizes_on topology d) (entries_on topology d past) → left past (Output d) ≡ fronts_on topology d (entries_on topology d past)
 unfolding left link_entries sender_entries taken_fronts

@@ -1,5 +1,5 @@
--- A journal as moves of packets between queues. A packet is seen without what links set, and an
--- entry is no move or one.
+-- A journal as moves of packets between queues. A packet is seen without what links set. An entry
+-- is at most one move, except a landing: where it ends a packet that is forwarded it is up to three.
 use Rattle.std.proofs.Common.{◌≡◌, ℕ, zero, Bool, true, false, Option, Some, None, List, [], ◌∷◌, ◌++◌, map, length, refl, ap₂, nat_lt}
 use Rattle.hmc_codes.specs.Commands.{family_of, is_posted}
 use Rattle.hmc_codes.specs.Request.{RequestFields}
@@ -29,7 +29,7 @@ use Rattle.hmc_journal.specs.declared.entry.Entry.TheVariants.{Gave, Sent, Lande
 use Rattle.hmc_journal.specs.Carried.{begun_on}
 use Rattle.hmc_journal.specs.Delivered.{unnumbered}
 use Rattle.hmc_journal.specs.Directions.{unsent, awaits_first, landed_packets}
-use Rattle.hmc_journal.specs.Piped.{passed_onto}
+use Rattle.hmc_journal.specs.Piped.{forwarded_onto}
 use Rattle.hmc_journal.specs.Links.{direction_to}
 use Rattle.hmc_journal.specs.Queues.{QueueId, tag_number, front_of, contents, queue_of}
 use Rattle.hmc_journal.specs.Queues.{QueueId as queues}
@@ -115,9 +115,9 @@ hop_queue topology (queues.Answers cube from) = hops.Answers cube from
 abbrev pub front_goes : Topology → List Entry → QueueId → List Move
 front_goes topology past queue = Goes (hop_queue topology queue) 0 (seen topology (front_of (contents topology past queue))) ∷ []
 
--- the first flit of a packet takes it out of the output queue, unless it is passed on, and a TRET is
+-- the first flit of a packet takes it out of the output queue, unless it is forwarded, and a TRET is
 -- begun on the line
-abbrev pub begins_move : Topology → List Entry → (direction : ℕ) → (passed_on : Bool) → (unsent : ℕ) → List Move
+abbrev pub begins_move : Topology → List Entry → (direction : ℕ) → (forwarded : Bool) → (unsent : ℕ) → List Move
 begins_move topology past direction false zero = front_goes topology past (queues.Output direction)
 begins_move topology past direction _ unsent = []
 
@@ -126,7 +126,7 @@ abbrev pub lands : Topology → (direction : ℕ) → List PacketFields → List
 lands topology direction [] = []
 lands topology direction (packet ∷ rest) = Goes (hops.Line direction) 0 (seen topology packet) ∷ []
 
--- what is accepted while it is passed on goes on at once: through the buffer, and past all that waits
+-- what is accepted while it is forwarded goes on at once: through the buffer, and past all that waits
 -- in the output queue
 abbrev pub goes_past : Topology → List Entry → (direction onto : ℕ) → List PacketFields → List Move
 goes_past topology past direction onto [] = []
@@ -143,12 +143,12 @@ last_packet (packet ∷ next ∷ rest) = last_packet (next ∷ rest)
 abbrev pub copy_comes : Topology → (journal : List Entry) → (onto : ℕ) → List Move
 copy_comes topology journal onto = Comes (hops.Line onto) (seen topology (last_packet (begun_on topology onto journal))) ∷ []
 
--- what a landing does with a packet that is passed on
-abbrev pub passes_on : Topology → (past journal : List Entry) → (direction : ℕ) → Outcome → (onto : Option ℕ) → List PacketFields → List Move
-passes_on topology past journal direction outcome None packets = []
-passes_on topology past journal direction outcomes.Gathered (Some onto) packets = []
-passes_on topology past journal direction outcomes.Accepted (Some onto) packets = goes_past topology past direction onto packets
-passes_on topology past journal direction _ (Some onto) packets = copy_comes topology journal onto
+-- what a landing does with a packet that is forwarded
+abbrev pub forward_moves : Topology → (past journal : List Entry) → (direction : ℕ) → Outcome → (onto : Option ℕ) → List PacketFields → List Move
+forward_moves topology past journal direction outcome None packets = []
+forward_moves topology past journal direction outcomes.Gathered (Some onto) packets = []
+forward_moves topology past journal direction outcomes.Accepted (Some onto) packets = goes_past topology past direction onto packets
+forward_moves topology past journal direction _ (Some onto) packets = copy_comes topology journal onto
 
 -- and an unlock; that of a direction that isn't there does nothing
 abbrev pub if_there : Bool → Option ℕ → Option ℕ
@@ -163,7 +163,7 @@ abbrev pub comes_from : Topology → Option ℕ → PacketFields → List Move
 comes_from topology None packet = []
 comes_from topology (Some direction) packet = Comes (hops.Output direction) (seen topology packet) ∷ []
 
--- the moves of an entry, the newest first: mostly one, or none
+-- the moves of an entry, the newest first
 unfoldable pub moves_of : Topology → List Entry → Entry → List Move
 moves_of topology past (Gave host tag poisoned request) =
     comes_from topology (direction_from topology (places.Host host)) (request_packet request (tag_number tag) host poisoned)
@@ -171,8 +171,8 @@ moves_of topology past (Sent direction New flit) = begins_move topology past dir
 moves_of topology past (Sent direction Tret flit) = Comes (hops.Line direction) (seen topology tret_packet) ∷ []
 moves_of topology past (Landed direction flit outcome) =
     let landed = landed_packets topology direction flit outcome past in
-    passes_on topology past (Landed direction flit outcome ∷ past) direction outcome (passed_onto topology direction past) landed ++ lands topology direction landed
-moves_of topology past (Unlocked direction) = unlocks topology (Unlocked direction ∷ past) (if_there (nat_lt direction (directions_in topology)) (passed_onto topology direction past))
+    forward_moves topology past (Landed direction flit outcome ∷ past) direction outcome (forwarded_onto topology direction past) landed ++ lands topology direction landed
+moves_of topology past (Unlocked direction) = unlocks topology (Unlocked direction ∷ past) (if_there (nat_lt direction (directions_in topology)) (forwarded_onto topology direction past))
 moves_of topology past (Shifted cube port goal) = front_goes topology past (queues.Port cube port)
 moves_of topology past (Dropped cube port) = front_goes topology past (queues.Port cube port)
 moves_of topology past (Spread cube vault bank) = front_goes topology past (queues.Vault cube vault)

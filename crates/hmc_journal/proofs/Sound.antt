@@ -35,13 +35,13 @@ use Rattle.hmc_wire.specs.Conditions.{IsHanded, IsFlit, IsHalf, IsFeed}
 use Rattle.hmc_wire.specs.LinkLaws.{IsKept}
 use Rattle.hmc_journal.specs.Choice.{append_if}
 use Rattle.hmc_journal.specs.Directions.{sent_flits, unsent, receiver_of, accepted, awaits_first, landed_packets}
-use Rattle.hmc_journal.specs.Links.{toward, put_on, handed_at, taken_at, handed_on, direction_to, landing_mask, link_sizes, link_entries, sizes_on, entries_on, passed_on, taken_if}
+use Rattle.hmc_journal.specs.Links.{toward, put_on, handed_at, taken_at, handed_on, direction_to, landing_mask, link_sizes, link_entries, sizes_on, entries_on, forwarded_on, taken_if}
 use Rattle.hmc_journal.specs.Waiting.{lacks_room}
 use Rattle.hmc_journal.specs.Queues.{QueueId, buffer_at, packet_if, one_if, begins, leaves, left, entered, contents, tag_number, front_of, output_from, landing_buffer, Arrival, arrived, same_queue, is_at, unless_gone}
 use Rattle.hmc_journal.specs.Queues.QueueId.{Output, Port, Host, Answers}
 use Rattle.hmc_journal.proofs.LinkKept.{landing-flit, kept-none, kept-handed, kept-taken, kept-sent, kept-unlocked, kept-through, opened}
 use Rattle.hmc_journal.proofs.LinkHanded.{IsSentAs, sent_as, new_left, fronts, own_marks}
-use Rattle.hmc_journal.proofs.Projections.{same_direction, put_on-same, handed_on-same, handed_are, came_at, feed_in, goes_at, passed_on-same, received}
+use Rattle.hmc_journal.proofs.Projections.{same_direction, put_on-same, handed_on-same, handed_are, came_at, feed_in, goes_at, forwarded_on-same, received}
 use Rattle.hmc_send.specs.LinkLines.{line}
 use Rattle.hmc_codes.specs.declared.place.Place.{Place as End}
 use Rattle.hmc_journal.specs.declared.outcome.Goal.{Goal}
@@ -60,18 +60,18 @@ use Rattle.hmc_journal.proofs.Entering.{Kept, front_stands, ArrivesRight, accept
 use Rattle.hmc_journal.proofs.Machine.{HasCubes, HasCubes-apply, HasCubes-retire, HasCubes-opening}
 use Rattle.hmc_journal.proofs.Wired.{Wired, wired, ends_there, one_buffer}
 use Rattle.hmc_journal.specs.Network.{IsNetwork}
-use Rattle.hmc_journal.proofs.Passing.{LandsGood, ArePassing, ArePiped, OnPipe, PassesOn, PipeKept, Waits, is_buffer, stays_empty, piped_quiet, piped_send, piped_landed, piped_unlocked, piped_through, passing_quiet, passing_landed, passing_unlocked, passing_through, known_waits}
+use Rattle.hmc_journal.proofs.Forwarding.{LandsGood, AreForwarding, ArePiped, OnPipe, Forwards, PipeKept, Waits, is_buffer, stays_empty, piped_quiet, piped_send, piped_landed, piped_unlocked, piped_through, forwarding_quiet, forwarding_landed, forwarding_unlocked, forwarding_through, known_waits}
 use Rattle.hmc_journal.proofs.PipeSteps.{Brings, IsThrough, came_is, pending_first, pending_step, up_first, up_step, under_through}
 use Rattle.hmc_journal.proofs.Piping.{IsPiped, UpPiped, feed_fits, sender_on, up_on}
 use Rattle.hmc_journal.proofs.Copies.{CopyHolds, others_sent, others_through}
 use Rattle.hmc_journal.proofs.AcceptedTokens.{OthersHold, all_fit}
-use Rattle.hmc_journal.proofs.NoSends.{IsNoSend, IsOfSends, IsSome, no-send, sent-elsewhere, sent-here, through-elsewhere, through-here}
+use Rattle.hmc_journal.proofs.NoSends.{IsNoSend, IsOfSends, IsSome, no-send, by_sending, sent-elsewhere, sent-here, through-elsewhere, through-here}
 use Rattle.hmc_journal.proofs.GoodLandings.{landed_outcome, lands_one, names_more, one_good, short_step}
 use Rattle.hmc_journal.proofs.OpenParts.{through_free}
 use Rattle.hmc_journal.proofs.Marks.{of_sends-marks}
 use Rattle.hmc_journal.proofs.Joins.{other_inside, start_is_end}
 use Rattle.hmc_journal.proofs.Standing.IsMoving.{Spoiled}
-use Rattle.hmc_journal.specs.Piped.{PipeFrom, fed, goes_on, passed_onto, pipe_onto}
+use Rattle.hmc_journal.specs.Piped.{PipeFrom, fed, goes_on, forwarded_onto, pipe_onto}
 use Rattle.hmc_send.specs.Copies.{copy_of}
 use Rattle.hmc_send.proofs.LinkProjections.{sender-sent, sender-through}
 use Rattle.hmc_packet.specs.Landings.{pending}
@@ -256,7 +256,7 @@ link-shifted setup past cube port (goals.Port out) link wires kept has came =
     (λ i. taken-kept setup past (ends.Port cube port) has.at.front i wires kept came has.at)
     (λ d. put_on-same (has_room (sizes_on setup.topology d) (toward d)) (d / 2) (direction_to setup.topology (ends.Port cube port)) LinkEntry.taken (entries_on setup.topology d past) (λ way. room_taken (sizes_on setup.topology d) (toward d) way (entries_on setup.topology d past)))
 
--- what is gathered where a packet is passed on
+-- what is gathered where a packet is forwarded
 pub gathers_is : (setup : Setup) (past : List Entry) (cube port d : ℕ) (has : HasThrough setup past cube port d) → pending (receiver_of has.from past) ≡ has.flit ∷ has.rest
 gathers_is setup past cube port d has = ap pending (received setup.topology has.from past) ∙ has.gathered
 
@@ -298,23 +298,23 @@ landed_flit setup past d flit outcome right kept =
 one_lands : (setup : Setup) (past : List Entry) (d : ℕ) (flit : List ℕ) (outcome : Outcome) → HasLanded setup past d flit outcome → Kept setup past → d < directions_in setup.topology → goes_at setup.topology d outcome past ≡ true
     → (packet : PacketFields) × (filter is_token (landed_packets setup.topology d flit outcome past) ≡ packet ∷ [])
 one_lands setup past d flit outcome right kept less gone =
-    let went = gone_onto outcome (passed_onto setup.topology d past) gone in
-    let one = lands_one setup past d went.0 flit (landed_outcome setup past d flit outcome right ∙ went.2) (landed_flit setup past d flit outcome right kept) kept.pendings kept.piped kept.passing less went.1 in
+    let went = gone_onto outcome (forwarded_onto setup.topology d past) gone in
+    let one = lands_one setup past d went.0 flit (landed_outcome setup past d flit outcome right ∙ went.2) (landed_flit setup past d flit outcome right kept) kept.pendings kept.piped kept.forwarding less went.1 in
     (one.packet, subst (λ (o : Outcome). filter is_token (landed_packets setup.topology d flit o past) ≡ one.packet ∷ []) (sym went.2) one.is)
 
 lands_good : (setup : Setup) (past : List Entry) (d : ℕ) (flit : List ℕ) (outcome : Outcome) → HasLanded setup past d flit outcome → Kept setup past → d < directions_in setup.topology → LandsGood setup.topology past d flit outcome
-lands_good setup past d flit outcome right kept less to accepted passed =
-    one_good setup past d flit (lands_one setup past d to flit (landed_outcome setup past d flit outcome right ∙ accepted) (landed_flit setup past d flit outcome right kept) kept.pendings kept.piped kept.passing less passed)
+lands_good setup past d flit outcome right kept less to accepted forwarded =
+    one_good setup past d flit (lands_one setup past d to flit (landed_outcome setup past d flit outcome right ∙ accepted) (landed_flit setup past d flit outcome right kept) kept.pendings kept.piped kept.forwarding less forwarded)
     (subst (λ (o : Outcome). All (Stands setup.topology (Output d)) (filter is_token (landed_packets setup.topology d flit o past))) accepted (landed_stands setup d past flit outcome right kept))
 
 -- the buffer holds what goes on
 pub holds_accepted : (setup : Setup) (past : List Entry) (d onto : ℕ) (mask flit : List ℕ) → IsFlit flit → (reception_of (sizes_on setup.topology d).profile (receiver_of d past) flit).outcome ≡ outcomes.Accepted → Kept setup past → d < directions_in setup.topology
-    → passed_onto setup.topology d past ≡ Some onto → holds_packet (sizes_on setup.topology d) (toward d) (LinkEntry.landed (toward d) mask flit outcomes.Accepted ∷ entries_on setup.topology d past) ≡ true
-holds_accepted setup past d onto mask flit is_flit accepts kept less passed =
+    → forwarded_onto setup.topology d past ≡ Some onto → holds_packet (sizes_on setup.topology d) (toward d) (LinkEntry.landed (toward d) mask flit outcomes.Accepted ∷ entries_on setup.topology d past) ≡ true
+holds_accepted setup past d onto mask flit is_flit accepts kept less forwarded =
     let sizes = sizes_on setup.topology d in
     let before = entries_on setup.topology d past in
     let inside = (kept.ends d less).inside in
-    let one = lands_one setup past d onto flit accepts is_flit kept.pendings kept.piped kept.passing less passed in
+    let one = lands_one setup past d onto flit accepts is_flit kept.pendings kept.piped kept.forwarding less forwarded in
     let parts = ap (filter is_token) (accepted-landed sizes.profile (toward d) mask flit outcomes.Accepted before) ∙ filter-append is_token (accepted_packets sizes.profile (toward d) before) _
     ∙ ap (λ l. filter is_token (accepted_packets sizes.profile (toward d) before) ++ filter is_token l) (sym (landed_on_link setup.topology d past flit outcomes.Accepted)) in
     let many = ap length parts ∙ length-append (filter is_token (accepted_packets sizes.profile (toward d) before)) (filter is_token (landed_packets setup.topology d flit outcomes.Accepted past)) in
@@ -326,7 +326,7 @@ holds_accepted setup past d onto mask flit is_flit accepts kept less passed =
 holds_landed : (setup : Setup) (past : List Entry) (d : ℕ) (flit : List ℕ) (outcome : Outcome) → HasLanded setup past d flit outcome → Kept setup past → goes_at setup.topology d outcome past ≡ true
     → holds_packet (sizes_on setup.topology d) (toward d) (LinkEntry.landed (toward d) (landing_mask (sizes_on setup.topology d) (toward d) (entries_on setup.topology d past) flit) flit outcome ∷ entries_on setup.topology d past) ≡ true
 holds_landed setup past d flit outcome right kept gone =
-    let went = gone_onto outcome (passed_onto setup.topology d past) gone in
+    let went = gone_onto outcome (forwarded_onto setup.topology d past) gone in
     let mask = landing_mask (sizes_on setup.topology d) (toward d) (entries_on setup.topology d past) flit in
     subst (λ (o : Outcome). holds_packet (sizes_on setup.topology d) (toward d) (LinkEntry.landed (toward d) mask flit o ∷ entries_on setup.topology d past) ≡ true) (sym went.2)
     (holds_accepted setup past d went.0 mask flit (landed_flit setup past d flit outcome right kept) (landed_outcome setup past d flit outcome right ∙ went.2) kept (landed-real setup past d flit outcome right kept) went.1)
@@ -348,12 +348,12 @@ taken-landed setup past d flit outcome link wires right kept = by_gone (goes_at 
         (eqb-true (d / 2) link at)
         (rw (eq-eqb (d / 2) (d / 2) refl) (kept-taken (sizes_on setup.topology d) _ (toward d) (kept_landing setup d past flit outcome right kept) (holds_landed setup past d flit outcome right kept is)))
 
--- a packet is passed on
-link-through : (setup : Setup) (past : List Entry) (cube port d link : ℕ) → HasThrough setup past cube port d → Kept setup past → IsKept (link_sizes setup.topology link) (passed_on link d (came_at setup.topology cube port past) (link_entries setup.topology link past))
+-- a packet is forwarded
+link-through : (setup : Setup) (past : List Entry) (cube port d link : ℕ) → HasThrough setup past cube port d → Kept setup past → IsKept (link_sizes setup.topology link) (forwarded_on link d (came_at setup.topology cube port past) (link_entries setup.topology link past))
 link-through setup past cube port d link right kept =
     let came = gathers_is setup past cube port d right in
     let names = names_more right.from past right.flit right.rest right.head kept.short came right.is_head in
-    subst (λ (c : List (List ℕ)). IsKept (link_sizes setup.topology link) (passed_on link d c (link_entries setup.topology link past))) (sym (came_is setup.topology past cube port (through_of setup past cube port d right)))
+    subst (λ (c : List (List ℕ)). IsKept (link_sizes setup.topology link) (forwarded_on link d c (link_entries setup.topology link past))) (sym (came_is setup.topology past cube port (through_of setup past cube port d right)))
     (put-on-kept setup.topology link d (Some d) (λ way. LinkEntry.through way right.flit (lng_of right.flit)) (λ i. link_entries setup.topology i past) refl (kept.links link)
     (kept-through (sizes_on setup.topology d) (entries_on setup.topology d past) (toward d) right.flit (lng_of right.flit) (kept.links (d / 2))
     (ap (may_pass_on (view_in (sizes_on setup.topology d) (toward d) (entries_on setup.topology d past) Waiting)) (sym names.1) ∙ right.may) names.0
@@ -441,7 +441,7 @@ takes_same topology d (Lifted cube from port) past landing quiet =
 takes_same topology d (Sent direction as_what flit) past landing quiet = put_on-same (takes (toward d)) (d / 2) (Some direction) (λ way. LinkEntry.sent way (feed_in topology (d / 2) direction past way) as_what flit) (entries_on topology d past) (λ e. refl)
 takes_same topology d (Landed direction flit outcome) past landing quiet = absurd landing
 takes_same topology d (Unlocked direction) past landing quiet = put_on-same (takes (toward d)) (d / 2) (Some direction) LinkEntry.unlocked (entries_on topology d past) (λ e. refl)
-takes_same topology d (Through cube port direction) past landing quiet = passed_on-same (takes (toward d)) (d / 2) direction (came_at topology cube port past) (entries_on topology d past) (λ e head flits. refl)
+takes_same topology d (Through cube port direction) past landing quiet = forwarded_on-same (takes (toward d)) (d / 2) direction (came_at topology cube port past) (entries_on topology d past) (λ e head flits. refl)
 takes_same topology d (Shifted cube port goal) past landing quiet = absurd quiet
 takes_same topology d (Dropped cube port) past landing quiet = absurd quiet
 takes_same topology d (Took host tag answer) past landing quiet = absurd quiet
@@ -561,14 +561,14 @@ left_landed past d flit outcome queue = zero-add _
 
 -- what goes on: the buffer is empty there, and it is at a port
 gone_empty : (setup : Setup) (past : List Entry) (d : ℕ) (outcome : Outcome) → d < directions_in setup.topology → Kept setup past → goes_at setup.topology d outcome past ≡ true → contents setup.topology past (landing_buffer setup.topology d) ≡ []
-gone_empty setup past d outcome less kept gone = let onto = gone_onto outcome (passed_onto setup.topology d past) gone in (kept.passing d onto.0 less onto.1).empty
+gone_empty setup past d outcome less kept gone = let onto = gone_onto outcome (forwarded_onto setup.topology d past) gone in (kept.forwarding d onto.0 less onto.1).empty
 
 not_gone_at_host : (setup : Setup) (past : List Entry) (d : ℕ) (outcome : Outcome) (host : ℕ) → d < directions_in setup.topology → Kept setup past → goes_at setup.topology d outcome past ≡ true → end_of setup.topology d ≡ ends.Host host → ⊥
 not_gone_at_host setup past d outcome host less kept gone at =
-    let onto = gone_onto outcome (passed_onto setup.topology d past) gone in
-    let passing = kept.passing d onto.0 less onto.1 in
-    let piped : PipeKept setup.topology past onto.0 passing.pipe = subst (OnPipe setup.topology past onto.0) passing.is (kept.piped onto.0) in
-    let clash : ends.Host host ≡ ends.Port piped.way.cube piped.way.port = sym at ∙ ap (end_of setup.topology) (sym passing.from) ∙ piped.way.lands in cc
+    let onto = gone_onto outcome (forwarded_onto setup.topology d past) gone in
+    let forwarding = kept.forwarding d onto.0 less onto.1 in
+    let piped : PipeKept setup.topology past onto.0 forwarding.pipe = subst (OnPipe setup.topology past onto.0) forwarding.is (kept.piped onto.0) in
+    let clash : ends.Host host ≡ ends.Port piped.way.cube piped.way.port = sym at ∙ ap (end_of setup.topology) (sym forwarding.from) ∙ piped.way.lands in cc
 
 -- a landing here: what it accepts enters the buffer
 lands_in : (setup : Setup) (past : List Entry) (d : ℕ) (flit : List ℕ) (outcome : Outcome) → d < directions_in setup.topology → Kept setup past → goes_at setup.topology d outcome past ≡ false → EndKept setup.topology (Landed d flit outcome ∷ past) d
@@ -685,7 +685,7 @@ none-more setup (Sent direction as_what flit) past right none d big =
     ap (λ (b : Bool). append_if b (flit ∷ []) (sent_flits d past)) (ne_eqb direction d (λ e. omega arith)) ∙ none d big
 none-more setup _ past right none d big = none d big
 
--- ---- what is passed on
+-- ---- what is forwarded
 
 brings : (setup : Setup) (past : List Entry) (entry : Entry) → EntryRule setup past entry → Kept setup past → Brings setup.topology past entry
 brings setup past (Landed d flit outcome) right kept = landed_flit setup past d flit outcome right kept
@@ -710,8 +710,8 @@ arrives_at topology place from (Some e) wires found is =
       ap (end_of topology) (sym same) ∙ sym (start_is_end (joins_of topology) e) ∙ wires.starts place e found,
     )
 
-passes_on : (setup : Setup) (past : List Entry) (cube port d : ℕ) → IsNetwork setup → Wired setup.topology → HasThrough setup past cube port d → Kept setup past → PassesOn setup.topology past cube port d
-passes_on setup past cube port d network wires has kept =
+forward_step : (setup : Setup) (past : List Entry) (cube port d : ℕ) → IsNetwork setup → Wired setup.topology → HasThrough setup past cube port d → Kept setup past → Forwards setup.topology past cube port d
+forward_step setup past cube port d network wires has kept =
     let t = setup.topology in
     let sizes = sizes_on t d in
     let before = entries_on t d past in
@@ -743,7 +743,7 @@ piped-more setup (Landed e flit outcome) past network wires right kept =
     piped_landed setup.topology past e flit outcome (lands_good setup past e flit outcome right kept (landed-real setup past e flit outcome right kept)) kept.piped
 piped-more setup (Unlocked e) past network wires right kept = piped_unlocked setup.topology past e kept.piped
 piped-more setup (Sent d as_what flit) past network wires right kept = piped_send setup.topology d as_what flit past (λ e. link-more setup (Sent d as_what flit) past (e / 2) network wires right kept) kept.piped
-piped-more setup (Through cube port d) past network wires right kept = piped_through setup.topology past cube port d wires (passes_on setup past cube port d network wires right kept) kept.piped
+piped-more setup (Through cube port d) past network wires right kept = piped_through setup.topology past cube port d wires (forward_step setup past cube port d network wires right kept) kept.piped
 piped-more setup (Gave host tag poisoned request) past network wires right kept = piped_quiet setup.topology (Gave host tag poisoned request) past tt tt kept.piped
 piped-more setup (Shifted cube port goal) past network wires right kept = piped_quiet setup.topology (Shifted cube port goal) past tt tt kept.piped
 piped-more setup (Dropped cube port) past network wires right kept = piped_quiet setup.topology (Dropped cube port) past tt tt kept.piped
@@ -756,22 +756,22 @@ piped-more setup (Retired slot) past network wires right kept = piped_quiet setu
 piped-more setup (Passed direction flit) past network wires right kept = piped_quiet setup.topology (Passed direction flit) past tt tt kept.piped
 piped-more setup (Idle step cause) past network wires right kept = piped_quiet setup.topology (Idle step cause) past tt tt kept.piped
 
-passing-more : (setup : Setup) (entry : Entry) (past : List Entry) → IsNetwork setup → Wired setup.topology → EntryRule setup past entry → Kept setup past → ArePassing setup.topology (entry ∷ past)
-passing-more setup (Landed e flit outcome) past network wires right kept = passing_landed setup.topology past e flit outcome wires (landed-real setup past e flit outcome right kept) kept.passing
-passing-more setup (Unlocked e) past network wires right kept = passing_unlocked setup.topology past e kept.passing
-passing-more setup (Through cube port d) past network wires right kept = passing_through setup.topology past cube port d wires (passes_on setup past cube port d network wires right kept) kept.piped kept.passing
-passing-more setup (Gave host tag poisoned request) past network wires right kept = passing_quiet setup.topology (Gave host tag poisoned request) past tt tt kept.passing
-passing-more setup (Shifted cube port goal) past network wires right kept = passing_quiet setup.topology (Shifted cube port goal) past tt tt kept.passing
-passing-more setup (Dropped cube port) past network wires right kept = passing_quiet setup.topology (Dropped cube port) past tt tt kept.passing
-passing-more setup (Spread cube vault bank) past network wires right kept = passing_quiet setup.topology (Spread cube vault bank) past tt tt kept.passing
-passing-more setup (Executed unit host tag request answer) past network wires right kept = passing_quiet setup.topology (Executed unit host tag request answer) past tt tt kept.passing
-passing-more setup (Lifted cube from port) past network wires right kept = passing_quiet setup.topology (Lifted cube from port) past tt tt kept.passing
-passing-more setup (Took host tag answer) past network wires right kept = passing_quiet setup.topology (Took host tag answer) past tt tt kept.passing
-passing-more setup (Discarded host) past network wires right kept = passing_quiet setup.topology (Discarded host) past tt tt kept.passing
-passing-more setup (Retired slot) past network wires right kept = passing_quiet setup.topology (Retired slot) past tt tt kept.passing
-passing-more setup (Passed direction flit) past network wires right kept = passing_quiet setup.topology (Passed direction flit) past tt tt kept.passing
-passing-more setup (Idle step cause) past network wires right kept = passing_quiet setup.topology (Idle step cause) past tt tt kept.passing
-passing-more setup (Sent direction as_what flit) past network wires right kept = passing_quiet setup.topology (Sent direction as_what flit) past tt tt kept.passing
+forwarding-more : (setup : Setup) (entry : Entry) (past : List Entry) → IsNetwork setup → Wired setup.topology → EntryRule setup past entry → Kept setup past → AreForwarding setup.topology (entry ∷ past)
+forwarding-more setup (Landed e flit outcome) past network wires right kept = forwarding_landed setup.topology past e flit outcome wires (landed-real setup past e flit outcome right kept) kept.forwarding
+forwarding-more setup (Unlocked e) past network wires right kept = forwarding_unlocked setup.topology past e kept.forwarding
+forwarding-more setup (Through cube port d) past network wires right kept = forwarding_through setup.topology past cube port d wires (forward_step setup past cube port d network wires right kept) kept.piped kept.forwarding
+forwarding-more setup (Gave host tag poisoned request) past network wires right kept = forwarding_quiet setup.topology (Gave host tag poisoned request) past tt tt kept.forwarding
+forwarding-more setup (Shifted cube port goal) past network wires right kept = forwarding_quiet setup.topology (Shifted cube port goal) past tt tt kept.forwarding
+forwarding-more setup (Dropped cube port) past network wires right kept = forwarding_quiet setup.topology (Dropped cube port) past tt tt kept.forwarding
+forwarding-more setup (Spread cube vault bank) past network wires right kept = forwarding_quiet setup.topology (Spread cube vault bank) past tt tt kept.forwarding
+forwarding-more setup (Executed unit host tag request answer) past network wires right kept = forwarding_quiet setup.topology (Executed unit host tag request answer) past tt tt kept.forwarding
+forwarding-more setup (Lifted cube from port) past network wires right kept = forwarding_quiet setup.topology (Lifted cube from port) past tt tt kept.forwarding
+forwarding-more setup (Took host tag answer) past network wires right kept = forwarding_quiet setup.topology (Took host tag answer) past tt tt kept.forwarding
+forwarding-more setup (Discarded host) past network wires right kept = forwarding_quiet setup.topology (Discarded host) past tt tt kept.forwarding
+forwarding-more setup (Retired slot) past network wires right kept = forwarding_quiet setup.topology (Retired slot) past tt tt kept.forwarding
+forwarding-more setup (Passed direction flit) past network wires right kept = forwarding_quiet setup.topology (Passed direction flit) past tt tt kept.forwarding
+forwarding-more setup (Idle step cause) past network wires right kept = forwarding_quiet setup.topology (Idle step cause) past tt tt kept.forwarding
+forwarding-more setup (Sent direction as_what flit) past network wires right kept = forwarding_quiet setup.topology (Sent direction as_what flit) past tt tt kept.forwarding
 
 -- a spoiled packet may go anywhere
 spoiled_goes : (topology : Topology) (place : End) (packet : PacketFields) → IsSpoiled topology packet → GoesTo topology place packet
@@ -841,67 +841,52 @@ of_sends-places q = record { acknowledged = λ past n. refl; ran = λ past. refl
 others_same : (P : PacketFields → Type 0) (m n : List Bool) (k l : List Place) → m ≡ n → k ≡ l → OthersHold P m k → OthersHold P n l
 others_same P m n k l marks places is = subst (OthersHold P n) places (subst (λ (b : List Bool). OthersHold P b k) marks is)
 
+-- an entry that changes neither list of the sender
+copies_still : (setup : Setup) (entry : Entry) (past : List Entry) (d : ℕ) → own_marks (sender_on setup.topology d (entry ∷ past)) ≡ own_marks (sender_on setup.topology d past)
+    → begun.places (sizes_on setup.topology d).profile (sender_on setup.topology d (entry ∷ past)) ≡ begun.places (sizes_on setup.topology d).profile (sender_on setup.topology d past) → Kept setup past → CopiesStand setup.topology (entry ∷ past) d
+copies_still setup entry past d marks places kept = others_same (Stands setup.topology (Output d)) _ _ _ _ (sym marks) (sym places) (kept.copies d)
+
+-- an entry of the sender itself
+copies_here : (setup : Setup) (journal : List Entry) (d : ℕ) (after : List SenderEntry) → sender_on setup.topology d journal ≡ after → OthersHold (Stands setup.topology (Output d)) (own_marks after) (begun.places (sizes_on setup.topology d).profile after) → CopiesStand setup.topology journal d
+copies_here setup journal d after is = subst (λ (T : List SenderEntry). OthersHold (Stands setup.topology (Output d)) (own_marks T) (begun.places (sizes_on setup.topology d).profile T)) (sym is)
+
 copies_quiet : (setup : Setup) (entry : Entry) (past : List Entry) (d : ℕ) → IsNoSend entry → Kept setup past → CopiesStand setup.topology (entry ∷ past) d
-copies_quiet setup entry past d quiet kept =
-    others_same (Stands setup.topology (Output d)) _ _ _ _ (sym (no-send own_marks of_sends-marks setup.topology d entry past quiet)) (sym (no-send (begun.places (sizes_on setup.topology d).profile) (of_sends-places (sizes_on setup.topology d).profile) setup.topology d entry past quiet)) (kept.copies d)
+copies_quiet setup entry past d quiet =
+    copies_still setup entry past d (no-send own_marks of_sends-marks setup.topology d entry past quiet) (no-send (begun.places (sizes_on setup.topology d).profile) (of_sends-places (sizes_on setup.topology d).profile) setup.topology d entry past quiet)
+
+copies_sent : (setup : Setup) (past : List Entry) (d e : ℕ) (as_what : What) (flit : List ℕ) → IsNetwork setup → Wired setup.topology → EntryRule setup past (Sent e as_what flit) → Kept setup past → (here : Bool) → (e == d) ≡ here → CopiesStand setup.topology (Sent e as_what flit ∷ past) d
+copies_sent setup past d e as_what flit network wires right kept false off =
+    copies_still setup (Sent e as_what flit) past d (sent-elsewhere own_marks setup.topology d e as_what flit past off) (sent-elsewhere (begun.places (sizes_on setup.topology d).profile) setup.topology d e as_what flit past off) kept
+copies_sent setup past d e as_what flit network wires right kept true on =
+    let t = setup.topology in
+    let sizes = sizes_on t d in
+    let one : e ≡ d = eqb-true e d on in
+    let now : IsKept sizes (entries_on t d (Sent d as_what flit ∷ past)) = subst (λ (n : ℕ). IsKept sizes (entries_on t d (Sent n as_what flit ∷ past))) one (link-more setup (Sent e as_what flit) past (d / 2) network wires right kept) in
+    let at = sent-here t d as_what flit past in
+    subst (λ (n : ℕ). CopiesStand t (Sent n as_what flit ∷ past) d) (sym one)
+    (copies_here setup (Sent d as_what flit ∷ past) d _ (ap (sender_entries sizes (toward d)) at ∙ sender-sent sizes (toward d) (feed_on t past d) as_what flit (entries_on t d past))
+    (others_sent (Stands t (Output d)) sizes (toward d) (feed_on t past d) as_what flit (entries_on t d past) (subst (IsKept sizes) at now) (kept.copies d) (copy_stands setup past d network wires kept)))
+
+copies_through : (setup : Setup) (past : List Entry) (d cube port e : ℕ) → HasThrough setup past cube port e → Kept setup past → (here : Bool) → (e == d) ≡ here → CopiesStand setup.topology (Through cube port e ∷ past) d
+copies_through setup past d cube port e right kept false off =
+    copies_still setup (Through cube port e) past d (through-elsewhere own_marks setup.topology d cube port e past off) (through-elsewhere (begun.places (sizes_on setup.topology d).profile) setup.topology d cube port e past off) kept
+copies_through setup past d cube port e right kept true on =
+    let t = setup.topology in
+    let sizes = sizes_on t d in
+    let one : e ≡ d = eqb-true e d on in
+    let at = through-here t d cube port right.flit right.rest past (came_is t past cube port (through_of setup past cube port e right)) in
+    let own = (fronts sizes (toward d) (entries_on t d past) (kept.links (d / 2))).own in
+    subst (λ (n : ℕ). CopiesStand t (Through cube port n ∷ past) d) (sym one)
+    (copies_here setup (Through cube port d ∷ past) d _ (ap (sender_entries sizes (toward d)) at ∙ sender-through sizes (toward d) right.flit (lng_of right.flit) (entries_on t d past))
+    (others_through (Stands t (Output d)) sizes.profile right.flit (lng_of right.flit) _ (sender_on t d past) own (kept.copies d)))
 
 copies-more : (setup : Setup) (entry : Entry) (past : List Entry) (d : ℕ) → IsNetwork setup → Wired setup.topology → EntryRule setup past entry → Kept setup past → CopiesStand setup.topology (entry ∷ past) d
-copies-more setup (Sent e as_what flit) past d network wires right kept = by_here (e == d) refl
-  where
-    t : Topology
-    t = setup.topology
-
-    P : PacketFields → Type 0
-    P = Stands setup.topology (Output d)
-
-    sizes : LinkFields
-    sizes = sizes_on setup.topology d
-
-    by_here : (here : Bool) → (e == d) ≡ here → CopiesStand setup.topology (Sent e as_what flit ∷ past) d
-    by_here false off =
-        others_same P _ _ _ _ (sym (sent-elsewhere own_marks t d e as_what flit past off)) (sym (sent-elsewhere (begun.places sizes.profile) t d e as_what flit past off)) (kept.copies d)
-    by_here true on =
-        let one : e ≡ d = eqb-true e d on in
-        let now : IsKept sizes (entries_on t d (Sent d as_what flit ∷ past)) = subst (λ (n : ℕ). IsKept sizes (entries_on t d (Sent n as_what flit ∷ past))) one (link-more setup (Sent e as_what flit) past (d / 2) network wires right kept) in
-        let at = sent-here t d as_what flit past in
-        let sent = others_sent P sizes (toward d) (feed_on t past d) as_what flit (entries_on t d past) (subst (IsKept sizes) at now) (kept.copies d) (copy_stands setup past d network wires kept) in
-        let after = ap (sender_entries sizes (toward d)) at ∙ sender-sent sizes (toward d) (feed_on t past d) as_what flit (entries_on t d past) in
-        subst (λ (n : ℕ). CopiesStand t (Sent n as_what flit ∷ past) d) (sym one) (subst (λ (T : List SenderEntry). OthersHold P (own_marks T) (begun.places sizes.profile T)) (sym after) sent)
-copies-more setup (Through cube port e) past d network wires right kept = by_here (e == d) refl
-  where
-    t : Topology
-    t = setup.topology
-
-    P : PacketFields → Type 0
-    P = Stands setup.topology (Output d)
-
-    sizes : LinkFields
-    sizes = sizes_on setup.topology d
-
-    by_here : (here : Bool) → (e == d) ≡ here → CopiesStand setup.topology (Through cube port e ∷ past) d
-    by_here false off =
-        others_same P _ _ _ _ (sym (through-elsewhere own_marks t d cube port e past off)) (sym (through-elsewhere (begun.places sizes.profile) t d cube port e past off)) (kept.copies d)
-    by_here true on =
-        let one : e ≡ d = eqb-true e d on in
-        let through = through_of setup past cube port e right in
-        let at = through-here t d cube port right.flit right.rest past (came_is t past cube port through) in
-        let after = ap (sender_entries sizes (toward d)) at ∙ sender-through sizes (toward d) right.flit (lng_of right.flit) (entries_on t d past) in
-        let own = (fronts sizes (toward d) (entries_on t d past) (kept.links (d / 2))).own in
-        subst (λ (n : ℕ). CopiesStand t (Through cube port n ∷ past) d) (sym one)
-        (subst (λ (T : List SenderEntry). OthersHold P (own_marks T) (begun.places sizes.profile T)) (sym after) (others_through P sizes.profile right.flit (lng_of right.flit) _ (sender_on t d past) own (kept.copies d)))
-copies-more setup (Gave host tag poisoned request) past d network wires right kept = copies_quiet setup (Gave host tag poisoned request) past d tt kept
-copies-more setup (Shifted cube port goal) past d network wires right kept = copies_quiet setup (Shifted cube port goal) past d tt kept
-copies-more setup (Dropped cube port) past d network wires right kept = copies_quiet setup (Dropped cube port) past d tt kept
-copies-more setup (Spread cube vault bank) past d network wires right kept = copies_quiet setup (Spread cube vault bank) past d tt kept
-copies-more setup (Executed unit host tag request answer) past d network wires right kept = copies_quiet setup (Executed unit host tag request answer) past d tt kept
-copies-more setup (Lifted cube from port) past d network wires right kept = copies_quiet setup (Lifted cube from port) past d tt kept
-copies-more setup (Took host tag answer) past d network wires right kept = copies_quiet setup (Took host tag answer) past d tt kept
-copies-more setup (Discarded host) past d network wires right kept = copies_quiet setup (Discarded host) past d tt kept
-copies-more setup (Retired slot) past d network wires right kept = copies_quiet setup (Retired slot) past d tt kept
-copies-more setup (Passed direction flit) past d network wires right kept = copies_quiet setup (Passed direction flit) past d tt kept
-copies-more setup (Idle step cause) past d network wires right kept = copies_quiet setup (Idle step cause) past d tt kept
-copies-more setup (Landed direction flit outcome) past d network wires right kept = copies_quiet setup (Landed direction flit outcome) past d tt kept
-copies-more setup (Unlocked direction) past d network wires right kept = copies_quiet setup (Unlocked direction) past d tt kept
+copies-more setup entry past d network wires right kept =
+    by_sending (λ (n : Entry). EntryRule setup past n → CopiesStand setup.topology (n ∷ past) d)
+    (λ e as_what flit rule. copies_sent setup past d e as_what flit network wires rule kept (e == d) refl)
+    (λ cube port e rule. copies_through setup past d cube port e rule kept (e == d) refl)
+    (λ n quiet rule. copies_quiet setup n past d quiet kept)
+    entry right
 
 kept-more : (setup : Setup) (entry : Entry) (past : List Entry) → IsNetwork setup → Wired setup.topology → EntryRule setup past entry → Kept setup past → Kept setup (entry ∷ past)
 kept-more setup entry past network wires right kept = record {
@@ -918,7 +903,7 @@ kept-more setup entry past network wires right kept = record {
   short = short_step setup entry past right kept.short;
   up = λ d. up_step setup.topology d entry past (brings setup past entry right kept) kept.pendings (link-more setup entry past (d / 2) network wires right kept) (kept.up d);
   piped = piped-more setup entry past network wires right kept;
-  passing = passing-more setup entry past network wires right kept;
+  forwarding = forwarding-more setup entry past network wires right kept;
   copies = λ d. copies-more setup entry past d network wires right kept;
 }
 
@@ -929,7 +914,7 @@ retry_by setup link true is network =
 retry_by setup link false is network = (network.sizes link no_link (leb-false (length setup.topology.links) link is)).retry
 
 kept_at_first : (setup : Setup) → IsNetwork setup → Kept setup []
-unfolding contents left entered sent_flits accepted receiver_of landings.accepted pending takes link_entries sender_entries own_marks passed_onto pipe_onto state_of state_after tags_out none_out
+unfolding contents left entered sent_flits accepted receiver_of landings.accepted pending takes link_entries sender_entries own_marks forwarded_onto pipe_onto state_of state_after tags_out none_out
 kept_at_first setup network = record {
   masks = network.masks;
   within = λ room. omega arith;
@@ -944,7 +929,7 @@ kept_at_first setup network = record {
   short = λ e. tt;
   up = λ d. up_first setup.topology d;
   piped = λ d. tt;
-  passing = λ e d less is. absurd cc;
+  forwarding = λ e d less is. absurd cc;
   copies = λ d. tt;
 }
 

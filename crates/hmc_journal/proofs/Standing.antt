@@ -57,7 +57,7 @@ pub record IsReplying (topology : Topology) (packet : PacketFields) : Type 0 whe
   pub answer : Answer
   pub found : answer_in packet ≡ Some answer
 
--- the poisoned copy of a packet that was passed on; its goal is there
+-- the poisoned copy of a packet that was forwarded; its goal is there
 pub record IsSpoiled (topology : Topology) (packet : PacketFields) : Type 0 where
   pub is_packet : IsPacket packet
   pub layout : is_flow (layout_of packet.command) ≡ false

@@ -27,7 +27,7 @@ use Rattle.hmc_journal.specs.Delivered.{IsPrefix}
 use Rattle.hmc_journal.specs.declared.entry.Entry.{Entry}
 use Rattle.hmc_journal.specs.declared.entry.Entry.TheVariants.{Gave, Sent, Landed, Shifted, Dropped, Executed, Took, Discarded, Unlocked}
 use Rattle.hmc_journal.specs.Directions.{unsent, awaits_first, landed_packets}
-use Rattle.hmc_journal.specs.Piped.{passed_onto}
+use Rattle.hmc_journal.specs.Piped.{forwarded_onto}
 use Rattle.hmc_journal.specs.Filters.{Completion, same_tag, asked_under, replies_under, answers_under}
 use Rattle.hmc_journal.specs.Hosts.{host_of}
 use Rattle.hmc_journal.specs.Lawful.{Lawful}
@@ -45,7 +45,7 @@ use Rattle.hmc_journal.proofs.Wired.{wired}
 use Rattle.hmc_journal.proofs.Seen.{seen, kind_by, spot_of, request_or, answer_or, hop_queue, arriving, comes_from, moves_of, moves}
 use Rattle.hmc_journal.proofs.Agreeing.{IsMapOf}
 use Rattle.hmc_journal.proofs.Hopping.{buffer_end}
-use Rattle.hmc_journal.proofs.Passed.{is_passed, passed_end}
+use Rattle.hmc_journal.proofs.Forwarded.{forwarded_packet, forwarded_end}
 use Rattle.hmc_journal.proofs.Hopped.{at_end}
 use Rattle.hmc_journal.proofs.MayMove.{may_all}
 use Rattle.hmc_journal.proofs.TagsOut.{asks_given, taken_here, taken_there, taken_not, discards_poison}
@@ -88,7 +88,7 @@ asked_more setup h t network (Gave host tag poisoned request) past lawful =
 asked_more setup h t network (Sent d what.New flit) past lawful =
     quiet (asked_under h t past) ∙ ap (λ l. asked_under h t past ++ l) (sym (begins_nothing (asked_piece h t) setup.topology past d (awaits_first d past) (unsent d past) (λ x. refl)))
 asked_more setup h t network (Landed d flit outcome) past lawful =
-    quiet (asked_under h t past) ∙ ap (λ l. asked_under h t past ++ l) (sym (landing_nothing (asked_piece h t) setup.topology past (Landed d flit outcome ∷ past) d outcome (passed_onto setup.topology d past) (landed_packets setup.topology d flit outcome past) (λ to is. record { past_output = λ n x. refl; buffer = λ x. refl; line = λ x. refl }) (λ x. refl)))
+    quiet (asked_under h t past) ∙ ap (λ l. asked_under h t past ++ l) (sym (landing_nothing (asked_piece h t) setup.topology past (Landed d flit outcome ∷ past) d outcome (forwarded_onto setup.topology d past) (landed_packets setup.topology d flit outcome past) (λ to is. record { past_output = λ n x. refl; buffer = λ x. refl; line = λ x. refl }) (λ x. refl)))
 asked_more setup h t network (Unlocked d) past lawful =
     quiet (asked_under h t past) ∙ ap (λ l. asked_under h t past ++ l) (sym (unlocks_nothing (asked_piece h t) setup.topology (Unlocked d ∷ past) (onto_there setup.topology d past) (λ to x. refl)))
 asked_more setup h t network (Sent d what.Tret flit) past lawful = quiet (asked_under h t past)
@@ -149,7 +149,7 @@ done_more setup said value agree h t network (Gave giver tag poisoned request) p
 done_more setup said value agree h t network (Sent d what.New flit) past lawful =
     quiet (map said (replies_under h t past)) ∙ ap (λ l. map said (replies_under h t past) ++ l) (sym (begins_nothing (done_piece value h t) setup.topology past d (awaits_first d past) (unsent d past) (λ x. refl)))
 done_more setup said value agree h t network (Landed d flit outcome) past lawful =
-    quiet (map said (replies_under h t past)) ∙ ap (λ l. map said (replies_under h t past) ++ l) (sym (landing_nothing (done_piece value h t) setup.topology past (Landed d flit outcome ∷ past) d outcome (passed_onto setup.topology d past) (landed_packets setup.topology d flit outcome past) (λ to is. record { past_output = λ n x. refl; buffer = λ x. refl; line = λ x. refl }) (λ x. refl)))
+    quiet (map said (replies_under h t past)) ∙ ap (λ l. map said (replies_under h t past) ++ l) (sym (landing_nothing (done_piece value h t) setup.topology past (Landed d flit outcome ∷ past) d outcome (forwarded_onto setup.topology d past) (landed_packets setup.topology d flit outcome past) (λ to is. record { past_output = λ n x. refl; buffer = λ x. refl; line = λ x. refl }) (λ x. refl)))
 done_more setup said value agree h t network (Unlocked d) past lawful =
     quiet (map said (replies_under h t past)) ∙ ap (λ l. map said (replies_under h t past) ++ l) (sym (unlocks_nothing (done_piece value h t) setup.topology (Unlocked d ∷ past) (onto_there setup.topology d past) (λ to x. refl)))
 done_more setup said value agree h t network (Sent d what.Tret flit) past lawful = quiet (map said (replies_under h t past))
@@ -222,9 +222,9 @@ took_more setup m h t network map_of (Sent d what.New flit) past lawful =
     quiet (answers_under h t past) ∙ ap (λ l. answers_under h t past ++ l) (sym (begins_nothing (took_piece m h t) setup.topology past d (awaits_first d past) (unsent d past) (λ x. refl)))
 took_more setup m h t network map_of (Landed d flit outcome) past lawful =
     let keeps = kept setup past network (lawful_past setup (Landed d flit outcome) past lawful) in
-    quiet (answers_under h t past) ∙ ap (λ l. answers_under h t past ++ l) (sym (landing_nothing (took_piece m h t) setup.topology past (Landed d flit outcome ∷ past) d outcome (passed_onto setup.topology d past) (landed_packets setup.topology d flit outcome past) (λ to is.
-    let passed = is_passed setup past d to (wired setup network) keeps (landed-real setup past d flit outcome (entry_rule setup (Landed d flit outcome) past lawful) keeps) is in
-    record { past_output = λ n x. refl; buffer = λ x. ap (λ e. item_if (is_host e h && (not x.poisoned && (x.tag == t))) (answer_of (Goes (hops.Buffer d) 0 x))) (passed_end setup.topology m past d to map_of passed); line = λ x. refl }) (λ x. refl)))
+    quiet (answers_under h t past) ∙ ap (λ l. answers_under h t past ++ l) (sym (landing_nothing (took_piece m h t) setup.topology past (Landed d flit outcome ∷ past) d outcome (forwarded_onto setup.topology d past) (landed_packets setup.topology d flit outcome past) (λ to is.
+    let forwarded = forwarded_packet setup past d to (wired setup network) keeps (landed-real setup past d flit outcome (entry_rule setup (Landed d flit outcome) past lawful) keeps) is in
+    record { past_output = λ n x. refl; buffer = λ x. ap (λ e. item_if (is_host e h && (not x.poisoned && (x.tag == t))) (answer_of (Goes (hops.Buffer d) 0 x))) (forwarded_end setup.topology m past d to map_of forwarded); line = λ x. refl }) (λ x. refl)))
 took_more setup m h t network map_of (Unlocked d) past lawful =
     quiet (answers_under h t past) ∙ ap (λ l. answers_under h t past ++ l) (sym (unlocks_nothing (took_piece m h t) setup.topology (Unlocked d ∷ past) (onto_there setup.topology d past) (λ to x. refl)))
 took_more setup m h t network map_of (Sent d what.Tret flit) past lawful = quiet (answers_under h t past)

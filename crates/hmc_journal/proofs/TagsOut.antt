@@ -29,7 +29,7 @@ use Rattle.hmc_journal.specs.declared.entry.Entry.{Entry}
 use Rattle.hmc_journal.specs.declared.entry.Entry.TheVariants.{Gave, Sent, Landed, Shifted, Dropped, Took, Discarded, Unlocked}
 use Rattle.hmc_journal.specs.Directions.{unsent, awaits_first, landed_packets}
 use Rattle.hmc_journal.specs.Carried.{begun_on}
-use Rattle.hmc_journal.specs.Piped.{passed_onto}
+use Rattle.hmc_journal.specs.Piped.{forwarded_onto}
 use Rattle.hmc_journal.specs.Hosts.{host_of, tags_out}
 use Rattle.hmc_journal.specs.Lawful.{Lawful}
 use Rattle.hmc_journal.specs.Network.{IsNetwork}
@@ -43,11 +43,12 @@ use Rattle.hmc_journal.proofs.Standing.{IsAsking, IsFor, IsSpoiled, GoesTo}
 use Rattle.hmc_journal.proofs.Entering.{Kept, front_stands, has_direction, given_asks, landed-real}
 use Rattle.hmc_journal.proofs.Sound.{kept}
 use Rattle.hmc_journal.proofs.Wired.{Wired, wired}
-use Rattle.hmc_journal.proofs.Seen.{seen, kind_by, hop_queue, comes_from, begins_move, lands, goes_past, last_packet, copy_comes, passes_on, if_there, unlocks, moves_of, moves}
+use Rattle.hmc_journal.proofs.Seen.{seen, kind_by, hop_queue, comes_from, begins_move, lands, goes_past, last_packet, copy_comes, forward_moves, if_there, unlocks, moves_of, moves}
 use Rattle.hmc_journal.proofs.Agreeing.{IsMapOf, end_at}
 use Rattle.hmc_journal.proofs.Hopping.{buffer_end}
 use Rattle.hmc_journal.proofs.Hopped.{at_end}
-use Rattle.hmc_journal.proofs.Passed.{is_passed, passed_end}
+use Rattle.hmc_journal.proofs.Forwarded.{forwarded_packet, forwarded_end}
+use Rattle.hmc_journal.proofs.UnsentFlits.{same_choice}
 
 -- whether a tag of a host is out
 abbrev pub out_of : List Entry → (host tag : ℕ) → Bool
@@ -60,10 +61,6 @@ set_at tags n t v false is less = get_or-set_other tags n t v false (λ e. let c
 choose_at : (here : Bool) (a b : List Bool) (t : ℕ) → slice_index_or (choose here a b) t false ≡ choose here (slice_index_or a t false) (slice_index_or b t false)
 choose_at true a b t = refl
 choose_at false a b t = refl
-
-same_choice : (here before : Bool) → before ≡ choose here before before
-same_choice true before = refl
-same_choice false before = refl
 
 ask_out : (here same before : Bool) → out_after (here && same) false before ≡ choose here (if same then true else before) before
 ask_out true true before = refl
@@ -153,18 +150,18 @@ quiet_past topology m past d onto h t (p ∷ packets) rest before takes is =
 quiet_copy : (topology : Topology) (m : Map) (journal : List Entry) (onto h t : ℕ) (rest : List Move) (before : Bool) → out_by m h t rest before ≡ before → out_by m h t (copy_comes topology journal onto ++ rest) before ≡ before
 quiet_copy topology m journal onto h t rest before is = quiet_first m h t (Comes (hops.Line onto) (seen topology (last_packet (begun_on topology onto journal)))) rest before refl refl is
 
-quiet_passes : (topology : Topology) (m : Map) (past journal : List Entry) (d h t : ℕ) (outcome : Outcome) (onto : Option ℕ) (packets : List PacketFields) (rest : List Move) (before : Bool) → ((to : ℕ) → onto ≡ Some to → (x : Packet) → takes_now m h t (Goes (hops.Buffer d) 0 x) ≡ false)
-    → out_by m h t rest before ≡ before → out_by m h t (passes_on topology past journal d outcome onto packets ++ rest) before ≡ before
-quiet_passes topology m past journal d h t outcome None packets rest before takes is = is
-quiet_passes topology m past journal d h t outcomes.Gathered (Some onto) packets rest before takes is = is
-quiet_passes topology m past journal d h t outcomes.Accepted (Some onto) packets rest before takes is = quiet_past topology m past d onto h t packets rest before (takes onto refl) is
-quiet_passes topology m past journal d h t outcomes.Quiet (Some onto) packets rest before takes is = quiet_copy topology m journal onto h t rest before is
-quiet_passes topology m past journal d h t outcomes.Trained (Some onto) packets rest before takes is = quiet_copy topology m journal onto h t rest before is
-quiet_passes topology m past journal d h t outcomes.Poisoned (Some onto) packets rest before takes is = quiet_copy topology m journal onto h t rest before is
-quiet_passes topology m past journal d h t outcomes.Repeat (Some onto) packets rest before takes is = quiet_copy topology m journal onto h t rest before is
-quiet_passes topology m past journal d h t (outcomes.AbortedBad bad) (Some onto) packets rest before takes is = quiet_copy topology m journal onto h t rest before is
-quiet_passes topology m past journal d h t outcomes.AbortedOrder (Some onto) packets rest before takes is = quiet_copy topology m journal onto h t rest before is
-quiet_passes topology m past journal d h t (outcomes.Ran kind) (Some onto) packets rest before takes is = quiet_copy topology m journal onto h t rest before is
+quiet_forward : (topology : Topology) (m : Map) (past journal : List Entry) (d h t : ℕ) (outcome : Outcome) (onto : Option ℕ) (packets : List PacketFields) (rest : List Move) (before : Bool) → ((to : ℕ) → onto ≡ Some to → (x : Packet) → takes_now m h t (Goes (hops.Buffer d) 0 x) ≡ false)
+    → out_by m h t rest before ≡ before → out_by m h t (forward_moves topology past journal d outcome onto packets ++ rest) before ≡ before
+quiet_forward topology m past journal d h t outcome None packets rest before takes is = is
+quiet_forward topology m past journal d h t outcomes.Gathered (Some onto) packets rest before takes is = is
+quiet_forward topology m past journal d h t outcomes.Accepted (Some onto) packets rest before takes is = quiet_past topology m past d onto h t packets rest before (takes onto refl) is
+quiet_forward topology m past journal d h t outcomes.Quiet (Some onto) packets rest before takes is = quiet_copy topology m journal onto h t rest before is
+quiet_forward topology m past journal d h t outcomes.Trained (Some onto) packets rest before takes is = quiet_copy topology m journal onto h t rest before is
+quiet_forward topology m past journal d h t outcomes.Poisoned (Some onto) packets rest before takes is = quiet_copy topology m journal onto h t rest before is
+quiet_forward topology m past journal d h t outcomes.Repeat (Some onto) packets rest before takes is = quiet_copy topology m journal onto h t rest before is
+quiet_forward topology m past journal d h t (outcomes.AbortedBad bad) (Some onto) packets rest before takes is = quiet_copy topology m journal onto h t rest before is
+quiet_forward topology m past journal d h t outcomes.AbortedOrder (Some onto) packets rest before takes is = quiet_copy topology m journal onto h t rest before is
+quiet_forward topology m past journal d h t (outcomes.Ran kind) (Some onto) packets rest before takes is = quiet_copy topology m journal onto h t rest before is
 
 quiet_unlocks : (topology : Topology) (m : Map) (journal : List Entry) (h t : ℕ) (onto : Option ℕ) (before : Bool) → out_by m h t (unlocks topology journal onto) before ≡ before
 quiet_unlocks topology m journal h t None before = refl
@@ -232,13 +229,13 @@ out_more setup m past (Dropped cube port) h t network wires map_of keeps right =
 out_more setup m past (Sent d what.New flit) h t network wires map_of keeps right = quiet_begins setup.topology m past d (awaits_first d past) (unsent d past) h t (out_of past h t)
 out_more setup m past (Landed d flit outcome) h t network wires map_of keeps right =
     let landed = landed_packets setup.topology d flit outcome past in
-    quiet_passes setup.topology m past (Landed d flit outcome ∷ past) d h t outcome (passed_onto setup.topology d past) landed (lands setup.topology d landed) (out_of past h t)
+    quiet_forward setup.topology m past (Landed d flit outcome ∷ past) d h t outcome (forwarded_onto setup.topology d past) landed (lands setup.topology d landed) (out_of past h t)
     (λ to is x.
-    let passed = is_passed setup past d to wires keeps (landed-real setup past d flit outcome right keeps) is in
-    ap (λ e. is_host e h && (not x.poisoned && (x.tag == t))) (passed_end setup.topology m past d to map_of passed))
+    let forwarded = forwarded_packet setup past d to wires keeps (landed-real setup past d flit outcome right keeps) is in
+    ap (λ e. is_host e h && (not x.poisoned && (x.tag == t))) (forwarded_end setup.topology m past d to map_of forwarded))
     (quiet_lands setup.topology m d h t landed (out_of past h t))
 out_more setup m past (Unlocked d) h t network wires map_of keeps right =
-    quiet_unlocks setup.topology m (Unlocked d ∷ past) h t (if_there (nat_lt d (directions_in setup.topology)) (passed_onto setup.topology d past)) (out_of past h t)
+    quiet_unlocks setup.topology m (Unlocked d ∷ past) h t (if_there (nat_lt d (directions_in setup.topology)) (forwarded_onto setup.topology d past)) (out_of past h t)
 out_more setup m past _ h t network wires map_of keeps right = refl
 
 joined_out : (m : Map) (h t : ℕ) (new moved : List Move) → hop_out m h t (new ++ moved) ≡ out_by m h t new (hop_out m h t moved)

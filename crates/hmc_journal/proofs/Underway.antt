@@ -1,5 +1,5 @@
 -- What is under way on a direction and known. A send that begins a packet of the output queue adds it,
--- and so does the end of the gathering of a packet that was passed on; a landing that accepts a packet
+-- and so does the end of the gathering of a packet that was forwarded; a landing that accepts a packet
 -- takes the first, and no other entry changes it.
 use Rattle.std.proofs.Common.{◌≡◌, ◌≤◌, ◌/◌, ◌∙◌, ◌==◌, ◌&&◌, ◌⊎◌, inl, inr, ℕ, zero, suc, Bool, true, false, if◌then◌else◌, Option, Some, None, List, [], ◌∷◌, ◌++◌, length, map, drop, slice_get, refl, sym, ap, ap₂, subst, arith, append-nil, append_assoc, length-append, eq-eqb, eqb-true}
 use Rattle.std.specs.Prelude.{is_none, option_map, take}
@@ -123,14 +123,14 @@ underway-elsewhere topology d direction as_what flit past off =
 -- ---- sends
 
 -- a first flit begins the front of the output queue
-abbrev pub new_begun : (passed_on : Bool) → (unsent : ℕ) → PacketFields → List PacketFields
+abbrev pub new_begun : (forwarded : Bool) → (unsent : ℕ) → PacketFields → List PacketFields
 new_begun false zero front = front ∷ []
 new_begun _ unsent front = []
 
-abbrev pub begins_with : What → (passed_on : Bool) → (unsent : ℕ) → PacketFields → List PacketFields
-begins_with what.New passed_on left front = new_begun passed_on left front
-begins_with what.Tret passed_on left front = tret_packet ∷ []
-begins_with _ passed_on left front = []
+abbrev pub begins_with : What → (forwarded : Bool) → (unsent : ℕ) → PacketFields → List PacketFields
+begins_with what.New forwarded left front = new_begun forwarded left front
+begins_with what.Tret forwarded left front = tret_packet ∷ []
+begins_with _ forwarded left front = []
 
 front_by : (packets : List PacketFields) (front : PacketFields) → slice_get packets 0 ≡ Some front → front_of packets ≡ front
 front_by [] front is = absurd (cc)
@@ -330,7 +330,7 @@ underway-landed topology d flit outcome past kept same =
 
 -- ---- the end of a gathering
 
--- only the pipe onto the direction changes that the packet is passed onto
+-- only the pipe onto the direction changes that the packet is forwarded onto
 pub pipe_elsewhere : (topology : Topology) (d e : ℕ) (past : List Entry) (change : PipeFields → PipeFields) → ((p : PipeFrom) → pipe_onto topology d past ≡ Some p → p.pipe.good ≡ None → p.from ≡ e → ⊥)
     → option_map (while_gathering e change) (pipe_onto topology d past) ≡ pipe_onto topology d past
 pipe_elsewhere topology d e past change never = by_pipe (pipe_onto topology d past) refl

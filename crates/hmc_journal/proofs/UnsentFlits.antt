@@ -22,7 +22,7 @@ use Rattle.hmc_journal.proofs.LinkHanded.{IsSentAs, sent_as, new_left, new_grown
 use Rattle.hmc_journal.proofs.OpenParts.{again_some, first_named, through_free}
 use Rattle.hmc_journal.proofs.Projections.{feed_in, came_at}
 use Rattle.hmc_journal.proofs.KeptPast.{kept_past}
-use Rattle.hmc_journal.proofs.NoSends.{IsOfSends, IsNoSend, IsSome, of_sends, no-send, sent-elsewhere, sent-here, through-elsewhere, through-here}
+use Rattle.hmc_journal.proofs.NoSends.{IsOfSends, IsNoSend, IsSome, of_sends, no-send, by_sending, sent-elsewhere, sent-here, through-elsewhere, through-here}
 use Rattle.hmc_wire.proofs.EntryTurns.{kept-before}
 
 of_sends-unfinished : IsOfSends unfinished
@@ -144,31 +144,23 @@ awaits_sent what.Null T given flit is facts = refl
 awaits_sent what.Pret T given flit is facts = refl
 awaits_sent what.Tret T given flit is facts = refl
 
-same_choice : {X : Type 0} (test : Bool) (x : X) → x ≡ choose test x x
+pub same_choice : {X : Type 0} (test : Bool) (x : X) → x ≡ choose test x x
 same_choice true x = refl
 same_choice false x = refl
 
-unsent_here : (d direction : ℕ) (as_what : What) (flit : List ℕ) (past : List Entry) → unsent d (Sent direction as_what flit ∷ past) ≡ choose (direction == d) (unsent_after as_what flit (unsent d past)) (unsent d past)
-unfolding unsent unsent_after
-unsent_here d direction what.New flit past = refl
-unsent_here d direction what.Again flit past = same_choice (direction == d) (unsent d past)
-unsent_here d direction what.Train flit past = same_choice (direction == d) (unsent d past)
-unsent_here d direction what.Clear flit past = same_choice (direction == d) (unsent d past)
-unsent_here d direction what.Start flit past = same_choice (direction == d) (unsent d past)
-unsent_here d direction what.Null flit past = same_choice (direction == d) (unsent d past)
-unsent_here d direction what.Pret flit past = same_choice (direction == d) (unsent d past)
-unsent_here d direction what.Tret flit past = same_choice (direction == d) (unsent d past)
-
-awaits_here : (d direction : ℕ) (as_what : What) (flit : List ℕ) (past : List Entry) → awaits_first d (Sent direction as_what flit ∷ past) ≡ choose (direction == d) (awaits_after as_what (awaits_first d past)) (awaits_first d past)
-unfolding awaits_first awaits_after
-awaits_here d direction what.New flit past = refl
-awaits_here d direction what.Again flit past = same_choice (direction == d) (awaits_first d past)
-awaits_here d direction what.Train flit past = same_choice (direction == d) (awaits_first d past)
-awaits_here d direction what.Clear flit past = same_choice (direction == d) (awaits_first d past)
-awaits_here d direction what.Start flit past = same_choice (direction == d) (awaits_first d past)
-awaits_here d direction what.Null flit past = same_choice (direction == d) (awaits_first d past)
-awaits_here d direction what.Pret flit past = same_choice (direction == d) (awaits_first d past)
-awaits_here d direction what.Tret flit past = same_choice (direction == d) (awaits_first d past)
+-- what a send makes of both, on this direction or another
+send_is : (d direction : ℕ) (as_what : What) (flit : List ℕ) (past : List Entry)
+    → (unsent d (Sent direction as_what flit ∷ past) ≡ choose (direction == d) (unsent_after as_what flit (unsent d past)) (unsent d past))
+    × (awaits_first d (Sent direction as_what flit ∷ past) ≡ choose (direction == d) (awaits_after as_what (awaits_first d past)) (awaits_first d past))
+unfolding unsent unsent_after awaits_first awaits_after
+send_is d direction what.New flit past = (refl, refl)
+send_is d direction what.Again flit past = (same_choice (direction == d) (unsent d past), same_choice (direction == d) (awaits_first d past))
+send_is d direction what.Train flit past = (same_choice (direction == d) (unsent d past), same_choice (direction == d) (awaits_first d past))
+send_is d direction what.Clear flit past = (same_choice (direction == d) (unsent d past), same_choice (direction == d) (awaits_first d past))
+send_is d direction what.Start flit past = (same_choice (direction == d) (unsent d past), same_choice (direction == d) (awaits_first d past))
+send_is d direction what.Null flit past = (same_choice (direction == d) (unsent d past), same_choice (direction == d) (awaits_first d past))
+send_is d direction what.Pret flit past = (same_choice (direction == d) (unsent d past), same_choice (direction == d) (awaits_first d past))
+send_is d direction what.Tret flit past = (same_choice (direction == d) (unsent d past), same_choice (direction == d) (awaits_first d past))
 
 -- what a send on this direction was given, and what it leaves under way
 pub record IsSending (topology : Topology) (d : ℕ) (as_what : What) (flit : List ℕ) (past : List Entry) : Type 0 where
@@ -206,9 +198,9 @@ sent_step-here topology d as_what flit past kept is =
     let sending = is_sending topology d as_what flit past kept in
     let T = sender_entries (sizes_on topology d) (toward d) (entries_on topology d past) in
     let here : (d == d) ≡ true = eq-eqb d d refl in record {
-      left = unsent_here d d as_what flit past ∙ ap (λ (b : Bool). choose b (unsent_after as_what flit (unsent d past)) (unsent d past)) here
+      left = (send_is d d as_what flit past).0 ∙ ap (λ (b : Bool). choose b (unsent_after as_what flit (unsent d past)) (unsent d past)) here
           ∙ ap (unsent_after as_what flit) is.left ∙ left_sent as_what T sending.given flit sending.sent sending.facts ∙ sym (ap (λ l. left_begun (unfinished l)) sending.after);
-      awaits = awaits_here d d as_what flit past ∙ ap (λ (b : Bool). choose b (awaits_after as_what (awaits_first d past)) (awaits_first d past)) here
+      awaits = (send_is d d as_what flit past).1 ∙ ap (λ (b : Bool). choose b (awaits_after as_what (awaits_first d past)) (awaits_first d past)) here
           ∙ ap (awaits_after as_what) is.awaits ∙ awaits_sent as_what T sending.given flit sending.sent sending.facts ∙ sym (ap (λ l. waits (unfinished l)) sending.after);
     }
 
@@ -219,13 +211,13 @@ sent_step topology d direction as_what flit past true here kept is =
     subst (λ (e : ℕ). UnsentIs d (Sent e as_what flit ∷ past) (under_on topology d (entries_on topology d (Sent e as_what flit ∷ past)))) (sym one)
     (sent_step-here topology d as_what flit past (subst (λ (e : ℕ). IsKept (sizes_on topology d) (entries_on topology d (Sent e as_what flit ∷ past))) one kept) is)
 sent_step topology d direction as_what flit past false here kept is = record {
-  left = unsent_here d direction as_what flit past ∙ ap (λ (b : Bool). choose b (unsent_after as_what flit (unsent d past)) (unsent d past)) here
+  left = (send_is d direction as_what flit past).0 ∙ ap (λ (b : Bool). choose b (unsent_after as_what flit (unsent d past)) (unsent d past)) here
       ∙ is.left ∙ sym (ap left_begun (sent-elsewhere unfinished topology d direction as_what flit past here));
-  awaits = awaits_here d direction as_what flit past ∙ ap (λ (b : Bool). choose b (awaits_after as_what (awaits_first d past)) (awaits_first d past)) here
+  awaits = (send_is d direction as_what flit past).1 ∙ ap (λ (b : Bool). choose b (awaits_after as_what (awaits_first d past)) (awaits_first d past)) here
       ∙ is.awaits ∙ sym (ap waits (sent-elsewhere unfinished topology d direction as_what flit past here));
 }
 
--- a packet is passed on
+-- a packet is forwarded
 unsent-through : (d cube port direction : ℕ) (past : List Entry) → unsent d (Through cube port direction ∷ past) ≡ unsent d past
 unfolding unsent
 unsent-through d cube port direction past = refl
@@ -269,7 +261,7 @@ through_step topology d cube port direction past false here some kept is = recor
   awaits = awaits-through d cube port direction past ∙ ap (λ (b : Bool). choose b true (awaits_first d past)) here ∙ is.awaits ∙ sym (ap waits (through-elsewhere unfinished topology d cube port direction past here));
 }
 
--- each packet that was passed on was being gathered
+-- each packet that was forwarded was being gathered
 abbrev pub AreGathered : Topology → List Entry → Type 0
 AreGathered topology [] = Unit {0}
 AreGathered topology (Through cube port direction ∷ past) = IsSome (came_at topology cube port past) × AreGathered topology past
@@ -294,21 +286,12 @@ quiet-step topology d entry past quiet is = record {
 
 unsent-step : (topology : Topology) (d : ℕ) (entry : Entry) (past : List Entry) → AreGathered topology (entry ∷ past) → IsKept (sizes_on topology d) (entries_on topology d (entry ∷ past)) → UnsentIs d past (under_on topology d (entries_on topology d past))
     → UnsentIs d (entry ∷ past) (under_on topology d (entries_on topology d (entry ∷ past)))
-unsent-step topology d (Sent direction as_what flit) past gathered kept is = sent_step topology d direction as_what flit past (direction == d) refl kept is
-unsent-step topology d (Through cube port direction) past gathered kept is = through_step topology d cube port direction past (direction == d) refl gathered.0 kept is
-unsent-step topology d (Gave host tag poisoned request) past gathered kept is = quiet-step topology d (Gave host tag poisoned request) past tt is
-unsent-step topology d (Landed direction flit outcome) past gathered kept is = quiet-step topology d (Landed direction flit outcome) past tt is
-unsent-step topology d (Shifted cube port goal) past gathered kept is = quiet-step topology d (Shifted cube port goal) past tt is
-unsent-step topology d (Dropped cube port) past gathered kept is = quiet-step topology d (Dropped cube port) past tt is
-unsent-step topology d (Spread cube vault bank) past gathered kept is = quiet-step topology d (Spread cube vault bank) past tt is
-unsent-step topology d (Executed unit host tag request answer) past gathered kept is = quiet-step topology d (Executed unit host tag request answer) past tt is
-unsent-step topology d (Lifted cube from port) past gathered kept is = quiet-step topology d (Lifted cube from port) past tt is
-unsent-step topology d (Took host tag answer) past gathered kept is = quiet-step topology d (Took host tag answer) past tt is
-unsent-step topology d (Discarded host) past gathered kept is = quiet-step topology d (Discarded host) past tt is
-unsent-step topology d (Unlocked direction) past gathered kept is = quiet-step topology d (Unlocked direction) past tt is
-unsent-step topology d (Retired slot) past gathered kept is = quiet-step topology d (Retired slot) past tt is
-unsent-step topology d (Passed direction flit) past gathered kept is = quiet-step topology d (Passed direction flit) past tt is
-unsent-step topology d (Idle step cause) past gathered kept is = quiet-step topology d (Idle step cause) past tt is
+unsent-step topology d entry past gathered kept is =
+    by_sending (λ (e : Entry). AreGathered topology (e ∷ past) → IsKept (sizes_on topology d) (entries_on topology d (e ∷ past)) → UnsentIs d (e ∷ past) (under_on topology d (entries_on topology d (e ∷ past))))
+    (λ direction as_what flit gathers keeps. sent_step topology d direction as_what flit past (direction == d) refl keeps is)
+    (λ cube port direction gathers keeps. through_step topology d cube port direction past (direction == d) refl gathers.0 keeps is)
+    (λ e quiet gathers keeps. quiet-step topology d e past quiet is)
+    entry gathered kept
 
 pub gathered_past : (topology : Topology) (entry : Entry) (past : List Entry) → AreGathered topology (entry ∷ past) → AreGathered topology past
 gathered_past topology (Through cube port direction) past gathered = gathered.1

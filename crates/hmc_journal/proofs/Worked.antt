@@ -68,7 +68,7 @@ use Rattle.hmc_journal.specs.Text.{lines_of}
 use Rattle.hmc_journal.specs.Counts.{taken_count, executed_count, dropped_count, host_counts, cube_counts}
 use Rattle.hmc_journal.specs.Filters.{given_by, given_to, executed_by, asked_under, replies_under, answers_under, answered_into, taken_by}
 use Rattle.hmc_journal.specs.Carried.{tagged_requests, tagged_answers}
-use Rattle.hmc_journal.specs.Piped.{passed_onto, pipe_onto}
+use Rattle.hmc_journal.specs.Piped.{forwarded_onto, pipe_onto}
 
 abbrev one_cube : Topology
 one_cube = record {
@@ -135,31 +135,31 @@ number_out-taken = refl
 
 -- the first flit of a packet takes it out of the output queue
 contents-begun : contents one_cube (Sent 0 New first_flit ∷ gave_poisoned ∷ gave_first ∷ []) (Output 0) ≡ request_packet (read_at 0x80) 0 0 true ∷ []
-unfolding contents entered left leaves enters unsent direction_among joined_to within distance port_to_cube port_to_host lng_of word_of half_of passed_onto pipe_onto awaits_first
+unfolding contents entered left leaves enters unsent direction_among joined_to within distance port_to_cube port_to_host lng_of word_of half_of forwarded_onto pipe_onto awaits_first
 contents-begun = refl
 
 -- requests come in the order of the script, a poisoned one without a tag
 next-first : next four_reads [] (steps.Give 0) ≡ gave_first
-unfolding next choice view_of host_of given_count tags_out none_out give_says contents entered left direction_among joined_to within distance port_to_cube port_to_host table_line passed_onto pipe_onto awaits_first
+unfolding next choice view_of host_of given_count tags_out none_out give_says contents entered left direction_among joined_to within distance port_to_cube port_to_host table_line forwarded_onto pipe_onto awaits_first
 next-first = refl
 
 next-poisoned : next four_reads (gave_first ∷ []) (steps.Give 0) ≡ gave_poisoned
-unfolding next choice view_of host_of given_count tags_out none_out give_says contents entered left leaves enters direction_among joined_to within distance port_to_cube port_to_host table_line passed_onto pipe_onto awaits_first
+unfolding next choice view_of host_of given_count tags_out none_out give_says contents entered left leaves enters direction_among joined_to within distance port_to_cube port_to_host table_line forwarded_onto pipe_onto awaits_first
 next-poisoned = refl
 
 -- two packets fill the output queue
 next-full : next four_reads (gave_poisoned ∷ gave_first ∷ []) (steps.Give 0) ≡ Idle (steps.Give 0) Full
-unfolding next choice view_of host_of given_count tags_out none_out give_says contents entered left leaves enters direction_among joined_to within distance port_to_cube port_to_host table_line passed_onto pipe_onto awaits_first
+unfolding next choice view_of host_of given_count tags_out none_out give_says contents entered left leaves enters direction_among joined_to within distance port_to_cube port_to_host table_line forwarded_onto pipe_onto awaits_first
 next-full = refl
 
 -- a fence counts before a full queue
 next-fence : next four_reads (gave_third ∷ gave_poisoned ∷ gave_first ∷ []) (steps.Give 0) ≡ Idle (steps.Give 0) Fence
-unfolding next choice view_of host_of given_count tags_out none_out give_says contents entered left leaves enters direction_among joined_to within distance port_to_cube port_to_host table_line passed_onto pipe_onto awaits_first
+unfolding next choice view_of host_of given_count tags_out none_out give_says contents entered left leaves enters direction_among joined_to within distance port_to_cube port_to_host table_line forwarded_onto pipe_onto awaits_first
 next-fence = refl
 
 -- nothing is on its way at first, and a request that was given is
 is_drained-first : map (is_drained one_cube) ([] ∷ (gave_first ∷ []) ∷ []) ≡ true ∷ false ∷ []
-unfolding is_drained contents entered left leaves enters direction_among joined_to within distance port_to_cube port_to_host link_entries token_counts tokens sender_entries given_after places unfinished receiver_entries landings.accepted takes handed_packets unsent code_for passed_onto pipe_onto awaits_first
+unfolding is_drained contents entered left leaves enters direction_among joined_to within distance port_to_cube port_to_host link_entries token_counts tokens sender_entries given_after places unfinished receiver_entries landings.accepted takes handed_packets unsent code_for forwarded_onto pipe_onto awaits_first
 is_drained-first = refl
 
 -- a packet of one flit that came to a bank
@@ -172,20 +172,20 @@ answered_once = Executed (units.Bank 0 0 0) 0 (Some 0) (read_at 0x40) (Read fals
 
 -- a poisoned packet is dropped, and another waits where the vault's queue is full
 next-dropped : next four_reads (Landed 0 poisoned_flit Poisoned ∷ Shifted 0 0 (Vault 0) ∷ Landed 0 first_flit Accepted ∷ []) (steps.Shift 0 0) ≡ Dropped 0 0
-unfolding next choice view_of contents entered left leaves enters unsent landed_packets receiver_of pending direction_among joined_to within distance port_to_cube port_to_host read_of is_null_alone is_null zero_flit has_length lng_of word_of half_of bytes_read judgement_of command_in fitting all_commands command_of table_line is_clean header_is_clean tail_is_clean tail_word header_of tail_of poison_in packet_from seen_in crc_of remainder divide plus zeros divisor coefficients bits_below bits_of number_of xor passed_onto pipe_onto awaits_first
+unfolding next choice view_of contents entered left leaves enters unsent landed_packets receiver_of pending direction_among joined_to within distance port_to_cube port_to_host read_of is_null_alone is_null zero_flit has_length lng_of word_of half_of bytes_read judgement_of command_in fitting all_commands command_of table_line is_clean header_is_clean tail_is_clean tail_word header_of tail_of poison_in packet_from seen_in crc_of remainder divide plus zeros divisor coefficients bits_below bits_of number_of xor forwarded_onto pipe_onto awaits_first
 next-dropped = refl
 
 next-waits : next four_reads (Landed 0 first_flit Accepted ∷ Shifted 0 0 (Vault 0) ∷ Landed 0 first_flit Accepted ∷ []) (steps.Shift 0 0) ≡ Idle (steps.Shift 0 0) Full
-unfolding next choice view_of contents entered left leaves enters unsent landed_packets receiver_of pending direction_among joined_to within distance port_to_cube port_to_host read_of is_null_alone is_null zero_flit has_length lng_of word_of half_of bytes_read judgement_of command_in fitting all_commands command_of table_line is_clean header_is_clean tail_is_clean tail_word header_of tail_of poison_in packet_from seen_in crc_of remainder divide plus zeros divisor coefficients bits_below bits_of number_of xor passed_onto pipe_onto awaits_first
+unfolding next choice view_of contents entered left leaves enters unsent landed_packets receiver_of pending direction_among joined_to within distance port_to_cube port_to_host read_of is_null_alone is_null zero_flit has_length lng_of word_of half_of bytes_read judgement_of command_in fitting all_commands command_of table_line is_clean header_is_clean tail_is_clean tail_word header_of tail_of poison_in packet_from seen_in crc_of remainder divide plus zeros divisor coefficients bits_below bits_of number_of xor forwarded_onto pipe_onto awaits_first
 next-waits = refl
 
 -- where the answers are full a posted request is executed, and another waits
 next-posted : next four_reads (at_bank posted_flit answered_once) (steps.Bank 0 0 0) ≡ Executed (units.Bank 0 0 0) 0 None posted Silent
-unfolding next choice view_of contents entered left leaves enters unsent landed_packets receiver_of pending direction_among joined_to within distance port_to_cube port_to_host read_of is_null_alone is_null zero_flit has_length lng_of word_of half_of bytes_read judgement_of command_in fitting all_commands command_of table_line is_clean header_is_clean tail_is_clean tail_word header_of tail_of poison_in packet_from seen_in crc_of remainder divide plus zeros divisor coefficients bits_below bits_of number_of xor request_in payload_of state_of state_after opening_state opening opening_registers apply answer_to perform_on action_of atomic_of memory_error acted_of passed_onto pipe_onto awaits_first
+unfolding next choice view_of contents entered left leaves enters unsent landed_packets receiver_of pending direction_among joined_to within distance port_to_cube port_to_host read_of is_null_alone is_null zero_flit has_length lng_of word_of half_of bytes_read judgement_of command_in fitting all_commands command_of table_line is_clean header_is_clean tail_is_clean tail_word header_of tail_of poison_in packet_from seen_in crc_of remainder divide plus zeros divisor coefficients bits_below bits_of number_of xor request_in payload_of state_of state_after opening_state opening opening_registers apply answer_to perform_on action_of atomic_of memory_error acted_of forwarded_onto pipe_onto awaits_first
 next-posted = refl
 
 next-answers_full : next four_reads (at_bank first_flit answered_once) (steps.Bank 0 0 0) ≡ Idle (steps.Bank 0 0 0) Full
-unfolding next choice view_of contents entered left leaves enters unsent landed_packets receiver_of pending direction_among joined_to within distance port_to_cube port_to_host read_of is_null_alone is_null zero_flit has_length lng_of word_of half_of bytes_read judgement_of command_in fitting all_commands command_of table_line is_clean header_is_clean tail_is_clean tail_word header_of tail_of poison_in packet_from seen_in crc_of remainder divide plus zeros divisor coefficients bits_below bits_of number_of xor request_in payload_of state_of state_after opening_state opening opening_registers apply answer_to perform_on action_of atomic_of memory_error acted_of passed_onto pipe_onto awaits_first
+unfolding next choice view_of contents entered left leaves enters unsent landed_packets receiver_of pending direction_among joined_to within distance port_to_cube port_to_host read_of is_null_alone is_null zero_flit has_length lng_of word_of half_of bytes_read judgement_of command_in fitting all_commands command_of table_line is_clean header_is_clean tail_is_clean tail_word header_of tail_of poison_in packet_from seen_in crc_of remainder divide plus zeros divisor coefficients bits_below bits_of number_of xor request_in payload_of state_of state_after opening_state opening opening_registers apply answer_to perform_on action_of atomic_of memory_error acted_of forwarded_onto pipe_onto awaits_first
 next-answers_full = refl
 
 -- Of two links the first joins host 0 to port 0, and the second port 1 to host 1.
@@ -302,19 +302,19 @@ lines_of-order = refl
 
 -- where each queue is empty but a packet is on the line, something is on its way
 is_drained-line : is_drained one_cube (Sent 0 New first_flit ∷ gave_first ∷ []) ≡ false
-unfolding is_drained contents entered left leaves enters direction_among joined_to within distance port_to_cube port_to_host flit_of lng_of word_of half_of table_line request_packet taken_fronts mode link_entries token_counts tokens sender_entries given_after places unfinished receiver_entries landings.accepted takes handed_packets unsent code_for passed_onto pipe_onto awaits_first
+unfolding is_drained contents entered left leaves enters direction_among joined_to within distance port_to_cube port_to_host flit_of lng_of word_of half_of table_line request_packet taken_fronts mode link_entries token_counts tokens sender_entries given_after places unfinished receiver_entries landings.accepted takes handed_packets unsent code_for forwarded_onto pipe_onto awaits_first
 is_drained-line = refl
 
 -- a bank's queue, and an output queue, that are full
 next-bank_full : next four_reads (Shifted 0 0 (Vault 0) ∷ Landed 0 first_flit Accepted ∷ at_bank first_flit []) (steps.Spread 0 0) ≡ Idle (steps.Spread 0 0) Full
-unfolding next choice view_of contents entered left leaves enters unsent landed_packets receiver_of pending direction_among joined_to within distance port_to_cube port_to_host read_of is_null_alone is_null zero_flit has_length lng_of word_of half_of bytes_read judgement_of command_in fitting all_commands command_of table_line is_clean header_is_clean tail_is_clean tail_word header_of tail_of poison_in packet_from seen_in crc_of remainder divide plus zeros divisor coefficients bits_below bits_of number_of xor passed_onto pipe_onto awaits_first
+unfolding next choice view_of contents entered left leaves enters unsent landed_packets receiver_of pending direction_among joined_to within distance port_to_cube port_to_host read_of is_null_alone is_null zero_flit has_length lng_of word_of half_of bytes_read judgement_of command_in fitting all_commands command_of table_line is_clean header_is_clean tail_is_clean tail_word header_of tail_of poison_in packet_from seen_in crc_of remainder divide plus zeros divisor coefficients bits_below bits_of number_of xor forwarded_onto pipe_onto awaits_first
 next-bank_full = refl
 
 next-output_full : next four_reads (Lifted 0 lifts.Registers 0 ∷ Lifted 0 lifts.Registers 0 ∷ answered_once) (steps.Lift 0 (lifts.Vault 0)) ≡ Idle (steps.Lift 0 (lifts.Vault 0)) Full
-unfolding next choice view_of contents entered left leaves enters unsent landed_packets receiver_of pending direction_among joined_to within distance port_to_cube port_to_host read_of is_null_alone is_null zero_flit has_length lng_of word_of half_of bytes_read judgement_of command_in fitting all_commands command_of table_line is_clean header_is_clean tail_is_clean tail_word header_of tail_of poison_in packet_from seen_in crc_of remainder divide plus zeros divisor coefficients bits_below bits_of number_of xor reply_packet passed_onto pipe_onto awaits_first
+unfolding next choice view_of contents entered left leaves enters unsent landed_packets receiver_of pending direction_among joined_to within distance port_to_cube port_to_host read_of is_null_alone is_null zero_flit has_length lng_of word_of half_of bytes_read judgement_of command_in fitting all_commands command_of table_line is_clean header_is_clean tail_is_clean tail_word header_of tail_of poison_in packet_from seen_in crc_of remainder divide plus zeros divisor coefficients bits_below bits_of number_of xor reply_packet forwarded_onto pipe_onto awaits_first
 next-output_full = refl
 
 -- a host drops a poisoned packet
 next-discarded : next four_reads (Landed 1 poisoned_flit Poisoned ∷ []) (steps.Take 0) ≡ Discarded 0
-unfolding next choice view_of contents entered left leaves enters unsent landed_packets receiver_of pending direction_among joined_to within distance port_to_cube port_to_host read_of is_null_alone is_null zero_flit has_length lng_of word_of half_of bytes_read judgement_of command_in fitting all_commands command_of table_line is_clean header_is_clean tail_is_clean tail_word header_of tail_of poison_in packet_from seen_in crc_of remainder divide plus zeros divisor coefficients bits_below bits_of number_of xor passed_onto pipe_onto awaits_first
+unfolding next choice view_of contents entered left leaves enters unsent landed_packets receiver_of pending direction_among joined_to within distance port_to_cube port_to_host read_of is_null_alone is_null zero_flit has_length lng_of word_of half_of bytes_read judgement_of command_in fitting all_commands command_of table_line is_clean header_is_clean tail_is_clean tail_word header_of tail_of poison_in packet_from seen_in crc_of remainder divide plus zeros divisor coefficients bits_below bits_of number_of xor forwarded_onto pipe_onto awaits_first
 next-discarded = refl

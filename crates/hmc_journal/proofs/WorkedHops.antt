@@ -58,7 +58,7 @@ use Rattle.hmc_journal.specs.Routes.{route_to_cube, route_to_host}
 use Rattle.hmc_journal.specs.Carried.{requests_along, answers_along, answers_lifted, answers_taken, answers_to}
 use Rattle.hmc_journal.specs.Filters.{TaggedRequest, TaggedAnswer}
 use Rattle.hmc_journal.specs.Directions.{accepted}
-use Rattle.hmc_journal.specs.Piped.{passed_onto, pipe_onto}
+use Rattle.hmc_journal.specs.Piped.{forwarded_onto, pipe_onto}
 
 abbrev one_vault : CubeSetupFields
 one_vault = record { shape = record { vault_bits = 0; bank_bits = 0; rows = 1; block = 256 }; queue = 1 }
@@ -125,39 +125,39 @@ route_to_host-each = refl
 
 -- a request for another cube goes out through the port towards it
 next-onwards : next one_request at_cube_0 (steps.Shift 0 0) ≡ Shifted 0 0 (goals.Port 1)
-unfolding next choice view_of contents entered left leaves enters unsent landed_packets receiver_of pending direction_among joined_to within distance port_to_cube port_to_host read_of is_null_alone is_null zero_flit has_length lng_of word_of half_of bytes_read judgement_of command_in fitting all_commands command_of table_line is_clean header_is_clean tail_is_clean tail_word header_of tail_of poison_in packet_from seen_in crc_of remainder divide plus zeros divisor coefficients bits_below bits_of number_of xor request_in payload_of state_of state_after opening_state opening opening_registers apply answer_to perform_on action_of atomic_of memory_error acted_of passed_onto pipe_onto awaits_first
+unfolding next choice view_of contents entered left leaves enters unsent landed_packets receiver_of pending direction_among joined_to within distance port_to_cube port_to_host read_of is_null_alone is_null zero_flit has_length lng_of word_of half_of bytes_read judgement_of command_in fitting all_commands command_of table_line is_clean header_is_clean tail_is_clean tail_word header_of tail_of poison_in packet_from seen_in crc_of remainder divide plus zeros divisor coefficients bits_below bits_of number_of xor request_in payload_of state_of state_after opening_state opening opening_registers apply answer_to perform_on action_of atomic_of memory_error acted_of forwarded_onto pipe_onto awaits_first
 next-onwards = refl
 
 -- it waits where the output queue of that port is full
 next-full : next one_request (Landed 0 request_flit Accepted ∷ Shifted 0 0 (goals.Port 1) ∷ at_cube_0) (steps.Shift 0 0) ≡ Idle (steps.Shift 0 0) Full
-unfolding next choice view_of contents entered left leaves enters unsent landed_packets receiver_of pending direction_among joined_to within distance port_to_cube port_to_host read_of is_null_alone is_null zero_flit has_length lng_of word_of half_of bytes_read judgement_of command_in fitting all_commands command_of table_line is_clean header_is_clean tail_is_clean tail_word header_of tail_of poison_in packet_from seen_in crc_of remainder divide plus zeros divisor coefficients bits_below bits_of number_of xor request_in payload_of state_of state_after opening_state opening opening_registers apply answer_to perform_on action_of atomic_of memory_error acted_of passed_onto pipe_onto awaits_first
+unfolding next choice view_of contents entered left leaves enters unsent landed_packets receiver_of pending direction_among joined_to within distance port_to_cube port_to_host read_of is_null_alone is_null zero_flit has_length lng_of word_of half_of bytes_read judgement_of command_in fitting all_commands command_of table_line is_clean header_is_clean tail_is_clean tail_word header_of tail_of poison_in packet_from seen_in crc_of remainder divide plus zeros divisor coefficients bits_below bits_of number_of xor request_in payload_of state_of state_after opening_state opening opening_registers apply answer_to perform_on action_of atomic_of memory_error acted_of forwarded_onto pipe_onto awaits_first
 next-full = refl
 
 -- at its cube it goes in, and is executed on the memory of this cube
 next-inwards : next one_request at_cube_1 (steps.Shift 1 0) ≡ Shifted 1 0 (goals.Vault 0)
-unfolding next choice view_of contents entered left leaves enters unsent landed_packets receiver_of pending direction_among joined_to within distance port_to_cube port_to_host read_of is_null_alone is_null zero_flit has_length lng_of word_of half_of bytes_read judgement_of command_in fitting all_commands command_of table_line is_clean header_is_clean tail_is_clean tail_word header_of tail_of poison_in packet_from seen_in crc_of remainder divide plus zeros divisor coefficients bits_below bits_of number_of xor request_in payload_of state_of state_after opening_state opening opening_registers apply answer_to perform_on action_of atomic_of memory_error acted_of passed_onto pipe_onto awaits_first
+unfolding next choice view_of contents entered left leaves enters unsent landed_packets receiver_of pending direction_among joined_to within distance port_to_cube port_to_host read_of is_null_alone is_null zero_flit has_length lng_of word_of half_of bytes_read judgement_of command_in fitting all_commands command_of table_line is_clean header_is_clean tail_is_clean tail_word header_of tail_of poison_in packet_from seen_in crc_of remainder divide plus zeros divisor coefficients bits_below bits_of number_of xor request_in payload_of state_of state_after opening_state opening opening_registers apply answer_to perform_on action_of atomic_of memory_error acted_of forwarded_onto pipe_onto awaits_first
 next-inwards = refl
 
 next-executed : next one_request (Spread 1 0 0 ∷ Shifted 1 0 (goals.Vault 0) ∷ at_cube_1) (steps.Bank 1 0 0) ≡ Executed (units.Bank 1 0 0) 0 (Some 0) increment (Done false)
-unfolding next choice view_of contents entered left leaves enters unsent landed_packets receiver_of pending direction_among joined_to within distance port_to_cube port_to_host read_of is_null_alone is_null zero_flit has_length lng_of word_of half_of bytes_read judgement_of command_in fitting all_commands command_of table_line is_clean header_is_clean tail_is_clean tail_word header_of tail_of poison_in packet_from seen_in crc_of remainder divide plus zeros divisor coefficients bits_below bits_of number_of xor request_in payload_of state_of state_after opening_state opening opening_registers apply answer_to perform_on action_of atomic_of memory_error acted_of effect_of passed_onto pipe_onto awaits_first
+unfolding next choice view_of contents entered left leaves enters unsent landed_packets receiver_of pending direction_among joined_to within distance port_to_cube port_to_host read_of is_null_alone is_null zero_flit has_length lng_of word_of half_of bytes_read judgement_of command_in fitting all_commands command_of table_line is_clean header_is_clean tail_is_clean tail_word header_of tail_of poison_in packet_from seen_in crc_of remainder divide plus zeros divisor coefficients bits_below bits_of number_of xor request_in payload_of state_of state_after opening_state opening opening_registers apply answer_to perform_on action_of atomic_of memory_error acted_of effect_of forwarded_onto pipe_onto awaits_first
 next-executed = refl
 
 -- the answer goes back the same way, port by port
 next-lifted : next one_request answered (steps.Lift 1 (lifts.Vault 0)) ≡ Lifted 1 (lifts.Vault 0) 0
-unfolding next choice view_of contents entered left leaves enters unsent landed_packets receiver_of pending direction_among joined_to within distance port_to_cube port_to_host read_of is_null_alone is_null zero_flit has_length lng_of word_of half_of bytes_read judgement_of command_in fitting all_commands command_of table_line is_clean header_is_clean tail_is_clean tail_word header_of tail_of poison_in packet_from seen_in crc_of remainder divide plus zeros divisor coefficients bits_below bits_of number_of xor request_in payload_of state_of state_after opening_state opening opening_registers apply answer_to perform_on action_of atomic_of memory_error acted_of reply_packet passed_onto pipe_onto awaits_first
+unfolding next choice view_of contents entered left leaves enters unsent landed_packets receiver_of pending direction_among joined_to within distance port_to_cube port_to_host read_of is_null_alone is_null zero_flit has_length lng_of word_of half_of bytes_read judgement_of command_in fitting all_commands command_of table_line is_clean header_is_clean tail_is_clean tail_word header_of tail_of poison_in packet_from seen_in crc_of remainder divide plus zeros divisor coefficients bits_below bits_of number_of xor request_in payload_of state_of state_after opening_state opening opening_registers apply answer_to perform_on action_of atomic_of memory_error acted_of reply_packet forwarded_onto pipe_onto awaits_first
 next-lifted = refl
 
 next-back : next one_request back_at_cube_0 (steps.Shift 0 1) ≡ Shifted 0 1 (goals.Port 0)
-unfolding next choice view_of contents entered left leaves enters unsent landed_packets receiver_of pending direction_among joined_to within distance port_to_cube port_to_host read_of is_null_alone is_null zero_flit has_length lng_of word_of half_of bytes_read judgement_of command_in fitting all_commands command_of table_line is_clean header_is_clean tail_is_clean tail_word header_of tail_of poison_in packet_from seen_in crc_of remainder divide plus zeros divisor coefficients bits_below bits_of number_of xor request_in payload_of state_of state_after opening_state opening opening_registers apply answer_to perform_on action_of atomic_of memory_error acted_of passed_onto pipe_onto awaits_first
+unfolding next choice view_of contents entered left leaves enters unsent landed_packets receiver_of pending direction_among joined_to within distance port_to_cube port_to_host read_of is_null_alone is_null zero_flit has_length lng_of word_of half_of bytes_read judgement_of command_in fitting all_commands command_of table_line is_clean header_is_clean tail_is_clean tail_word header_of tail_of poison_in packet_from seen_in crc_of remainder divide plus zeros divisor coefficients bits_below bits_of number_of xor request_in payload_of state_of state_after opening_state opening opening_registers apply answer_to perform_on action_of atomic_of memory_error acted_of forwarded_onto pipe_onto awaits_first
 next-back = refl
 
 next-taken : next one_request back_at_host (steps.Take 0) ≡ Took 0 0 (Done false)
-unfolding next choice view_of contents entered left leaves enters unsent landed_packets receiver_of pending direction_among joined_to within distance port_to_cube port_to_host read_of is_null_alone is_null zero_flit has_length lng_of word_of half_of bytes_read judgement_of command_in fitting all_commands command_of table_line is_clean header_is_clean tail_is_clean tail_word header_of tail_of poison_in packet_from seen_in crc_of remainder divide plus zeros divisor coefficients bits_below bits_of number_of xor request_in payload_of state_of state_after opening_state opening opening_registers apply answer_to perform_on action_of atomic_of memory_error acted_of answer_in answer_by passed_onto pipe_onto awaits_first
+unfolding next choice view_of contents entered left leaves enters unsent landed_packets receiver_of pending direction_among joined_to within distance port_to_cube port_to_host read_of is_null_alone is_null zero_flit has_length lng_of word_of half_of bytes_read judgement_of command_in fitting all_commands command_of table_line is_clean header_is_clean tail_is_clean tail_word header_of tail_of poison_in packet_from seen_in crc_of remainder divide plus zeros divisor coefficients bits_below bits_of number_of xor request_in payload_of state_of state_after opening_state opening opening_registers apply answer_to perform_on action_of atomic_of memory_error acted_of answer_in answer_by forwarded_onto pipe_onto awaits_first
 next-taken = refl
 
 -- nothing is at the other cube, and nothing in the wrong bank
 next-elsewhere : next one_request at_cube_0 (steps.Shift 1 0) ≡ Idle (steps.Shift 1 0) Empty
-unfolding next choice view_of contents entered left leaves enters unsent landed_packets receiver_of pending direction_among joined_to within distance port_to_cube port_to_host read_of is_null_alone is_null zero_flit has_length lng_of word_of half_of bytes_read judgement_of command_in fitting all_commands command_of table_line is_clean header_is_clean tail_is_clean tail_word header_of tail_of poison_in packet_from seen_in crc_of remainder divide plus zeros divisor coefficients bits_below bits_of number_of xor request_in payload_of state_of state_after opening_state opening opening_registers apply answer_to perform_on action_of atomic_of memory_error acted_of passed_onto pipe_onto awaits_first
+unfolding next choice view_of contents entered left leaves enters unsent landed_packets receiver_of pending direction_among joined_to within distance port_to_cube port_to_host read_of is_null_alone is_null zero_flit has_length lng_of word_of half_of bytes_read judgement_of command_in fitting all_commands command_of table_line is_clean header_is_clean tail_is_clean tail_word header_of tail_of poison_in packet_from seen_in crc_of remainder divide plus zeros divisor coefficients bits_below bits_of number_of xor request_in payload_of state_of state_after opening_state opening opening_registers apply answer_to perform_on action_of atomic_of memory_error acted_of forwarded_onto pipe_onto awaits_first
 next-elsewhere = refl
 
 -- ---- what was carried
@@ -170,20 +170,20 @@ told = record { tag = 0; answer = Done false } ∷ []
 
 -- given, carried over both directions, executed
 requests_along-two : given_to two_cubes 0 (units.Bank 1 0 0) back_at_host ∷ requests_along two_cubes 0 (units.Bank 1 0 0) back_at_host ++ executed_by 0 (units.Bank 1 0 0) back_at_host ∷ [] ≡ asked ∷ asked ∷ asked ∷ asked ∷ []
-unfolding given_to executed_by tagged_requests unit_of accepted landings.accepted route_to_cube hops_from next choice view_of contents entered left leaves enters unsent landed_packets receiver_of pending direction_among joined_to within distance port_to_cube port_to_host read_of is_null_alone is_null zero_flit has_length lng_of word_of half_of bytes_read judgement_of command_in fitting all_commands command_of table_line is_clean header_is_clean tail_is_clean tail_word header_of tail_of poison_in packet_from seen_in crc_of remainder divide plus zeros divisor coefficients bits_below bits_of number_of xor request_in payload_of state_of state_after opening_state opening opening_registers apply answer_to perform_on action_of atomic_of memory_error acted_of passed_onto pipe_onto awaits_first
+unfolding given_to executed_by tagged_requests unit_of accepted landings.accepted route_to_cube hops_from next choice view_of contents entered left leaves enters unsent landed_packets receiver_of pending direction_among joined_to within distance port_to_cube port_to_host read_of is_null_alone is_null zero_flit has_length lng_of word_of half_of bytes_read judgement_of command_in fitting all_commands command_of table_line is_clean header_is_clean tail_is_clean tail_word header_of tail_of poison_in packet_from seen_in crc_of remainder divide plus zeros divisor coefficients bits_below bits_of number_of xor request_in payload_of state_of state_after opening_state opening opening_registers apply answer_to perform_on action_of atomic_of memory_error acted_of forwarded_onto pipe_onto awaits_first
 requests_along-two = refl
 
 -- not yet carried over the second
 requests_along-one : requests_along two_cubes 0 (units.Bank 1 0 0) at_cube_0 ++ executed_by 0 (units.Bank 1 0 0) at_cube_0 ∷ [] ≡ asked ∷ [] ∷ [] ∷ []
-unfolding given_to executed_by tagged_requests unit_of accepted landings.accepted route_to_cube hops_from next choice view_of contents entered left leaves enters unsent landed_packets receiver_of pending direction_among joined_to within distance port_to_cube port_to_host read_of is_null_alone is_null zero_flit has_length lng_of word_of half_of bytes_read judgement_of command_in fitting all_commands command_of table_line is_clean header_is_clean tail_is_clean tail_word header_of tail_of poison_in packet_from seen_in crc_of remainder divide plus zeros divisor coefficients bits_below bits_of number_of xor request_in payload_of state_of state_after opening_state opening opening_registers apply answer_to perform_on action_of atomic_of memory_error acted_of passed_onto pipe_onto awaits_first
+unfolding given_to executed_by tagged_requests unit_of accepted landings.accepted route_to_cube hops_from next choice view_of contents entered left leaves enters unsent landed_packets receiver_of pending direction_among joined_to within distance port_to_cube port_to_host read_of is_null_alone is_null zero_flit has_length lng_of word_of half_of bytes_read judgement_of command_in fitting all_commands command_of table_line is_clean header_is_clean tail_is_clean tail_word header_of tail_of poison_in packet_from seen_in crc_of remainder divide plus zeros divisor coefficients bits_below bits_of number_of xor request_in payload_of state_of state_after opening_state opening opening_registers apply answer_to perform_on action_of atomic_of memory_error acted_of forwarded_onto pipe_onto awaits_first
 requests_along-one = refl
 
 -- lifted, carried over both directions back, taken
 answers_along-two : answers_lifted two_cubes 1 0 back_at_host ∷ answers_along two_cubes 1 0 back_at_host ++ answers_taken two_cubes 1 0 (Took 0 0 (Done false) ∷ back_at_host) ∷ [] ≡ told ∷ told ∷ told ∷ told ∷ []
-unfolding answers_lifted answers_taken answers_to accepted landings.accepted route_to_host hops_from answer_in answer_by reply_packet next choice view_of contents entered left leaves enters unsent landed_packets receiver_of pending direction_among joined_to within distance port_to_cube port_to_host read_of is_null_alone is_null zero_flit has_length lng_of word_of half_of bytes_read judgement_of command_in fitting all_commands command_of table_line is_clean header_is_clean tail_is_clean tail_word header_of tail_of poison_in packet_from seen_in crc_of remainder divide plus zeros divisor coefficients bits_below bits_of number_of xor request_in payload_of state_of state_after opening_state opening opening_registers apply answer_to perform_on action_of atomic_of memory_error acted_of passed_onto pipe_onto awaits_first
+unfolding answers_lifted answers_taken answers_to accepted landings.accepted route_to_host hops_from answer_in answer_by reply_packet next choice view_of contents entered left leaves enters unsent landed_packets receiver_of pending direction_among joined_to within distance port_to_cube port_to_host read_of is_null_alone is_null zero_flit has_length lng_of word_of half_of bytes_read judgement_of command_in fitting all_commands command_of table_line is_clean header_is_clean tail_is_clean tail_word header_of tail_of poison_in packet_from seen_in crc_of remainder divide plus zeros divisor coefficients bits_below bits_of number_of xor request_in payload_of state_of state_after opening_state opening opening_registers apply answer_to perform_on action_of atomic_of memory_error acted_of forwarded_onto pipe_onto awaits_first
 answers_along-two = refl
 
 -- an answer of the one cube isn't one of the other
 answers_along-other : answers_lifted two_cubes 0 0 back_at_host ∷ answers_along two_cubes 0 0 back_at_host ≡ [] ∷ [] ∷ []
-unfolding answers_lifted answers_taken answers_to accepted landings.accepted route_to_host hops_from answer_in answer_by reply_packet next choice view_of contents entered left leaves enters unsent landed_packets receiver_of pending direction_among joined_to within distance port_to_cube port_to_host read_of is_null_alone is_null zero_flit has_length lng_of word_of half_of bytes_read judgement_of command_in fitting all_commands command_of table_line is_clean header_is_clean tail_is_clean tail_word header_of tail_of poison_in packet_from seen_in crc_of remainder divide plus zeros divisor coefficients bits_below bits_of number_of xor request_in payload_of state_of state_after opening_state opening opening_registers apply answer_to perform_on action_of atomic_of memory_error acted_of passed_onto pipe_onto awaits_first
+unfolding answers_lifted answers_taken answers_to accepted landings.accepted route_to_host hops_from answer_in answer_by reply_packet next choice view_of contents entered left leaves enters unsent landed_packets receiver_of pending direction_among joined_to within distance port_to_cube port_to_host read_of is_null_alone is_null zero_flit has_length lng_of word_of half_of bytes_read judgement_of command_in fitting all_commands command_of table_line is_clean header_is_clean tail_is_clean tail_word header_of tail_of poison_in packet_from seen_in crc_of remainder divide plus zeros divisor coefficients bits_below bits_of number_of xor request_in payload_of state_of state_after opening_state opening opening_registers apply answer_to perform_on action_of atomic_of memory_error acted_of forwarded_onto pipe_onto awaits_first
 answers_along-other = refl

@@ -58,7 +58,7 @@ line_of-link : map line_of (Sent 10 Again zero_flit ∷ Landed 11 zero_flit (Abo
 unfolding line_of encode_with digits zero_flit
 line_of-link = refl
 
--- lines of packets that are passed on, and of logic units
+-- lines of packets that are forwarded, and of logic units
 line_of-through : map line_of (Through 1 2 3 ∷ Idle (steps.Through 0 1) NoPacket ∷ Idle (steps.Through 0 1) Full ∷ Idle (steps.Through 0 1) Busy ∷ Retired 3 ∷ Idle (steps.Retire 3) Empty ∷ []) ≡
     codes "through 1 2 3\n" ∷ codes "idle through 0 1 nopacket\n" ∷ codes "idle through 0 1 full\n" ∷ codes "idle through 0 1 busy\n" ∷ codes "retired 3\n" ∷ codes "idle retire 3 empty\n" ∷ []
 unfolding line_of encode_with digits zero_flit

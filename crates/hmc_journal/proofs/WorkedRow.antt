@@ -77,7 +77,7 @@ use Rattle.hmc_journal.specs.Next.{next, choice}
 use Rattle.hmc_journal.specs.Lawful.{Lawful, journal_of, journal_behind}
 use Rattle.hmc_journal.specs.Counts.{changed_landings, repeats, aborts, direction_counts, token_counts}
 use Rattle.hmc_journal.specs.Drained.{is_drained}
-use Rattle.hmc_journal.specs.Piped.{passed_onto, pipe_onto}
+use Rattle.hmc_journal.specs.Piped.{forwarded_onto, pipe_onto}
 
 abbrev topology : Topology
 topology = record {
@@ -209,40 +209,40 @@ busy =
     Idle (steps.Give 0) Ended ∷ round (crossing what.Null zero_flit Quiet) (crossing what.Null zero_flit Quiet) ++ nothing
 
 journal_of-opened : journal_of (case_with opening_steps) ≡ reverse opened
-unfolding journal_of journal_behind next choice view_of host_of given_count tags_out none_out give_says direction_among joined_to within distance port_to_cube port_to_host contents entered left leaves enters unsent landed_packets receiver_of accepted unit_of link_entries state_of state_after opening_state opening opening_registers apply answer_to perform_on action_of atomic_of acted_of memory_error request_packet reply_packet answer_in answer_by request_in payload_of passed_onto pipe_onto awaits_first
+unfolding journal_of journal_behind next choice view_of host_of given_count tags_out none_out give_says direction_among joined_to within distance port_to_cube port_to_host contents entered left leaves enters unsent landed_packets receiver_of accepted unit_of link_entries state_of state_after opening_state opening opening_registers apply answer_to perform_on action_of atomic_of acted_of memory_error request_packet reply_packet answer_in answer_by request_in payload_of forwarded_onto pipe_onto awaits_first
     landings.accepted tokens sender_entries given_after passes is_pending_changed line lines.landings lines.sent_flits takes handed_packets receiver_entries reception_of reception_by landing_view is_training training run pending mode view_after cases.choice shown_pointer last_begun others is_open go_back starts clears acked taken_fronts places unfinished copy_of copied_packet flit_of code_for irtry_in irtry_flit
     read_of bytes_read judgement_of seen_in poison_in is_clean has_length is_null_alone is_null packet_from command_in fitting spelling flits_with bytes_of covered cut check_of half_bytes word_bytes header_word header_of header_is_clean tail_word tail_of tail_is_clean head_in head_with named_by command_of all_commands table_line lng_of word_of half_of training_flit zero_flit crc_of remainder divide plus zeros divisor coefficients number_of bits_of bits_below xor
 journal_of-opened = refl
 
 -- ten rounds more, in which both requests are executed and answered
 journal_behind-busy : journal_behind (case_with []) (reverse opened) (times 10 all_steps) ≡ reverse (opened ++ busy)
-unfolding journal_of journal_behind next choice view_of host_of given_count tags_out none_out give_says direction_among joined_to within distance port_to_cube port_to_host contents entered left leaves enters unsent landed_packets receiver_of accepted unit_of link_entries state_of state_after opening_state opening opening_registers apply answer_to perform_on action_of atomic_of acted_of memory_error request_packet reply_packet answer_in answer_by request_in payload_of passed_onto pipe_onto awaits_first
+unfolding journal_of journal_behind next choice view_of host_of given_count tags_out none_out give_says direction_among joined_to within distance port_to_cube port_to_host contents entered left leaves enters unsent landed_packets receiver_of accepted unit_of link_entries state_of state_after opening_state opening opening_registers apply answer_to perform_on action_of atomic_of acted_of memory_error request_packet reply_packet answer_in answer_by request_in payload_of forwarded_onto pipe_onto awaits_first
     landings.accepted tokens sender_entries given_after passes is_pending_changed line lines.landings lines.sent_flits takes handed_packets receiver_entries reception_of reception_by landing_view is_training training run pending mode view_after cases.choice shown_pointer last_begun others is_open go_back starts clears acked taken_fronts places unfinished copy_of copied_packet flit_of code_for irtry_in irtry_flit
     read_of bytes_read judgement_of seen_in poison_in is_clean has_length is_null_alone is_null packet_from command_in fitting spelling flits_with bytes_of covered cut check_of half_bytes word_bytes header_word header_of header_is_clean tail_word tail_of tail_is_clean head_in head_with named_by command_of all_commands table_line lng_of word_of half_of training_flit zero_flit crc_of remainder divide plus zeros divisor coefficients number_of bits_of bits_below xor
 journal_behind-busy = refl
 
 -- the tokens of both directions are held again, and nothing is on its way
 token_counts-first : map (token_counts topology []) (0 ∷ 1 ∷ []) ≡ record { held = 0; transit = 0; used = 0; due = 34; returning = 0 } ∷ record { held = 0; transit = 0; used = 0; due = 34; returning = 0 } ∷ []
-unfolding journal_of journal_behind next choice view_of host_of given_count tags_out none_out give_says direction_among joined_to within distance port_to_cube port_to_host contents entered left leaves enters unsent landed_packets receiver_of accepted unit_of link_entries state_of state_after opening_state opening opening_registers apply answer_to perform_on action_of atomic_of acted_of memory_error request_packet reply_packet answer_in answer_by request_in payload_of passed_onto pipe_onto awaits_first
+unfolding journal_of journal_behind next choice view_of host_of given_count tags_out none_out give_says direction_among joined_to within distance port_to_cube port_to_host contents entered left leaves enters unsent landed_packets receiver_of accepted unit_of link_entries state_of state_after opening_state opening opening_registers apply answer_to perform_on action_of atomic_of acted_of memory_error request_packet reply_packet answer_in answer_by request_in payload_of forwarded_onto pipe_onto awaits_first
     landings.accepted tokens sender_entries given_after passes is_pending_changed line lines.landings lines.sent_flits takes handed_packets receiver_entries reception_of reception_by landing_view is_training training run pending mode view_after cases.choice shown_pointer last_begun others is_open go_back starts clears acked taken_fronts places unfinished copy_of copied_packet flit_of code_for irtry_in irtry_flit
     read_of bytes_read judgement_of seen_in poison_in is_clean has_length is_null_alone is_null packet_from command_in fitting spelling flits_with bytes_of covered cut check_of half_bytes word_bytes header_word header_of header_is_clean tail_word tail_of tail_is_clean head_in head_with named_by command_of all_commands table_line lng_of word_of half_of training_flit zero_flit crc_of remainder divide plus zeros divisor coefficients number_of bits_of bits_below xor token_counts
 token_counts-first = refl
 
 token_counts-end : map (token_counts topology (reverse (opened ++ busy))) (0 ∷ 1 ∷ []) ≡ record { held = 34; transit = 0; used = 0; due = 0; returning = 0 } ∷ record { held = 34; transit = 0; used = 0; due = 0; returning = 0 } ∷ []
-unfolding journal_of journal_behind next choice view_of host_of given_count tags_out none_out give_says direction_among joined_to within distance port_to_cube port_to_host contents entered left leaves enters unsent landed_packets receiver_of accepted unit_of link_entries state_of state_after opening_state opening opening_registers apply answer_to perform_on action_of atomic_of acted_of memory_error request_packet reply_packet answer_in answer_by request_in payload_of passed_onto pipe_onto awaits_first
+unfolding journal_of journal_behind next choice view_of host_of given_count tags_out none_out give_says direction_among joined_to within distance port_to_cube port_to_host contents entered left leaves enters unsent landed_packets receiver_of accepted unit_of link_entries state_of state_after opening_state opening opening_registers apply answer_to perform_on action_of atomic_of acted_of memory_error request_packet reply_packet answer_in answer_by request_in payload_of forwarded_onto pipe_onto awaits_first
     landings.accepted tokens sender_entries given_after passes is_pending_changed line lines.landings lines.sent_flits takes handed_packets receiver_entries reception_of reception_by landing_view is_training training run pending mode view_after cases.choice shown_pointer last_begun others is_open go_back starts clears acked taken_fronts places unfinished copy_of copied_packet flit_of code_for irtry_in irtry_flit
     read_of bytes_read judgement_of seen_in poison_in is_clean has_length is_null_alone is_null packet_from command_in fitting spelling flits_with bytes_of covered cut check_of half_bytes word_bytes header_word header_of header_is_clean tail_word tail_of tail_is_clean head_in head_with named_by command_of all_commands table_line lng_of word_of half_of training_flit zero_flit crc_of remainder divide plus zeros divisor coefficients number_of bits_of bits_below xor token_counts
 token_counts-end = refl
 
 direction_counts-end : map (direction_counts topology (reverse (opened ++ busy))) (0 ∷ 1 ∷ [])
     ≡ record { sent = 82; landed = 82; changed = 0; accepted = 5; repeats = 0; aborts = 0 } ∷ record { sent = 82; landed = 82; changed = 0; accepted = 4; repeats = 0; aborts = 0 } ∷ []
-unfolding journal_of journal_behind next choice view_of host_of given_count tags_out none_out give_says direction_among joined_to within distance port_to_cube port_to_host contents entered left leaves enters unsent landed_packets receiver_of accepted unit_of link_entries state_of state_after opening_state opening opening_registers apply answer_to perform_on action_of atomic_of acted_of memory_error request_packet reply_packet answer_in answer_by request_in payload_of passed_onto pipe_onto awaits_first
+unfolding journal_of journal_behind next choice view_of host_of given_count tags_out none_out give_says direction_among joined_to within distance port_to_cube port_to_host contents entered left leaves enters unsent landed_packets receiver_of accepted unit_of link_entries state_of state_after opening_state opening opening_registers apply answer_to perform_on action_of atomic_of acted_of memory_error request_packet reply_packet answer_in answer_by request_in payload_of forwarded_onto pipe_onto awaits_first
     landings.accepted tokens sender_entries given_after passes is_pending_changed line lines.landings lines.sent_flits takes handed_packets receiver_entries reception_of reception_by landing_view is_training training run pending mode view_after cases.choice shown_pointer last_begun others is_open go_back starts clears acked taken_fronts places unfinished copy_of copied_packet flit_of code_for irtry_in irtry_flit
     read_of bytes_read judgement_of seen_in poison_in is_clean has_length is_null_alone is_null packet_from command_in fitting spelling flits_with bytes_of covered cut check_of half_bytes word_bytes header_word header_of header_is_clean tail_word tail_of tail_is_clean head_in head_with named_by command_of all_commands table_line lng_of word_of half_of training_flit zero_flit crc_of remainder divide plus zeros divisor coefficients number_of bits_of bits_below xor direction_counts sent_flits landed_flits changed_landings repeats aborts
 direction_counts-end = refl
 
 is_drained-end : is_drained topology (reverse (opened ++ busy)) ≡ true
-unfolding journal_of journal_behind next choice view_of host_of given_count tags_out none_out give_says direction_among joined_to within distance port_to_cube port_to_host contents entered left leaves enters unsent landed_packets receiver_of accepted unit_of link_entries state_of state_after opening_state opening opening_registers apply answer_to perform_on action_of atomic_of acted_of memory_error request_packet reply_packet answer_in answer_by request_in payload_of passed_onto pipe_onto awaits_first
+unfolding journal_of journal_behind next choice view_of host_of given_count tags_out none_out give_says direction_among joined_to within distance port_to_cube port_to_host contents entered left leaves enters unsent landed_packets receiver_of accepted unit_of link_entries state_of state_after opening_state opening opening_registers apply answer_to perform_on action_of atomic_of acted_of memory_error request_packet reply_packet answer_in answer_by request_in payload_of forwarded_onto pipe_onto awaits_first
     landings.accepted tokens sender_entries given_after passes is_pending_changed line lines.landings lines.sent_flits takes handed_packets receiver_entries reception_of reception_by landing_view is_training training run pending mode view_after cases.choice shown_pointer last_begun others is_open go_back starts clears acked taken_fronts places unfinished copy_of copied_packet flit_of code_for irtry_in irtry_flit
     read_of bytes_read judgement_of seen_in poison_in is_clean has_length is_null_alone is_null packet_from command_in fitting spelling flits_with bytes_of covered cut check_of half_bytes word_bytes header_word header_of header_is_clean tail_word tail_of tail_is_clean head_in head_with named_by command_of all_commands table_line lng_of word_of half_of training_flit zero_flit crc_of remainder divide plus zeros divisor coefficients number_of bits_of bits_below xor is_drained token_counts
 is_drained-end = refl
@@ -259,21 +259,21 @@ to_start = 0xd9 ∷ 0x5a ∷ 0x5a ∷ 0x5a ∷ 0x5a ∷ 0x5a ∷ 0x5a ∷ 0x5a �
 
 -- a changed flit that trains no more is passed over
 next-caught : next (case_with []) trains (steps.Land 0 (1 ∷ replicate 15 0)) ≡ Landed 0 (0x5b ∷ replicate 15 0x5a) Quiet
-unfolding journal_of journal_behind next choice view_of host_of given_count tags_out none_out give_says direction_among joined_to within distance port_to_cube port_to_host contents entered left leaves enters unsent landed_packets receiver_of accepted unit_of link_entries state_of state_after opening_state opening opening_registers apply answer_to perform_on action_of atomic_of acted_of memory_error request_packet reply_packet answer_in answer_by request_in payload_of passed_onto pipe_onto awaits_first
+unfolding journal_of journal_behind next choice view_of host_of given_count tags_out none_out give_says direction_among joined_to within distance port_to_cube port_to_host contents entered left leaves enters unsent landed_packets receiver_of accepted unit_of link_entries state_of state_after opening_state opening opening_registers apply answer_to perform_on action_of atomic_of acted_of memory_error request_packet reply_packet answer_in answer_by request_in payload_of forwarded_onto pipe_onto awaits_first
     landings.accepted tokens sender_entries given_after passes is_pending_changed line lines.landings lines.sent_flits takes handed_packets receiver_entries reception_of reception_by landing_view is_training training run pending mode view_after cases.choice shown_pointer last_begun others is_open go_back starts clears acked taken_fronts places unfinished copy_of copied_packet flit_of code_for irtry_in irtry_flit
     read_of bytes_read judgement_of seen_in poison_in is_clean has_length is_null_alone is_null packet_from command_in fitting spelling flits_with bytes_of covered cut check_of half_bytes word_bytes header_word header_of header_is_clean tail_word tail_of tail_is_clean head_in head_with named_by command_of all_commands table_line lng_of word_of half_of training_flit zero_flit crc_of remainder divide plus zeros divisor coefficients number_of bits_of bits_below xor
 next-caught = refl
 
 -- a changed flit that trains passes
 next-passed : next (case_with []) trains (steps.Land 0 to_start) ≡ Passed 0 flit_1
-unfolding journal_of journal_behind next choice view_of host_of given_count tags_out none_out give_says direction_among joined_to within distance port_to_cube port_to_host contents entered left leaves enters unsent landed_packets receiver_of accepted unit_of link_entries state_of state_after opening_state opening opening_registers apply answer_to perform_on action_of atomic_of acted_of memory_error request_packet reply_packet answer_in answer_by request_in payload_of passed_onto pipe_onto awaits_first
+unfolding journal_of journal_behind next choice view_of host_of given_count tags_out none_out give_says direction_among joined_to within distance port_to_cube port_to_host contents entered left leaves enters unsent landed_packets receiver_of accepted unit_of link_entries state_of state_after opening_state opening opening_registers apply answer_to perform_on action_of atomic_of acted_of memory_error request_packet reply_packet answer_in answer_by request_in payload_of forwarded_onto pipe_onto awaits_first
     landings.accepted tokens sender_entries given_after passes is_pending_changed line lines.landings lines.sent_flits takes handed_packets receiver_entries reception_of reception_by landing_view is_training training run pending mode view_after cases.choice shown_pointer last_begun others is_open go_back starts clears acked taken_fronts places unfinished copy_of copied_packet flit_of code_for irtry_in irtry_flit
     read_of bytes_read judgement_of seen_in poison_in is_clean has_length is_null_alone is_null packet_from command_in fitting spelling flits_with bytes_of covered cut check_of half_bytes word_bytes header_word header_of header_is_clean tail_word tail_of tail_is_clean head_in head_with named_by command_of all_commands table_line lng_of word_of half_of training_flit zero_flit crc_of remainder divide plus zeros divisor coefficients number_of bits_of bits_below xor
 next-passed = refl
 
 -- no step follows
 journal_of-passed : journal_of (case_with (steps.Send 0 ∷ steps.Land 0 to_start ∷ steps.Send 0 ∷ [])) ≡ Passed 0 flit_1 ∷ trains
-unfolding journal_of journal_behind next choice view_of host_of given_count tags_out none_out give_says direction_among joined_to within distance port_to_cube port_to_host contents entered left leaves enters unsent landed_packets receiver_of accepted unit_of link_entries state_of state_after opening_state opening opening_registers apply answer_to perform_on action_of atomic_of acted_of memory_error request_packet reply_packet answer_in answer_by request_in payload_of passed_onto pipe_onto awaits_first
+unfolding journal_of journal_behind next choice view_of host_of given_count tags_out none_out give_says direction_among joined_to within distance port_to_cube port_to_host contents entered left leaves enters unsent landed_packets receiver_of accepted unit_of link_entries state_of state_after opening_state opening opening_registers apply answer_to perform_on action_of atomic_of acted_of memory_error request_packet reply_packet answer_in answer_by request_in payload_of forwarded_onto pipe_onto awaits_first
     landings.accepted tokens sender_entries given_after passes is_pending_changed line lines.landings lines.sent_flits takes handed_packets receiver_entries reception_of reception_by landing_view is_training training run pending mode view_after cases.choice shown_pointer last_begun others is_open go_back starts clears acked taken_fronts places unfinished copy_of copied_packet flit_of code_for irtry_in irtry_flit
     read_of bytes_read judgement_of seen_in poison_in is_clean has_length is_null_alone is_null packet_from command_in fitting spelling flits_with bytes_of covered cut check_of half_bytes word_bytes header_word header_of header_is_clean tail_word tail_of tail_is_clean head_in head_with named_by command_of all_commands table_line lng_of word_of half_of training_flit zero_flit crc_of remainder divide plus zeros divisor coefficients number_of bits_of bits_below xor
 journal_of-passed = refl
@@ -284,13 +284,13 @@ nothing_follows entry past lawful = let clash = lawful.0 in cc
 
 -- the line holds eight flits, and lands none that it doesn't hold
 next-full : next (case_with []) (times 8 trains) (steps.Send 0) ≡ Idle (steps.Send 0) Full
-unfolding journal_of journal_behind next choice view_of host_of given_count tags_out none_out give_says direction_among joined_to within distance port_to_cube port_to_host contents entered left leaves enters unsent landed_packets receiver_of accepted unit_of link_entries state_of state_after opening_state opening opening_registers apply answer_to perform_on action_of atomic_of acted_of memory_error request_packet reply_packet answer_in answer_by request_in payload_of passed_onto pipe_onto awaits_first
+unfolding journal_of journal_behind next choice view_of host_of given_count tags_out none_out give_says direction_among joined_to within distance port_to_cube port_to_host contents entered left leaves enters unsent landed_packets receiver_of accepted unit_of link_entries state_of state_after opening_state opening opening_registers apply answer_to perform_on action_of atomic_of acted_of memory_error request_packet reply_packet answer_in answer_by request_in payload_of forwarded_onto pipe_onto awaits_first
     landings.accepted tokens sender_entries given_after passes is_pending_changed line lines.landings lines.sent_flits takes handed_packets receiver_entries reception_of reception_by landing_view is_training training run pending mode view_after cases.choice shown_pointer last_begun others is_open go_back starts clears acked taken_fronts places unfinished copy_of copied_packet flit_of code_for irtry_in irtry_flit
     read_of bytes_read judgement_of seen_in poison_in is_clean has_length is_null_alone is_null packet_from command_in fitting spelling flits_with bytes_of covered cut check_of half_bytes word_bytes header_word header_of header_is_clean tail_word tail_of tail_is_clean head_in head_with named_by command_of all_commands table_line lng_of word_of half_of training_flit zero_flit crc_of remainder divide plus zeros divisor coefficients number_of bits_of bits_below xor
 next-full = refl
 
 next-empty : next (case_with []) trains (steps.Land 1 to_start) ≡ Idle (steps.Land 1 zero_flit) Empty
-unfolding journal_of journal_behind next choice view_of host_of given_count tags_out none_out give_says direction_among joined_to within distance port_to_cube port_to_host contents entered left leaves enters unsent landed_packets receiver_of accepted unit_of link_entries state_of state_after opening_state opening opening_registers apply answer_to perform_on action_of atomic_of acted_of memory_error request_packet reply_packet answer_in answer_by request_in payload_of passed_onto pipe_onto awaits_first
+unfolding journal_of journal_behind next choice view_of host_of given_count tags_out none_out give_says direction_among joined_to within distance port_to_cube port_to_host contents entered left leaves enters unsent landed_packets receiver_of accepted unit_of link_entries state_of state_after opening_state opening opening_registers apply answer_to perform_on action_of atomic_of acted_of memory_error request_packet reply_packet answer_in answer_by request_in payload_of forwarded_onto pipe_onto awaits_first
     landings.accepted tokens sender_entries given_after passes is_pending_changed line lines.landings lines.sent_flits takes handed_packets receiver_entries reception_of reception_by landing_view is_training training run pending mode view_after cases.choice shown_pointer last_begun others is_open go_back starts clears acked taken_fronts places unfinished copy_of copied_packet flit_of code_for irtry_in irtry_flit
     read_of bytes_read judgement_of seen_in poison_in is_clean has_length is_null_alone is_null packet_from command_in fitting spelling flits_with bytes_of covered cut check_of half_bytes word_bytes header_word header_of header_is_clean tail_word tail_of tail_is_clean head_in head_with named_by command_of all_commands table_line lng_of word_of half_of training_flit zero_flit crc_of remainder divide plus zeros divisor coefficients number_of bits_of bits_below xor
 next-empty = refl
@@ -300,13 +300,13 @@ abbrev returns : List Entry
 returns = Sent 0 what.Tret flit_3 ∷ reverse opened
 
 next-aborted : next (case_with []) returns (steps.Land 0 (replicate 15 0 ++ 1 ∷ [])) ≡ Landed 0 (0x82 ∷ 0 ∷ 0 ∷ 0 ∷ 0 ∷ 0 ∷ 0 ∷ 0 ∷ 0 ∷ 2 ∷ 4 ∷ 0xc0 ∷ 0xc3 ∷ 7 ∷ 0xf5 ∷ 6 ∷ []) (AbortedBad bads.Crc)
-unfolding journal_of journal_behind next choice view_of host_of given_count tags_out none_out give_says direction_among joined_to within distance port_to_cube port_to_host contents entered left leaves enters unsent landed_packets receiver_of accepted unit_of link_entries state_of state_after opening_state opening opening_registers apply answer_to perform_on action_of atomic_of acted_of memory_error request_packet reply_packet answer_in answer_by request_in payload_of passed_onto pipe_onto awaits_first
+unfolding journal_of journal_behind next choice view_of host_of given_count tags_out none_out give_says direction_among joined_to within distance port_to_cube port_to_host contents entered left leaves enters unsent landed_packets receiver_of accepted unit_of link_entries state_of state_after opening_state opening opening_registers apply answer_to perform_on action_of atomic_of acted_of memory_error request_packet reply_packet answer_in answer_by request_in payload_of forwarded_onto pipe_onto awaits_first
     landings.accepted tokens sender_entries given_after passes is_pending_changed line lines.landings lines.sent_flits takes handed_packets receiver_entries reception_of reception_by landing_view is_training training run pending mode view_after cases.choice shown_pointer last_begun others is_open go_back starts clears acked taken_fronts places unfinished copy_of copied_packet flit_of code_for irtry_in irtry_flit
     read_of bytes_read judgement_of seen_in poison_in is_clean has_length is_null_alone is_null packet_from command_in fitting spelling flits_with bytes_of covered cut check_of half_bytes word_bytes header_word header_of header_is_clean tail_word tail_of tail_is_clean head_in head_with named_by command_of all_commands table_line lng_of word_of half_of training_flit zero_flit crc_of remainder divide plus zeros divisor coefficients number_of bits_of bits_below xor
 next-aborted = refl
 
 next-zeros : next (case_with []) returns (steps.Land 0 flit_3) ≡ Passed 0 zero_flit
-unfolding journal_of journal_behind next choice view_of host_of given_count tags_out none_out give_says direction_among joined_to within distance port_to_cube port_to_host contents entered left leaves enters unsent landed_packets receiver_of accepted unit_of link_entries state_of state_after opening_state opening opening_registers apply answer_to perform_on action_of atomic_of acted_of memory_error request_packet reply_packet answer_in answer_by request_in payload_of passed_onto pipe_onto awaits_first
+unfolding journal_of journal_behind next choice view_of host_of given_count tags_out none_out give_says direction_among joined_to within distance port_to_cube port_to_host contents entered left leaves enters unsent landed_packets receiver_of accepted unit_of link_entries state_of state_after opening_state opening opening_registers apply answer_to perform_on action_of atomic_of acted_of memory_error request_packet reply_packet answer_in answer_by request_in payload_of forwarded_onto pipe_onto awaits_first
     landings.accepted tokens sender_entries given_after passes is_pending_changed line lines.landings lines.sent_flits takes handed_packets receiver_entries reception_of reception_by landing_view is_training training run pending mode view_after cases.choice shown_pointer last_begun others is_open go_back starts clears acked taken_fronts places unfinished copy_of copied_packet flit_of code_for irtry_in irtry_flit
     read_of bytes_read judgement_of seen_in poison_in is_clean has_length is_null_alone is_null packet_from command_in fitting spelling flits_with bytes_of covered cut check_of half_bytes word_bytes header_word header_of header_is_clean tail_word tail_of tail_is_clean head_in head_with named_by command_of all_commands table_line lng_of word_of half_of training_flit zero_flit crc_of remainder divide plus zeros divisor coefficients number_of bits_of bits_below xor
 next-zeros = refl
@@ -317,14 +317,14 @@ unfolding next choice
 next-unlocked = refl
 
 next-after_unlock : next (case_with []) (Unlocked 0 ∷ returns) (steps.Land 0 zero_flit) ≡ Landed 0 flit_3 Quiet
-unfolding journal_of journal_behind next choice view_of host_of given_count tags_out none_out give_says direction_among joined_to within distance port_to_cube port_to_host contents entered left leaves enters unsent landed_packets receiver_of accepted unit_of link_entries state_of state_after opening_state opening opening_registers apply answer_to perform_on action_of atomic_of acted_of memory_error request_packet reply_packet answer_in answer_by request_in payload_of passed_onto pipe_onto awaits_first
+unfolding journal_of journal_behind next choice view_of host_of given_count tags_out none_out give_says direction_among joined_to within distance port_to_cube port_to_host contents entered left leaves enters unsent landed_packets receiver_of accepted unit_of link_entries state_of state_after opening_state opening opening_registers apply answer_to perform_on action_of atomic_of acted_of memory_error request_packet reply_packet answer_in answer_by request_in payload_of forwarded_onto pipe_onto awaits_first
     landings.accepted tokens sender_entries given_after passes is_pending_changed line lines.landings lines.sent_flits takes handed_packets receiver_entries reception_of reception_by landing_view is_training training run pending mode view_after cases.choice shown_pointer last_begun others is_open go_back starts clears acked taken_fronts places unfinished copy_of copied_packet flit_of code_for irtry_in irtry_flit
     read_of bytes_read judgement_of seen_in poison_in is_clean has_length is_null_alone is_null packet_from command_in fitting spelling flits_with bytes_of covered cut check_of half_bytes word_bytes header_word header_of header_is_clean tail_word tail_of tail_is_clean head_in head_with named_by command_of all_commands table_line lng_of word_of half_of training_flit zero_flit crc_of remainder divide plus zeros divisor coefficients number_of bits_of bits_below xor
 next-after_unlock = refl
 
 direction_counts-unlocked : map (direction_counts topology (Unlocked 0 ∷ Unlocked 0 ∷ returns)) (0 ∷ 1 ∷ [])
     ≡ record { sent = 73; landed = 72; changed = 0; accepted = 0; repeats = 0; aborts = 1 } ∷ record { sent = 72; landed = 72; changed = 0; accepted = 0; repeats = 0; aborts = 0 } ∷ []
-unfolding journal_of journal_behind next choice view_of host_of given_count tags_out none_out give_says direction_among joined_to within distance port_to_cube port_to_host contents entered left leaves enters unsent landed_packets receiver_of accepted unit_of link_entries state_of state_after opening_state opening opening_registers apply answer_to perform_on action_of atomic_of acted_of memory_error request_packet reply_packet answer_in answer_by request_in payload_of passed_onto pipe_onto awaits_first
+unfolding journal_of journal_behind next choice view_of host_of given_count tags_out none_out give_says direction_among joined_to within distance port_to_cube port_to_host contents entered left leaves enters unsent landed_packets receiver_of accepted unit_of link_entries state_of state_after opening_state opening opening_registers apply answer_to perform_on action_of atomic_of acted_of memory_error request_packet reply_packet answer_in answer_by request_in payload_of forwarded_onto pipe_onto awaits_first
     landings.accepted tokens sender_entries given_after passes is_pending_changed line lines.landings lines.sent_flits takes handed_packets receiver_entries reception_of reception_by landing_view is_training training run pending mode view_after cases.choice shown_pointer last_begun others is_open go_back starts clears acked taken_fronts places unfinished copy_of copied_packet flit_of code_for irtry_in irtry_flit
     read_of bytes_read judgement_of seen_in poison_in is_clean has_length is_null_alone is_null packet_from command_in fitting spelling flits_with bytes_of covered cut check_of half_bytes word_bytes header_word header_of header_is_clean tail_word tail_of tail_is_clean head_in head_with named_by command_of all_commands table_line lng_of word_of half_of training_flit zero_flit crc_of remainder divide plus zeros divisor coefficients number_of bits_of bits_below xor direction_counts sent_flits landed_flits changed_landings repeats aborts
 direction_counts-unlocked = refl

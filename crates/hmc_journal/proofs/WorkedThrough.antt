@@ -1,4 +1,4 @@
--- A packet that is passed on before it has come whole, worked out: host 0, cube 0 and cube 1 in a row,
+-- A packet that is forwarded before it has come whole, worked out: host 0, cube 0 and cube 1 in a row,
 -- and a write of 16 bytes to cube 1. The entries are those of a model outside this repository.
 use Rattle.std.proofs.Common.{◌≡◌, ℕ, zero, suc, false, List, [], ◌∷◌, ◌++◌, Some, reverse, refl}
 use Rattle.std.specs.Prelude.{map, replicate}
@@ -72,7 +72,7 @@ use Rattle.hmc_journal.specs.StepView.{view_of, state_of}
 use Rattle.hmc_journal.specs.Serial.{state_after}
 use Rattle.hmc_journal.specs.Next.{next, choice}
 use Rattle.hmc_journal.specs.Lawful.{journal_of, journal_behind}
-use Rattle.hmc_journal.specs.Piped.{passed_onto, pipe_onto}
+use Rattle.hmc_journal.specs.Piped.{forwarded_onto, pipe_onto}
 
 abbrev cube_of_four : CubeSetupFields
 cube_of_four = record { shape = record { vault_bits = 0; bank_bits = 0; rows = 4; block = 256 }; queue = 4 }
@@ -134,7 +134,7 @@ abbrev link_steps : List Step
 link_steps = map steps.Send (0 ∷ 1 ∷ 2 ∷ 3 ∷ []) ++ map (λ d. steps.Land d zero_flit) (0 ∷ 1 ∷ 2 ∷ 3 ∷ [])
 
 journal_behind-opened : journal_behind two_cubes [] (times 73 link_steps) ≡ reverse opened
-unfolding journal_of journal_behind next choice view_of host_of given_count tags_out none_out give_says direction_among joined_to within distance port_to_cube port_to_host contents entered left leaves enters unsent landed_packets receiver_of accepted unit_of link_entries state_of state_after opening_state opening opening_registers apply answer_to perform_on action_of atomic_of acted_of memory_error request_packet reply_packet answer_in answer_by request_in payload_of passed_onto pipe_onto awaits_first
+unfolding journal_of journal_behind next choice view_of host_of given_count tags_out none_out give_says direction_among joined_to within distance port_to_cube port_to_host contents entered left leaves enters unsent landed_packets receiver_of accepted unit_of link_entries state_of state_after opening_state opening opening_registers apply answer_to perform_on action_of atomic_of acted_of memory_error request_packet reply_packet answer_in answer_by request_in payload_of forwarded_onto pipe_onto awaits_first
     landings.accepted tokens sender_entries given_after passes is_pending_changed line lines.landings lines.sent_flits takes handed_packets receiver_entries reception_of reception_by landing_view is_training training run pending mode view_after cases.choice shown_pointer last_begun others is_open go_back starts clears acked taken_fronts places unfinished copy_of copied_packet last_feed flit_of code_for irtry_in irtry_flit
     read_of bytes_read judgement_of seen_in poison_in is_clean has_length is_null_alone is_null packet_from command_in fitting spelling flits_with bytes_of covered cut check_of half_bytes word_bytes header_word header_of header_is_clean tail_word tail_of tail_is_clean head_in head_with named_by command_of all_commands table_line lng_of word_of half_of training_flit zero_flit crc_of remainder divide plus zeros divisor coefficients number_of bits_of bits_below xor
 journal_behind-opened = refl
@@ -146,11 +146,11 @@ begun = Gave 0 (Some 0) false write ∷ Sent 0 what.New first_flit ∷ Landed 0 
 abbrev begun_steps : List Step
 begun_steps = steps.Give 0 ∷ steps.Send 0 ∷ steps.Land 0 zero_flit ∷ steps.Through 0 0 ∷ steps.Send 2 ∷ []
 
--- none goes on where none is gathered, where it is passed on already, or where its cube is this one;
+-- none goes on where none is gathered, where it is forwarded already, or where its cube is this one;
 -- none is fed before it has come
 journal_behind-begun : journal_behind two_cubes (reverse opened) (steps.Through 0 0 ∷ begun_steps ++ steps.Through 0 0 ∷ steps.Land 2 zero_flit ∷ steps.Through 1 0 ∷ steps.Send 2 ∷ [])
     ≡ reverse (opened ++ Idle (steps.Through 0 0) NoPacket ∷ begun ++ Idle (steps.Through 0 0) Busy ∷ Landed 2 first_flit Gathered ∷ Idle (steps.Through 1 0) NoPacket ∷ Idle (steps.Send 2) Starved ∷ [])
-unfolding journal_of journal_behind next choice view_of host_of given_count tags_out none_out give_says direction_among joined_to within distance port_to_cube port_to_host contents entered left leaves enters unsent landed_packets receiver_of accepted unit_of link_entries state_of state_after opening_state opening opening_registers apply answer_to perform_on action_of atomic_of acted_of memory_error request_packet reply_packet answer_in answer_by request_in payload_of passed_onto pipe_onto awaits_first
+unfolding journal_of journal_behind next choice view_of host_of given_count tags_out none_out give_says direction_among joined_to within distance port_to_cube port_to_host contents entered left leaves enters unsent landed_packets receiver_of accepted unit_of link_entries state_of state_after opening_state opening opening_registers apply answer_to perform_on action_of atomic_of acted_of memory_error request_packet reply_packet answer_in answer_by request_in payload_of forwarded_onto pipe_onto awaits_first
     landings.accepted tokens sender_entries given_after passes is_pending_changed line lines.landings lines.sent_flits takes handed_packets receiver_entries reception_of reception_by landing_view is_training training run pending mode view_after cases.choice shown_pointer last_begun others is_open go_back starts clears acked taken_fronts places unfinished copy_of copied_packet last_feed flit_of code_for irtry_in irtry_flit
     read_of bytes_read judgement_of seen_in poison_in is_clean has_length is_null_alone is_null packet_from command_in fitting spelling flits_with bytes_of covered cut check_of half_bytes word_bytes header_word header_of header_is_clean tail_word tail_of tail_is_clean head_in head_with named_by command_of all_commands table_line lng_of word_of half_of training_flit zero_flit crc_of remainder divide plus zeros divisor coefficients number_of bits_of bits_below xor
 journal_behind-begun = refl
@@ -159,7 +159,7 @@ journal_behind-begun = refl
 -- direction onward isn't free.
 journal_behind-accepted : journal_behind two_cubes (reverse (opened ++ begun)) (steps.Send 0 ∷ steps.Land 0 zero_flit ∷ steps.Through 0 0 ∷ steps.Shift 0 0 ∷ steps.Land 2 zero_flit ∷ steps.Send 2 ∷ steps.Land 2 zero_flit ∷ [])
     ≡ reverse (opened ++ begun ++ Sent 0 what.New last_flit ∷ Landed 0 last_flit Accepted ∷ Idle (steps.Through 0 0) NoPacket ∷ Idle (steps.Shift 0 0) Empty ∷ Landed 2 first_flit Gathered ∷ Sent 2 what.New last_flit ∷ Landed 2 last_flit Accepted ∷ [])
-unfolding journal_of journal_behind next choice view_of host_of given_count tags_out none_out give_says direction_among joined_to within distance port_to_cube port_to_host contents entered left leaves enters unsent landed_packets receiver_of accepted unit_of link_entries state_of state_after opening_state opening opening_registers apply answer_to perform_on action_of atomic_of acted_of memory_error request_packet reply_packet answer_in answer_by request_in payload_of passed_onto pipe_onto awaits_first
+unfolding journal_of journal_behind next choice view_of host_of given_count tags_out none_out give_says direction_among joined_to within distance port_to_cube port_to_host contents entered left leaves enters unsent landed_packets receiver_of accepted unit_of link_entries state_of state_after opening_state opening opening_registers apply answer_to perform_on action_of atomic_of acted_of memory_error request_packet reply_packet answer_in answer_by request_in payload_of forwarded_onto pipe_onto awaits_first
     landings.accepted tokens sender_entries given_after passes is_pending_changed line lines.landings lines.sent_flits takes handed_packets receiver_entries reception_of reception_by landing_view is_training training run pending mode view_after cases.choice shown_pointer last_begun others is_open go_back starts clears acked taken_fronts places unfinished copy_of copied_packet last_feed flit_of code_for irtry_in irtry_flit
     read_of bytes_read judgement_of seen_in poison_in is_clean has_length is_null_alone is_null packet_from command_in fitting spelling flits_with bytes_of covered cut check_of half_bytes word_bytes header_word header_of header_is_clean tail_word tail_of tail_is_clean head_in head_with named_by command_of all_commands table_line lng_of word_of half_of training_flit zero_flit crc_of remainder divide plus zeros divisor coefficients number_of bits_of bits_below xor
 journal_behind-accepted = refl
@@ -167,7 +167,7 @@ journal_behind-accepted = refl
 -- a changed last flit: the copy is poisoned
 journal_behind-aborted : journal_behind two_cubes (reverse (opened ++ begun)) (steps.Send 0 ∷ steps.Land 0 (replicate 15 0 ++ 1 ∷ []) ∷ steps.Send 2 ∷ steps.Land 2 zero_flit ∷ steps.Land 2 zero_flit ∷ [])
     ≡ reverse (opened ++ begun ++ Sent 0 what.New last_flit ∷ Landed 0 (8 ∷ 9 ∷ 0xa ∷ 0xb ∷ 0xc ∷ 0xd ∷ 0xe ∷ 0xf ∷ 1 ∷ 6 ∷ 8 ∷ 0x40 ∷ 0xcd ∷ 0xc ∷ 0x13 ∷ 0x3a ∷ []) (AbortedBad bads.Crc) ∷ Sent 2 what.New (8 ∷ 9 ∷ 0xa ∷ 0xb ∷ 0xc ∷ 0xd ∷ 0xe ∷ 0xf ∷ 1 ∷ 6 ∷ 8 ∷ 0x40 ∷ 0x32 ∷ 0xf3 ∷ 0xec ∷ 0xc4 ∷ []) ∷ Landed 2 first_flit Gathered ∷ Landed 2 (8 ∷ 9 ∷ 0xa ∷ 0xb ∷ 0xc ∷ 0xd ∷ 0xe ∷ 0xf ∷ 1 ∷ 6 ∷ 8 ∷ 0x40 ∷ 0x32 ∷ 0xf3 ∷ 0xec ∷ 0xc4 ∷ []) Poisoned ∷ [])
-unfolding journal_of journal_behind next choice view_of host_of given_count tags_out none_out give_says direction_among joined_to within distance port_to_cube port_to_host contents entered left leaves enters unsent landed_packets receiver_of accepted unit_of link_entries state_of state_after opening_state opening opening_registers apply answer_to perform_on action_of atomic_of acted_of memory_error request_packet reply_packet answer_in answer_by request_in payload_of passed_onto pipe_onto awaits_first
+unfolding journal_of journal_behind next choice view_of host_of given_count tags_out none_out give_says direction_among joined_to within distance port_to_cube port_to_host contents entered left leaves enters unsent landed_packets receiver_of accepted unit_of link_entries state_of state_after opening_state opening opening_registers apply answer_to perform_on action_of atomic_of acted_of memory_error request_packet reply_packet answer_in answer_by request_in payload_of forwarded_onto pipe_onto awaits_first
     landings.accepted tokens sender_entries given_after passes is_pending_changed line lines.landings lines.sent_flits takes handed_packets receiver_entries reception_of reception_by landing_view is_training training run pending mode view_after cases.choice shown_pointer last_begun others is_open go_back starts clears acked taken_fronts places unfinished copy_of copied_packet last_feed flit_of code_for irtry_in irtry_flit
     read_of bytes_read judgement_of seen_in poison_in is_clean has_length is_null_alone is_null packet_from command_in fitting spelling flits_with bytes_of covered cut check_of half_bytes word_bytes header_word header_of header_is_clean tail_word tail_of tail_is_clean head_in head_with named_by command_of all_commands table_line lng_of word_of half_of training_flit zero_flit crc_of remainder divide plus zeros divisor coefficients number_of bits_of bits_below xor
 journal_behind-aborted = refl
@@ -175,7 +175,7 @@ journal_behind-aborted = refl
 -- an unlock: the flits that didn't come are zero, and the copy is poisoned
 journal_behind-unlocked : journal_behind two_cubes (reverse (opened ++ begun)) (steps.Unlock 0 ∷ steps.Send 2 ∷ steps.Land 2 zero_flit ∷ steps.Land 2 zero_flit ∷ [])
     ≡ reverse (opened ++ begun ++ Unlocked 0 ∷ Sent 2 what.New (0 ∷ 0 ∷ 0 ∷ 0 ∷ 0 ∷ 0 ∷ 0 ∷ 0 ∷ 1 ∷ 6 ∷ 8 ∷ 0x40 ∷ 0xf1 ∷ 0x65 ∷ 0x9e ∷ 0xcb ∷ []) ∷ Landed 2 first_flit Gathered ∷ Landed 2 (0 ∷ 0 ∷ 0 ∷ 0 ∷ 0 ∷ 0 ∷ 0 ∷ 0 ∷ 1 ∷ 6 ∷ 8 ∷ 0x40 ∷ 0xf1 ∷ 0x65 ∷ 0x9e ∷ 0xcb ∷ []) Poisoned ∷ [])
-unfolding journal_of journal_behind next choice view_of host_of given_count tags_out none_out give_says direction_among joined_to within distance port_to_cube port_to_host contents entered left leaves enters unsent landed_packets receiver_of accepted unit_of link_entries state_of state_after opening_state opening opening_registers apply answer_to perform_on action_of atomic_of acted_of memory_error request_packet reply_packet answer_in answer_by request_in payload_of passed_onto pipe_onto awaits_first
+unfolding journal_of journal_behind next choice view_of host_of given_count tags_out none_out give_says direction_among joined_to within distance port_to_cube port_to_host contents entered left leaves enters unsent landed_packets receiver_of accepted unit_of link_entries state_of state_after opening_state opening opening_registers apply answer_to perform_on action_of atomic_of acted_of memory_error request_packet reply_packet answer_in answer_by request_in payload_of forwarded_onto pipe_onto awaits_first
     landings.accepted tokens sender_entries given_after passes is_pending_changed line lines.landings lines.sent_flits takes handed_packets receiver_entries reception_of reception_by landing_view is_training training run pending mode view_after cases.choice shown_pointer last_begun others is_open go_back starts clears acked taken_fronts places unfinished copy_of copied_packet last_feed flit_of code_for irtry_in irtry_flit
     read_of bytes_read judgement_of seen_in poison_in is_clean has_length is_null_alone is_null packet_from command_in fitting spelling flits_with bytes_of covered cut check_of half_bytes word_bytes header_word header_of header_is_clean tail_word tail_of tail_is_clean head_in head_with named_by command_of all_commands table_line lng_of word_of half_of training_flit zero_flit crc_of remainder divide plus zeros divisor coefficients number_of bits_of bits_below xor
 journal_behind-unlocked = refl

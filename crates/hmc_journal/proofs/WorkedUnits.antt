@@ -45,7 +45,7 @@ use Rattle.hmc_journal.specs.Queues.{contents, entered, left, leaves, enters}
 use Rattle.hmc_journal.specs.StepView.{opening_of, view_of, state_of}
 use Rattle.hmc_journal.specs.Serial.{state_after, IsSerial}
 use Rattle.hmc_journal.specs.Next.{next, choice}
-use Rattle.hmc_journal.specs.Piped.{passed_onto, pipe_onto}
+use Rattle.hmc_journal.specs.Piped.{forwarded_onto, pipe_onto}
 
 abbrev one_cube : Topology
 one_cube = record {
@@ -95,25 +95,25 @@ third = at_bank 2 (0x32 ∷ 0x79 ∷ 0xad ∷ 0x4b ∷ []) (Retired 1 ∷ execut
 
 -- the answers are the blocks before; where the unit is retired there is none that serves
 next-first : next one_unit first (steps.Bank 0 0 0) ≡ executed 0 stamp (Read false (replicate 16 0))
-unfolding next choice view_of contents entered left leaves enters unsent landed_packets receiver_of pending direction_among joined_to within distance port_to_cube port_to_host read_of is_null_alone is_null zero_flit has_length lng_of word_of half_of bytes_read judgement_of command_in fitting all_commands command_of table_line is_clean header_is_clean tail_is_clean tail_word header_of tail_of poison_in packet_from seen_in crc_of remainder divide plus zeros divisor coefficients bits_below bits_of number_of xor request_in payload_of state_of state_after opening_state opening opening_registers apply answer_to retire perform_on action_of memory_error stamp_unit padded_bytes passed_onto pipe_onto awaits_first
+unfolding next choice view_of contents entered left leaves enters unsent landed_packets receiver_of pending direction_among joined_to within distance port_to_cube port_to_host read_of is_null_alone is_null zero_flit has_length lng_of word_of half_of bytes_read judgement_of command_in fitting all_commands command_of table_line is_clean header_is_clean tail_is_clean tail_word header_of tail_of poison_in packet_from seen_in crc_of remainder divide plus zeros divisor coefficients bits_below bits_of number_of xor request_in payload_of state_of state_after opening_state opening opening_registers apply answer_to retire perform_on action_of memory_error stamp_unit padded_bytes forwarded_onto pipe_onto awaits_first
 next-first = refl
 
 next-second : next one_unit second (steps.Bank 0 0 0) ≡ executed 1 stamp (Read false (stamped 1))
-unfolding next choice view_of contents entered left leaves enters unsent landed_packets receiver_of pending direction_among joined_to within distance port_to_cube port_to_host read_of is_null_alone is_null zero_flit has_length lng_of word_of half_of bytes_read judgement_of command_in fitting all_commands command_of table_line is_clean header_is_clean tail_is_clean tail_word header_of tail_of poison_in packet_from seen_in crc_of remainder divide plus zeros divisor coefficients bits_below bits_of number_of xor request_in payload_of state_of state_after opening_state opening opening_registers apply answer_to retire perform_on action_of memory_error stamp_unit padded_bytes passed_onto pipe_onto awaits_first
+unfolding next choice view_of contents entered left leaves enters unsent landed_packets receiver_of pending direction_among joined_to within distance port_to_cube port_to_host read_of is_null_alone is_null zero_flit has_length lng_of word_of half_of bytes_read judgement_of command_in fitting all_commands command_of table_line is_clean header_is_clean tail_is_clean tail_word header_of tail_of poison_in packet_from seen_in crc_of remainder divide plus zeros divisor coefficients bits_below bits_of number_of xor request_in payload_of state_of state_after opening_state opening opening_registers apply answer_to retire perform_on action_of memory_error stamp_unit padded_bytes forwarded_onto pipe_onto awaits_first
 next-second = refl
 
 next-third : next one_unit third (steps.Bank 0 0 0) ≡ executed 2 stamp (Refused 6)
-unfolding next choice view_of contents entered left leaves enters unsent landed_packets receiver_of pending direction_among joined_to within distance port_to_cube port_to_host read_of is_null_alone is_null zero_flit has_length lng_of word_of half_of bytes_read judgement_of command_in fitting all_commands command_of table_line is_clean header_is_clean tail_is_clean tail_word header_of tail_of poison_in packet_from seen_in crc_of remainder divide plus zeros divisor coefficients bits_below bits_of number_of xor request_in payload_of state_of state_after opening_state opening opening_registers apply answer_to retire perform_on action_of memory_error stamp_unit padded_bytes passed_onto pipe_onto awaits_first
+unfolding next choice view_of contents entered left leaves enters unsent landed_packets receiver_of pending direction_among joined_to within distance port_to_cube port_to_host read_of is_null_alone is_null zero_flit has_length lng_of word_of half_of bytes_read judgement_of command_in fitting all_commands command_of table_line is_clean header_is_clean tail_is_clean tail_word header_of tail_of poison_in packet_from seen_in crc_of remainder divide plus zeros divisor coefficients bits_below bits_of number_of xor request_in payload_of state_of state_after opening_state opening opening_registers apply answer_to retire perform_on action_of memory_error stamp_unit padded_bytes forwarded_onto pipe_onto awaits_first
 next-third = refl
 
 -- a unit is retired once; a slot that is empty, or isn't there, has none
 next-retired : map (λ slot. next one_unit first (steps.Retire slot)) (0 ∷ 1 ∷ 2 ∷ 7 ∷ [])
     ≡ Idle (steps.Retire 0) Empty ∷ Retired 1 ∷ Idle (steps.Retire 2) Empty ∷ Idle (steps.Retire 7) Empty ∷ []
-unfolding next choice view_of state_of state_after opening_state passed_onto pipe_onto awaits_first
+unfolding next choice view_of state_of state_after opening_state forwarded_onto pipe_onto awaits_first
 next-retired = refl
 
 next-retired_again : next one_unit (Retired 1 ∷ first) (steps.Retire 1) ≡ Idle (steps.Retire 1) Empty
-unfolding next choice view_of state_of state_after opening_state retire passed_onto pipe_onto awaits_first
+unfolding next choice view_of state_of state_after opening_state retire forwarded_onto pipe_onto awaits_first
 next-retired_again = refl
 
 -- the executions run on a plain machine whose unit is retired at the same place, and what it stamped

@@ -89,7 +89,7 @@ answers_taken topology c h (_ ∷ past) = answers_taken topology c h past
 abbrev pub front_flits : PipeFields → List (List ℕ)
 front_flits pipe = map (flit_at pipe) (upto (pipe.flits - 1))
 
--- A place that is open is that of the copy of the latest packet that was passed on. Once the
+-- A place that is open is that of the copy of the latest packet that was forwarded. Once the
 -- packet's gathering has ended the copy is known, also while its last flit is still to be sent.
 abbrev pub place_with : Profile → Option PipeFrom → Place → Place
 place_with profile None place = place
@@ -107,7 +107,7 @@ begun_on topology direction journal =
     (entries_on topology direction journal))
 
 -- of each of them, whether it came from the output queue, or is a TRET, and is no copy of a packet
--- that was passed on
+-- that was forwarded
 unfoldable pub begun_here : (direction : ℕ) → List Entry → List Bool
 begun_here d [] = []
 begun_here d (Sent direction New flit ∷ past) =

@@ -63,7 +63,7 @@ pub record LinksInOrder (setup : Setup) (journal : List Entry) : Type 0 where
   pub accepted : (direction : ℕ) →
       IsPrefix (accepted setup.topology direction journal)
       (begun_on setup.topology direction journal)
-  -- and these, without TRETs and copies of packets that were passed on, are a prefix of those that
+  -- and these, without TRETs and copies of packets that were forwarded, are a prefix of those that
   -- entered its output queue, apart from what the link sets
   pub begun : (direction : ℕ) →
       IsPrefix (map unnumbered (filter is_token

@@ -61,7 +61,7 @@ unsent d (Sent direction New flit ∷ past) =
     choose (direction == d) (one_sent (lng_of flit) (unsent d past)) (unsent d past)
 unsent d (_ ∷ past) = unsent d past
 
--- a packet was passed onto the direction, and none of its flits was sent yet
+-- a packet was forwarded onto the direction, and none of its flits was sent yet
 unfoldable pub awaits_first : ℕ → List Entry → Bool
 awaits_first d [] = false
 awaits_first d (Through cube port direction ∷ past) =

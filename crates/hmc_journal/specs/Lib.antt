@@ -36,4 +36,4 @@ pub mod ParseParts
 pub mod ParseHead
 pub mod ParseEntry
 pub mod ParseJournals
-pub mod PassedOn
+pub mod Forwarded

@@ -22,7 +22,7 @@ use Rattle.hmc_journal.specs.declared.outcome.Goal.TheVariants as goals
 use Rattle.hmc_journal.specs.declared.entry.Entry.{Entry}
 use Rattle.hmc_journal.specs.declared.entry.Entry.TheVariants.{Gave, Sent, Landed, Shifted, Dropped, Lifted, Took, Discarded, Through, Unlocked}
 use Rattle.hmc_journal.specs.Directions.{receiver_of}
-use Rattle.hmc_journal.specs.Piped.{PipeFrom, passed_onto, goes_on, pipe_onto, fed}
+use Rattle.hmc_journal.specs.Piped.{PipeFrom, forwarded_onto, goes_on, pipe_onto, fed}
 use Rattle.hmc_journal.specs.Setup.{Topology, no_link, direction_from}
 pub use Rattle.hmc_journal.specs.Setup.{direction_to}
 use Rattle.hmc_journal.specs.Queues.{tag_number, front_of, contents}
@@ -79,12 +79,12 @@ abbrev pub taken_if : Bool → (link direction : ℕ) → List LinkEntry → Lis
 taken_if false link direction past = past
 taken_if true link direction past = put_on link (Some direction) LinkEntry.taken past
 
--- a packet is passed on that is gathered at the end of a direction, with its first flit and as many
+-- a packet is forwarded that is gathered at the end of a direction, with its first flit and as many
 -- flits as that says (that none is gathered doesn't come)
-abbrev pub passed_on : (link : ℕ) → (direction : ℕ) → (came : List (List ℕ)) → List LinkEntry →
+abbrev pub forwarded_on : (link : ℕ) → (direction : ℕ) → (came : List (List ℕ)) → List LinkEntry →
     List LinkEntry
-passed_on link direction [] past = past
-passed_on link direction (head ∷ rest) past =
+forwarded_on link direction [] past = past
+forwarded_on link direction (head ∷ rest) past =
     put_on link (Some direction) (λ d. LinkEntry.through d head (lng_of head)) past
 
 -- the flits that are gathered at the end of a direction, if there is one
@@ -107,7 +107,7 @@ link_entries topology link (Sent direction what flit ∷ past) =
     before
 link_entries topology link (Landed direction flit outcome ∷ past) =
     let before = link_entries topology link past in
-    taken_if (goes_on outcome (passed_onto topology direction past)) link direction
+    taken_if (goes_on outcome (forwarded_onto topology direction past)) link direction
     (put_on link (Some direction)
     (λ d. LinkEntry.landed d (landing_mask (link_sizes topology link) d before flit) flit outcome)
     before)
@@ -124,7 +124,7 @@ link_entries topology link (Took host tag answer ∷ past) =
 link_entries topology link (Discarded host ∷ past) =
     taken_at topology link (places.Host host) (link_entries topology link past)
 link_entries topology link (Through cube port direction ∷ past) =
-    passed_on link direction
+    forwarded_on link direction
     (gathered_at (direction_to topology (places.Port cube port)) past)
     (link_entries topology link past)
 link_entries topology link (Unlocked direction ∷ past) =

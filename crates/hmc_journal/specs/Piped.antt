@@ -1,4 +1,4 @@
--- Packets that are passed on before they have come whole: which packet that is, onto which
+-- Packets that are forwarded before they have come whole: which packet that is, onto which
 -- direction, and what its copy is fed.
 use Rattle.std.specs.Prelude.{ℕ, Bool, true, false, ◌==◌, ◌&&◌, if◌then◌else◌, List, [], ◌∷◌, ◌++◌, Option, Some, None, is_none, option_map, slice_index_or}
 use Rattle.hmc_codes.specs.Places.{same_place}
@@ -26,20 +26,20 @@ abbrev pub while_gathered : Outcome → Option ℕ → Option ℕ
 while_gathered outcomes.Gathered onto = onto
 while_gathered _ onto = None
 
--- the direction onto which the packet is passed that is being gathered at the end of a direction,
--- if it is passed on
-unfoldable pub passed_onto : Topology → (direction : ℕ) → List Entry → Option ℕ
-passed_onto topology d [] = None
-passed_onto topology d (Through cube port direction ∷ past) =
-    choose (lands_at topology d cube port) (Some direction) (passed_onto topology d past)
-passed_onto topology d (Landed direction flit outcome ∷ past) =
-    choose (direction == d) (while_gathered outcome (passed_onto topology d past))
-    (passed_onto topology d past)
-passed_onto topology d (Unlocked direction ∷ past) =
-    choose (direction == d) None (passed_onto topology d past)
-passed_onto topology d (_ ∷ past) = passed_onto topology d past
+-- the direction onto which the packet is forwarded that is being gathered at the end of a
+-- direction, if it is forwarded
+unfoldable pub forwarded_onto : Topology → (direction : ℕ) → List Entry → Option ℕ
+forwarded_onto topology d [] = None
+forwarded_onto topology d (Through cube port direction ∷ past) =
+    choose (lands_at topology d cube port) (Some direction) (forwarded_onto topology d past)
+forwarded_onto topology d (Landed direction flit outcome ∷ past) =
+    choose (direction == d) (while_gathered outcome (forwarded_onto topology d past))
+    (forwarded_onto topology d past)
+forwarded_onto topology d (Unlocked direction ∷ past) =
+    choose (direction == d) None (forwarded_onto topology d past)
+forwarded_onto topology d (_ ∷ past) = forwarded_onto topology d past
 
--- a packet goes on at once that is accepted while it is passed on: it enters no buffer
+-- a packet goes on at once that is accepted while it is forwarded: it enters no buffer
 abbrev pub goes_on : Outcome → (onto : Option ℕ) → Bool
 goes_on outcomes.Accepted (Some direction) = true
 goes_on _ onto = false
@@ -81,7 +81,7 @@ abbrev pub while_gathering : (direction : ℕ) → (PipeFields → PipeFields) �
 while_gathering direction change p =
     if (p.from == direction) && is_none p.pipe.good then record p { pipe = change p.pipe } else p
 
--- the pipe of the latest packet that was passed onto a direction
+-- the pipe of the latest packet that was forwarded onto a direction
 unfoldable pub pipe_onto : Topology → (direction : ℕ) → List Entry → Option PipeFrom
 pipe_onto topology d [] = None
 pipe_onto topology d (Through cube port direction ∷ past) =

@@ -18,7 +18,7 @@ use Rattle.hmc_journal.specs.declared.entry.Entry.{Entry}
 use Rattle.hmc_journal.specs.declared.entry.Entry.TheVariants.{Gave, Sent, Landed, Shifted, Dropped, Spread, Executed, Lifted, Took, Discarded}
 use Rattle.hmc_journal.specs.Setup.{Topology, end_of, direction_from}
 use Rattle.hmc_journal.specs.Directions.{unsent, awaits_first, landed_packets}
-use Rattle.hmc_journal.specs.Piped.{passed_onto, goes_on}
+use Rattle.hmc_journal.specs.Piped.{forwarded_onto, goes_on}
 pub use Rattle.hmc_journal.specs.Basics.{same_lift, front_of, tag_number, one_if, packet_if}
 
 -- the output queue of a direction, the input buffers of ports and hosts, the queues of vaults,
@@ -77,8 +77,8 @@ goal_queue topology cube (goals.Vault vault) = Some (Vault cube vault)
 goal_queue topology cube goals.Registers = Some (Registers cube)
 goal_queue topology cube (goals.Port port) = output_from topology (places.Port cube port)
 
--- the first flit of a packet takes it out of the output queue, unless it is passed on
-abbrev pub begins : (passed_on : Bool) → (unsent : ℕ) → ℕ → Option QueueId
+-- the first flit of a packet takes it out of the output queue, unless it is forwarded
+abbrev pub begins : (forwarded : Bool) → (unsent : ℕ) → ℕ → Option QueueId
 begins false zero direction = Some (Output direction)
 begins _ unsent direction = None
 
@@ -127,7 +127,7 @@ unless_gone false packets = packets
 
 -- The packet that enters a queue, by what is inside the queues before: a request; a request or an
 -- answer that a landing accepts, poisoned or not (an accepted TRET enters no buffer, nor does what
--- is accepted while it is passed on); an answer; or the front of the queue that it leaves.
+-- is accepted while it is forwarded); an answer; or the front of the queue that it leaves.
 unfoldable pub enters : Topology → (inside : QueueId → List PacketFields) → List Entry → Entry →
     Option Arrival
 enters topology inside past (Gave host tag poisoned request) =
@@ -135,7 +135,7 @@ enters topology inside past (Gave host tag poisoned request) =
     (λ _. request_packet request (tag_number tag) host poisoned)
 enters topology inside past (Landed direction flit outcome) =
     arrival_of (landing_buffer topology direction)
-    (unless_gone (goes_on outcome (passed_onto topology direction past))
+    (unless_gone (goes_on outcome (forwarded_onto topology direction past))
     (filter is_token (landed_packets topology direction flit outcome past)))
 enters topology inside past (Shifted cube port goal) =
     arrival_in (goal_queue topology cube goal) (λ _. front_of (inside (Port cube port)))

@@ -9,18 +9,18 @@ use Rattle.hmc_journal.specs.Setup.{Setup, shapes_of}
 use Rattle.hmc_journal.specs.Queues.{QueueId, contents}
 use Rattle.hmc_journal.specs.Links.{link_entries}
 use Rattle.hmc_journal.specs.Hosts.{host_of}
-use Rattle.hmc_journal.specs.Piped.{PipeFrom, passed_onto, pipe_onto}
+use Rattle.hmc_journal.specs.Piped.{PipeFrom, forwarded_onto, pipe_onto}
 use Rattle.hmc_journal.specs.Serial.{state_after}
 
 -- the packets in each queue; memory, registers and logic units; each host; what each link did; of
--- each direction, where the packet goes that is gathered at its end, if it is passed on; and the
--- pipe of the latest packet that was passed onto it
+-- each direction, where the packet goes that is gathered at its end, if it is forwarded; and the
+-- pipe of the latest packet that was forwarded onto it
 pub record StepView : Type 0 where
   pub inside : QueueId → List PacketFields
   pub state : State
   pub host : (number : ℕ) → HostFields
   pub entries : (link : ℕ) → List LinkEntry
-  pub passed : (direction : ℕ) → Option ℕ
+  pub forwarded : (direction : ℕ) → Option ℕ
   pub pipe : (direction : ℕ) → Option PipeFrom
 
 -- a plain machine of the case's cubes and of the logic units that were handed in
@@ -38,6 +38,6 @@ view_of setup past = record {
   state = state_of setup past;
   host = host_of setup past;
   entries = λ link. link_entries setup.topology link past;
-  passed = λ direction. passed_onto setup.topology direction past;
+  forwarded = λ direction. forwarded_onto setup.topology direction past;
   pipe = λ direction. pipe_onto setup.topology direction past;
 }

@@ -53,10 +53,10 @@ gathered_head view (Some direction) =
     option_and_then head_in
     (slice_get (pending (receiver_entries (toward direction) (view.entries (direction / 2)))) 0)
 
--- the packet at the end of a direction is passed on already
-abbrev pub is_passed_on : StepView → (direction : Option ℕ) → Bool
-is_passed_on view None = false
-is_passed_on view (Some direction) = is_some (view.passed direction)
+-- the packet at the end of a direction is forwarded already
+abbrev pub is_forwarded : StepView → (direction : Option ℕ) → Bool
+is_forwarded view None = false
+is_forwarded view (Some direction) = is_some (view.forwarded direction)
 
 -- a direction can take a packet of so many flits now
 abbrev pub takes_on : Topology → StepView → (direction flits : ℕ) → Bool
@@ -65,12 +65,13 @@ takes_on topology view direction flits =
     (view_in (sizes_on topology direction) (toward direction) (view.entries (direction / 2))
     Waiting) flits
 
--- the packet goes onto a direction, unless it is passed on already, the buffer of its port holds a
+-- the packet goes onto a direction, unless it is forwarded already, the buffer of its port holds a
 -- packet, or the direction can't take it now
-abbrev pub passed_entry : Topology → StepView → (cube port : ℕ) → Head → (onto : Option ℕ) → Entry
-passed_entry topology view cube port head None = Idle (steps.Through cube port) causes.NoPacket
-passed_entry topology view cube port head (Some direction) =
-    if is_passed_on view (direction_to topology (places.Port cube port))
+abbrev pub forwarded_entry : Topology → StepView → (cube port : ℕ) → Head → (onto : Option ℕ) →
+    Entry
+forwarded_entry topology view cube port head None = Idle (steps.Through cube port) causes.NoPacket
+forwarded_entry topology view cube port head (Some direction) =
+    if is_forwarded view (direction_to topology (places.Port cube port))
     || not (is_none (slice_get (view.inside (Port cube port)) 0))
     || not (takes_on topology view direction head.flits)
     then Idle (steps.Through cube port) causes.Busy
@@ -80,7 +81,7 @@ passed_entry topology view cube port head (Some direction) =
 abbrev pub through_head : Topology → StepView → (cube port : ℕ) → Option Head → Entry
 through_head topology view cube port None = Idle (steps.Through cube port) causes.NoPacket
 through_head topology view cube port (Some head) =
-    passed_entry topology view cube port head
+    forwarded_entry topology view cube port head
     (option_and_then (λ onward. direction_from topology (places.Port cube onward))
     (onward_port topology cube port head))
 

@@ -24,10 +24,10 @@ pub enum Cause {
     Empty,
     /// There is no room where it would go.
     Full,
-    /// The next flit of a packet that is passed on isn't there yet.
+    /// The next flit of a packet that is forwarded isn't there yet.
     Starved,
-    /// No packet that could be passed on is arriving.
+    /// No packet that could be forwarded is arriving.
     NoPacket,
-    /// The packet can't be passed on now.
+    /// The packet can't be forwarded now.
     Busy,
 }

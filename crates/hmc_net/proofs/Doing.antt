@@ -123,8 +123,8 @@ idle_does net now step here cause same sized chosen = does_by net now net.cubes 
 
 -- ---- directions and places
 
-from_there : (topology : Topology) (place : Place) (d : ℕ) → direction_from topology place ≡ Some d → d < directions_in topology
-from_there topology place d is =
+pub starts_there : (topology : Topology) (place : Place) (d : ℕ) → direction_from topology place ≡ Some d → d < directions_in topology
+starts_there topology place d is =
     let at = from_place (joins_of topology) place d is in
     let inside : d < 2 * length (joins_of topology) = at.inside in omega (arith, length-map topology.links (λ (link : LinkRow). link.join))
 
@@ -138,7 +138,7 @@ to_by topology place d (Some e) is to =
     let same : other e ≡ d = cc in
     let at = from_place (joins_of topology) place e is in
     subst (EndsAt topology place) same (record {
-      there = other_inside e (length topology.links) (from_there topology place e is);
+      there = other_inside e (length topology.links) (starts_there topology place e is);
       ends = sym (start_is_end (joins_of topology) e) ∙ at.starts;
     })
 
@@ -147,13 +147,10 @@ ends_at topology place d to = to_by topology place d (direction_from topology pl
 
 -- the direction that starts, or ends, at a place is one of the network's links
 pub starts_in : (net : NetState) (place : Place) (d : ℕ) → IsReady net → direction_from net.topology place ≡ Some d → IsDirection net.links d
-starts_in net place d ready is = omega (arith, from_there net.topology place d is, ready.sees.shows.links.count)
+starts_in net place d ready is = omega (arith, starts_there net.topology place d is, ready.sees.shows.links.count)
 
 pub ends_in : (net : NetState) (place : Place) (d : ℕ) → IsReady net → direction_to net.topology place ≡ Some d → IsDirection net.links d
 ends_in net place d ready is = omega (arith, (ends_at net.topology place d is).there, ready.sees.shows.links.count)
-
-pub starts_there : (topology : Topology) (place : Place) (d : ℕ) → direction_from topology place ≡ Some d → d < directions_in topology
-starts_there topology place d is = from_there topology place d is
 
 -- ---- what is seen of a direction
 
@@ -171,14 +168,14 @@ room_seen net view direction room sees there is =
 pub place_room : (net : NetState) (view : StepView) (place : Place) (direction : ℕ) (room : Bool) → Sees net view → direction_from net.topology place ≡ Some direction → IsRoom net.links direction room
     → room ≡ not (lacks_room net.topology view (output_from net.topology place))
 place_room net view place direction room sees from is =
-    room_seen net view direction room sees (from_there net.topology place direction from) is
+    room_seen net view direction room sees (starts_there net.topology place direction from) is
     ∙ sym (ap (λ (d : Option ℕ). not (lacks_room net.topology view (option_map Output d))) from)
 
 -- the same of the entries of its link
 pub place_has_room : (net : NetState) (view : StepView) (place : Place) (direction : ℕ) → Sees net view → direction_from net.topology place ≡ Some direction
     → has_room (sizes_by net.topology.links direction) (toward direction) (view.entries (direction / 2)) ≡ not (lacks_room net.topology view (output_from net.topology place))
 place_has_room net view place direction sees from =
-    ap (λ (l : List PacketFields). nat_lt (length l) (sizes_by net.topology.links direction).output) (sym (sees.laws.directions direction (from_there net.topology place direction from)).output)
+    ap (λ (l : List PacketFields). nat_lt (length l) (sizes_by net.topology.links direction).output) (sym (sees.laws.directions direction (starts_there net.topology place direction from)).output)
     ∙ below_is_room (length (view.inside (Output direction))) (sizes_by net.topology.links direction).output
     ∙ sym (ap (λ (d : Option ℕ). not (lacks_room net.topology view (option_map Output d))) from)
 

@@ -26,6 +26,7 @@ use Rattle.hmc_send.specs.LinkLines.{StampedFlit, line, under_mask, passes}
 use Rattle.hmc_send.specs.declared.toward.Toward.{Toward}
 use Rattle.hmc_send.specs.declared.toward.Toward.TheVariants.{Forth, Back}
 use Rattle.hmc_link.specs.Held.{flits_seen}
+use Rattle.hmc_net.specs.Pipes.{is_gathered}
 use Rattle.hmc_net.specs.Sees.{some_flits, AreShort}
 
 -- flits are gathered only in Good
@@ -33,32 +34,37 @@ abbrev pub AreInGood : Mode → List (List ℕ) → Type 0
 AreInGood modes.Good flits = Unit {0}
 AreInGood mode flits = flits ≡ []
 
+-- a test on outcomes that no outcome meets which comes outside of Good
+pub record NeedsGood (test : Outcome → Bool) : Type 0 where
+  pub trained : test outcomes.Trained ≡ false
+  pub quiet : test outcomes.Quiet ≡ false
+  pub ran : (kind : Kind) → test (outcomes.Ran kind) ≡ false
+
+trained_fails : (test : Outcome → Bool) → NeedsGood test → (ends is : Bool) → test (if is then checked (if ends then outcomes.Trained else outcomes.Quiet) None else unchecked outcomes.Quiet).outcome ≡ false
+trained_fails test needs true true = needs.trained
+trained_fails test needs false true = needs.quiet
+trained_fails test needs ends false = needs.quiet
+
+irtry_fails : (test : Outcome → Bool) → NeedsGood test → (kind : Kind) (ends : Bool) → test (if ends then outcomes.Ran kind else outcomes.Quiet) ≡ false
+irtry_fails test needs kind true = needs.ran kind
+irtry_fails test needs kind false = needs.quiet
+
+aborted_fails : (test : Outcome → Bool) → NeedsGood test → (view : LandingView) (irtry : Option (Kind × ℕ)) → test (abort_reception view irtry).outcome ≡ false
+aborted_fails test needs view None = needs.quiet
+aborted_fails test needs view (Some irtry) = irtry_fails test needs irtry.0 (view.run irtry.0 + 1 == whole_run)
+
+pub comes_in_good : (test : Outcome → Bool) → NeedsGood test → (m : Mode) (q : Profile) (view : LandingView) (flit : List ℕ) → test (mode_reception m q view flit).outcome ≡ true → m ≡ modes.Good
+comes_in_good test needs modes.Good q view flit is = refl
+comes_in_good test needs modes.Train q view flit is = absurd (let clash : true ≡ false = sym is ∙ trained_fails test needs (view.training + 1 == whole_training) (is_training q flit) in cc)
+comes_in_good test needs modes.Abort q view flit is = absurd (let clash : true ≡ false = sym is ∙ aborted_fails test needs view (irtry_in q flit) in cc)
+
 -- an outcome that goes on gathering comes in Good alone
-abbrev is_gathering : Outcome → Bool
-is_gathering outcomes.Gathered = true
-is_gathering _ = false
+gathering_needs : NeedsGood is_gathered
+gathering_needs = record { trained = refl; quiet = refl; ran = λ kind. refl }
 
-trained_gathers : (ends is : Bool) → is_gathering (if is then checked (if ends then outcomes.Trained else outcomes.Quiet) None else unchecked outcomes.Quiet).outcome ≡ false
-trained_gathers true true = refl
-trained_gathers false true = refl
-trained_gathers ends false = refl
-
-irtry_gathers : (kind : Kind) (ends : Bool) → is_gathering (if ends then outcomes.Ran kind else outcomes.Quiet) ≡ false
-irtry_gathers kind true = refl
-irtry_gathers kind false = refl
-
-aborted_gathers : (view : LandingView) (irtry : Option (Kind × ℕ)) → is_gathering (abort_reception view irtry).outcome ≡ false
-aborted_gathers view None = refl
-aborted_gathers view (Some irtry) = irtry_gathers irtry.0 (view.run irtry.0 + 1 == whole_run)
-
-mode_gathers : (m : Mode) (q : Profile) (view : LandingView) (flit : List ℕ) → is_gathering (mode_reception m q view flit).outcome ≡ true → m ≡ modes.Good
-mode_gathers modes.Good q view flit is = refl
-mode_gathers modes.Train q view flit is = absurd (let clash : true ≡ false = sym is ∙ trained_gathers (view.training + 1 == whole_training) (is_training q flit) in cc)
-mode_gathers modes.Abort q view flit is = absurd (let clash : true ≡ false = sym is ∙ aborted_gathers view (irtry_in q flit) in cc)
-
-gathers_good : (q : Profile) (past : List ReceiverEntry) (flit : List ℕ) → is_gathering (reception_of q past flit).outcome ≡ true → mode past ≡ modes.Good
+gathers_good : (q : Profile) (past : List ReceiverEntry) (flit : List ℕ) → is_gathered (reception_of q past flit).outcome ≡ true → mode past ≡ modes.Good
 unfolding reception_of reception_by landing_view
-gathers_good q past flit is = mode_gathers (mode past) q (landing_view q past) flit is
+gathers_good q past flit is = comes_in_good is_gathered gathering_needs (mode past) q (landing_view q past) flit is
 
 nothing_left : (m : Mode) → AreInGood m []
 nothing_left modes.Good = tt
@@ -69,7 +75,7 @@ nothing_left modes.Abort = refl
 good_gathering : (m : Mode) (flits : List (List ℕ)) (flit : List ℕ) → m ≡ modes.Good → AreInGood (mode_after m (ReceiverEntry.Land flit outcomes.Gathered)) (flits ++ flit ∷ [])
 good_gathering m flits flit is = subst (λ (n : Mode). AreInGood (mode_after n (ReceiverEntry.Land flit outcomes.Gathered)) (flits ++ flit ∷ [])) (sym is) tt
 
-landed_good : (m : Mode) (flits : List (List ℕ)) (flit : List ℕ) (outcome : Outcome) → (is_gathering outcome ≡ true → m ≡ modes.Good) → AreInGood (mode_after m (ReceiverEntry.Land flit outcome)) (gathered_after flits (ReceiverEntry.Land flit outcome))
+landed_good : (m : Mode) (flits : List (List ℕ)) (flit : List ℕ) (outcome : Outcome) → (is_gathered outcome ≡ true → m ≡ modes.Good) → AreInGood (mode_after m (ReceiverEntry.Land flit outcome)) (gathered_after flits (ReceiverEntry.Land flit outcome))
 landed_good m flits flit outcomes.Gathered good = good_gathering m flits flit (good refl)
 landed_good m flits flit outcomes.Quiet good = nothing_left _
 landed_good m flits flit outcomes.Trained good = nothing_left _
@@ -100,7 +106,7 @@ land_good : (link : LinkFields) (d : Toward) (mask flit : List ℕ) (outcome : O
 unfolding next_entry mode pending
 land_good link d mask flit outcome past lawful before =
     let same = lawful_outcome link past d mask flit outcome (slice_get (line link.profile d past) 0) lawful in
-    landed_good (mode (receiver_entries d past)) (pending (receiver_entries d past)) flit outcome (λ is. gathers_good link.profile (receiver_entries d past) flit (ap is_gathering (sym same) ∙ is))
+    landed_good (mode (receiver_entries d past)) (pending (receiver_entries d past)) flit outcome (λ is. gathers_good link.profile (receiver_entries d past) flit (ap is_gathered (sym same) ∙ is))
 
 unlock_good : (past : List ReceiverEntry) → AreInGood (mode (ReceiverEntry.Unlock ∷ past)) (pending (ReceiverEntry.Unlock ∷ past))
 unfolding mode pending
@@ -131,25 +137,25 @@ all_seen modes.Abort flits is = sym (ap some_flits is)
 
 -- ---- fewer flits are gathered than the first one names
 
-packet_gathers : (q : Profile) (view : LandingView) (next poisoned repeat : Bool) → is_gathering (if next then (if poisoned then outcomes.Poisoned else outcomes.Accepted) else if repeat then outcomes.Repeat else outcomes.AbortedOrder) ≡ false
+packet_gathers : (q : Profile) (view : LandingView) (next poisoned repeat : Bool) → is_gathered (if next then (if poisoned then outcomes.Poisoned else outcomes.Accepted) else if repeat then outcomes.Repeat else outcomes.AbortedOrder) ≡ false
 packet_gathers q view true true repeat = refl
 packet_gathers q view true false repeat = refl
 packet_gathers q view false poisoned true = refl
 packet_gathers q view false poisoned false = refl
 
-layout_gathers : (q : Profile) (view : LandingView) (layout : Layout) (seen : Seen) → is_gathering (packet_reception q view layout seen).outcome ≡ false
+layout_gathers : (q : Profile) (view : LandingView) (layout : Layout) (seen : Seen) → is_gathered (packet_reception q view layout seen).outcome ≡ false
 layout_gathers q view layouts.Null seen = refl
-layout_gathers q view layouts.Irtry seen = irtry_gathers (kind_of seen.packet.frp) (view.run (kind_of seen.packet.frp) + 1 == whole_run)
+layout_gathers q view layouts.Irtry seen = irtry_fails is_gathered gathering_needs (kind_of seen.packet.frp) (view.run (kind_of seen.packet.frp) + 1 == whole_run)
 layout_gathers q view layouts.Pret seen = refl
 layout_gathers q view layouts.Tret seen = packet_gathers q view (is_next q view seen.packet) seen.packet.poisoned (is_repeat q view seen.packet)
 layout_gathers q view layouts.Ask seen = packet_gathers q view (is_next q view seen.packet) seen.packet.poisoned (is_repeat q view seen.packet)
 layout_gathers q view layouts.Reply seen = packet_gathers q view (is_next q view seen.packet) seen.packet.poisoned (is_repeat q view seen.packet)
 
-read_gathers : (q : Profile) (view : LandingView) (read : Result Seen Bad) → is_gathering (read_reception q view read).outcome ≡ false
+read_gathers : (q : Profile) (view : LandingView) (read : Result Seen Bad) → is_gathered (read_reception q view read).outcome ≡ false
 read_gathers q view (Err bad) = refl
 read_gathers q view (Ok seen) = layout_gathers q view (layout_of seen.packet.command) seen
 
-gathered_parts : (q : Profile) (view : LandingView) (flit : List ℕ) (empty : Bool) → (length view.pending == 0) ≡ empty → (null none : Bool) → is_null flit ≡ null → is_no_length (lng_of flit) ≡ none → is_gathering (good_reception q view flit).outcome ≡ true
+gathered_parts : (q : Profile) (view : LandingView) (flit : List ℕ) (empty : Bool) → (length view.pending == 0) ≡ empty → (null none : Bool) → is_null flit ≡ null → is_no_length (lng_of flit) ≡ none → is_gathered (good_reception q view flit).outcome ≡ true
     → (nat_lt (length (view.pending ++ flit ∷ [])) (lng_with view.pending flit) ≡ true) × (view.pending ≡ [] → none ≡ false)
 gathered_parts q view flit empty at null none null_is none_is is = by_tests empty null none at null_is none_is (sym (same_reception empty null none at null_is none_is) ∙ is)
   where
@@ -160,20 +166,20 @@ gathered_parts q view flit empty at null none null_is none_is is = by_tests empt
     rest = flits_reception q view (lng_with view.pending flit) flits
 
     same_reception : (e n z : Bool) → (length view.pending == 0) ≡ e → is_null flit ≡ n → is_no_length (lng_of flit) ≡ z
-        → is_gathering (good_reception q view flit).outcome ≡ is_gathering (if e && n then checked outcomes.Quiet None else if e && z then unchecked (outcomes.AbortedBad bads.Length) else rest).outcome
+        → is_gathered (good_reception q view flit).outcome ≡ is_gathered (if e && n then checked outcomes.Quiet None else if e && z then unchecked (outcomes.AbortedBad bads.Length) else rest).outcome
     same_reception e n z e_is n_is z_is =
-        ap (λ (t : Bool). is_gathering (if t && is_null flit then checked outcomes.Quiet None else if t && is_no_length (lng_of flit) then unchecked (outcomes.AbortedBad bads.Length) else rest).outcome) e_is
-        ∙ ap₂ (λ (a b : Bool). is_gathering (if e && a then checked outcomes.Quiet None else if e && b then unchecked (outcomes.AbortedBad bads.Length) else rest).outcome) n_is z_is
+        ap (λ (t : Bool). is_gathered (if t && is_null flit then checked outcomes.Quiet None else if t && is_no_length (lng_of flit) then unchecked (outcomes.AbortedBad bads.Length) else rest).outcome) e_is
+        ∙ ap₂ (λ (a b : Bool). is_gathered (if e && a then checked outcomes.Quiet None else if e && b then unchecked (outcomes.AbortedBad bads.Length) else rest).outcome) n_is z_is
 
-    fewer : (less : Bool) → nat_lt (length flits) (lng_with view.pending flit) ≡ less → is_gathering rest.outcome ≡ true → less ≡ true
+    fewer : (less : Bool) → nat_lt (length flits) (lng_with view.pending flit) ≡ less → is_gathered rest.outcome ≡ true → less ≡ true
     fewer true less on = refl
-    fewer false less on = absurd (let clash : true ≡ false = sym on ∙ ap (λ (t : Bool). is_gathering (if t then unchecked outcomes.Gathered else read_reception q view (read_of q flits)).outcome) less ∙ read_gathers q view (read_of q flits) in cc)
+    fewer false less on = absurd (let clash : true ≡ false = sym on ∙ ap (λ (t : Bool). is_gathered (if t then unchecked outcomes.Gathered else read_reception q view (read_of q flits)).outcome) less ∙ read_gathers q view (read_of q flits) in cc)
 
     empty_is : (l : List (List ℕ)) → (length l == 0) ≡ false → l ≡ [] → ⊥
     empty_is [] not_empty is = absurd (cc)
     empty_is (x ∷ l) not_empty is = absurd (cc)
 
-    by_tests : (e n z : Bool) → (length view.pending == 0) ≡ e → is_null flit ≡ n → is_no_length (lng_of flit) ≡ z → is_gathering (if e && n then checked outcomes.Quiet None else if e && z then unchecked (outcomes.AbortedBad bads.Length) else rest).outcome ≡ true
+    by_tests : (e n z : Bool) → (length view.pending == 0) ≡ e → is_null flit ≡ n → is_no_length (lng_of flit) ≡ z → is_gathered (if e && n then checked outcomes.Quiet None else if e && z then unchecked (outcomes.AbortedBad bads.Length) else rest).outcome ≡ true
         → (nat_lt (length flits) (lng_with view.pending flit) ≡ true) × (view.pending ≡ [] → z ≡ false)
     by_tests true true z e_is n_is z_is on = absurd (cc)
     by_tests true false true e_is n_is z_is on = absurd (cc)
@@ -192,17 +198,17 @@ short_more : (q : Profile) (flits : List (List ℕ)) (flit : List ℕ) → AreSh
 short_more q [] flit short less none = (ltb-true _ _ less, length_fits (lng_of flit) (none refl))
 short_more q (first ∷ rest) flit short less none = (ltb-true _ _ less, short.1)
 
-mode_short : (m : Mode) (q : Profile) (view : LandingView) (flit : List ℕ) → AreShort view.pending → is_gathering (mode_reception m q view flit).outcome ≡ true → AreShort (view.pending ++ flit ∷ [])
+mode_short : (m : Mode) (q : Profile) (view : LandingView) (flit : List ℕ) → AreShort view.pending → is_gathered (mode_reception m q view flit).outcome ≡ true → AreShort (view.pending ++ flit ∷ [])
 mode_short modes.Good q view flit short is =
     let parts = gathered_parts q view flit _ refl _ _ refl refl is in short_more q view.pending flit short parts.0 parts.1
-mode_short modes.Train q view flit short is = absurd (let clash : true ≡ false = sym is ∙ trained_gathers (view.training + 1 == whole_training) (is_training q flit) in cc)
-mode_short modes.Abort q view flit short is = absurd (let clash : true ≡ false = sym is ∙ aborted_gathers view (irtry_in q flit) in cc)
+mode_short modes.Train q view flit short is = absurd (let clash : true ≡ false = sym is ∙ trained_fails is_gathered gathering_needs (view.training + 1 == whole_training) (is_training q flit) in cc)
+mode_short modes.Abort q view flit short is = absurd (let clash : true ≡ false = sym is ∙ aborted_fails is_gathered gathering_needs view (irtry_in q flit) in cc)
 
-next_short : (q : Profile) (past : List ReceiverEntry) (flit : List ℕ) → AreShort (pending past) → is_gathering (reception_of q past flit).outcome ≡ true → AreShort (pending past ++ flit ∷ [])
+next_short : (q : Profile) (past : List ReceiverEntry) (flit : List ℕ) → AreShort (pending past) → is_gathered (reception_of q past flit).outcome ≡ true → AreShort (pending past ++ flit ∷ [])
 unfolding reception_of reception_by landing_view
 next_short q past flit short is = mode_short (mode past) q (landing_view q past) flit short is
 
-landed_short : (flits : List (List ℕ)) (flit : List ℕ) (outcome : Outcome) → (is_gathering outcome ≡ true → AreShort (flits ++ flit ∷ [])) → AreShort (gathered_after flits (ReceiverEntry.Land flit outcome))
+landed_short : (flits : List (List ℕ)) (flit : List ℕ) (outcome : Outcome) → (is_gathered outcome ≡ true → AreShort (flits ++ flit ∷ [])) → AreShort (gathered_after flits (ReceiverEntry.Land flit outcome))
 landed_short flits flit outcomes.Gathered more = more refl
 landed_short flits flit outcomes.Quiet more = tt
 landed_short flits flit outcomes.Trained more = tt
@@ -217,7 +223,7 @@ land_short : (link : LinkFields) (d : Toward) (mask flit : List ℕ) (outcome : 
 unfolding next_entry pending
 land_short link d mask flit outcome past lawful before =
     let same = lawful_outcome link past d mask flit outcome (slice_get (line link.profile d past) 0) lawful in
-    landed_short (pending (receiver_entries d past)) flit outcome (λ is. next_short link.profile (receiver_entries d past) flit before (ap is_gathering (sym same) ∙ is))
+    landed_short (pending (receiver_entries d past)) flit outcome (λ is. next_short link.profile (receiver_entries d past) flit before (ap is_gathered (sym same) ∙ is))
 
 pub are_short : (link : LinkFields) (d : Toward) (past : List LinkEntry) → IsLawful link past → AreShort (pending (receiver_entries d past))
 unfolding IsLawful receiver_entries pending

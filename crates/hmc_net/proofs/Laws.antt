@@ -7,21 +7,21 @@ use Rattle.hmc_journal.specs.Network.{IsNetwork}
 use Rattle.hmc_journal.specs.Setup.{Setup}
 use Rattle.hmc_journal.proofs.Awaited.{awaits_answers}
 use Rattle.hmc_journal.proofs.DrainedTest.{drained_by_test}
-use Rattle.hmc_journal.proofs.PassedOnKept.{passed_on_kept}
+use Rattle.hmc_journal.proofs.ForwardedKept.{forwarded_kept}
 use Rattle.hmc_journal.proofs.QueueInvariant.{queue_invariant}
-use Rattle.hmc_net.proofs.PassedLaw.{onward_seen, passed_seen}
+use Rattle.hmc_net.proofs.ForwardedLaw.{onward_seen, forwarded_seen}
 use Rattle.hmc_net.proofs.Seeing.{IsLawBound}
 
 pub law_bound : (setup : Setup) (past : List Entry) → IsNetwork setup → Lawful setup past → IsLawBound setup past
 law_bound setup past network lawful =
     let queues = queue_invariant setup past network lawful in
-    let passed = passed_on_kept setup past network lawful in
+    let forwarded = forwarded_kept setup past network lawful in
     record {
       queues = queues;
       awaited = awaits_answers setup past network lawful;
-      fed = λ direction there. passed.fed direction;
-      onward = λ direction there. onward_seen setup past direction passed;
-      passed = λ direction onto there is. passed_seen setup past direction onto (queues.links direction there).receiver (passed.passed direction onto there is);
+      fed = λ direction there. forwarded.fed direction;
+      onward = λ direction there. onward_seen setup past direction forwarded;
+      forwarded = λ direction onto there is. forwarded_seen setup past direction onto (queues.links direction there).receiver (forwarded.forwarded direction onto there is);
     }
 
 pub drained_of : (setup : Setup) (past : List Entry) → IsNetwork setup → Lawful setup past → is_drained setup.topology past ≡ true → IsDrained setup.topology past

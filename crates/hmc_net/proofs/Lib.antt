@@ -6,7 +6,7 @@ pub mod CubeMoves
 pub mod Gathering
 pub mod Seeing
 pub mod Laws
-pub mod PassedLaw
+pub mod ForwardedLaw
 pub mod Standing
 pub mod Doing
 pub mod Linking
@@ -18,7 +18,7 @@ pub mod PortSteps
 pub mod Retiring
 pub mod PipeLemmas
 pub mod PipedThen
-pub mod Passing
+pub mod Forwarding
 pub mod ThroughFacts
 pub mod ThroughDoes
 pub mod Indexed

@@ -99,7 +99,7 @@ one_there rows links entries direction stand there =
     let less : direction / 2 < length links = omega (arith, stand.count) in
     record { kept = (stand.stand (direction / 2) (first_held rows links entries (direction / 2) stand less) less).kept }
 
--- whether a link can take a packet that is passed on, by its entries
+-- whether a link can take a packet that is forwarded, by its entries
 pub ready_by : (link : LinkFields) (held : LinkHeld) (past : List LinkEntry) (d : Toward) (flits : ℕ) → LinkStandsFor link held past → is_ready (sending_end d held) flits ≡ may_pass_on (view_in link d past Waiting) flits
 ready_by link held past Forth flits stands = ready-held link held.a (parts_of link Forth past) flits stands.a ∙ may-in link Forth past flits
 ready_by link held past Back flits stands = ready-held link held.b (parts_of link Back past) flits stands.b ∙ may-in link Back past flits

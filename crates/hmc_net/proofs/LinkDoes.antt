@@ -29,7 +29,7 @@ use Rattle.hmc_net.specs.Sees.{IsReady}
 use Rattle.hmc_net.proofs.Doing.{with_parts}
 use Rattle.hmc_net.proofs.LinkSteps.{send_does, feed_seen, land_does, unlock_does}
 use Rattle.hmc_net.proofs.PipeLemmas.{landing_counted, loss_counted}
-use Rattle.hmc_net.proofs.Passing.{holds_landed}
+use Rattle.hmc_net.proofs.Forwarding.{holds_landed}
 
 does_for : (own old now : NetState) (step : Step) → own ≡ old → IsReady old → (IsReady own → DoesStep own now step) → DoesStep old now step
 does_for own old now step same ready does = subst (λ (n : NetState). DoesStep n now step) same (does (subst IsReady (sym same) ready))

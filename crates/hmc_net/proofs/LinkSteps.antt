@@ -42,11 +42,12 @@ use Rattle.hmc_net.specs.Apply.{cubes_after, hosts_after, slots_after, piped_aft
 use Rattle.hmc_net.specs.LinkList.{sizes_at, sizes_by, LinksStandFor, called, MaySend, IsThroughAt}
 use Rattle.hmc_net.specs.Links.{outcome_of, sent_by, landed_by, landing_goes_on, after_landing, taken_where}
 use Rattle.hmc_net.specs.NetState.{NetState}
-use Rattle.hmc_net.specs.Pipes.{PipesHeld, AreCounted, IsPlace, passed_at, pipe_at, after_loss}
+use Rattle.hmc_net.specs.Pipes.{PipesHeld, AreCounted, IsPlace, forwarded_at, pipe_at, after_loss}
 use Rattle.hmc_net.specs.Ready.{IsLandingIn}
 use Rattle.hmc_net.specs.Sees.{Sees, IsReady}
 use Rattle.hmc_net.proofs.Doing.{with_parts, does_by, links_do, sized_links, called_puts, called_stays}
 use Rattle.hmc_net.proofs.LinkCalls.{same_entries, one_there}
+use Rattle.hmc_net.proofs.Linking.{unlocked_call}
 use Rattle.hmc_net.proofs.Masks.{mask_found}
 
 -- an entry of a send or of a landing changes no cube, no host and no unit
@@ -235,7 +236,7 @@ none_piped piped direction (lands.Passed flit) none = refl
 none_piped piped direction (lands.Came flit landed) none = absurd (cc)
 
 -- what goes on is taken
-taken_after : (net : NetState) (view : StepView) (direction link : ℕ) (landed : LinkLanded) → passed_at net.piped direction ≡ view.passed direction
+taken_after : (net : NetState) (view : StepView) (direction link : ℕ) (landed : LinkLanded) → forwarded_at net.piped direction ≡ view.forwarded direction
     → taken_if (landing_goes_on net.piped direction landed) link direction (landed_entries_of net view (landed_by direction landed) link) ≡ entries_after net.topology view (landed_by direction landed) link
 taken_after net view direction link lands.Empty same = refl
 taken_after net view direction link (lands.Passed flit) same = refl
@@ -289,7 +290,7 @@ land_does net now direction mask landed between own piped ready there answer sta
           same_entries rows own (taken_where (landing_goes_on net.piped direction landed) rows direction (landed_entries_of net view (landed_by direction landed))) (entries_after net.topology view (landed_by direction landed))
           (take rows (landed_entries_of net view (landed_by direction landed)) (same_entries rows between (called rows direction (λ d. LinkCall.land d mask) view.entries) (landed_entries_of net view (landed_by direction landed)) (stand rows view.entries sees.shows.links fine) came))
           (λ link. taken_calls rows direction link (landing_goes_on net.piped direction landed) (landed_entries_of net view (landed_by direction landed)) (holds view sees)
-          ∙ taken_after net view direction link landed (sees.shows.passed direction there.some_direction)));
+          ∙ taken_after net view direction link landed (sees.shows.forwarded direction there.some_direction)));
       there = parts.2;
       host = parts.3;
       counted = counted;
@@ -299,10 +300,6 @@ land_does net now direction mask landed between own piped ready there answer sta
     })
 
 -- ---- unlock
-
-unlocked_call : (link : LinkFields) (past : List LinkEntry) (d : Toward) → after_call link past (LinkCall.unlock d) ≡ LinkEntry.unlocked d ∷ past
-unfolding next_entry
-unlocked_call link past d = refl
 
 pub unlock_does : (net now : NetState) (direction : ℕ) (own : List LinkHeld) (piped : PipesHeld) → IsReady net
     → ((rows : List LinkRow) (entries : ℕ → List LinkEntry) → LinksStandFor rows net.links entries → LinksStandFor rows own (called rows direction LinkCall.unlock entries))

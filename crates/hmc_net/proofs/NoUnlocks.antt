@@ -44,7 +44,7 @@ use Rattle.hmc_journal.specs.Queues.QueueId.{Port, Host, Vault, Bank, Answers}
 use Rattle.hmc_journal.specs.Routes.{port_towards}
 use Rattle.hmc_journal.specs.Setup.{Topology, shape_of, graph_of, direction_from, direction_to}
 use Rattle.hmc_journal.specs.StepView.{StepView}
-use Rattle.hmc_journal.specs.ThroughSteps.{gathered_head, onward_port, passed_entry, through_entry, through_head}
+use Rattle.hmc_journal.specs.ThroughSteps.{gathered_head, onward_port, forwarded_entry, through_entry, through_head}
 
 is_unlock : Entry → Bool
 is_unlock (Unlocked direction) = true
@@ -120,16 +120,16 @@ unfolding is_unlock
 busy_other true cube port direction = refl
 busy_other false cube port direction = refl
 
-passed_other : (topology : Topology) (view : StepView) (cube port : ℕ) (head : Head) (onto : Option ℕ) → IsOther (passed_entry topology view cube port head onto)
+forwarded_other : (topology : Topology) (view : StepView) (cube port : ℕ) (head : Head) (onto : Option ℕ) → IsOther (forwarded_entry topology view cube port head onto)
 unfolding is_unlock
-passed_other topology view cube port head None = refl
-passed_other topology view cube port head (Some direction) = busy_other _ cube port direction
+forwarded_other topology view cube port head None = refl
+forwarded_other topology view cube port head (Some direction) = busy_other _ cube port direction
 
 through_other : (topology : Topology) (view : StepView) (cube port : ℕ) (found : Option Head) → IsOther (through_head topology view cube port found)
 unfolding is_unlock
 through_other topology view cube port None = refl
 through_other topology view cube port (Some head) =
-    passed_other topology view cube port head (option_and_then (λ (onward : ℕ). direction_from topology (places.Port cube onward)) (onward_port topology cube port head))
+    forwarded_other topology view cube port head (option_and_then (λ (onward : ℕ). direction_from topology (places.Port cube onward)) (onward_port topology cube port head))
 
 retire_other : (slot : ℕ) (live : Bool) → IsOther (if live then Retired slot else Idle (steps.Retire slot) causes.Empty)
 unfolding is_unlock

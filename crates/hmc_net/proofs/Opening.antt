@@ -21,7 +21,7 @@ use Rattle.hmc_journal.specs.Links.{link_entries}
 use Rattle.hmc_journal.specs.Network.{IsNetwork}
 use Rattle.hmc_journal.specs.Queues.{QueueId, left, entered, contents}
 use Rattle.hmc_journal.specs.Queues.QueueId.{Output, Port, Host, Vault, Bank, Registers, Answers}
-use Rattle.hmc_journal.specs.Piped.{passed_onto, pipe_onto}
+use Rattle.hmc_journal.specs.Piped.{forwarded_onto, pipe_onto}
 use Rattle.hmc_journal.specs.Serial.{state_after}
 use Rattle.hmc_journal.specs.Setup.{Topology, Setup, no_cube as no_setup, cube_setup, cubes_in, hosts_in, directions_in}
 use Rattle.hmc_journal.specs.StepView.{state_of}
@@ -141,9 +141,9 @@ no_entries : (topology : Topology) (link : ℕ) → ◌≡◌ {A = List LinkEntr
 unfolding link_entries
 no_entries topology link = refl
 
-nothing_passed : (topology : Topology) (direction : ℕ) → None ≡ passed_onto topology direction []
-unfolding passed_onto
-nothing_passed topology direction = refl
+nothing_forwarded : (topology : Topology) (direction : ℕ) → None ≡ forwarded_onto topology direction []
+unfolding forwarded_onto
+nothing_forwarded topology direction = refl
 
 nothing_piped : (topology : Topology) (direction : ℕ) → None ≡ pipe_onto topology direction []
 unfolding pipe_onto
@@ -172,7 +172,7 @@ opening_stands setup net network steps few is = record {
   queues = λ queue cube. nothing_inside setup.topology.cubes net.cubes queue is.cubes ∙ sym (nothing_in setup.topology queue);
   moves = λ queue cube. within_nothing setup.topology queue;
   state = new_states setup net.cubes net.slots is.cubes is.same_slots;
-  passed = λ direction there. is.unused.passed direction ∙ nothing_passed setup.topology direction;
+  forwarded = λ direction there. is.unused.forwarded direction ∙ nothing_forwarded setup.topology direction;
   pipes = λ direction there. is.unused.pipes direction ∙ nothing_piped setup.topology direction;
   hosts = λ host less. is.hosts.each host no_host (omega (arith, is.hosts.counted)) ∙ opening_host_is setup host;
   links = λ on. same_entries setup.topology.links net.links (λ link. []) (λ link. link_entries setup.topology link []) is.links (no_entries setup.topology);

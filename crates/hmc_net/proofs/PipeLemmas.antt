@@ -11,28 +11,31 @@ use Rattle.hmc_link.specs.declared.link_landed.LinkLanded.{LinkLanded}
 use Rattle.hmc_link.specs.declared.link_landed.LinkLanded.TheVariants as landings
 use Rattle.hmc_journal.specs.Piped.{PipeFrom, while_gathered, with_landing, with_unlock, while_gathering}
 use Rattle.hmc_net.specs.Links.{outcome_of, after_landing}
-use Rattle.hmc_net.specs.Pipes.{PipesHeld, AreCounted, passed_at, pipe_at, changed_pipe, after_begin, after_change, after_loss, MayLand, MayLose, is_whole_outcome, is_gathered}
+use Rattle.hmc_net.specs.Pipes.{PipesHeld, AreCounted, forwarded_at, pipe_at, changed_pipe, after_begin, after_change, after_loss, MayLand, MayLose, is_whole_outcome, is_gathered}
 use Rattle.hmc_net.proofs.Elements.{default_same}
+
+pub same_pipe : (a b : PipeFrom) → Some a ≡ Some b → a ≡ b
+same_pipe a b is = cc
 
 -- ---- as many directions as before
 
 pub change_counted : (held : PipesHeld) (n direction : ℕ) (onto : Option ℕ) (goes : Option ℕ → Option ℕ) (changed : PipeFields → PipeFields) → AreCounted n held → AreCounted n (after_change onto goes changed direction held)
 change_counted held n direction None goes changed is = is
 change_counted held n direction (Some onto) goes changed is = record {
-  passed = length-set held.passed direction (goes (Some onto)) ∙ is.passed;
+  forwarded = length-set held.forwarded direction (goes (Some onto)) ∙ is.forwarded;
   pipes = length-set held.pipes onto (option_map (changed_pipe changed) (pipe_at held onto)) ∙ is.pipes;
 }
 
 pub landing_counted : (held : PipesHeld) (direction n : ℕ) (landed : LinkLanded) → AreCounted n held → AreCounted n (after_landing direction landed held)
 landing_counted held direction n landings.Empty is = is
 landing_counted held direction n (landings.Passed flit) is = is
-landing_counted held direction n (landings.Came flit landed) is = change_counted held n direction (passed_at held direction) (while_gathered (outcome_of landed)) (with_landing flit (outcome_of landed)) is
+landing_counted held direction n (landings.Came flit landed) is = change_counted held n direction (forwarded_at held direction) (while_gathered (outcome_of landed)) (with_landing flit (outcome_of landed)) is
 
 pub loss_counted : (held : PipesHeld) (direction n : ℕ) → AreCounted n held → AreCounted n (after_loss direction held)
-loss_counted held direction n is = change_counted held n direction (passed_at held direction) (λ onto. None) with_unlock is
+loss_counted held direction n is = change_counted held n direction (forwarded_at held direction) (λ onto. None) with_unlock is
 
 pub begin_counted : (held : PipesHeld) (n onto : ℕ) (p : PipeFrom) → AreCounted n held → AreCounted n (after_begin onto p held)
-begin_counted held n onto p is = record { passed = length-set held.passed p.from (Some onto) ∙ is.passed; pipes = length-set held.pipes onto (Some p) ∙ is.pipes }
+begin_counted held n onto p is = record { forwarded = length-set held.forwarded p.from (Some onto) ∙ is.forwarded; pipes = length-set held.pipes onto (Some p) ∙ is.pipes }
 
 -- ---- a landing by its outcome
 
@@ -126,25 +129,25 @@ while_apart direction change p apart = by_test (p.from == direction) p.pipe.good
 
 -- ---- as the code finds them
 
-pub passed_found : (held : PipesHeld) (passed : List (Option ℕ)) (pipes : List (Option PipeFrom)) (at direction : ℕ) (x : Option ℕ) → ◌≡◌ {A = PipesHeld} (record { passed = passed; pipes = pipes }) held → at ≡ direction → x ≡ slice_index_or passed at x → direction < length held.passed → x ≡ passed_at held direction
-passed_found held passed pipes at direction x same at_is found there =
-    found ∙ ap₂ (λ (l : List (Option ℕ)) (n : ℕ). slice_index_or l n x) (ap (λ (h : PipesHeld). h.passed) same) at_is ∙ default_same held.passed direction x None there
+pub forwarded_found : (held : PipesHeld) (forwarded : List (Option ℕ)) (pipes : List (Option PipeFrom)) (at direction : ℕ) (x : Option ℕ) → ◌≡◌ {A = PipesHeld} (record { forwarded = forwarded; pipes = pipes }) held → at ≡ direction → x ≡ slice_index_or forwarded at x → direction < length held.forwarded → x ≡ forwarded_at held direction
+forwarded_found held forwarded pipes at direction x same at_is found there =
+    found ∙ ap₂ (λ (l : List (Option ℕ)) (n : ℕ). slice_index_or l n x) (ap (λ (h : PipesHeld). h.forwarded) same) at_is ∙ default_same held.forwarded direction x None there
 
-pub pipe_found : (held : PipesHeld) (passed : List (Option ℕ)) (pipes : List (Option PipeFrom)) (at onto : ℕ) (x : Option PipeFrom) → ◌≡◌ {A = PipesHeld} (record { passed = passed; pipes = pipes }) held → at ≡ onto → x ≡ slice_index_or pipes at x → onto < length held.pipes → x ≡ pipe_at held onto
-pipe_found held passed pipes at onto x same at_is found there =
+pub pipe_found : (held : PipesHeld) (forwarded : List (Option ℕ)) (pipes : List (Option PipeFrom)) (at onto : ℕ) (x : Option PipeFrom) → ◌≡◌ {A = PipesHeld} (record { forwarded = forwarded; pipes = pipes }) held → at ≡ onto → x ≡ slice_index_or pipes at x → onto < length held.pipes → x ≡ pipe_at held onto
+pipe_found held forwarded pipes at onto x same at_is found there =
     found ∙ ap₂ (λ (l : List (Option PipeFrom)) (n : ℕ). slice_index_or l n x) (ap (λ (h : PipesHeld). h.pipes) same) at_is ∙ default_same held.pipes onto x None there
 
--- where no packet is passed on nothing changes
-pub unchanged : (held : PipesHeld) (direction : ℕ) (goes : Option ℕ → Option ℕ) (changed : PipeFields → PipeFields) → passed_at held direction ≡ None → held ≡ after_change (passed_at held direction) goes changed direction held
+-- where no packet is forwarded nothing changes
+pub unchanged : (held : PipesHeld) (direction : ℕ) (goes : Option ℕ → Option ℕ) (changed : PipeFields → PipeFields) → forwarded_at held direction ≡ None → held ≡ after_change (forwarded_at held direction) goes changed direction held
 unchanged held direction goes changed none = ap (λ (o : Option ℕ). after_change o goes changed direction held) (sym none)
 
-pub change_made : (held : PipesHeld) (passed : List (Option ℕ)) (pipes : List (Option PipeFrom)) (at direction to onto : ℕ) (next : Option ℕ) (pipe : Option PipeFrom) (goes : Option ℕ → Option ℕ) (changed : PipeFields → PipeFields) → ◌≡◌ {A = PipesHeld} (record { passed = passed; pipes = pipes }) held → at ≡ direction → to ≡ onto
-    → passed_at held direction ≡ Some onto → next ≡ goes (Some onto) → pipe ≡ option_map (changed_pipe changed) (pipe_at held onto)
-    → ◌≡◌ {A = PipesHeld} (record { passed = slice_set passed at next; pipes = slice_set pipes to pipe }) (after_change (passed_at held direction) goes changed direction held)
-change_made held passed pipes at direction to onto next pipe goes changed same at_is to_is is next_is pipe_is =
-    ap (λ (h : PipesHeld). record { passed = slice_set h.passed at next; pipes = slice_set h.pipes to pipe }) same
-    ∙ ap₂ (λ (a b : ℕ). record { passed = slice_set held.passed a next; pipes = slice_set held.pipes b pipe }) at_is to_is
-    ∙ ap₂ (λ (o : Option ℕ) (p : Option PipeFrom). record { passed = slice_set held.passed direction o; pipes = slice_set held.pipes onto p }) next_is pipe_is
+pub change_made : (held : PipesHeld) (forwarded : List (Option ℕ)) (pipes : List (Option PipeFrom)) (at direction to onto : ℕ) (next : Option ℕ) (pipe : Option PipeFrom) (goes : Option ℕ → Option ℕ) (changed : PipeFields → PipeFields) → ◌≡◌ {A = PipesHeld} (record { forwarded = forwarded; pipes = pipes }) held → at ≡ direction → to ≡ onto
+    → forwarded_at held direction ≡ Some onto → next ≡ goes (Some onto) → pipe ≡ option_map (changed_pipe changed) (pipe_at held onto)
+    → ◌≡◌ {A = PipesHeld} (record { forwarded = slice_set forwarded at next; pipes = slice_set pipes to pipe }) (after_change (forwarded_at held direction) goes changed direction held)
+change_made held forwarded pipes at direction to onto next pipe goes changed same at_is to_is is next_is pipe_is =
+    ap (λ (h : PipesHeld). record { forwarded = slice_set h.forwarded at next; pipes = slice_set h.pipes to pipe }) same
+    ∙ ap₂ (λ (a b : ℕ). record { forwarded = slice_set held.forwarded a next; pipes = slice_set held.pipes b pipe }) at_is to_is
+    ∙ ap₂ (λ (o : Option ℕ) (p : Option PipeFrom). record { forwarded = slice_set held.forwarded direction o; pipes = slice_set held.pipes onto p }) next_is pipe_is
     ∙ ap (λ (o : Option ℕ). after_change o goes changed direction held) (sym is)
 
 -- what may land in a pipe, and what may be lost of one

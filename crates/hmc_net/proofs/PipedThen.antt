@@ -1,4 +1,4 @@
--- The packets that are passed on after one more entry of the journal.
+-- The packets that are forwarded after one more entry of the journal.
 use Rattle.std.proofs.Common.{◌≡◌, ◌<◌, ◌==◌, ◌∙◌, ℕ, zero, suc, Bool, true, false, Option, Some, None, List, [], ◌∷◌, length, refl, sym, ap, ap₂, subst, arith, eqb-true, eq-eqb}
 use Rattle.std.specs.Prelude.{option_map, slice_index_or, slice_set}
 use Rattle.hmc_codes.specs.Places.{same_place}
@@ -16,22 +16,22 @@ use Rattle.hmc_journal.specs.declared.entry.Entry.TheVariants.{Landed, Through, 
 use Rattle.hmc_journal.specs.Directions.{receiver_of}
 use Rattle.hmc_journal.specs.Links.{toward, entries_on}
 use Rattle.hmc_journal.specs.Network.{IsNetwork}
-use Rattle.hmc_journal.specs.Piped.{PipeFrom, lands_at, passed_onto, pipe_onto, pipe_of, while_gathered, while_gathering, with_landing, with_unlock}
+use Rattle.hmc_journal.specs.Piped.{PipeFrom, lands_at, forwarded_onto, pipe_onto, pipe_of, while_gathered, while_gathering, with_landing, with_unlock}
 use Rattle.hmc_journal.specs.Setup.{Topology, Setup, joins_of, directions_in, direction_to, end_of}
 use Rattle.hmc_journal.specs.StepView.{view_of}
 use Rattle.hmc_journal.proofs.EntryRule.{EntryRule}
 use Rattle.hmc_journal.proofs.Joins.{same_place_is, same_place_refl, end_is_start, other_other, other_inside, from_start}
 use Rattle.hmc_net.specs.Apply.{begun_from, piped_after}
-use Rattle.hmc_net.specs.Pipes.{PipesHeld, AreCounted, passed_at, pipe_at, changed_pipe, after_begin, after_change}
+use Rattle.hmc_net.specs.Pipes.{PipesHeld, AreCounted, forwarded_at, pipe_at, changed_pipe, after_begin, after_change}
 use Rattle.hmc_net.proofs.Doing.{ends_at, starts_there}
 use Rattle.hmc_net.proofs.Elements.{changed_at}
-use Rattle.hmc_net.proofs.PipeLemmas.{change_counted, begin_counted, none_gathered, while_here, while_apart}
+use Rattle.hmc_net.proofs.PipeLemmas.{change_counted, begin_counted, none_gathered, while_here, while_apart, same_pipe}
 use Rattle.std.proofs.lemmas.List.{length-map}
 
--- what a network keeps of the packets that are passed on, after a journal
+-- what a network keeps of the packets that are forwarded, after a journal
 pub record ArePiped (topology : Topology) (past : List Entry) (held : PipesHeld) : Type 0 where
   pub counted : AreCounted (directions_in topology) held
-  pub passed : (d : ℕ) → d < directions_in topology → passed_at held d ≡ passed_onto topology d past
+  pub forwarded : (d : ℕ) → d < directions_in topology → forwarded_at held d ≡ forwarded_onto topology d past
   pub pipes : (d : ℕ) → d < directions_in topology → pipe_at held d ≡ pipe_onto topology d past
 
 -- ---- where a direction lands
@@ -60,30 +60,30 @@ lands_by topology d from cube port once there to = by_test (from == d) refl (lan
 
 -- ---- a change at the end of a direction
 
-untouched : (held : PipesHeld) (direction d : ℕ) (goes : Option ℕ → Option ℕ) → goes None ≡ None → passed_at held direction ≡ None → passed_at held d ≡ choose (direction == d) (goes (passed_at held d)) (passed_at held d)
+untouched : (held : PipesHeld) (direction d : ℕ) (goes : Option ℕ → Option ℕ) → goes None ≡ None → forwarded_at held direction ≡ None → forwarded_at held d ≡ choose (direction == d) (goes (forwarded_at held d)) (forwarded_at held d)
 untouched held direction d goes none is = by_test (direction == d) refl
   where
-    by_test : (test : Bool) → (direction == d) ≡ test → passed_at held d ≡ choose (direction == d) (goes (passed_at held d)) (passed_at held d)
+    by_test : (test : Bool) → (direction == d) ≡ test → forwarded_at held d ≡ choose (direction == d) (goes (forwarded_at held d)) (forwarded_at held d)
     by_test true same =
-        let gone : passed_at held d ≡ None = ap (passed_at held) (sym (eqb-true direction d same)) ∙ is in
-        gone ∙ sym none ∙ ap goes (sym gone) ∙ ap (λ (t : Bool). choose t (goes (passed_at held d)) (passed_at held d)) (sym same)
-    by_test false same = ap (λ (t : Bool). choose t (goes (passed_at held d)) (passed_at held d)) (sym same)
+        let gone : forwarded_at held d ≡ None = ap (forwarded_at held) (sym (eqb-true direction d same)) ∙ is in
+        gone ∙ sym none ∙ ap goes (sym gone) ∙ ap (λ (t : Bool). choose t (goes (forwarded_at held d)) (forwarded_at held d)) (sym same)
+    by_test false same = ap (λ (t : Bool). choose t (goes (forwarded_at held d)) (forwarded_at held d)) (sym same)
 
-passed_changed : (held : PipesHeld) (n direction d : ℕ) (goes : Option ℕ → Option ℕ) (changed : PipeFields → PipeFields) (onto : Option ℕ) → AreCounted n held → direction < n → passed_at held direction ≡ onto → goes None ≡ None
-    → passed_at (after_change onto goes changed direction held) d ≡ choose (direction == d) (goes (passed_at held d)) (passed_at held d)
-passed_changed held n direction d goes changed (Some onto) counted there is none = by_test (direction == d) refl
+forwarded_changed : (held : PipesHeld) (n direction d : ℕ) (goes : Option ℕ → Option ℕ) (changed : PipeFields → PipeFields) (onto : Option ℕ) → AreCounted n held → direction < n → forwarded_at held direction ≡ onto → goes None ≡ None
+    → forwarded_at (after_change onto goes changed direction held) d ≡ choose (direction == d) (goes (forwarded_at held d)) (forwarded_at held d)
+forwarded_changed held n direction d goes changed (Some onto) counted there is none = by_test (direction == d) refl
   where
-    by_test : (test : Bool) → (direction == d) ≡ test → passed_at (after_change (Some onto) goes changed direction held) d ≡ choose (direction == d) (goes (passed_at held d)) (passed_at held d)
+    by_test : (test : Bool) → (direction == d) ≡ test → forwarded_at (after_change (Some onto) goes changed direction held) d ≡ choose (direction == d) (goes (forwarded_at held d)) (forwarded_at held d)
     by_test test same =
-        changed_at held.passed direction d (goes (Some onto)) None test same (omega (arith, counted.passed)) ∙ by_same test same ∙ ap (λ (t : Bool). choose t (goes (passed_at held d)) (passed_at held d)) (sym same)
+        changed_at held.forwarded direction d (goes (Some onto)) None test same (omega (arith, counted.forwarded)) ∙ by_same test same ∙ ap (λ (t : Bool). choose t (goes (forwarded_at held d)) (forwarded_at held d)) (sym same)
       where
-        by_same : (test : Bool) → (direction == d) ≡ test → choose test (goes (Some onto)) (passed_at held d) ≡ choose test (goes (passed_at held d)) (passed_at held d)
-        by_same true same = ap goes (sym is ∙ ap (passed_at held) (eqb-true direction d same))
+        by_same : (test : Bool) → (direction == d) ≡ test → choose test (goes (Some onto)) (forwarded_at held d) ≡ choose test (goes (forwarded_at held d)) (forwarded_at held d)
+        by_same true same = ap goes (sym is ∙ ap (forwarded_at held) (eqb-true direction d same))
         by_same false same = refl
-passed_changed held n direction d goes changed None counted there is none = untouched held direction d goes none is
+forwarded_changed held n direction d goes changed None counted there is none = untouched held direction d goes none is
 
 -- the pipe of the packet that is gathered there changes, and no other one
-pipes_changed : (held : PipesHeld) (n direction d : ℕ) (goes : Option ℕ → Option ℕ) (changed : PipeFields → PipeFields) (onto : Option ℕ) → AreCounted n held → passed_at held direction ≡ onto
+pipes_changed : (held : PipesHeld) (n direction d : ℕ) (goes : Option ℕ → Option ℕ) (changed : PipeFields → PipeFields) (onto : Option ℕ) → AreCounted n held → forwarded_at held direction ≡ onto
     → ((to : ℕ) → onto ≡ Some to → to < n)
     → ((to : ℕ) (p : PipeFrom) → onto ≡ Some to → pipe_at held to ≡ Some p → (p.from ≡ direction) × (p.pipe.good ≡ None))
     → ((p : PipeFrom) → pipe_at held d ≡ Some p → p.pipe.good ≡ None → p.from ≡ direction → onto ≡ Some d)
@@ -128,55 +128,52 @@ some_inside [] i x is = absurd (cc)
 some_inside (y ∷ xs) zero x is = omega arith
 some_inside (y ∷ xs) (suc i) x is = (let less = some_inside xs i x is in omega arith)
 
--- what the steps of links know of the packets that are passed on
+-- what the steps of links know of the packets that are forwarded
 pub record AreLawful (topology : Topology) (past : List Entry) : Type 0 where
-  pub there : (d onto : ℕ) → d < directions_in topology → passed_onto topology d past ≡ Some onto → onto < directions_in topology
-  pub pipe : (d onto : ℕ) → d < directions_in topology → passed_onto topology d past ≡ Some onto → pipe_onto topology onto past ≡ Some (pipe_of topology d (pending (receiver_of d past)))
-  pub source : (d : ℕ) (p : PipeFrom) → d < directions_in topology → pipe_onto topology d past ≡ Some p → p.pipe.good ≡ None → (p.from < directions_in topology) × (passed_onto topology p.from past ≡ Some d)
-
-same_pipe : (a b : PipeFrom) → Some a ≡ Some b → a ≡ b
-same_pipe a b is = cc
+  pub there : (d onto : ℕ) → d < directions_in topology → forwarded_onto topology d past ≡ Some onto → onto < directions_in topology
+  pub pipe : (d onto : ℕ) → d < directions_in topology → forwarded_onto topology d past ≡ Some onto → pipe_onto topology onto past ≡ Some (pipe_of topology d (pending (receiver_of d past)))
+  pub source : (d : ℕ) (p : PipeFrom) → d < directions_in topology → pipe_onto topology d past ≡ Some p → p.pipe.good ≡ None → (p.from < directions_in topology) × (forwarded_onto topology p.from past ≡ Some d)
 
 changed_then : (topology : Topology) (past : List Entry) (held : PipesHeld) (direction : ℕ) (goes : Option ℕ → Option ℕ) (changed : PipeFields → PipeFields) → goes None ≡ None → AreLawful topology past → ArePiped topology past held
     → (d : ℕ) → d < directions_in topology
-    → (passed_at (after_change (passed_at held direction) goes changed direction held) d ≡ choose (direction == d) (goes (passed_onto topology d past)) (passed_onto topology d past))
-    × (pipe_at (after_change (passed_at held direction) goes changed direction held) d ≡ option_map (while_gathering direction changed) (pipe_onto topology d past))
+    → (forwarded_at (after_change (forwarded_at held direction) goes changed direction held) d ≡ choose (direction == d) (goes (forwarded_onto topology d past)) (forwarded_onto topology d past))
+    × (pipe_at (after_change (forwarded_at held direction) goes changed direction held) d ≡ option_map (while_gathering direction changed) (pipe_onto topology d past))
 changed_then topology past held direction goes changed none law is d there = (
-  by_passed (passed_at held direction) refl ∙ ap (λ (o : Option ℕ). choose (direction == d) (goes o) o) (is.passed d there),
-  pipes_changed held n direction d goes changed (passed_at held direction) is.counted refl
-      (λ to at. law.there direction to (inside to at) (sym (is.passed direction (inside to at)) ∙ at))
+  by_forwarded (forwarded_at held direction) refl ∙ ap (λ (o : Option ℕ). choose (direction == d) (goes o) o) (is.forwarded d there),
+  pipes_changed held n direction d goes changed (forwarded_at held direction) is.counted refl
+      (λ to at. law.there direction to (inside to at) (sym (is.forwarded direction (inside to at)) ∙ at))
       (λ to p at found.
       (let less = inside to at in
-      let onto = sym (is.passed direction less) ∙ at in
+      let onto = sym (is.forwarded direction less) ∙ at in
       let own : p ≡ pipe_of topology direction (pending (receiver_of direction past)) = same_pipe p _ (sym found ∙ is.pipes to (law.there direction to less onto) ∙ law.pipe direction to less onto) in (
         ap (λ (q : PipeFrom). q.from) own,
         ap (λ (q : PipeFrom). q.pipe.good) own,
       )))
       (λ p found unended from.
       (let source = law.source d p there (sym (is.pipes d there) ∙ found) unended in
-      ap (passed_at held) (sym from) ∙ is.passed p.from source.0 ∙ source.1))
+      ap (forwarded_at held) (sym from) ∙ is.forwarded p.from source.0 ∙ source.1))
       ∙ ap (option_map (while_gathering direction changed)) (is.pipes d there),
 )
   where
     n : ℕ
     n = directions_in topology
 
-    inside : (to : ℕ) → passed_at held direction ≡ Some to → direction < n
-    inside to at = (let less = some_inside held.passed direction to at in omega (arith, is.counted.passed))
+    inside : (to : ℕ) → forwarded_at held direction ≡ Some to → direction < n
+    inside to at = (let less = some_inside held.forwarded direction to at in omega (arith, is.counted.forwarded))
 
-    by_passed : (onto : Option ℕ) → passed_at held direction ≡ onto → passed_at (after_change (passed_at held direction) goes changed direction held) d ≡ choose (direction == d) (goes (passed_at held d)) (passed_at held d)
-    by_passed None at = ap (λ (o : Option ℕ). passed_at (after_change o goes changed direction held) d) at ∙ untouched held direction d goes none at
-    by_passed (Some to) at =
-        ap (λ (o : Option ℕ). passed_at (after_change o goes changed direction held) d) at ∙ passed_changed held n direction d goes changed (Some to) is.counted (inside to at) at none
+    by_forwarded : (onto : Option ℕ) → forwarded_at held direction ≡ onto → forwarded_at (after_change (forwarded_at held direction) goes changed direction held) d ≡ choose (direction == d) (goes (forwarded_at held d)) (forwarded_at held d)
+    by_forwarded None at = ap (λ (o : Option ℕ). forwarded_at (after_change o goes changed direction held) d) at ∙ untouched held direction d goes none at
+    by_forwarded (Some to) at =
+        ap (λ (o : Option ℕ). forwarded_at (after_change o goes changed direction held) d) at ∙ forwarded_changed held n direction d goes changed (Some to) is.counted (inside to at) at none
 
--- a packet begins to be passed on
+-- a packet begins to be forwarded
 begun_then : (topology : Topology) (past : List Entry) (held : PipesHeld) (from onto cube port : ℕ) (came : List (List ℕ)) → are_distinct (ends_of (joins_of topology)) ≡ true → direction_to topology (places.Port cube port) ≡ Some from → from < directions_in topology → onto < directions_in topology → ArePiped topology past held
     → (d : ℕ) → d < directions_in topology
-    → (passed_at (after_begin onto (pipe_of topology from came) held) d ≡ choose (lands_at topology d cube port) (Some onto) (passed_onto topology d past))
+    → (forwarded_at (after_begin onto (pipe_of topology from came) held) d ≡ choose (lands_at topology d cube port) (Some onto) (forwarded_onto topology d past))
     × (pipe_at (after_begin onto (pipe_of topology from came) held) d ≡ choose (onto == d) (Some (pipe_of topology from came)) (pipe_onto topology d past))
 begun_then topology past held from onto cube port came once to from_there onto_there is d there = (
-  changed_at held.passed from d (Some onto) None (from == d) refl (omega (arith, is.counted.passed))
-      ∙ ap₂ (λ (t : Bool) (o : Option ℕ). choose t (Some onto) o) (sym (lands_by topology d from cube port once there to)) (is.passed d there),
+  changed_at held.forwarded from d (Some onto) None (from == d) refl (omega (arith, is.counted.forwarded))
+      ∙ ap₂ (λ (t : Bool) (o : Option ℕ). choose t (Some onto) o) (sym (lands_by topology d from cube port once there to)) (is.forwarded d there),
   changed_at held.pipes onto d (Some (pipe_of topology from came)) None (onto == d) refl (omega (arith, is.counted.pipes))
       ∙ ap (λ (o : Option PipeFrom). choose (onto == d) (Some (pipe_of topology from came)) o) (is.pipes d there),
 )
@@ -184,15 +181,15 @@ begun_then topology past held from onto cube port came once to from_there onto_t
 pub piped_then : (setup : Setup) (past : List Entry) (entry : Entry) (held : PipesHeld) → IsNetwork setup → EntryRule setup past entry → AreLawful setup.topology past
     → ((d : ℕ) → d < directions_in setup.topology → receiver_of d past ≡ receiver_entries (toward d) (entries_on setup.topology d past))
     → ArePiped setup.topology past held → ArePiped setup.topology (entry ∷ past) (piped_after setup.topology (view_of setup past) entry held)
-unfolding passed_onto pipe_onto view_of
+unfolding forwarded_onto pipe_onto view_of
 piped_then setup past (Landed direction flit outcome) held network rule law receivers is = record {
-  counted = change_counted held (directions_in setup.topology) direction (passed_at held direction) (while_gathered outcome) (with_landing flit outcome) is.counted;
-  passed = λ d there. (changed_then setup.topology past held direction (while_gathered outcome) (with_landing flit outcome) (none_gathered outcome) law is d there).0;
+  counted = change_counted held (directions_in setup.topology) direction (forwarded_at held direction) (while_gathered outcome) (with_landing flit outcome) is.counted;
+  forwarded = λ d there. (changed_then setup.topology past held direction (while_gathered outcome) (with_landing flit outcome) (none_gathered outcome) law is d there).0;
   pipes = λ d there. (changed_then setup.topology past held direction (while_gathered outcome) (with_landing flit outcome) (none_gathered outcome) law is d there).1;
 }
 piped_then setup past (Unlocked direction) held network rule law receivers is = record {
-  counted = change_counted held (directions_in setup.topology) direction (passed_at held direction) (λ onto. None) with_unlock is.counted;
-  passed = λ d there. (changed_then setup.topology past held direction (λ onto. None) with_unlock refl law is d there).0;
+  counted = change_counted held (directions_in setup.topology) direction (forwarded_at held direction) (λ onto. None) with_unlock is.counted;
+  forwarded = λ d there. (changed_then setup.topology past held direction (λ onto. None) with_unlock refl law is d there).0;
   pipes = λ d there. (changed_then setup.topology past held direction (λ onto. None) with_unlock refl law is d there).1;
 }
 piped_then setup past (Through cube port onto) held network rule law receivers is =
@@ -205,8 +202,8 @@ piped_then setup past (Through cube port onto) held network rule law receivers i
     subst (ArePiped topology (Through cube port onto ∷ past)) (ap (λ (f : Option ℕ). begun_from topology (view_of setup past) f onto held) (sym rule.arrives))
     (subst (λ (l : List (List ℕ)). ArePiped topology (Through cube port onto ∷ past) (after_begin onto (pipe_of topology rule.from l) held)) (sym same) (record {
       counted = begin_counted held (directions_in topology) onto (pipe_of topology rule.from came) is.counted;
-      passed = λ d there. (begun d there).0;
+      forwarded = λ d there. (begun d there).0;
       pipes = λ d there. (begun d there).1
           ∙ ap (λ (f : Option ℕ). choose (onto == d) (option_map (λ (from : ℕ). pipe_of topology from (pending (receiver_of from past))) f) (pipe_onto topology d past)) (sym rule.arrives);
     }))
-piped_then setup past _ held network rule law receivers is = record { counted = is.counted; passed = is.passed; pipes = is.pipes }
+piped_then setup past _ held network rule law receivers is = record { counted = is.counted; forwarded = is.forwarded; pipes = is.pipes }

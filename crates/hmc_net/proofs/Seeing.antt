@@ -16,20 +16,20 @@ use Rattle.hmc_journal.specs.Directions.{accepted}
 use Rattle.hmc_journal.specs.Hosts.{host_of}
 use Rattle.hmc_journal.specs.Lawful.{has_passed}
 use Rattle.hmc_journal.specs.Links.{toward, entries_on, sizes_on, link_entries, fed_after}
-use Rattle.hmc_journal.specs.Piped.{passed_onto, pipe_onto}
+use Rattle.hmc_journal.specs.Piped.{forwarded_onto, pipe_onto}
 use Rattle.hmc_journal.specs.Next.{next, choice}
 use Rattle.hmc_journal.specs.QueueInvariant.{LinkInvariant, QueueInvariant, AnswersAwaited}
 use Rattle.hmc_journal.specs.Setup.{Topology, Setup, directions_in}
 use Rattle.hmc_journal.specs.StepView.{view_of}
 use Rattle.hmc_net.specs.LinkList.{LinksStandFor}
 use Rattle.hmc_net.specs.NetState.{NetState}
-use Rattle.hmc_net.specs.Pipes.{passed_at, pipe_at}
+use Rattle.hmc_net.specs.Pipes.{forwarded_at, pipe_at}
 use Rattle.hmc_net.specs.Ready.{IsStepFor}
-use Rattle.hmc_net.specs.Sees.{ShowsDirection, IsPassedOn, IsOnward, KeepsLaws, Shows, Sees, IsReady}
+use Rattle.hmc_net.specs.Sees.{ShowsDirection, IsForwarded, IsOnward, KeepsLaws, Shows, Sees, IsReady}
 use Rattle.hmc_net.specs.Stands.{StandsFor, IsNext}
 use Rattle.hmc_net.proofs.Gathering.{are_good, are_short, all_seen}
 
--- what a direction is fed fits the packet that is passed onto it
+-- what a direction is fed fits the packet that is forwarded onto it
 abbrev pub IsWellFed : Topology → List Entry → (direction : ℕ) → Type 0
 IsWellFed topology past direction =
     IsFed (under_way (sizes_on topology direction).profile (sender_entries (sizes_on topology direction) (toward direction) (entries_on topology direction past)))
@@ -41,7 +41,7 @@ pub record IsLawBound (setup : Setup) (past : List Entry) : Type 0 where
   pub awaited : AnswersAwaited setup past
   pub fed : (direction : ℕ) → direction < directions_in setup.topology → IsWellFed setup.topology past direction
   pub onward : (direction : ℕ) → direction < directions_in setup.topology → IsOnward setup.topology (view_of setup past) direction
-  pub passed : (direction onto : ℕ) → direction < directions_in setup.topology → passed_onto setup.topology direction past ≡ Some onto → IsPassedOn setup.topology (view_of setup past) direction onto
+  pub forwarded : (direction onto : ℕ) → direction < directions_in setup.topology → forwarded_onto setup.topology direction past ≡ Some onto → IsForwarded setup.topology (view_of setup past) direction onto
 
 pub direction_shown : (setup : Setup) (past : List Entry) (direction : ℕ) → LinkInvariant setup.topology past direction → IsWellFed setup.topology past direction → ShowsDirection setup.topology (view_of setup past) direction
 unfolding view_of accepted
@@ -63,7 +63,7 @@ unfolding view_of
 laws_kept setup past law = record {
   directions = λ direction there. direction_shown setup past direction (law.queues.links direction there) (law.fed direction there);
   onward = law.onward;
-  passed = law.passed;
+  forwarded = law.forwarded;
   ports = law.queues.ports;
   banks = law.queues.banks;
   registers = law.queues.registers;
@@ -78,7 +78,7 @@ shown net past setup stands on = record {
   queues = stands.queues;
   state = stands.state;
   hosts = stands.hosts;
-  passed = subst (λ (t : Topology). (direction : ℕ) → direction < directions_in t → passed_at net.piped direction ≡ passed_onto setup.topology direction past) (sym stands.topology) stands.passed;
+  forwarded = subst (λ (t : Topology). (direction : ℕ) → direction < directions_in t → forwarded_at net.piped direction ≡ forwarded_onto setup.topology direction past) (sym stands.topology) stands.forwarded;
   pipes = subst (λ (t : Topology). (direction : ℕ) → direction < directions_in t → pipe_at net.piped direction ≡ pipe_onto setup.topology direction past) (sym stands.topology) stands.pipes;
   links = subst (λ (t : Topology). LinksStandFor t.links net.links (λ link. link_entries setup.topology link past)) (sym stands.topology) (stands.links on);
 }

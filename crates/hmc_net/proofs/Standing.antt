@@ -44,7 +44,7 @@ use Rattle.hmc_codes.specs.declared.place.Place.TheVariants as places
 use Rattle.hmc_packet.specs.Landings.{ReceiverEntry, pending}
 use Rattle.hmc_send.specs.LinkEntries.{receiver_entries}
 use Rattle.hmc_journal.specs.Directions.{receiver_of}
-use Rattle.hmc_journal.specs.Links.{toward, entries_on, link_entries, gathered_at, passed_on}
+use Rattle.hmc_journal.specs.Links.{toward, entries_on, link_entries, gathered_at, forwarded_on}
 use Rattle.hmc_journal.specs.Piped.{pipe_of}
 use Rattle.hmc_journal.specs.Next.{next}
 use Rattle.hmc_journal.specs.QueueInvariant.{IsCubeRequest}
@@ -203,7 +203,7 @@ entries_then : (setup : Setup) (past : List Entry) (entry : Entry) (link : ℕ) 
 unfolding link_entries view_of
 entries_then setup past (Through cube port direction) link receivers =
     let to = direction_to setup.topology (places.Port cube port) in
-    ap (λ (came : List (List ℕ)). passed_on link direction came (link_entries setup.topology link past)) (gathered_same setup past to (λ d is. receivers d (places.Port cube port) is))
+    ap (λ (came : List (List ℕ)). forwarded_on link direction came (link_entries setup.topology link past)) (gathered_same setup past to (λ d is. receivers d (places.Port cube port) is))
 entries_then setup past (Gave host tag poisoned request) link receivers = refl
 entries_then setup past (Sent direction what flit) link receivers = refl
 entries_then setup past (Landed direction flit outcome) link receivers = refl
@@ -215,13 +215,13 @@ entries_then setup past (Discarded host) link receivers = refl
 entries_then setup past (Unlocked direction) link receivers = refl
 entries_then setup past _ link receivers = refl
 
--- ---- the packets that are passed on
+-- ---- the packets that are forwarded
 
 lawful_pipes : (setup : Setup) (past : List Entry) → IsLawBound setup past → ((d : ℕ) → d < directions_in setup.topology → receiver_of d past ≡ receiver_entries (toward d) (entries_on setup.topology d past)) → AreLawful setup.topology past
 unfolding view_of
 lawful_pipes setup past law receivers = record {
-  there = λ d onto inside is. (law.passed d onto inside is).there;
-  pipe = λ d onto inside is. (law.passed d onto inside is).pipe ∙ ap (λ (r : List ReceiverEntry). Some (pipe_of setup.topology d (pending r))) (sym (receivers d inside));
+  there = λ d onto inside is. (law.forwarded d onto inside is).there;
+  pipe = λ d onto inside is. (law.forwarded d onto inside is).pipe ∙ ap (λ (r : List ReceiverEntry). Some (pipe_of setup.topology d (pending r))) (sym (receivers d inside));
   source = λ d p inside found unended. (law.onward d inside).source p found unended;
 }
 
@@ -250,7 +250,7 @@ stands_by net now tally changed was_good past setup step entry last is law next_
     let moved = moves_of setup past entry net.cubes rule stands.queues there in
     let receivers : (d : ℕ) → d < directions_in setup.topology → receiver_of d past ≡ receiver_entries (toward d) (entries_on setup.topology d past) = λ d inside. (law.queues.links d inside).receiver in
     let piped : now.piped ≡ piped_after setup.topology view entry net.piped = after.piped ∙ ap₂ (λ (t : Topology) (e : Entry). piped_after t view e net.piped) stands.topology (sym last) in
-    let are : ArePiped setup.topology past net.piped = record { counted = subst (λ (t : Topology). AreCounted (directions_in t) net.piped) stands.topology stands.sized.piped; passed = stands.passed; pipes = stands.pipes } in
+    let are : ArePiped setup.topology past net.piped = record { counted = subst (λ (t : Topology). AreCounted (directions_in t) net.piped) stands.topology stands.sized.piped; forwarded = stands.forwarded; pipes = stands.pipes } in
     let next : ArePiped setup.topology (entry ∷ past) now.piped = subst (ArePiped setup.topology (entry ∷ past)) (sym piped) (piped_then setup past entry net.piped stands.network rule (lawful_pipes setup past law receivers) receivers are) in
     let left_is = left_by_rule setup past entry rule in
     record {
@@ -263,7 +263,7 @@ stands_by net now tally changed was_good past setup step entry last is law next_
       moves = λ queue cube. within_step setup.topology past entry queue cube left_is (stands.moves queue cube);
       state = ap₂ machine_of cubes slots ∙ state_then view setup past entry net.cubes net.slots (own_of setup past entry law rule) (sym sees.shows.state) stands.state;
       hosts = subst (λ (l : List HostFields). (host : ℕ) → host < length l → host_in l host ≡ host_of setup (entry ∷ past) host) (sym hosts) (hosts_then setup past entry net.hosts (subst (IsHostIn net.hosts) (sym last) does.host) stands.hosts);
-      passed = next.passed;
+      forwarded = next.forwarded;
       pipes = next.pipes;
       links = λ on. same_entries setup.topology.links now.links (entries_after setup.topology view entry) (λ link. link_entries setup.topology link (entry ∷ past))
           (subst (λ (t : Topology). LinksStandFor t.links now.links (entries_after t view entry)) stands.topology

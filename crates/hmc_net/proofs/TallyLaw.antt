@@ -20,7 +20,7 @@ use Rattle.hmc_journal.specs.Links.{toward, landing_mask, link_sizes, link_entri
 use Rattle.hmc_journal.specs.Setup.{Topology, unit_cube, cubes_in, hosts_in, directions_in}
 use Rattle.hmc_journal.specs.declared.entry.Entry.{Entry}
 use Rattle.hmc_journal.specs.declared.entry.Entry.TheVariants.{Gave, Sent, Landed, Shifted, Dropped, Executed, Lifted, Took, Discarded, Through, Unlocked, Passed}
-use Rattle.hmc_journal.proofs.Projections.{IsBlind, feed_in, goes_at, came_at, put_on-same, taken_if-same, passed_on-same, shifted-same, same_direction}
+use Rattle.hmc_journal.proofs.Projections.{IsBlind, feed_in, goes_at, came_at, put_on-same, taken_if-same, forwarded_on-same, shifted-same, same_direction}
 use Rattle.hmc_net.specs.Tally.{no_counters, no_host_steps, no_cube_counts, is_accepted, is_repeat, is_abort, one_sent, one_landed, one_unlocked, one_given, one_taken, one_executed, one_dropped, directions_after, host_steps_after, cube_counts_after, tallied, host_steps, opening_tally, tally_of}
 use Rattle.hmc_net.specs.declared.tally.HostSteps.{HostSteps}
 use Rattle.hmc_net.proofs.Accepting.{IsCounted}
@@ -64,7 +64,7 @@ changed_same topology k (Dropped cube port) past none = put_on-same (changed_lan
 changed_same topology k (Lifted cube from port) past none = put_on-same (changed_landings (toward k)) (k / 2) _ (λ way. LinkEntry.handed way _) (entries_on topology k past) (λ e. refl)
 changed_same topology k (Took host tag answer) past none = put_on-same (changed_landings (toward k)) (k / 2) _ LinkEntry.taken (entries_on topology k past) (λ e. refl)
 changed_same topology k (Discarded host) past none = put_on-same (changed_landings (toward k)) (k / 2) _ LinkEntry.taken (entries_on topology k past) (λ e. refl)
-changed_same topology k (Through cube port direction) past none = passed_on-same (changed_landings (toward k)) (k / 2) direction (came_at topology cube port past) (entries_on topology k past) (λ e head flits. refl)
+changed_same topology k (Through cube port direction) past none = forwarded_on-same (changed_landings (toward k)) (k / 2) direction (came_at topology cube port past) (entries_on topology k past) (λ e head flits. refl)
 changed_same topology k _ past none = refl
 
 -- where a landing is one of this direction, the mask that is read off it is that of the step

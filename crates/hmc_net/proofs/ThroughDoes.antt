@@ -16,14 +16,14 @@ use Rattle.hmc_schedule.specs.declared.step.Step.TheVariants as steps
 use Rattle.hmc_journal.specs.declared.outcome.Cause.TheVariants as causes
 use Rattle.hmc_journal.specs.declared.entry.Entry.{Entry}
 use Rattle.hmc_journal.specs.declared.entry.Entry.TheVariants.{Through, Idle}
-use Rattle.hmc_journal.specs.Links.{toward, direction_to, passed_on}
+use Rattle.hmc_journal.specs.Links.{toward, direction_to, forwarded_on}
 use Rattle.hmc_journal.specs.Next.{choice}
 use Rattle.hmc_journal.specs.Piped.{pipe_of}
 use Rattle.hmc_journal.specs.Queues.{buffer_at}
 use Rattle.hmc_journal.specs.Queues.QueueId.{Port}
 use Rattle.hmc_journal.specs.Setup.{Topology, directions_in, direction_from}
 use Rattle.hmc_journal.specs.StepView.{StepView}
-use Rattle.hmc_journal.specs.ThroughSteps.{gathered_head, onward_port, is_passed_on, takes_on, passed_entry, through_head}
+use Rattle.hmc_journal.specs.ThroughSteps.{gathered_head, onward_port, is_forwarded, takes_on, forwarded_entry, through_head}
 use Rattle.hmc_net.specs.Apply.{DoesStep, gathered_from, begun_from}
 use Rattle.hmc_net.specs.LinkList.{sizes_by, LinksStandFor, called, IsGathered}
 use Rattle.hmc_net.specs.NetState.{NetState}
@@ -51,10 +51,10 @@ nothing_gathered net now cube port from sized ends is now_is =
 pub no_way_on : (net now : NetState) (cube port from : ℕ) (head : Head) → IsSized net → direction_to net.topology (places.Port cube port) ≡ Some from → IsHeadAt net from (Some head) → IsOnto net cube port head None → now ≡ record net { last = Idle (steps.Through cube port) causes.NoPacket } → DoesStep net now (steps.Through cube port)
 no_way_on net now cube port from head sized ends is goes now_is =
     idle_does net now (steps.Through cube port) (steps.Through cube port) causes.NoPacket now_is sized
-    (λ view sees. ap (passed_entry net.topology view cube port head) goes ∙ by_head net view cube port from (Some head) ends (is view sees))
+    (λ view sees. ap (forwarded_entry net.topology view cube port head) goes ∙ by_head net view cube port from (Some head) ends (is view sees))
 
 -- busy exactly where it isn't free
-busy_by : (passed empty taken : Bool) → (passed || not empty || not taken) ≡ not ((not passed && empty) && taken)
+busy_by : (forwarded empty taken : Bool) → (forwarded || not empty || not taken) ≡ not ((not forwarded && empty) && taken)
 busy_by true true true = refl
 busy_by true true false = refl
 busy_by true false true = refl
@@ -69,18 +69,18 @@ abbrev free_entry : (cube port onto : ℕ) → Bool → Entry
 free_entry cube port onto free = if not free then Idle (steps.Through cube port) causes.Busy else Through cube port onto
 
 free_seen : (net : NetState) (view : StepView) (cube port from onto : ℕ) (head : Head) → direction_to net.topology (places.Port cube port) ≡ Some from
-    → free_entry cube port onto (is_free net view from onto head.flits) ≡ passed_entry net.topology view cube port head (Some onto)
+    → free_entry cube port onto (is_free net view from onto head.flits) ≡ forwarded_entry net.topology view cube port head (Some onto)
 free_seen net view cube port from onto head ends =
     let at = ends_at net.topology (places.Port cube port) from ends in
     let empty = is_none (slice_get (view.inside (Port cube port)) 0) in
-    ap (λ (p : Place). free_entry cube port onto ((not (is_passed_on view (Some from)) && is_none (slice_get (view.inside (buffer_at p)) 0)) && takes_on net.topology view onto head.flits)) at.ends
-    ∙ ap (λ (t : Bool). if t then Idle (steps.Through cube port) causes.Busy else Through cube port onto) (sym (busy_by (is_passed_on view (Some from)) empty (takes_on net.topology view onto head.flits)))
-    ∙ ap (λ (d : Option ℕ). if is_passed_on view d || not empty || not (takes_on net.topology view onto head.flits) then Idle (steps.Through cube port) causes.Busy else Through cube port onto) (sym ends)
+    ap (λ (p : Place). free_entry cube port onto ((not (is_forwarded view (Some from)) && is_none (slice_get (view.inside (buffer_at p)) 0)) && takes_on net.topology view onto head.flits)) at.ends
+    ∙ ap (λ (t : Bool). if t then Idle (steps.Through cube port) causes.Busy else Through cube port onto) (sym (busy_by (is_forwarded view (Some from)) empty (takes_on net.topology view onto head.flits)))
+    ∙ ap (λ (d : Option ℕ). if is_forwarded view d || not empty || not (takes_on net.topology view onto head.flits) then Idle (steps.Through cube port) causes.Busy else Through cube port onto) (sym ends)
 
 chosen_free : (net : NetState) (view : StepView) (cube port from onto : ℕ) (head : Head) (free : Bool) → Sees net view → direction_to net.topology (places.Port cube port) ≡ Some from → IsHeadAt net from (Some head) → IsOnto net cube port head (Some onto) → IsFree net from onto head.flits free
     → free_entry cube port onto free ≡ choice net.topology view (steps.Through cube port)
 chosen_free net view cube port from onto head free sees ends is goes can =
-    ap (free_entry cube port onto) (can view sees) ∙ free_seen net view cube port from onto head ends ∙ ap (passed_entry net.topology view cube port head) goes ∙ by_head net view cube port from (Some head) ends (is view sees)
+    ap (free_entry cube port onto) (can view sees) ∙ free_seen net view cube port from onto head ends ∙ ap (forwarded_entry net.topology view cube port head) goes ∙ by_head net view cube port from (Some head) ends (is view sees)
 
 pub busy_now : (net now : NetState) (cube port from onto : ℕ) (head : Head) → IsSized net → direction_to net.topology (places.Port cube port) ≡ Some from → IsHeadAt net from (Some head) → IsOnto net cube port head (Some onto) → IsFree net from onto head.flits false
     → now ≡ record net { last = Idle (steps.Through cube port) causes.Busy } → DoesStep net now (steps.Through cube port)
@@ -97,9 +97,9 @@ begin_call rows onto head flits entries may named =
     ap₂ (λ (a b : Bool). with_entry (entries (onto / 2)) (entry_if (a && b) (LinkEntry.through (toward onto) head flits))) may named
 
 -- the first flit of what is gathered
-passed_first : (link onto : ℕ) (came : List (List ℕ)) (past : List LinkEntry) (first : List ℕ) → slice_get came 0 ≡ Some first → passed_on link onto came past ≡ passed_on link onto (first ∷ []) past
-passed_first link onto [] past first is = absurd (cc)
-passed_first link onto (head ∷ rest) past first is = let same : head ≡ first = cc in ap (λ (h : List ℕ). passed_on link onto (h ∷ []) past) same
+forwarded_first : (link onto : ℕ) (came : List (List ℕ)) (past : List LinkEntry) (first : List ℕ) → slice_get came 0 ≡ Some first → forwarded_on link onto came past ≡ forwarded_on link onto (first ∷ []) past
+forwarded_first link onto [] past first is = absurd (cc)
+forwarded_first link onto (head ∷ rest) past first is = let same : head ≡ first = cc in ap (λ (h : List ℕ). forwarded_on link onto (h ∷ []) past) same
 
 pub begin_does : (net now : NetState) (cube port from onto : ℕ) (first : List ℕ) (own : List LinkHeld) (piped : PipesHeld) → IsReady net → IsComing net cube port from onto → onto < directions_in net.topology
     → ((view : StepView) → Sees net view → slice_get (gathered view from) 0 ≡ Some first)
@@ -117,10 +117,10 @@ begin_does net now cube port from onto first own piped ready coming there gets m
       hosts_are = refl;
       slots_are = λ view. refl;
       piped_are = λ view sees. piped_is view sees ∙ ap (λ (f : Option ℕ). begun_from net.topology view f onto net.piped) (sym coming.ends);
-      links_are = λ view sees on. same_entries rows own (called rows onto (λ d. LinkCall.begin d first (lng_of first)) view.entries) (λ link. passed_on link onto (gathered_from view (direction_to net.topology (places.Port cube port))) (view.entries link)) (stand rows view.entries sees.shows.links)
+      links_are = λ view sees on. same_entries rows own (called rows onto (λ d. LinkCall.begin d first (lng_of first)) view.entries) (λ link. forwarded_on link onto (gathered_from view (direction_to net.topology (places.Port cube port))) (view.entries link)) (stand rows view.entries sees.shows.links)
           (λ link. called_puts rows onto link (λ d. LinkCall.begin d first (lng_of first)) (λ _ d. LinkEntry.through d first (lng_of first)) view.entries (begin_call rows onto first (lng_of first) view.entries (may view sees) named)
-          ∙ sym (passed_first link onto (gathered view from) (view.entries link) first (gets view sees))
-          ∙ ap (λ (f : Option ℕ). passed_on link onto (gathered_from view f) (view.entries link)) (sym coming.ends));
+          ∙ sym (forwarded_first link onto (gathered view from) (view.entries link) first (gets view sees))
+          ∙ ap (λ (f : Option ℕ). forwarded_on link onto (gathered_from view f) (view.entries link)) (sym coming.ends));
       there = tt;
       host = tt;
       counted = subst (AreCounted (directions_in net.topology)) (sym (piped_is view0 ready.sees)) (begin_counted net.piped (directions_in net.topology) onto (pipe_of net.topology from (gathered view0 from)) ready.sized.piped);

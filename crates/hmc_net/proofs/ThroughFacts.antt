@@ -18,10 +18,10 @@ use Rattle.hmc_journal.specs.Links.{toward}
 use Rattle.hmc_journal.specs.Queues.{landing_buffer}
 use Rattle.hmc_journal.specs.Setup.{directions_in}
 use Rattle.hmc_journal.specs.StepView.{StepView}
-use Rattle.hmc_journal.specs.ThroughSteps.{gathered_head, is_passed_on, takes_on}
+use Rattle.hmc_journal.specs.ThroughSteps.{gathered_head, is_forwarded, takes_on}
 use Rattle.hmc_net.specs.LinkList.{sizes_by, IsArrival, IsGathered, IsTaking, MayBegin}
 use Rattle.hmc_net.specs.NetState.{NetState}
-use Rattle.hmc_net.specs.Pipes.{passed_at}
+use Rattle.hmc_net.specs.Pipes.{forwarded_at}
 use Rattle.hmc_net.specs.Sees.{Sees, IsReady, gathered, some_flits, AreShort}
 use Rattle.hmc_net.specs.Throughs.{IsComing, is_free}
 
@@ -105,15 +105,15 @@ not_some : {X : Type 0} (x : Option X) → not (is_some x) ≡ is_none x
 not_some None = refl
 not_some (Some x) = refl
 
-pub free_found : (net : NetState) (view : StepView) (from onto flits : ℕ) (passed arrived ready : Bool) → Sees net view → from < directions_in net.topology → passed ≡ is_some (passed_at net.piped from) → IsArrival net.links from arrived → IsTaking net.links onto flits ready
-    → ((not passed && not arrived) && ready) ≡ is_free net view from onto flits
-free_found net view from onto flits passed arrived ready sees there passed_is arrived_is ready_is =
+pub free_found : (net : NetState) (view : StepView) (from onto flits : ℕ) (forwarded arrived ready : Bool) → Sees net view → from < directions_in net.topology → forwarded ≡ is_some (forwarded_at net.piped from) → IsArrival net.links from arrived → IsTaking net.links onto flits ready
+    → ((not forwarded && not arrived) && ready) ≡ is_free net view from onto flits
+free_found net view from onto flits forwarded arrived ready sees there forwarded_is arrived_is ready_is =
     let rows = net.topology.links in
-    let goes : passed ≡ is_passed_on view (Some from) = passed_is ∙ ap (λ (o : Option ℕ). is_some o) (sees.shows.passed from there) in
+    let goes : forwarded ≡ is_forwarded view (Some from) = forwarded_is ∙ ap (λ (o : Option ℕ). is_some o) (sees.shows.forwarded from there) in
     let waits : not arrived ≡ is_none (slice_get (view.inside (landing_buffer net.topology from)) 0) =
     ap not (arrived_is rows view.entries sees.shows.links) ∙ not_some (front_in (sizes_by rows from) (toward from) (view.entries (from / 2)))
     ∙ sym (ap (λ (l : List PacketFields). is_none (slice_get l 0)) (sees.laws.directions from there).buffer) in
-    ap₂ (λ (a b : Bool). (not a && b) && ready) goes waits ∙ ap (λ (r : Bool). (not (is_passed_on view (Some from)) && is_none (slice_get (view.inside (landing_buffer net.topology from)) 0)) && r) (ready_is rows view.entries sees.shows.links)
+    ap₂ (λ (a b : Bool). (not a && b) && ready) goes waits ∙ ap (λ (r : Bool). (not (is_forwarded view (Some from)) && is_none (slice_get (view.inside (landing_buffer net.topology from)) 0)) && r) (ready_is rows view.entries sees.shows.links)
 
 and_last : (a b : Bool) → (a && b) ≡ true → b ≡ true
 and_last true b is = is

@@ -63,7 +63,7 @@ seen = record {
   state = opening_state (record { vault_bits = 0; bank_bits = 0; rows = 1; block = 256 } ∷ []) bench;
   host = λ host. no_host;
   entries = λ link. [];
-  passed = λ direction. None;
+  forwarded = λ direction. None;
   pipe = λ direction. None;
 }
 

@@ -26,7 +26,7 @@ use Rattle.hmc_journal.specs.declared.outcome.Goal.TheVariants as goals
 use Rattle.hmc_journal.specs.declared.entry.Entry.{Entry}
 use Rattle.hmc_journal.specs.declared.entry.Entry.TheVariants.{Gave, Sent, Landed, Shifted, Dropped, Spread, Executed, Lifted, Took, Discarded, Through, Unlocked, Retired}
 use Rattle.hmc_journal.specs.Event.{is_passed, cause_of}
-use Rattle.hmc_journal.specs.Links.{link_sizes, landing_mask, put_on, handed_at, taken_at, handed_on, fed_after, taken_if, passed_on}
+use Rattle.hmc_journal.specs.Links.{link_sizes, landing_mask, put_on, handed_at, taken_at, handed_on, fed_after, taken_if, forwarded_on}
 use Rattle.hmc_journal.specs.Next.{choice}
 use Rattle.hmc_journal.specs.Piped.{goes_on, pipe_of}
 use Rattle.hmc_journal.specs.Queues.{front_of, tag_number, queue_of}
@@ -111,13 +111,13 @@ abbrev pub gathered_from : StepView → Option ℕ → List (List ℕ)
 gathered_from view None = []
 gathered_from view (Some direction) = gathered view direction
 
--- a packet is passed on that is gathered at the end of a direction
+-- a packet is forwarded that is gathered at the end of a direction
 abbrev pub begun_from : Topology → StepView → Option ℕ → (onto : ℕ) → PipesHeld → PipesHeld
 begun_from topology view None onto held = held
 begun_from topology view (Some from) onto held =
     after_begin onto (pipe_of topology from (gathered view from)) held
 
--- the packets that are passed on
+-- the packets that are forwarded
 abbrev pub piped_after : Topology → StepView → Entry → PipesHeld → PipesHeld
 piped_after topology view (Landed direction flit outcome) held =
     after_flit direction flit outcome held
@@ -137,7 +137,7 @@ entries_after topology view (Sent direction what flit) link =
     (λ d. LinkEntry.sent d (fed_after (link_sizes topology link) d before (view.pipe direction))
     what flit) before
 entries_after topology view (Landed direction flit outcome) link =
-    taken_if (goes_on outcome (view.passed direction)) link direction
+    taken_if (goes_on outcome (view.forwarded direction)) link direction
     (put_on link (Some direction)
     (λ d. LinkEntry.landed d
     (landing_mask (link_sizes topology link) d (view.entries link) flit) flit outcome)
@@ -155,7 +155,7 @@ entries_after topology view (Took host tag answer) link =
 entries_after topology view (Discarded host) link =
     taken_at topology link (places.Host host) (view.entries link)
 entries_after topology view (Through cube port direction) link =
-    passed_on link direction (gathered_from view (direction_to topology (places.Port cube port)))
+    forwarded_on link direction (gathered_from view (direction_to topology (places.Port cube port)))
     (view.entries link)
 entries_after topology view (Unlocked direction) link =
     put_on link (Some direction) LinkEntry.unlocked (view.entries link)

@@ -59,7 +59,7 @@ pub record MayHand (links : List LinkHeld) (direction : ℕ) (packet : PacketFie
   pub room : has_room (sizes_by rows direction) (toward direction) (entries (direction / 2)) ≡ true
   pub fit : IsTaken (sizes_by rows direction).profile packet
 
--- what is fed fits the packet that is passed onto the direction, if there is one
+-- what is fed fits the packet that is forwarded onto the direction, if there is one
 pub record MaySend (links : List LinkHeld) (direction : ℕ) (feed : Feed) : Type 0 where
   pub rows : List LinkRow
   pub entries : ℕ → List LinkEntry
@@ -93,21 +93,21 @@ IsGathered links direction found = (rows : List LinkRow) (entries : ℕ → List
     ≡ flits_seen (mode (receiver_entries (toward direction) (entries (direction / 2))))
     (pending (receiver_entries (toward direction) (entries (direction / 2))))
 
--- this is the place of the next flit of a packet that is passed onto the direction
+-- this is the place of the next flit of a packet that is forwarded onto the direction
 abbrev pub IsThroughAt : List LinkHeld → (direction : ℕ) → (place : Option ℕ) → Type 0
 IsThroughAt links direction place = (rows : List LinkRow) (entries : ℕ → List LinkEntry) →
     LinksStandFor rows links entries → place
     ≡ through_at (sizes_by rows direction).profile
     (sender_entries (sizes_by rows direction) (toward direction) (entries (direction / 2)))
 
--- this is whether the direction can take a packet of so many flits that is passed on
+-- this is whether the direction can take a packet of so many flits that is forwarded
 abbrev pub IsTaking : List LinkHeld → (direction flits : ℕ) → (ready : Bool) → Type 0
 IsTaking links direction flits ready = (rows : List LinkRow) (entries : ℕ → List LinkEntry) →
     LinksStandFor rows links entries → ready
     ≡ may_pass_on (view_in (sizes_by rows direction) (toward direction) (entries (direction / 2))
     Waiting) flits
 
--- the direction can take a packet of so many flits that is passed on
+-- the direction can take a packet of so many flits that is forwarded
 pub record MayBegin (links : List LinkHeld) (direction flits : ℕ) : Type 0 where
   pub rows : List LinkRow
   pub entries : ℕ → List LinkEntry

@@ -20,7 +20,7 @@ use Rattle.hmc_journal.specs.declared.entry.Entry.{Entry}
 use Rattle.hmc_journal.specs.declared.entry.Entry.TheVariants.{Sent, Landed, Retired, Passed, Idle}
 use Rattle.hmc_journal.specs.Piped.{goes_on}
 use Rattle.hmc_net.specs.LinkList.{AreGoing, IsDirection, called}
-use Rattle.hmc_net.specs.Pipes.{PipesHeld, AreGathering, IsLastOf, passed_at, after_flit}
+use Rattle.hmc_net.specs.Pipes.{PipesHeld, AreGathering, IsLastOf, forwarded_at, after_flit}
 
 -- an outcome without its packet
 abbrev pub outcome_of : Landing → Outcome
@@ -56,13 +56,13 @@ abbrev pub retired_by : (slot : ℕ) → (live : Bool) → Entry
 retired_by slot true = Retired slot
 retired_by slot false = Idle (steps.Retire slot) causes.Empty
 
--- a landing goes on at once: its packet was accepted while it was passed on
+-- a landing goes on at once: its packet was accepted while it was forwarded
 abbrev pub landing_goes_on : PipesHeld → (direction : ℕ) → LinkLanded → Bool
 landing_goes_on held direction (landings.Came flit landed) =
-    goes_on (outcome_of landed) (passed_at held direction)
+    goes_on (outcome_of landed) (forwarded_at held direction)
 landing_goes_on held direction _ = false
 
--- the packets that are passed on after a landing
+-- the packets that are forwarded after a landing
 abbrev pub after_landing : (direction : ℕ) → LinkLanded → PipesHeld → PipesHeld
 after_landing direction (landings.Came flit landed) held =
     after_flit direction flit (outcome_of landed) held
@@ -75,9 +75,9 @@ taken_where true rows direction entries = called rows direction LinkCall.take en
 taken_where false rows direction entries = entries
 
 -- what a landing rests on: the direction is there, no landing has passed, flits are still to come
--- of what is passed on, and none is missing of a packet that came whole
-abbrev pub MayPass : List LinkHeld → PipesHeld → (direction : ℕ) → LinkLanded → Type 0
-MayPass links held direction (landings.Came flit landed) =
+-- of what is forwarded, and none is missing of a packet that came whole
+abbrev pub MayForward : List LinkHeld → PipesHeld → (direction : ℕ) → LinkLanded → Type 0
+MayForward links held direction (landings.Came flit landed) =
     IsDirection links direction × AreGoing links × AreGathering held direction
     × IsLastOf held direction (outcome_of landed)
-MayPass links held direction _ = Unit {0}
+MayForward links held direction _ = Unit {0}

@@ -17,7 +17,7 @@ use Rattle.hmc_net.specs.Pipes.{PipesHeld}
 use Rattle.hmc_net.specs.Tally.{TallyFields}
 
 -- its cubes, hosts and links, each by its number, the slots of its logic units, the packets that
--- are passed on, what is counted, and the entry of the latest step
+-- are forwarded, what is counted, and the entry of the latest step
 pub record NetState : Type 0 where
   pub topology : Topology
   pub cubes : List CubeFields

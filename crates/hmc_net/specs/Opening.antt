@@ -26,7 +26,7 @@ pub record AreNewHosts (count : ℕ) (script : List ItemFields) (hosts : List Ho
       slice_index_or hosts host d ≡ opening_host host script
 
 -- Nothing happened: the cubes and the hosts are new, the logic units are those that were handed in,
--- no packet is passed on, the links stand for no entries, and nothing is counted.
+-- no packet is forwarded, the links stand for no entries, and nothing is counted.
 pub record IsOpening (net : NetState) (topology : Topology) (slots : List (Option UnitFields))
     (script : List ItemFields) : Type 0 where
   pub same_topology : net.topology ≡ topology

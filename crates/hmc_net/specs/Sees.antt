@@ -23,7 +23,7 @@ use Rattle.hmc_journal.specs.Queues.QueueId.{Output, Port, Host, Bank, Registers
 use Rattle.hmc_journal.specs.Setup.{Topology, cubes_in, hosts_in, directions_in, cube_setup}
 use Rattle.hmc_journal.specs.StepView.{StepView}
 use Rattle.hmc_net.specs.LinkList.{LinksStandFor}
-use Rattle.hmc_net.specs.Pipes.{AreCounted, IsPlace, passed_at, pipe_at}
+use Rattle.hmc_net.specs.Pipes.{AreCounted, IsPlace, forwarded_at, pipe_at}
 use Rattle.hmc_net.specs.NetState.{NetState, cube_in, host_in, inside, machine_of}
 
 -- a queue of a cube that is no buffer of a link
@@ -47,7 +47,7 @@ pub record IsSized (net : NetState) : Type 0 where
   pub piped : AreCounted (directions_in net.topology) net.piped
 
 -- the packets in the queues of a network's cubes, its memories, registers and logic units, its
--- hosts, what its links did, and the packets that are passed on, are those of a view
+-- hosts, what its links did, and the packets that are forwarded, are those of a view
 pub record Shows (net : NetState) (view : StepView) : Type 0 where
   pub queues : (queue : QueueId) → IsCubeQueue queue →
       inside net.cubes queue ≡ view.inside queue
@@ -55,8 +55,8 @@ pub record Shows (net : NetState) (view : StepView) : Type 0 where
   pub hosts : (host : ℕ) → host < length net.hosts →
       host_in net.hosts host ≡ view.host host
   pub links : LinksStandFor net.topology.links net.links view.entries
-  pub passed : (direction : ℕ) → direction < directions_in net.topology →
-      passed_at net.piped direction ≡ view.passed direction
+  pub forwarded : (direction : ℕ) → direction < directions_in net.topology →
+      forwarded_at net.piped direction ≡ view.forwarded direction
   pub pipes : (direction : ℕ) → direction < directions_in net.topology →
       pipe_at net.piped direction ≡ view.pipe direction
 
@@ -76,8 +76,8 @@ AreShort [] = Unit {0}
 AreShort (first ∷ rest) = (length (first ∷ rest) < lng_of first) × (lng_of first ≤ 17)
 
 -- What a direction's queues are to its link: the packets that its sender hasn't begun, and those
--- that were accepted at its end and not taken. What it is fed fits the packet that is passed onto
--- it. Flits are gathered where its receiver is Good, and fewer than the first one names.
+-- that were accepted at its end and not taken. What it is fed fits the packet that is forwarded
+-- onto it. Flits are gathered where its receiver is Good, and fewer than the first one names.
 pub record ShowsDirection (topology : Topology) (view : StepView) (direction : ℕ) : Type 0 where
   pub output : view.inside (Output direction)
       ≡ queue_in (sizes_on topology direction) (toward direction) (view.entries (direction / 2))
@@ -96,9 +96,9 @@ pub record ShowsDirection (topology : Topology) (view : StepView) (direction : �
       ≡ some_flits (gathered view direction)
   pub short : AreShort (gathered view direction)
 
--- What a packet that is passed on is: its pipe has the flits that were gathered, its gathering has
+-- What a packet that is forwarded is: its pipe has the flits that were gathered, its gathering has
 -- not ended, and flits are still to come. Accepted, it is the front of its buffer, which is empty.
-pub record IsPassedOn (topology : Topology) (view : StepView) (direction onto : ℕ) : Type 0 where
+pub record IsForwarded (topology : Topology) (view : StepView) (direction onto : ℕ) : Type 0 where
   pub there : onto < directions_in topology
   pub pipe : view.pipe onto ≡ Some (pipe_of topology direction (gathered view direction))
   pub some : 1 ≤ length (gathered view direction)
@@ -112,14 +112,14 @@ pub record IsPassedOn (topology : Topology) (view : StepView) (direction onto : 
       (LinkEntry.landed (toward direction) mask flit Accepted ∷ view.entries (direction / 2))
       ≡ true
 
--- The place of the next flit of a packet that is passed onto a direction, if there is one, is one
--- of its pipe. A pipe whose gathering has not ended is that of a packet that is passed on.
+-- The place of the next flit of a packet that is forwarded onto a direction, if there is one, is
+-- one of its pipe. A pipe whose gathering has not ended is that of a packet that is forwarded.
 pub record IsOnward (topology : Topology) (view : StepView) (direction : ℕ) : Type 0 where
   pub place : IsPlace (view.pipe direction)
       (through_at (sizes_on topology direction).profile (sender_entries
       (sizes_on topology direction) (toward direction) (view.entries (direction / 2))))
   pub source : (p : PipeFrom) → view.pipe direction ≡ Some p → p.pipe.good ≡ None →
-      (p.from < directions_in topology) × (view.passed p.from ≡ Some direction)
+      (p.from < directions_in topology) × (view.forwarded p.from ≡ Some direction)
 
 -- What the laws of journals promise of a view: the queues of directions are those of their links;
 -- packets wait on their way at ports, requests in their cube, answers to a host that is there, and
@@ -129,8 +129,8 @@ pub record KeepsLaws (topology : Topology) (view : StepView) : Type 0 where
       ShowsDirection topology view direction
   pub onward : (direction : ℕ) → direction < directions_in topology →
       IsOnward topology view direction
-  pub passed : (direction onto : ℕ) → direction < directions_in topology →
-      view.passed direction ≡ Some onto → IsPassedOn topology view direction onto
+  pub forwarded : (direction onto : ℕ) → direction < directions_in topology →
+      view.forwarded direction ≡ Some onto → IsForwarded topology view direction onto
   pub ports : (cube port : ℕ) → All (IsOnItsWay topology) (view.inside (Port cube port))
   pub banks : (cube vault bank : ℕ) →
       All (IsCubeRequest cube) (view.inside (Bank cube vault bank))

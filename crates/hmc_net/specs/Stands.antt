@@ -7,11 +7,11 @@ use Rattle.hmc_journal.specs.Lawful.{Lawful, has_passed}
 use Rattle.hmc_journal.specs.Links.{link_entries}
 use Rattle.hmc_journal.specs.Network.{IsNetwork}
 use Rattle.hmc_journal.specs.Queues.{QueueId, left, entered, contents}
-use Rattle.hmc_journal.specs.Piped.{passed_onto, pipe_onto}
+use Rattle.hmc_journal.specs.Piped.{forwarded_onto, pipe_onto}
 use Rattle.hmc_journal.specs.Setup.{Setup, directions_in}
 use Rattle.hmc_journal.specs.StepView.{state_of}
 use Rattle.hmc_net.specs.LinkList.{LinksStandFor}
-use Rattle.hmc_net.specs.Pipes.{passed_at, pipe_at}
+use Rattle.hmc_net.specs.Pipes.{forwarded_at, pipe_at}
 use Rattle.hmc_net.specs.NetState.{NetState, host_in, inside, machine_of}
 use Rattle.hmc_net.specs.Ready.{IsStepFor}
 use Rattle.hmc_net.specs.Sees.{IsCubeQueue, IsSized}
@@ -34,8 +34,8 @@ pub record StandsFor (net : NetState) (setup : Setup) (past : List Entry) : Type
   pub state : machine_of net.cubes net.slots ≡ state_of setup past
   pub hosts : (host : ℕ) → host < length net.hosts →
       host_in net.hosts host ≡ host_of setup past host
-  pub passed : (direction : ℕ) → direction < directions_in setup.topology →
-      passed_at net.piped direction ≡ passed_onto setup.topology direction past
+  pub forwarded : (direction : ℕ) → direction < directions_in setup.topology →
+      forwarded_at net.piped direction ≡ forwarded_onto setup.topology direction past
   pub pipes : (direction : ℕ) → direction < directions_in setup.topology →
       pipe_at net.piped direction ≡ pipe_onto setup.topology direction past
   pub links : has_passed past ≡ false →

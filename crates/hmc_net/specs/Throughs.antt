@@ -1,4 +1,4 @@
--- What the step through knows of the packet that it passes on.
+-- What the step through knows of the packet that it forwards.
 use Rattle.std.specs.Prelude.{◌≡◌, ℕ, Bool, true, not, ◌&&◌, List, [], slice_get, slice_index_or, Option, Some, None, is_none, option_and_then}
 use Rattle.hmc_codes.specs.declared.place.Place.TheVariants as places
 use Rattle.hmc_codes.specs.declared.profile.Profile.{Profile}
@@ -9,7 +9,7 @@ use Rattle.hmc_journal.specs.Links.{direction_to}
 use Rattle.hmc_journal.specs.Queues.{landing_buffer}
 use Rattle.hmc_journal.specs.Setup.{direction_from}
 use Rattle.hmc_journal.specs.StepView.{StepView}
-use Rattle.hmc_journal.specs.ThroughSteps.{gathered_head, onward_port, is_passed_on, takes_on}
+use Rattle.hmc_journal.specs.ThroughSteps.{gathered_head, onward_port, is_forwarded, takes_on}
 use Rattle.hmc_net.specs.NetState.{NetState}
 use Rattle.hmc_net.specs.Sees.{Sees}
 
@@ -33,11 +33,11 @@ IsOnto net cube port head onto =
     ≡ option_and_then (λ onward. direction_from net.topology (places.Port cube onward))
     (onward_port net.topology cube port head)
 
--- the packet at the end of a direction is not passed on yet, no packet waits there, and the other
+-- the packet at the end of a direction is not forwarded yet, no packet waits there, and the other
 -- direction takes it
 abbrev pub is_free : NetState → StepView → (from onto flits : ℕ) → Bool
 is_free net view from onto flits =
-    (not (is_passed_on view (Some from))
+    (not (is_forwarded view (Some from))
     && is_none (slice_get (view.inside (landing_buffer net.topology from)) 0))
     && takes_on net.topology view onto flits
 

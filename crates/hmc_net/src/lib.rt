@@ -14,7 +14,7 @@
 //! - [`Network::step`] takes the next step of the schedule: where the network stands for the case
 //!   and a journal, it stands for the case and that journal with one more entry. The call returns
 //!   [`Went`]. A step that is idle changes nothing but the last entry. After a landing that passed
-//!   no step may be made. A step takes the same time, whatever the topology.
+//!   no step may be made. A step finds its parts by index, and searches no list of cubes or links.
 //! - [`Network::last`] is the entry of the latest step, in one place that each step writes over.
 //! - A network counts its steps as it goes, each in one row. By [`hmc_report::Finished`] it shows
 //!   what the final lines say, which are those of its journal (`shows_journal`).
@@ -29,8 +29,8 @@
 //! proof: the links by the numbers of directions (`LinkList`), where directions start (`Wiring`),
 //! what a step sees (`Sees`), which steps there are (`Ready`), what a step does (`Apply`), what a
 //! give hands to a link (`Gives`), which entry an answer of a link is (`Links`), where a packet
-//! goes from a port (`Ports`), which packets are passed on before they have come whole (`Pipes`),
-//! which one the step through passes on (`Throughs`), when no packet is on its way (`Quiescent`),
+//! goes from a port (`Ports`), which packets are forwarded before they have come whole (`Pipes`),
+//! which one the step through forwards (`Throughs`), when no packet is on its way (`Quiescent`),
 //! what is counted (`Tally`), what is shown at the end (`Finished`), and `Went`.
 #![tactic(auto)]
 

@@ -114,7 +114,7 @@ impl LinkList {
         let _ = link.take(toward_of(direction));
     }
 
-    /// Sends the next flit of a direction, with what is fed to the packet that is passed onto it.
+    /// Sends the next flit of a direction, with what is fed to a packet that is forwarded onto it.
     pub fn send(&mut self, direction: u8, feed: Feed) -> LinkSent
         requires there { IsDirection self.old direction }
         requires may { MaySend self.old direction feed }
@@ -161,7 +161,7 @@ impl LinkList {
         self.links[usize::from(direction / 2)].through_view(toward_of(direction))
     }
 
-    /// The place, from 0, of the next flit of a packet that is passed onto a direction and
+    /// The place, from 0, of the next flit of a packet that is forwarded onto a direction and
     /// unfinished. `None` where there is none.
     pub fn through_at(&self, direction: u8) -> Option<u8>
         requires { IsDirection self.now direction }
@@ -170,7 +170,7 @@ impl LinkList {
         self.links[usize::from(direction / 2)].through_at(toward_of(direction))
     }
 
-    /// Whether a direction can take a packet of so many flits that is passed on.
+    /// Whether a direction can take a packet of so many flits that is forwarded.
     pub fn through_ready(&self, direction: u8, flits: u8) -> bool
         requires there { IsDirection self.now direction }
         requires going { AreGoing self.now }

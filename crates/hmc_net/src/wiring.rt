@@ -24,7 +24,7 @@ use std::alloc::Global;
 use std::marker::Model;
 
 /// The cubes and links of a network, the direction that starts at each place, and the routes.
-/// Contracts see the topology. Each call takes the same time, whatever that is.
+/// Contracts see the topology. After `build`, each call reads tables by index, and searches none.
 #[derive(Drop)]
 pub struct Wiring {
     cubes: Vec<CubeSetup>,

@@ -1,5 +1,6 @@
 //! A writer of std as a sink.
-ghost use Rattle.std.specs.Prelude.{◌≡◌, ◌<◌, ◌≤◌, [], length, take, true, false, IfOk, OnOk, OnErr};
+ghost use Rattle.std.specs.Prelude.{◌≡◌, ◌≢◌, ◌<◌, ◌≤◌, [], length, take, true, false, IfOk, IfErr, OnOk, OnErr};
+ghost use Rattle.std.specs.IoError.{error_kind};
 ghost use Rattle.std.specs.Io.Buffered.{writer_buffer, writer_contents};
 ghost use Rattle.std.specs.Io.KnownBytes.{Appends, Keeps};
 ghost use Rattle.hmc_outside.specs.Counts.{opened};
@@ -13,6 +14,7 @@ use crate::counts::CallCounts;
 use crate::{Failed, Sink};
 use hmc_codes::Memory;
 use std::alloc::Global;
+use std::io;
 use std::io::{BufWriter, ErrorKind, Write};
 
 /// How many bytes are gathered.
@@ -97,7 +99,10 @@ impl<W: Write + Drop> Sink for StdSink<W> {
     {
         let flushed = flush(&mut self.writer);
         self.counts.count_finish(flushed.is_err());
-        flushed
+        match flushed {
+            Ok(()) => Ok(()),
+            Err(_) => Err(Failed),
+        }
     }
 }
 
@@ -110,20 +115,22 @@ impl<W: Write + Drop> Drop for StdSink<W> {
     }
 }
 
-// Hands on all that was gathered, and tries again where a signal interrupts.
-fn flush<W: Write + Drop>(writer: &mut BufWriter<W>) -> Result<(), Failed>
+// Hands on all that was gathered, and tries again where a signal interrupts: its error is never an
+// interruption.
+fn flush<W: Write + Drop>(writer: &mut BufWriter<W>) -> io::Result<()>
     ensures kept { Keeps
         (writer_contents W.contents writer.old) (writer_contents W.contents writer.new) }
     ensures none_gathered { OnOk result (writer_buffer writer.new ≡ []) }
+    ensures tried { IfErr result (λ e. error_kind e ≢ ErrorKind.Interrupted) }
 {
     'tries: for _ in 0..u64::MAX {
         match writer.flush() {
             Ok(()) => return Ok(()),
             Err(e) if e.kind() == ErrorKind::Interrupted => {}
-            Err(_) => return Err(Failed),
+            Err(e) => return Err(e),
         }
     }
-    Err(Failed)
+    Err(io::Error::from(ErrorKind::TimedOut))
 }
 
 // Writes the pieces that the writer takes, one after the other.
@@ -140,8 +147,7 @@ fn write_whole<W: Write>(writer: &mut W, bytes: &[u8]) -> Result<(), Failed>
     Ok(())
 }
 
-// One write, tried again where a signal interrupts it. A writer that takes nothing would do so
-// forever: it fails.
+// One write of a piece.
 fn write_piece<W: Write>(writer: &mut W, piece: &[u8]) -> Result<usize, Failed>
     ensures some { IfOk result (λ n. 0 < n) }
     ensures within { IfOk result (λ n. n ≤ length piece.now) }
@@ -149,13 +155,29 @@ fn write_piece<W: Write>(writer: &mut W, piece: &[u8]) -> Result<usize, Failed>
         (λ n. Appends (W.contents writer.old) (W.contents writer.new) (take n piece.now)) }
     ensures unchanged { OnErr result (Keeps (W.contents writer.old) (W.contents writer.new)) }
 {
+    match write_some(writer, piece) {
+        Ok(taken) => Ok(taken),
+        Err(_) => Err(Failed),
+    }
+}
+
+// One write, tried again where a signal interrupts it: its error is never an interruption. A writer
+// that takes nothing would do so forever: it fails.
+fn write_some<W: Write>(writer: &mut W, piece: &[u8]) -> io::Result<usize>
+    ensures some { IfOk result (λ n. 0 < n) }
+    ensures within { IfOk result (λ n. n ≤ length piece.now) }
+    ensures appended { IfOk result
+        (λ n. Appends (W.contents writer.old) (W.contents writer.new) (take n piece.now)) }
+    ensures unchanged { OnErr result (Keeps (W.contents writer.old) (W.contents writer.new)) }
+    ensures tried { IfErr result (λ e. error_kind e ≢ ErrorKind.Interrupted) }
+{
     'tries: for _ in 0..u64::MAX {
         match writer.write(piece) {
-            Ok(0) => return Err(Failed),
+            Ok(0) => return Err(io::Error::from(ErrorKind::WriteZero)),
             Ok(taken) => return Ok(taken),
             Err(e) if e.kind() == ErrorKind::Interrupted => {}
-            Err(_) => return Err(Failed),
+            Err(e) => return Err(e),
         }
     }
-    Err(Failed)
+    Err(io::Error::from(ErrorKind::TimedOut))
 }

@@ -1,5 +1,6 @@
 //! A reader of std as a source.
-ghost use Rattle.std.specs.Prelude.{◌≡◌, ◌<◌, ◌≤◌, length, take, false, IfOk, OnOk, OnErr};
+ghost use Rattle.std.specs.Prelude.{◌≡◌, ◌≢◌, ◌<◌, ◌≤◌, length, take, false, IfOk, IfErr, OnOk, OnErr};
+ghost use Rattle.std.specs.IoError.{error_kind};
 ghost use Rattle.std.specs.Io.KnownBytes.{Consumes, Keeps, IsAtEnd};
 ghost use Rattle.hmc_outside.specs.Raised.{raised};
 ghost use Rattle.hmc_outside.specs.Reading.{Stops, GoesOn, Stays};
@@ -7,6 +8,7 @@ ghost use Rattle.hmc_outside.specs.StdSource.{reader_of, view_of};
 
 use crate::counts::ReadCounts;
 use crate::{Failed, Source};
+use std::io;
 use std::io::{ErrorKind, Read};
 
 /// What a reader gives. It shows the bytes still to come where the reader does: standard input
@@ -70,16 +72,16 @@ impl<R: Read> Source for StdSource<R> {
                 self.counts.count_read(count, into.len());
                 Ok(count)
             }
-            Err(failed) => {
+            Err(_) => {
                 self.counts.count_fault();
-                Err(failed)
+                Err(Failed)
             }
         }
     }
 }
 
-// One read, tried again where a signal interrupts it.
-fn read_once<R: Read>(reader: &mut R, into: &mut [u8]) -> Result<usize, Failed>
+// One read, tried again where a signal interrupts it: its error is never an interruption.
+fn read_once<R: Read>(reader: &mut R, into: &mut [u8]) -> io::Result<usize>
     ensures within { IfOk result (λ n. n ≤ length into.new) }
     ensures length { length into.new ≡ length into.old }
     ensures moved { IfOk result
@@ -87,13 +89,14 @@ fn read_once<R: Read>(reader: &mut R, into: &mut [u8]) -> Result<usize, Failed>
     ensures ended { IfOk result
         (λ n. n ≡ 0 → 0 < length into.old → IsAtEnd (R.remaining reader.new)) }
     ensures unchanged { OnErr result (Keeps (R.remaining reader.old) (R.remaining reader.new)) }
+    ensures tried { IfErr result (λ e. error_kind e ≢ ErrorKind.Interrupted) }
 {
     'tries: for _ in 0..u64::MAX {
         match reader.read(into) {
             Ok(count) => return Ok(count),
             Err(e) if e.kind() == ErrorKind::Interrupted => {}
-            Err(_) => return Err(Failed),
+            Err(e) => return Err(e),
         }
     }
-    Err(Failed)
+    Err(io::Error::from(ErrorKind::TimedOut))
 }

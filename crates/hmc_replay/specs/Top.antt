@@ -159,7 +159,7 @@ pub record Replayed {S O : Type 0} (source_view : S → SourceView) (sink_view :
       (source_view source) (source_view source') (sink_view sink) (sink_view sink')
   -- 5: one byte more was read than an input may have, and no further one.
   pub too_long : status ≡ 5 → IsTooLong (source_view source) (source_view source')
-  -- The input is read to its end before anything is written.
+  -- With these statuses the input was read to its end.
   pub read_whole : IsRun words → OneOf (0 ∷ 4 ∷ 6 ∷ 7 ∷ []) status →
       IsAtEnd (source_view source').left
   -- Nothing is read after the end or a fault: exactly one read found them, the last one.

@@ -7,8 +7,8 @@ ghost use Rattle.hmc_send.specs.LinkEntries.{LinkEntry};
 ghost use Rattle.hmc_net.specs.Apply.{DoesStep};
 ghost use Rattle.hmc_journal.specs.Piped.{goes_on};
 ghost use Rattle.hmc_net.specs.LinkList.{AreGoing, LinksStandFor, IsDirection};
-ghost use Rattle.hmc_net.specs.Links.{sent_by, landed_by, outcome_of, landing_goes_on, after_landing, taken_where, IsCameFlit, MayPass};
-ghost use Rattle.hmc_net.specs.Pipes.{AreGathering, IsLastOf, passed_at, after_flit};
+ghost use Rattle.hmc_net.specs.Links.{sent_by, landed_by, outcome_of, landing_goes_on, after_landing, taken_where, IsCameFlit, MayForward};
+ghost use Rattle.hmc_net.specs.Pipes.{AreGathering, IsLastOf, forwarded_at, after_flit};
 ghost use Rattle.hmc_net.specs.Ready.{IsLandingIn};
 ghost use Rattle.hmc_net.specs.NetState.{net_of};
 ghost use Rattle.hmc_net.specs.Sees.{IsReady};
@@ -45,7 +45,7 @@ impl<B: Workbench> Network<B> {
             (Step.Land direction mask.now) }
     {
         let landed = self.links.land(direction, mask);
-        pass_landed(&mut self.links, &mut self.piped, direction, &landed);
+        forward_landed(&mut self.links, &mut self.piped, direction, &landed);
         note_landed(&mut self.last, direction, &landed);
     }
 
@@ -62,11 +62,11 @@ impl<B: Workbench> Network<B> {
     }
 }
 
-// A flit that came belongs to the packet that is passed on from the end of its direction, if one
+// A flit that came belongs to the packet that is forwarded from the end of its direction, if one
 // is.
-fn pass_landed(links: &mut LinkList, piped: &mut Pipes, direction: u8, landed: &LinkLanded)
-    requires count { direction < length piped.old.passed }
-    requires may { MayPass links.old piped.old direction landed.now }
+fn forward_landed(links: &mut LinkList, piped: &mut Pipes, direction: u8, landed: &LinkLanded)
+    requires count { direction < length piped.old.forwarded }
+    requires may { MayForward links.old piped.old direction landed.now }
     ensures stands { (rows : List LinkRow) (entries : ℕ → List LinkEntry) →
         LinksStandFor rows links.old entries → LinksStandFor rows links.new
         (taken_where (landing_goes_on piped.old direction landed.now) rows direction entries) }
@@ -75,24 +75,30 @@ fn pass_landed(links: &mut LinkList, piped: &mut Pipes, direction: u8, landed: &
         links.new ≡ links.old }
 {
     match landed {
-        LinkLanded::Came { flit, outcome } => pass_came(links, piped, direction, flit, outcome),
+        LinkLanded::Came { flit, outcome } => forward_came(links, piped, direction, flit, outcome),
         LinkLanded::Empty | LinkLanded::Passed(_) => {}
     }
 }
 
 // The same of a flit that came. An accepted packet has then gone on, and leaves its buffer.
-fn pass_came(links: &mut LinkList, piped: &mut Pipes, direction: u8, flit: &Flit, landed: &Landed)
+fn forward_came(
+    links: &mut LinkList,
+    piped: &mut Pipes,
+    direction: u8,
+    flit: &Flit,
+    landed: &Landed,
+)
     requires there { IsDirection links.old direction }
     requires going { AreGoing links.old }
-    requires count { direction < length piped.old.passed }
+    requires count { direction < length piped.old.forwarded }
     requires gathering { AreGathering piped.old direction }
     requires last { IsLastOf piped.old direction (outcome_of landed.now) }
     ensures stands { (rows : List LinkRow) (entries : ℕ → List LinkEntry) →
         LinksStandFor rows links.old entries → LinksStandFor rows links.new
-        (taken_where (goes_on (outcome_of landed.now) (passed_at piped.old direction))
+        (taken_where (goes_on (outcome_of landed.now) (forwarded_at piped.old direction))
         rows direction entries) }
     ensures piped { piped.new ≡ after_flit direction flit.now (outcome_of landed.now) piped.old }
-    ensures idle { goes_on (outcome_of landed.now) (passed_at piped.old direction) ≡ false →
+    ensures idle { goes_on (outcome_of landed.now) (forwarded_at piped.old direction) ≡ false →
         links.new ≡ links.old }
 {
     let goes = goes_on(landed, piped.onto(direction));
@@ -114,7 +120,7 @@ fn take_where(links: &mut LinkList, direction: u8, goes: bool)
     }
 }
 
-// Whether a landing ends a packet that is passed on, and that is accepted.
+// Whether a landing ends a packet that is forwarded, and that is accepted.
 fn goes_on(landed: &Landed, onto: Option<u8>) -> bool
     ensures { result ≡ goes_on (outcome_of landed.now) onto }
 {

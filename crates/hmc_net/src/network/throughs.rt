@@ -34,7 +34,7 @@ impl<B: Workbench> Network<B> {
             self.last.idle(&Step::Through(cube, port), Cause::NoPacket);
             return;
         };
-        if !self.may_pass_on(from, onto, head.flits) {
+        if !self.may_forward(from, onto, head.flits) {
             self.last.idle(&Step::Through(cube, port), Cause::Busy);
             return;
         }
@@ -63,16 +63,16 @@ impl<B: Workbench> Network<B> {
     }
 
     // Whether a packet of so many flits can go on now from one direction onto another.
-    fn may_pass_on(&self, from: u8, onto: u8, flits: u8) -> bool
+    fn may_forward(&self, from: u8, onto: u8, flits: u8) -> bool
         requires from { from < 2 * length self.now.topology.links }
         requires onto { onto < 2 * length self.now.topology.links }
         requires ready { IsReady (net_of B.slots self.now) }
         ensures { IsFree (net_of B.slots self.now) from onto flits result }
     {
-        let passed = self.piped.onto(from);
+        let forwarded = self.piped.onto(from);
         let arrived = self.links.has_arrived(from);
         let ready = self.links.through_ready(onto, flits);
-        may_go(passed.is_some(), arrived, ready)
+        may_go(forwarded.is_some(), arrived, ready)
     }
 
     // The packet goes on: a cut-through is begun, and its pipe has the flits that came.
@@ -95,11 +95,12 @@ impl<B: Workbench> Network<B> {
     }
 }
 
-// A packet may go on that is not passed on yet, that no packet waits before, and that is taken.
-fn may_go(passed: bool, arrived: bool, ready: bool) -> bool
-    ensures { result ≡ ((not passed && not arrived) && ready) }
+// A packet may go on if it is not forwarded yet, no packet waits at its port, and the other
+// direction is ready for it.
+fn may_go(forwarded: bool, arrived: bool, ready: bool) -> bool
+    ensures { result ≡ ((not forwarded && not arrived) && ready) }
 {
-    !passed && !arrived && ready
+    !forwarded && !arrived && ready
 }
 
 // A pipe of the flits that came so far.

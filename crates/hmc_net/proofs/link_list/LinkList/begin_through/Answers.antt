@@ -1,4 +1,4 @@
--- One link begins a packet that is passed on.
+-- One link begins a packet that is forwarded.
 use Rattle.std.proofs.Common.{◌≡◌, ◌∙◌, true, sym, subst}
 use Rattle.hmc_link.specs.Held.{sending_end, is_ready}
 use Rattle.hmc_send.specs.LinkCalls.{LinkCall}

@@ -98,7 +98,7 @@ begin-requires-clause-from g c =
     let net = net_of g.B.Workbench.slots c.args.self.now in
     let view = ap (net_of g.B.Workbench.slots) c.self.view_is in
     let at = ends_at net.topology (places.Port c.args.cube c.args.port) c.args.from c.requires.coming.ends in
-    subst (λ (n : NetState). c.args.from < length n.piped.passed) (sym view) (omega (arith, at.there, c.requires.ready.sized.piped.passed))
+    subst (λ (n : NetState). c.args.from < length n.piped.forwarded) (sym view) (omega (arith, at.there, c.requires.ready.sized.piped.forwarded))
 
 pub begin-requires-clause-onto : goal.begin-requires-clause-onto
 begin-requires-clause-onto g c =

@@ -25,20 +25,20 @@ returns-in_default-way_on g c =
     (subst (IsOnto net c.args.cube c.args.port c.in-Some.head) c.in_default-way_on.is c.way_on.ensures)
     (entry_changed _ net _ _ _ _ c.idle-in_default-way_on.new.self _ view c.idle-in_default-way_on.ensures)
 
-pub may_pass_on-requires-clause-onto : goal.may_pass_on-requires-clause-onto
-may_pass_on-requires-clause-onto g c =
+pub may_forward-requires-clause-onto : goal.may_forward-requires-clause-onto
+may_forward-requires-clause-onto g c =
     let net = net_of g.B.Workbench.slots c.args.self.now in
     onto_there net c.args.cube c.args.port c.in-Some-way_on.onto c.in-Some.head (subst (IsOnto net c.args.cube c.args.port c.in-Some.head) c.in-Some-way_on.is c.way_on.ensures)
 
-pub returns-then-not-may_pass_on : goal.returns-then-not-may_pass_on
-returns-then-not-may_pass_on g c =
+pub returns-then-not-may_forward : goal.returns-then-not-may_forward
+returns-then-not-may_forward g c =
     let net = net_of g.B.Workbench.slots c.args.self.now in
     let view = ap (net_of g.B.Workbench.slots) c.self.view_is in
     busy_now net _ c.args.cube c.args.port c.to_port-from.result c.in-Some-way_on.onto c.in-Some.head c.requires.ready.sized (subst (λ (n : NetState). direction_to n.topology (places.Port c.args.cube c.args.port) ≡ Some c.to_port-from.result) view c.to_port-from.ensures.to)
     (subst (IsHeadAt net c.to_port-from.result) c.in-Some.is c.gathered_head.ensures)
     (subst (IsOnto net c.args.cube c.args.port c.in-Some.head) c.in-Some-way_on.is c.way_on.ensures)
-    (subst (IsFree net c.to_port-from.result c.in-Some-way_on.onto c.in-Some.head.flits) c.if-not-may_pass_on.true c.may_pass_on.ensures)
-    (entry_changed _ net _ _ _ _ c.idle-then-not-may_pass_on.new.self _ view c.idle-then-not-may_pass_on.ensures)
+    (subst (IsFree net c.to_port-from.result c.in-Some-way_on.onto c.in-Some.head.flits) c.if-not-may_forward.true c.may_forward.ensures)
+    (entry_changed _ net _ _ _ _ c.idle-then-not-may_forward.new.self _ view c.idle-then-not-may_forward.ensures)
 
 pub begin-requires-clause-coming : goal.begin-requires-clause-coming
 begin-requires-clause-coming g c =
@@ -49,5 +49,5 @@ begin-requires-clause-coming g c =
       head = c.in-Some.head;
       gathers = subst (IsHeadAt net c.to_port-from.result) c.in-Some.is c.gathered_head.ensures;
       goes = subst (IsOnto net c.args.cube c.args.port c.in-Some.head) c.in-Some-way_on.is c.way_on.ensures;
-      free = subst (IsFree net c.to_port-from.result c.in-Some-way_on.onto c.in-Some.head.flits) c.if-not-may_pass_on.false c.may_pass_on.ensures;
+      free = subst (IsFree net c.to_port-from.result c.in-Some-way_on.onto c.in-Some.head.flits) c.if-not-may_forward.false c.may_forward.ensures;
     }

@@ -3,13 +3,13 @@ use Rattle.std.proofs.Common.{◌<◌, length, ap, sym, subst, arith}
 use Rattle.hmc_net.specs.NetState.{net_of, NetState}
 use Rattle.hmc_net.specs.Pipes.{AreGathering}
 use Rattle.hmc_net.proofs.LinkDoes.{unlock_for}
-use Rattle.hmc_net.proofs.Passing.{are_gathering}
+use Rattle.hmc_net.proofs.Forwarding.{are_gathering}
 use Rattle.hmc_net.proofs.network.Network.unlock.Goals as goal
 
 pub lose-requires-clause-there : goal.lose-requires-clause-there
 lose-requires-clause-there g c =
     let view = ap (net_of g.B.Workbench.slots) c.self.view_is in
-    subst (λ (n : NetState). c.args.direction < length n.piped.passed) (sym view) (omega (arith, c.requires.there, c.requires.ready.sized.piped.passed))
+    subst (λ (n : NetState). c.args.direction < length n.piped.forwarded) (sym view) (omega (arith, c.requires.there, c.requires.ready.sized.piped.forwarded))
 
 pub lose-requires-clause-gathering : goal.lose-requires-clause-gathering
 lose-requires-clause-gathering g c =

@@ -1,4 +1,4 @@
--- A packet that is passed on while it is gathered: its pipe, its place on the next direction, and its way there.
+-- A packet that is forwarded while it is gathered: its pipe, its place on the next direction, and its way there.
 use Rattle.std.proofs.Common.{◌≡◌, ◌≤◌, ◌<◌, ◌/◌, ◌∙◌, ◌==◌, inl, inr, ℕ, Bool, true, false, not, if◌then◌else◌, Option, Some, None, List, [], ◌∷◌, ◌++◌, length, get_or, refl, sym, ap, ap₂, subst, arith, eq-eqb, ne_eqb, nat_lt}
 use Rattle.std.specs.Prelude.{option_and_then}
 use Rattle.hmc_codes.specs.Commands.{layout_of, family_of, is_flow}
@@ -29,14 +29,14 @@ use Rattle.hmc_wire.proofs.OpenPlaces.{IsOpen, open_place, under-open}
 use Rattle.hmc_journal.specs.declared.entry.Entry.{Entry}
 use Rattle.hmc_journal.specs.Directions.{receiver_of, profile_of}
 use Rattle.hmc_journal.specs.Links.{toward, sizes_on, entries_on}
-use Rattle.hmc_journal.specs.Piped.{PipeFrom, pipe_onto, passed_onto}
+use Rattle.hmc_journal.specs.Piped.{PipeFrom, pipe_onto, forwarded_onto}
 use Rattle.hmc_journal.specs.Queues.{landing_buffer, contents}
 use Rattle.hmc_journal.specs.Setup.{Topology, Setup, directions_in, cubes_in, hosts_in, graph_of, start_of, end_of, direction_from}
 use Rattle.hmc_journal.specs.ThroughSteps.{if_below, port_by}
 use Rattle.hmc_journal.proofs.CopyWhole.{renumbered, copy-whole, same-unnumbered}
 use Rattle.hmc_journal.proofs.Entering.{Kept}
 use Rattle.hmc_journal.proofs.LinkKept.{opened}
-use Rattle.hmc_journal.proofs.Passing.{PipeKept, Way, OnPipe, known_waits}
+use Rattle.hmc_journal.proofs.Forwarding.{PipeKept, Way, OnPipe, known_waits}
 use Rattle.hmc_journal.proofs.Piping.{IsPiped, UpPiped, sender_on}
 use Rattle.hmc_journal.proofs.PipeSteps.{IsUp}
 use Rattle.hmc_journal.proofs.Standing.{IsCounted, IsMoving, IsCounted-moving}
@@ -48,7 +48,7 @@ use Rattle.hmc_journal.proofs.Agreeing.{IsMapOf, EndsAt, end_at, out_by, arrivin
 use Rattle.hmc_journal.proofs.Hopping.{asking_for, not_spoiled, answer_out, unpoisoned_next}
 use Rattle.hmc_journal.proofs.CopyGoes.{below, reply_slid, some_head}
 
-pub record IsPassed (topology : Topology) (past : List Entry) (e d : ℕ) : Type 0 where
+pub record ForwardedPacket (topology : Topology) (past : List Entry) (e d : ℕ) : Type 0 where
   pub inside : e < directions_in topology
   pub pipe : PipeFrom
   pub is : pipe_onto topology d past ≡ Some (piped_with pipe pipe.pipe.came None)
@@ -77,32 +77,32 @@ pipe_now topology d past p is none = is ∙ (λ i. Some (record { from = p.from;
 fits_open : (topology : Topology) (d : ℕ) (past : List Entry) (p : PipeFrom) (o : IsOpen (sizes_on topology d).profile (sender_on topology d past)) → pipe_onto topology d past ≡ Some p → IsUp topology d past → IsPiped p.pipe o.part o.head o.count
 fits_open topology d past p o is up = subst (λ (pipe : Option PipeFrom). UpPiped pipe (Some (record { part = o.part; place = open_place o }))) is (subst (UpPiped (pipe_onto topology d past)) (under-open (sizes_on topology d).profile (sender_on topology d past) o) up)
 
-pub is_passed : (setup : Setup) (past : List Entry) (e d : ℕ) → Wired setup.topology → Kept setup past → e < directions_in setup.topology → passed_onto setup.topology e past ≡ Some d → IsPassed setup.topology past e d
-is_passed setup past e d wires keeps inside is =
+pub forwarded_packet : (setup : Setup) (past : List Entry) (e d : ℕ) → Wired setup.topology → Kept setup past → e < directions_in setup.topology → forwarded_onto setup.topology e past ≡ Some d → ForwardedPacket setup.topology past e d
+forwarded_packet setup past e d wires keeps inside is =
     let t = setup.topology in
-    let passing = keeps.passing e d inside is in
-    let p = passing.pipe in
-    let kept : PipeKept t past d p = subst (OnPipe t past d) passing.is (keeps.piped d) in
-    let gathering = kept.gathering passing.gathers in
+    let forwarding = keeps.forwarding e d inside is in
+    let p = forwarding.pipe in
+    let kept : PipeKept t past d p = subst (OnPipe t past d) forwarding.is (keeps.piped d) in
+    let gathering = kept.gathering forwarding.gathers in
     elim (opened (sizes_on t d) (toward d) (entries_on t d past) (keeps.links (d / 2))) [
       | inl known ↦ absurd (known_waits (sizes_on t d).profile (sender_on t d past) known gathering.up)
       | inr o ↦
-          let fits = fits_open t d past p o passing.is (keeps.up d) in
+          let fits = fits_open t d past p o forwarding.is (keeps.up d) in
           let flits = fits.for.flits in
           let many = fits.many in record {
             inside = inside;
             pipe = p;
-            is = pipe_now t d past p passing.is passing.gathers;
-            from = passing.from;
-            came = gathering.came ∙ ap (λ (n : ℕ). pending (receiver_of n past)) passing.from;
+            is = pipe_now t d past p forwarding.is forwarding.gathers;
+            from = forwarding.from;
+            came = gathering.came ∙ ap (λ (n : ℕ). pending (receiver_of n past)) forwarding.from;
             long = kept.some;
             way = kept.way;
-            profile = kept.profile ∙ ap (profile_of t) passing.from;
+            profile = kept.profile ∙ ap (profile_of t) forwarding.from;
             up = o;
             named = ap lng_of fits.for.first ∙ heads-lng o.count o.head o.names ∙ sym flits;
             some = omega arith;
-            apart = ports_apart t e d kept.way.cube kept.way.port kept.way.onward wires inside (ap (end_of t) (sym passing.from) ∙ kept.way.lands) kept.way.starts;
-            empty = passing.empty;
+            apart = ports_apart t e d kept.way.cube kept.way.port kept.way.onward wires inside (ap (end_of t) (sym forwarding.from) ∙ kept.way.lands) kept.way.starts;
+            empty = forwarding.empty;
           }
     ]
 
@@ -124,9 +124,9 @@ next_of topology m cube onward d x map_of (ToHost replying) clean is starts =
     answer_out topology m cube onward d x map_of replying (below x.slid (hosts_in topology) (nat_lt x.slid (hosts_in topology)) (λ goal. port_to_host (graph_of topology) goal cube) onward by_host).1 starts
 next_of topology m cube onward d x map_of (Spoiled spoiled) clean is starts = absurd (not_spoiled topology x clean spoiled)
 
-pub passed_next : (topology : Topology) (m : Map) (past : List Entry) (e d : ℕ) (x : PacketFields) → IsMapOf topology m → Wired topology → (is : IsPassed topology past e d) → IsMoving topology x → x.poisoned ≡ false → head_in (flit_at is.pipe.pipe 0) ≡ Some (packet_head x)
+pub forwarded_next : (topology : Topology) (m : Map) (past : List Entry) (e d : ℕ) (x : PacketFields) → IsMapOf topology m → Wired topology → (is : ForwardedPacket topology past e d) → IsMoving topology x → x.poisoned ≡ false → head_in (flit_at is.pipe.pipe 0) ≡ Some (packet_head x)
     → next_queue m (hops.Buffer e) (seen topology x) ≡ Some (hops.Output d)
-passed_next topology m past e d x map_of wires is moving clean head =
+forwarded_next topology m past e d x map_of wires is moving clean head =
     let way = is.way in
     let at : EndsAt topology (places.Port way.cube way.port) = record { direction = e; inside = is.inside; ends = ap (end_of topology) (sym is.from) ∙ way.lands } in
     let same : way.head ≡ packet_head x = some_head way.head (packet_head x) (sym way.is_head ∙ head) in
@@ -152,7 +152,7 @@ no_null : (layout : Layout) → is_flow layout ≡ false → layout ≡ layouts.
 no_null layout no_flow is = let clash : true ≡ false = sym (ap is_flow is) ∙ no_flow in cc
 
 -- its first flit names its head and its length
-pub come_head : (topology : Topology) (past : List Entry) (e d : ℕ) (flit : List ℕ) (x : PacketFields) → (is : IsPassed topology past e d) → IsCome topology past e flit x → (head_in (flit_at is.pipe.pipe 0) ≡ Some (packet_head x)) × (is.pipe.pipe.flits ≡ flits_of x)
+pub come_head : (topology : Topology) (past : List Entry) (e d : ℕ) (flit : List ℕ) (x : PacketFields) → (is : ForwardedPacket topology past e d) → IsCome topology past e flit x → (head_in (flit_at is.pipe.pipe 0) ≡ Some (packet_head x)) × (is.pipe.pipe.flits ≡ flits_of x)
 come_head topology past e d flit x is come =
     let q = profile_of topology e in
     let counted : IsCounted x = IsCounted-moving topology x come.clean come.moving in
@@ -162,7 +162,7 @@ come_head topology past e d flit x is come =
     )
 
 -- and its copy is seen as it is
-pub come_copy : (topology : Topology) (past : List Entry) (e d : ℕ) (flit : List ℕ) (x : PacketFields) (n : Numbers) → (is : IsPassed topology past e d) → IsCome topology past e flit x
+pub come_copy : (topology : Topology) (past : List Entry) (e d : ℕ) (flit : List ℕ) (x : PacketFields) (n : Numbers) → (is : ForwardedPacket topology past e d) → IsCome topology past e flit x
     → seen topology (copy_on topology d is.pipe (is.pipe.pipe.came ++ flit ∷ []) true n) ≡ seen topology x
 come_copy topology past e d flit x n is come =
     let q = profile_of topology e in
@@ -174,5 +174,5 @@ come_copy topology past e d flit x n is come =
     ap (seen topology) whole ∙ sym (seen-unnumbered topology (renumbered x n true)) ∙ ap (seen topology) (same-unnumbered x n come.clean) ∙ seen-unnumbered topology x
 
 -- it is gathered at a cube
-pub passed_end : (topology : Topology) (m : Map) (past : List Entry) (e d : ℕ) → IsMapOf topology m → (is : IsPassed topology past e d) → m.end_of e ≡ end_at (places.Port is.way.cube is.way.port)
-passed_end topology m past e d map_of is = map_of.finish e is.inside ∙ ap end_at (ap (end_of topology) (sym is.from) ∙ is.way.lands)
+pub forwarded_end : (topology : Topology) (m : Map) (past : List Entry) (e d : ℕ) → IsMapOf topology m → (is : ForwardedPacket topology past e d) → m.end_of e ≡ end_at (places.Port is.way.cube is.way.port)
+forwarded_end topology m past e d map_of is = map_of.finish e is.inside ∙ ap end_at (ap (end_of topology) (sym is.from) ∙ is.way.lands)

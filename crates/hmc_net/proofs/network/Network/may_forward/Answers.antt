@@ -1,16 +1,16 @@
--- A packet can go on that isn't passed on yet, behind no other one, where it is taken.
+-- A packet can go on if it isn't forwarded yet, no packet waits there, and the other direction is ready.
 use Rattle.std.proofs.Common.{◌<◌, ◌∙◌, Option, length, ℕ, ap, sym, subst, arith}
 use Rattle.std.specs.Prelude.{is_some}
 use Rattle.hmc_net.specs.LinkList.{AreGoing, IsDirection, IsArrival, IsTaking}
 use Rattle.hmc_net.specs.NetState.{net_of, NetState}
-use Rattle.hmc_net.specs.Pipes.{passed_at}
+use Rattle.hmc_net.specs.Pipes.{forwarded_at}
 use Rattle.hmc_net.proofs.ThroughFacts.{free_found}
-use Rattle.hmc_net.proofs.network.Network.may_pass_on.Goals as goal
+use Rattle.hmc_net.proofs.network.Network.may_forward.Goals as goal
 
-pub onto-passed-requires : goal.onto-passed-requires
-onto-passed-requires g c =
+pub onto-forwarded-requires : goal.onto-forwarded-requires
+onto-forwarded-requires g c =
     let view = ap (net_of g.B.Workbench.slots) c.self.view_is in
-    subst (λ (n : NetState). c.args.from < length n.piped.passed) (sym view) (omega (arith, c.requires.from, c.requires.ready.sized.piped.passed))
+    subst (λ (n : NetState). c.args.from < length n.piped.forwarded) (sym view) (omega (arith, c.requires.from, c.requires.ready.sized.piped.forwarded))
 
 pub has_arrived-arrived-requires : goal.has_arrived-arrived-requires
 has_arrived-arrived-requires g c =
@@ -31,6 +31,6 @@ returns g c = λ seen sees.
     let view = ap (net_of g.B.Workbench.slots) c.self.view_is in
     c.may_go.ensures
     ∙ free_found net seen c.args.from c.args.onto c.args.flits c.is_some.result c.has_arrived-arrived.result c.through_ready-ready.result sees c.requires.from
-    (c.is_some.ensures ∙ ap (λ (o : Option ℕ). is_some o) (c.onto-passed.ensures ∙ ap (λ (n : NetState). passed_at n.piped c.args.from) view))
+    (c.is_some.ensures ∙ ap (λ (o : Option ℕ). is_some o) (c.onto-forwarded.ensures ∙ ap (λ (n : NetState). forwarded_at n.piped c.args.from) view))
     (subst (λ (n : NetState). IsArrival n.links c.args.from c.has_arrived-arrived.result) view c.has_arrived-arrived.ensures)
     (subst (λ (n : NetState). IsTaking n.links c.args.onto c.args.flits c.through_ready-ready.result) view c.through_ready-ready.ensures)

@@ -1,4 +1,4 @@
--- What a lawful journal promises of packets that are passed on.
+-- What a lawful journal promises of packets that are forwarded.
 use Rattle.std.proofs.Common.{◌≡◌, ◌≤◌, ◌<◌, ◌/◌, ◌∙◌, ◌⊎◌, inl, inr, ℕ, true, Option, Some, None, List, [], ◌∷◌, length, get_or, refl, sym, ap, subst, arith}
 use Rattle.hmc_codes.specs.Flit.{zero_flit}
 use Rattle.hmc_codes.specs.declared.place.Place.TheVariants as ends
@@ -17,15 +17,15 @@ use Rattle.hmc_journal.specs.Directions.{receiver_of}
 use Rattle.hmc_journal.specs.Lawful.{Lawful}
 use Rattle.hmc_journal.specs.Links.{toward, entries_on, sizes_on}
 use Rattle.hmc_journal.specs.Network.{IsNetwork}
-use Rattle.hmc_journal.specs.PassedOn.{IsPassedOnto, ArePassedOn}
-use Rattle.hmc_journal.specs.Piped.{PipeFrom, passed_onto, pipe_onto}
+use Rattle.hmc_journal.specs.Forwarded.{IsForwarded, AreForwarded}
+use Rattle.hmc_journal.specs.Piped.{PipeFrom, forwarded_onto, pipe_onto}
 use Rattle.hmc_journal.specs.Setup.{Setup, directions_in}
 use Rattle.hmc_journal.proofs.Entering.{Kept}
 use Rattle.hmc_journal.proofs.GoodLandings.{IsShort, get-any}
 use Rattle.hmc_journal.proofs.LinkHanded.{parts-fit}
 use Rattle.hmc_journal.proofs.LinkKept.{opened}
-use Rattle.hmc_journal.proofs.Passed.{is_passed}
-use Rattle.hmc_journal.proofs.Passing.{Waits, OnPipe, PipeKept, known_waits}
+use Rattle.hmc_journal.proofs.Forwarded.{forwarded_packet}
+use Rattle.hmc_journal.proofs.Forwarding.{Waits, OnPipe, PipeKept, known_waits}
 use Rattle.hmc_journal.proofs.Piping.{UpPiped, feed_fits, sender_on, up_on}
 use Rattle.hmc_journal.proofs.Sound.{kept, holds_accepted}
 use Rattle.hmc_journal.proofs.Wired.{Wired, wired}
@@ -35,10 +35,10 @@ short_first : (l : List (List ℕ)) → 1 ≤ length l → IsShort l → length 
 short_first [] some short = absurd (omega arith)
 short_first (first ∷ rest) some short = short
 
-passed_is : (setup : Setup) (past : List Entry) (d onto : ℕ) → Wired setup.topology → Kept setup past → d < directions_in setup.topology → passed_onto setup.topology d past ≡ Some onto → IsPassedOnto setup.topology past d onto
-passed_is setup past d onto wires keeps less is =
+forwarded_is : (setup : Setup) (past : List Entry) (d onto : ℕ) → Wired setup.topology → Kept setup past → d < directions_in setup.topology → forwarded_onto setup.topology d past ≡ Some onto → IsForwarded setup.topology past d onto
+forwarded_is setup past d onto wires keeps less is =
     let t = setup.topology in
-    let x = is_passed setup past d onto wires keeps less is in
+    let x = forwarded_packet setup past d onto wires keeps less is in
     let came = pending (receiver_of d past) in
     let long : length x.pipe.pipe.came ≡ length came = ap length x.came in
     let some = x.long in
@@ -83,24 +83,24 @@ placed setup past d at keeps is = by_open (opened (sizes_on setup.topology d) (t
         let here : Some (length o.part.sent) ≡ Some at = sym (ap through_place under) ∙ is in
         by_pipe o (pipe_onto setup.topology d past) refl (subst (UpPiped (pipe_onto setup.topology d past)) under (keeps.up d)) (same_at (length o.part.sent) at here)
 
--- a direction onto which a packet is passed takes no other
-free_not : (setup : Setup) (past : List Entry) (d onto flits : ℕ) → Kept setup past → d < directions_in setup.topology → passed_onto setup.topology d past ≡ Some onto
+-- a direction onto which a packet is forwarded takes no other
+free_not : (setup : Setup) (past : List Entry) (d onto flits : ℕ) → Kept setup past → d < directions_in setup.topology → forwarded_onto setup.topology d past ≡ Some onto
     → may_pass_on (view_in (sizes_on setup.topology onto) (toward onto) (entries_on setup.topology onto past) Waiting) flits ≡ true → ⊥
 unfolding view_after
 free_not setup past d onto flits keeps less is may =
-    let passing = keeps.passing d onto less is in
-    let k : PipeKept setup.topology past onto passing.pipe = subst (OnPipe setup.topology past onto) passing.is (keeps.piped onto) in
+    let forwarding = keeps.forwarding d onto less is in
+    let k : PipeKept setup.topology past onto forwarding.pipe = subst (OnPipe setup.topology past onto) forwarding.is (keeps.piped onto) in
     let ready = ready-is (view_in (sizes_on setup.topology onto) (toward onto) (entries_on setup.topology onto past) Waiting) flits may in
-    subst Waits ready.nothing (k.gathering passing.gathers).up
+    subst Waits ready.nothing (k.gathering forwarding.gathers).up
 
-by_kept : (setup : Setup) (past : List Entry) → Wired setup.topology → Kept setup past → ArePassedOn setup past
+by_kept : (setup : Setup) (past : List Entry) → Wired setup.topology → Kept setup past → AreForwarded setup past
 by_kept setup past wires keeps = record {
-  passed = λ d onto less is. passed_is setup past d onto wires keeps less is;
-  gathering = λ onto p is none. (let k : PipeKept setup.topology past onto p = subst (OnPipe setup.topology past onto) is (keeps.piped onto) in (k.way.inside, (k.gathering none).passed));
+  forwarded = λ d onto less is. forwarded_is setup past d onto wires keeps less is;
+  gathering = λ onto p is none. (let k : PipeKept setup.topology past onto p = subst (OnPipe setup.topology past onto) is (keeps.piped onto) in (k.way.inside, (k.gathering none).forwarded));
   free = λ d onto flits less is. never (may_pass_on (view_in (sizes_on setup.topology onto) (toward onto) (entries_on setup.topology onto past) Waiting) flits) (free_not setup past d onto flits keeps less is);
   fed = λ d. (feed_fits (pipe_onto setup.topology d past) (up_on setup.topology d past) (keeps.up d)).fits;
   at = λ d at is. placed setup past d at keeps is;
 }
 
-pub passed_on_kept : (setup : Setup) (past : List Entry) → IsNetwork setup → Lawful setup past → ArePassedOn setup past
-passed_on_kept setup past network lawful = by_kept setup past (wired setup network) (kept setup past network lawful)
+pub forwarded_kept : (setup : Setup) (past : List Entry) → IsNetwork setup → Lawful setup past → AreForwarded setup past
+forwarded_kept setup past network lawful = by_kept setup past (wired setup network) (kept setup past network lawful)

@@ -1,18 +1,15 @@
--- Landings of packets that are passed on.
+-- Landings of packets that are forwarded.
 use Rattle.std.proofs.Common.{◌≡◌, ◌≤◌, ◌<◌, ◌+◌, ◌/◌, ◌==◌, ◌&&◌, ◌∙◌, ℕ, Bool, true, false, nat_lt, if◌then◌else◌, Option, Some, None, List, [], ◌∷◌, ◌++◌, length, refl, sym, ap, subst, arith, eq-eqb, eqb-true, length-append, ltb-false}
 use Rattle.std.specs.Prelude.{slice_index_or, slice_get}
 use Rattle.hmc_codes.specs.Link.{LinkFields}
 use Rattle.hmc_codes.specs.declared.profile.Profile.{Profile}
-use Rattle.hmc_packet.specs.declared.kind.Kind.{Kind}
 use Rattle.hmc_packet.specs.declared.outcome.Outcome.{Outcome}
 use Rattle.hmc_packet.specs.declared.outcome.Outcome.TheVariants as outcomes
 use Rattle.hmc_packet.specs.declared.view.Mode.{Mode}
-use Rattle.hmc_packet.specs.declared.view.Mode.TheVariants as modes
-use Rattle.hmc_packet.specs.Irtry.{irtry_in}
-use Rattle.hmc_packet.specs.Landings.{ReceiverEntry, mode, pending, is_training, whole_training, whole_run}
+use Rattle.hmc_packet.specs.Landings.{ReceiverEntry, mode, pending}
 use Rattle.hmc_packet.specs.Parts.{lng_of}
 use Rattle.hmc_packet.specs.Reading.{is_null, read_of}
-use Rattle.hmc_packet.specs.Receptions.{LandingView, landing_view, reception_by, reception_of, mode_reception, abort_reception, good_reception, flits_reception, read_reception, unchecked, checked, lng_with, is_no_length}
+use Rattle.hmc_packet.specs.Receptions.{LandingView, landing_view, reception_by, reception_of, mode_reception, good_reception, flits_reception, read_reception, unchecked, checked, lng_with, is_no_length}
 use Rattle.hmc_packet.specs.declared.bad.Bad.TheVariants as bads
 use Rattle.hmc_packet.specs.declared.reception.Reception.{Reception}
 use Rattle.hmc_link.specs.Landings.{link_landed, landed_in, came, has_passed}
@@ -30,23 +27,25 @@ use Rattle.hmc_net.specs.LinkList.{sizes_by, LinksStandFor, called}
 use Rattle.hmc_case.specs.declared.setup.LinkRow.{LinkRow}
 use Rattle.hmc_link.specs.Held.{LinkHeld}
 use Rattle.hmc_wire.specs.Conditions.{IsFlit}
-use Rattle.hmc_net.specs.Links.{outcome_of, IsCameFlit, MayPass}
+use Rattle.hmc_net.specs.Links.{outcome_of, IsCameFlit, MayForward}
 use Rattle.hmc_net.specs.NetState.{NetState}
-use Rattle.hmc_net.specs.Pipes.{PipesHeld, AreGathering, IsLastOf, passed_at, is_whole_outcome}
+use Rattle.hmc_net.specs.Pipes.{PipesHeld, AreGathering, IsLastOf, forwarded_at, is_whole_outcome}
 use Rattle.hmc_net.specs.Ready.{IsLandingIn}
 use Rattle.hmc_net.specs.Sees.{Sees, IsReady, gathered}
+use Rattle.hmc_net.proofs.Gathering.{NeedsGood, comes_in_good}
 use Rattle.hmc_net.proofs.LinkSteps.{HoldsLanded, outcome_is}
+use Rattle.hmc_net.proofs.PipeLemmas.{same_pipe}
 
 -- ---- what goes on is the front of its buffer
 
--- only an accepted packet goes on, and only where it is passed on
+-- only an accepted packet goes on, and only where it is forwarded
 pub record GoesOn (outcome : Outcome) (onto : Option ℕ) : Type 0 where
   pub accepted : outcome ≡ outcomes.Accepted
   pub to : ℕ
-  pub passed : onto ≡ Some to
+  pub forwarded : onto ≡ Some to
 
 pub goes_by : (outcome : Outcome) (onto : Option ℕ) → goes_on outcome onto ≡ true → GoesOn outcome onto
-goes_by outcomes.Accepted (Some to) is = record { accepted = refl; to = to; passed = refl }
+goes_by outcomes.Accepted (Some to) is = record { accepted = refl; to = to; forwarded = refl }
 goes_by outcomes.Accepted None is = absurd (cc)
 goes_by outcomes.Quiet onto is = absurd (cc)
 goes_by outcomes.Trained onto is = absurd (cc)
@@ -59,12 +58,12 @@ goes_by (outcomes.Ran kind) onto is = absurd (cc)
 
 holds_came : (net : NetState) (view : StepView) (direction : ℕ) (flit : List ℕ) (outcome : Outcome) → direction < directions_in net.topology → Sees net view → IsFlit flit
     → outcome ≡ (reception_of (sizes_by net.topology.links direction).profile (receiver_entries (toward direction) (view.entries (direction / 2))) flit).outcome
-    → goes_on outcome (passed_at net.piped direction) ≡ true
+    → goes_on outcome (forwarded_at net.piped direction) ≡ true
     → holds_packet (sizes_by net.topology.links direction) (toward direction)
     (put_if (direction / 2 == direction / 2) (LinkEntry.landed (toward direction) (landing_mask (link_sizes net.topology (direction / 2)) (toward direction) (view.entries (direction / 2)) flit) flit outcome) (view.entries (direction / 2))) ≡ true
 holds_came net view direction flit outcome there sees is_flit is goes =
-    let on = goes_by outcome (passed_at net.piped direction) goes in
-    let law = sees.laws.passed direction on.to there (sym (sees.shows.passed direction there) ∙ on.passed) in
+    let on = goes_by outcome (forwarded_at net.piped direction) goes in
+    let law = sees.laws.forwarded direction on.to there (sym (sees.shows.forwarded direction there) ∙ on.forwarded) in
     let mask = landing_mask (link_sizes net.topology (direction / 2)) (toward direction) (view.entries (direction / 2)) flit in
     ap (λ (t : Bool). holds_packet (sizes_by net.topology.links direction) (toward direction) (put_if t (LinkEntry.landed (toward direction) mask flit outcome) (view.entries (direction / 2)))) (eq-eqb (direction / 2) (direction / 2) refl)
     ∙ ap (λ (o : Outcome). holds_packet (sizes_by net.topology.links direction) (toward direction) (LinkEntry.landed (toward direction) mask flit o ∷ view.entries (direction / 2))) on.accepted
@@ -91,12 +90,12 @@ holds_landed net view direction mask (lands.Passed flit) there sees is size = λ
 holds_landed net view direction mask (lands.Came flit landed) there sees is size = λ goes.
     holds_came net view direction flit (outcome_of landed) there.some_direction sees size (came_outcome (sizes_by net.topology.links direction) (toward direction) (view.entries (direction / 2)) mask _ flit landed is) goes
 
--- ---- the pipe of what is passed on
+-- ---- the pipe of what is forwarded
 
 pub are_gathering : (net : NetState) (direction : ℕ) → IsReady net → direction < directions_in net.topology → AreGathering net.piped direction
 are_gathering net direction ready there = λ onto at.
     let view = ready.view in
-    let law = ready.sees.laws.passed direction onto there (sym (ready.sees.shows.passed direction there) ∙ at) in
+    let law = ready.sees.laws.forwarded direction onto there (sym (ready.sees.shows.forwarded direction there) ∙ at) in
     record {
       there = omega (arith, law.there, ready.sized.piped.pipes);
       p = pipe_of net.topology direction (gathered view direction);
@@ -134,23 +133,13 @@ whole_good q view flit some whole =
         by_test false is = is
         by_test true is = (let none = eqb-true (length flits) 0 is in absurd (omega arith))
 
-trained_whole : (ends is : Bool) → is_whole_outcome (if is then checked (if ends then outcomes.Trained else outcomes.Quiet) None else unchecked outcomes.Quiet).outcome ≡ false
-trained_whole true true = refl
-trained_whole false true = refl
-trained_whole ends false = refl
-
-irtry_whole : (kind : Kind) (ends : Bool) → is_whole_outcome (if ends then outcomes.Ran kind else outcomes.Quiet) ≡ false
-irtry_whole kind true = refl
-irtry_whole kind false = refl
-
-aborted_whole : (view : LandingView) (irtry : Option (Kind × ℕ)) → is_whole_outcome (abort_reception view irtry).outcome ≡ false
-aborted_whole view None = refl
-aborted_whole view (Some irtry) = irtry_whole irtry.0 (view.run irtry.0 + 1 == whole_run)
+-- a packet comes whole in Good alone
+whole_needs : NeedsGood is_whole_outcome
+whole_needs = record { trained = refl; quiet = refl; ran = λ kind. refl }
 
 whole_mode : (m : Mode) (q : Profile) (view : LandingView) (flit : List ℕ) → 1 ≤ length view.pending → is_whole_outcome (mode_reception m q view flit).outcome ≡ true → lng_of (slice_index_or view.pending 0 []) ≤ length view.pending + 1
-whole_mode modes.Good q view flit some whole = whole_good q view flit some whole
-whole_mode modes.Train q view flit some whole = absurd (let clash : true ≡ false = sym whole ∙ trained_whole (view.training + 1 == whole_training) (is_training q flit) in cc)
-whole_mode modes.Abort q view flit some whole = absurd (let clash : true ≡ false = sym whole ∙ aborted_whole view (irtry_in q flit) in cc)
+whole_mode m q view flit some whole =
+    whole_good q view flit some (subst (λ (n : Mode). is_whole_outcome (mode_reception n q view flit).outcome ≡ true) (comes_in_good is_whole_outcome whole_needs m q view flit whole) whole)
 
 whole_last : (q : Profile) (past : List ReceiverEntry) (flit : List ℕ) → 1 ≤ length (pending past) → is_whole_outcome (reception_of q past flit).outcome ≡ true → lng_of (slice_index_or (pending past) 0 []) ≤ length (pending past) + 1
 unfolding reception_of reception_by landing_view
@@ -161,9 +150,6 @@ abbrev pub IsLastLanding : PipesHeld → (direction : ℕ) → LinkLanded → Ty
 IsLastLanding held direction (lands.Came flit landed) = IsLastOf held direction (outcome_of landed)
 IsLastLanding held direction _ = Unit {0}
 
-same_some : (a b : PipeFrom) → Some a ≡ Some b → a ≡ b
-same_some a b is = cc
-
 pub is_last : (net : NetState) (direction : ℕ) (mask : List ℕ) (landed : LinkLanded) → (ready : IsReady net) → direction < directions_in net.topology
     → landed ≡ link_landed (sizes_by net.topology.links direction) (toward direction) (ready.view.entries (direction / 2)) mask (slice_get (line (sizes_by net.topology.links direction).profile (toward direction) (ready.view.entries (direction / 2))) 0)
     → IsLastLanding net.piped direction landed
@@ -171,23 +157,23 @@ is_last net direction mask lands.Empty ready there is = tt
 is_last net direction mask (lands.Passed flit) ready there is = tt
 is_last net direction mask (lands.Came flit landed) ready there is = λ onto p at found whole.
     let view = ready.view in
-    let law = ready.sees.laws.passed direction onto there (sym (ready.sees.shows.passed direction there) ∙ at) in
-    let own : p ≡ pipe_of net.topology direction (gathered view direction) = same_some p _ (sym found ∙ ready.sees.shows.pipes onto law.there ∙ law.pipe) in
+    let law = ready.sees.laws.forwarded direction onto there (sym (ready.sees.shows.forwarded direction there) ∙ at) in
+    let own : p ≡ pipe_of net.topology direction (gathered view direction) = same_pipe p _ (sym found ∙ ready.sees.shows.pipes onto law.there ∙ law.pipe) in
     let outcome = came_outcome (sizes_by net.topology.links direction) (toward direction) (view.entries (direction / 2)) mask _ flit landed is in
     let most = whole_last (sizes_by net.topology.links direction).profile (receiver_entries (toward direction) (view.entries (direction / 2))) flit law.some (sym (ap is_whole_outcome outcome) ∙ whole) in
     let more = law.more in
     let exact : length (gathered view direction) + 1 ≡ lng_of (slice_index_or (gathered view direction) 0 []) = omega (arith, most, more) in
     subst (λ (q : PipeFrom). length q.pipe.came + 1 ≡ q.pipe.flits) (sym own) exact
 
--- what the landing of a packet that is passed on rests on
-pub may_pass : (net : NetState) (direction : ℕ) (mask : List ℕ) (landed : LinkLanded) (between : List LinkHeld) → IsReady net → direction < directions_in net.topology
+-- what the landing of a packet that is forwarded rests on
+pub may_forward_landed : (net : NetState) (direction : ℕ) (mask : List ℕ) (landed : LinkLanded) (between : List LinkHeld) → IsReady net → direction < directions_in net.topology
     → ((rows : List LinkRow) (entries : ℕ → List LinkEntry) → LinksStandFor rows net.links entries → landed
     ≡ link_landed (sizes_by rows direction) (toward direction) (entries (direction / 2)) mask (slice_get (line (sizes_by rows direction).profile (toward direction) (entries (direction / 2))) 0))
     → ((rows : List LinkRow) (entries : ℕ → List LinkEntry) → LinksStandFor rows net.links entries → has_passed landed ≡ false → LinksStandFor rows between (called rows direction (λ d. LinkCall.land d mask) entries))
-    → MayPass between net.piped direction landed
-may_pass net direction mask lands.Empty between ready there answer stand = tt
-may_pass net direction mask (lands.Passed flit) between ready there answer stand = tt
-may_pass net direction mask (lands.Came flit landed) between ready there answer stand =
+    → MayForward between net.piped direction landed
+may_forward_landed net direction mask lands.Empty between ready there answer stand = tt
+may_forward_landed net direction mask (lands.Passed flit) between ready there answer stand = tt
+may_forward_landed net direction mask (lands.Came flit landed) between ready there answer stand =
     let stands = stand net.topology.links ready.view.entries ready.sees.shows.links refl in (
       omega (arith, there, stands.count),
       stands.going,

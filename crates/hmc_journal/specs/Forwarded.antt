@@ -1,4 +1,4 @@
--- What a lawful journal promises of packets that are passed on while they are gathered.
+-- What a lawful journal promises of packets that are forwarded while they are gathered.
 use Rattle.std.specs.Prelude.{◌≡◌, ◌≤◌, ◌<◌, ℕ, true, false, Some, None, List, [], ◌∷◌, length, slice_index_or}
 use Rattle.hmc_packet.specs.declared.feed.Feed.TheVariants.{Waiting}
 use Rattle.hmc_packet.specs.declared.outcome.Outcome.TheVariants.{Accepted}
@@ -14,14 +14,14 @@ use Rattle.hmc_wire.specs.Conditions.{IsFlit}
 use Rattle.hmc_journal.specs.declared.entry.Entry.{Entry}
 use Rattle.hmc_journal.specs.Directions.{receiver_of}
 use Rattle.hmc_journal.specs.Links.{toward, entries_on, sizes_on, fed_after}
-use Rattle.hmc_journal.specs.Piped.{PipeFrom, pipe_of, passed_onto, pipe_onto}
+use Rattle.hmc_journal.specs.Piped.{PipeFrom, pipe_of, forwarded_onto, pipe_onto}
 use Rattle.hmc_journal.specs.Queues.{landing_buffer, contents}
 use Rattle.hmc_journal.specs.Setup.{Topology, Setup, directions_in}
 
--- The packet that is gathered at the end of a direction and passed onto another: its pipe has the
--- flits that were gathered, its gathering has not ended, and flits are still to come. Accepted, it
--- is the front of its buffer, which is empty.
-pub record IsPassedOnto (topology : Topology) (past : List Entry) (from onto : ℕ) : Type 0 where
+-- The packet that is gathered at the end of a direction and forwarded onto another: its pipe has
+-- the flits that were gathered, its gathering has not ended, and flits are still to come. Accepted,
+-- it is the front of its buffer, which is empty.
+pub record IsForwarded (topology : Topology) (past : List Entry) (from onto : ℕ) : Type 0 where
   pub there : onto < directions_in topology
   pub pipe : pipe_onto topology onto past
       ≡ Some (pipe_of topology from (pending (receiver_of from past)))
@@ -36,19 +36,19 @@ pub record IsPassedOnto (topology : Topology) (past : List Entry) (from onto : �
       (LinkEntry.landed (toward from) mask flit Accepted ∷ entries_on topology from past)
       ≡ true
 
--- Each packet that is passed on is such a one. A pipe whose gathering hasn't ended is that of a
--- packet that is passed on, and what a direction is fed fits the packet under way there.
-pub record ArePassedOn (setup : Setup) (past : List Entry) : Type 0 where
-  pub passed : (direction onto : ℕ) → direction < directions_in setup.topology →
-      passed_onto setup.topology direction past ≡ Some onto →
-      IsPassedOnto setup.topology past direction onto
+-- Each packet that is forwarded is such a one. A pipe whose gathering hasn't ended is that of a
+-- packet that is forwarded, and what a direction is fed fits the packet under way there.
+pub record AreForwarded (setup : Setup) (past : List Entry) : Type 0 where
+  pub forwarded : (direction onto : ℕ) → direction < directions_in setup.topology →
+      forwarded_onto setup.topology direction past ≡ Some onto →
+      IsForwarded setup.topology past direction onto
   pub gathering : (onto : ℕ) (p : PipeFrom) →
       pipe_onto setup.topology onto past ≡ Some p → p.pipe.good ≡ None →
       (p.from < directions_in setup.topology)
-      × (passed_onto setup.topology p.from past ≡ Some onto)
-  -- nothing more is passed onto its direction
+      × (forwarded_onto setup.topology p.from past ≡ Some onto)
+  -- nothing more is forwarded onto its direction
   pub free : (direction onto flits : ℕ) → direction < directions_in setup.topology →
-      passed_onto setup.topology direction past ≡ Some onto →
+      forwarded_onto setup.topology direction past ≡ Some onto →
       may_pass_on (view_in (sizes_on setup.topology onto) (toward onto)
       (entries_on setup.topology onto past) Waiting) flits ≡ false
   pub fed : (direction : ℕ) →

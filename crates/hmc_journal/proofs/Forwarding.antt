@@ -1,4 +1,4 @@
--- The pipe of each direction, and the packets that are being gathered while they are passed on.
+-- The pipe of each direction, and the packets that are being gathered while they are forwarded.
 use Rattle.std.proofs.Common.{◌≡◌, ◌≤◌, ◌<◌, ◌+◌, ◌-◌, ◌∙◌, ◌/◌, ◌==◌, ◌&&◌, ℕ, zero, suc, Bool, true, false, if◌then◌else◌, Option, Some, None, List, [], ◌∷◌, ◌++◌, length, drop, refl, sym, ap, ap₂, subst, arith, eqb-true, eq-eqb, ne_eqb, append-nil, zero-add, length-append}
 use Rattle.std.specs.Prelude.{is_none, option_map, slice_index_or}
 use Rattle.hmc_codes.specs.Flit.{zero_flit}
@@ -31,7 +31,7 @@ use Rattle.hmc_wire.proofs.OpenPlaces.{AreKnown}
 use Rattle.hmc_wire.proofs.Places.{packet_of}
 use Rattle.hmc_journal.specs.Choice.{choose}
 use Rattle.hmc_journal.specs.Directions.{profile_of, receiver_of, landed_packets}
-use Rattle.hmc_journal.specs.Piped.{PipeFrom, pipe_of, lands_at, while_gathered, passed_onto, pipe_onto, with_landing, with_unlock, while_gathering, fed}
+use Rattle.hmc_journal.specs.Piped.{PipeFrom, pipe_of, lands_at, while_gathered, forwarded_onto, pipe_onto, with_landing, with_unlock, while_gathering, fed}
 use Rattle.hmc_journal.specs.declared.entry.Entry.{Entry}
 use Rattle.hmc_journal.specs.declared.entry.Entry.TheVariants.{Sent, Landed, Through, Unlocked}
 use Rattle.hmc_journal.specs.Links.{toward, sizes_on, entries_on, direction_to}
@@ -109,7 +109,7 @@ pub record Way (topology : Topology) (p : PipeFrom) (d : ℕ) : Type 0 where
 
 -- its packet is still being gathered
 pub record IsGathering (topology : Topology) (past : List Entry) (d : ℕ) (p : PipeFrom) : Type 0 where
-  pub passed : passed_onto topology p.from past ≡ Some d
+  pub forwarded : forwarded_onto topology p.from past ≡ Some d
   pub came : p.pipe.came ≡ pending (receiver_of p.from past)
   pub up : Waits (up_on topology d past)
 
@@ -136,16 +136,16 @@ OnPipe topology past d (Some p) = PipeKept topology past d p
 abbrev pub ArePiped : Topology → List Entry → Type 0
 ArePiped topology past = (d : ℕ) → OnPipe topology past d (pipe_onto topology d past)
 
--- a packet is passed on from the end of a direction onto another
-pub record IsPassing (topology : Topology) (past : List Entry) (e d : ℕ) : Type 0 where
+-- a packet is forwarded from the end of a direction onto another
+pub record IsForwarding (topology : Topology) (past : List Entry) (e d : ℕ) : Type 0 where
   pub pipe : PipeFrom
   pub is : pipe_onto topology d past ≡ Some pipe
   pub from : pipe.from ≡ e
   pub gathers : pipe.pipe.good ≡ None
   pub empty : contents topology past (landing_buffer topology e) ≡ []
 
-abbrev pub ArePassing : Topology → List Entry → Type 0
-ArePassing topology past = (e d : ℕ) → e < directions_in topology → passed_onto topology e past ≡ Some d → IsPassing topology past e d
+abbrev pub AreForwarding : Topology → List Entry → Type 0
+AreForwarding topology past = (e d : ℕ) → e < directions_in topology → forwarded_onto topology e past ≡ Some d → IsForwarding topology past e d
 
 -- ---- buffers that stay empty
 
@@ -173,12 +173,12 @@ stays_empty topology entry past queue same empty =
 
 -- ---- entries that leave every pipe
 
-pub passed_same : (topology : Topology) (e : ℕ) (entry : Entry) (past : List Entry) → IsNoPipe entry → passed_onto topology e (entry ∷ past) ≡ passed_onto topology e past
-unfolding passed_onto
-passed_same topology e (Landed direction flit outcome) past quiet = absurd quiet
-passed_same topology e (Unlocked direction) past quiet = absurd quiet
-passed_same topology e (Through cube port direction) past quiet = absurd quiet
-passed_same topology e _ past quiet = refl
+pub forwarded_same : (topology : Topology) (e : ℕ) (entry : Entry) (past : List Entry) → IsNoPipe entry → forwarded_onto topology e (entry ∷ past) ≡ forwarded_onto topology e past
+unfolding forwarded_onto
+forwarded_same topology e (Landed direction flit outcome) past quiet = absurd quiet
+forwarded_same topology e (Unlocked direction) past quiet = absurd quiet
+forwarded_same topology e (Through cube port direction) past quiet = absurd quiet
+forwarded_same topology e _ past quiet = refl
 
 received_same : (e : ℕ) (entry : Entry) (past : List Entry) → IsNoPipe entry → receiver_of e (entry ∷ past) ≡ receiver_of e past
 unfolding receiver_of
@@ -188,20 +188,20 @@ received_same e (Through cube port direction) past quiet = absurd quiet
 received_same e _ past quiet = refl
 
 -- a pipe that stays, where its packet under way still waits
-kept_pipe : (topology : Topology) (entry : Entry) (past : List Entry) (d : ℕ) (p : PipeFrom) → passed_onto topology p.from (entry ∷ past) ≡ passed_onto topology p.from past → receiver_of p.from (entry ∷ past) ≡ receiver_of p.from past
+kept_pipe : (topology : Topology) (entry : Entry) (past : List Entry) (d : ℕ) (p : PipeFrom) → forwarded_onto topology p.from (entry ∷ past) ≡ forwarded_onto topology p.from past → receiver_of p.from (entry ∷ past) ≡ receiver_of p.from past
     → (p.pipe.good ≡ None → Waits (up_on topology d past) → Waits (up_on topology d (entry ∷ past))) → PipeKept topology past d p → PipeKept topology (entry ∷ past) d p
-kept_pipe topology entry past d p passed same waits is = record {
+kept_pipe topology entry past d p forwarded same waits is = record {
   way = is.way;
   some = is.some;
   profile = is.profile;
-  gathering = λ none. (let g = is.gathering none in record { passed = passed ∙ g.passed; came = g.came ∙ ap pending (sym same); up = waits none g.up });
+  gathering = λ none. (let g = is.gathering none in record { forwarded = forwarded ∙ g.forwarded; came = g.came ∙ ap pending (sym same); up = waits none g.up });
   good = is.good;
 }
 
 on_quiet : (topology : Topology) (entry : Entry) (past : List Entry) (d : ℕ) (pipe : Option PipeFrom) → IsNoPipe entry → ((p : PipeFrom) → pipe ≡ Some p → p.pipe.good ≡ None → Waits (up_on topology d past) → Waits (up_on topology d (entry ∷ past)))
     → OnPipe topology past d pipe → OnPipe topology (entry ∷ past) d pipe
 on_quiet topology entry past d None quiet waits is = tt
-on_quiet topology entry past d (Some p) quiet waits is = kept_pipe topology entry past d p (passed_same topology p.from entry past quiet) (received_same p.from entry past quiet) (waits p refl) is
+on_quiet topology entry past d (Some p) quiet waits is = kept_pipe topology entry past d p (forwarded_same topology p.from entry past quiet) (received_same p.from entry past quiet) (waits p refl) is
 
 pub piped_quiet : (topology : Topology) (entry : Entry) (past : List Entry) → IsNoSend entry → IsNoPipe entry → ArePiped topology past → ArePiped topology (entry ∷ past)
 piped_quiet topology entry past send quiet piped d =
@@ -231,10 +231,10 @@ piped_send topology direction as_what flit past kept piped d =
         let one : direction ≡ d = eqb-true direction d on in
         subst (λ (e : ℕ). Waits (up_on topology d (Sent e as_what flit ∷ past))) (sym one) (up_here p is none (subst (λ (e : ℕ). IsKept (sizes_on topology d) (entries_on topology d (Sent e as_what flit ∷ past))) one (kept d)) waits)
 
--- of a passing packet, where nothing lands and no buffer gets anything
-pub passing_quiet : (topology : Topology) (entry : Entry) (past : List Entry) → IsNoPipe entry → IsNoLanding entry → ArePassing topology past → ArePassing topology (entry ∷ past)
-passing_quiet topology entry past quiet landing passing e d less is =
-    let old = passing e d less (sym (passed_same topology e entry past quiet) ∙ is) in record {
+-- of a packet that is forwarded, where nothing lands and no buffer gets anything
+pub forwarding_quiet : (topology : Topology) (entry : Entry) (past : List Entry) → IsNoPipe entry → IsNoLanding entry → AreForwarding topology past → AreForwarding topology (entry ∷ past)
+forwarding_quiet topology entry past quiet landing forwarding e d less is =
+    let old = forwarding e d less (sym (forwarded_same topology e entry past quiet) ∙ is) in record {
       pipe = old.pipe;
       is = pipe_same topology d entry past quiet ∙ old.is;
       from = old.from;
@@ -244,7 +244,7 @@ passing_quiet topology entry past quiet landing passing e d less is =
 
 -- ---- landings
 
--- a landing that is accepted while its packet is passed on: the flits are those of a packet that is on its way
+-- a landing that is accepted while its packet is forwarded: the flits are those of a packet that is on its way
 pub record GoodLanding (topology : Topology) (past : List Entry) (e : ℕ) (flit : List ℕ) : Type 0 where
   pub packet : PacketFields
   pub moving : IsMoving topology packet
@@ -254,11 +254,11 @@ pub record GoodLanding (topology : Topology) (past : List Entry) (e : ℕ) (flit
   pub spelled : pending (receiver_of e past) ++ flit ∷ [] ≡ spelling (profile_of topology e) packet rrp
 
 abbrev pub LandsGood : Topology → List Entry → (e : ℕ) → (flit : List ℕ) → Outcome → Type 0
-LandsGood topology past e flit outcome = (d : ℕ) → outcome ≡ outcomes.Accepted → passed_onto topology e past ≡ Some d → GoodLanding topology past e flit
+LandsGood topology past e flit outcome = (d : ℕ) → outcome ≡ outcomes.Accepted → forwarded_onto topology e past ≡ Some d → GoodLanding topology past e flit
 
-pub passed_landed : (topology : Topology) (e direction : ℕ) (flit : List ℕ) (outcome : Outcome) (past : List Entry) → passed_onto topology e (Landed direction flit outcome ∷ past) ≡ choose (direction == e) (while_gathered outcome (passed_onto topology e past)) (passed_onto topology e past)
-unfolding passed_onto
-passed_landed topology e direction flit outcome past = refl
+pub forwarded_landed : (topology : Topology) (e direction : ℕ) (flit : List ℕ) (outcome : Outcome) (past : List Entry) → forwarded_onto topology e (Landed direction flit outcome ∷ past) ≡ choose (direction == e) (while_gathered outcome (forwarded_onto topology e past)) (forwarded_onto topology e past)
+unfolding forwarded_onto
+forwarded_landed topology e direction flit outcome past = refl
 
 received_landed : (e direction : ℕ) (flit : List ℕ) (outcome : Outcome) (past : List Entry) → receiver_of e (Landed direction flit outcome ∷ past) ≡ put_if (direction == e) (ReceiverEntry.Land flit outcome) (receiver_of e past)
 unfolding receiver_of
@@ -303,7 +303,7 @@ outcome_is topology past d e flit outcomes.Gathered p from none lands is =
     let g = is.gathering none in
     let here : (e == p.from) ≡ true = eq-eqb e p.from (sym from) in record {
       gathering = λ still. record {
-        passed = passed_landed topology p.from e flit outcomes.Gathered past ∙ ap (λ (b : Bool). choose b (passed_onto topology p.from past) (passed_onto topology p.from past)) here ∙ g.passed;
+        forwarded = forwarded_landed topology p.from e flit outcomes.Gathered past ∙ ap (λ (b : Bool). choose b (forwarded_onto topology p.from past) (forwarded_onto topology p.from past)) here ∙ g.forwarded;
         came = ap (λ l. l ++ flit ∷ []) g.came ∙ sym (gathered_more (receiver_of p.from past) flit)
             ∙ sym (ap pending (received_landed p.from e flit outcomes.Gathered past ∙ ap (λ (b : Bool). put_if b (ReceiverEntry.Land flit outcomes.Gathered) (receiver_of p.from past)) here));
         up = subst Waits (sym (no-send (under_way (sizes_on topology d).profile) (of_sends-up topology d) topology d (Landed e flit outcomes.Gathered) past tt)) g.up;
@@ -314,7 +314,7 @@ outcome_is topology past d e flit outcomes.Gathered p from none lands is =
     }
 outcome_is topology past d e flit outcomes.Accepted p from none lands is =
     let g = is.gathering none in
-    let good = lands d refl (ap (λ (n : ℕ). passed_onto topology n past) (sym from) ∙ g.passed) in record {
+    let good = lands d refl (ap (λ (n : ℕ). forwarded_onto topology n past) (sym from) ∙ g.forwarded) in record {
       gathering = λ still. absurd (some_none true still);
       good = λ accepted. record {
         packet = good.packet;
@@ -373,7 +373,7 @@ pipe_lands topology past d e flit outcome p lands is = by_test ((p.from == e) &&
       gathering = λ none.
           (let g = is.gathering none in
           let off : (e == p.from) ≡ false = back_false p.from e (first_false (p.from == e) p.pipe.good at none) in record {
-            passed = passed_landed topology p.from e flit outcome past ∙ ap (λ (b : Bool). choose b (while_gathered outcome (passed_onto topology p.from past)) (passed_onto topology p.from past)) off ∙ g.passed;
+            forwarded = forwarded_landed topology p.from e flit outcome past ∙ ap (λ (b : Bool). choose b (while_gathered outcome (forwarded_onto topology p.from past)) (forwarded_onto topology p.from past)) off ∙ g.forwarded;
             came = g.came ∙ sym (ap pending (received_landed p.from e flit outcome past ∙ ap (λ (b : Bool). put_if b (ReceiverEntry.Land flit outcome) (receiver_of p.from past)) off));
             up = subst Waits (sym (no-send (under_way (sizes_on topology d).profile) (of_sends-up topology d) topology d (Landed e flit outcome) past tt)) g.up;
           });
@@ -389,7 +389,7 @@ pub piped_landed : (topology : Topology) (past : List Entry) (e : ℕ) (flit : L
 piped_landed topology past e flit outcome lands piped d =
     subst (OnPipe topology (Landed e flit outcome ∷ past) d) (sym (pipe_landed topology d e flit outcome past)) (on_landed topology past d e flit outcome (pipe_onto topology d past) lands (piped d))
 
--- a packet that is passed on goes on being gathered only with the outcome `gathered`
+-- a packet that is forwarded goes on being gathered only with the outcome `gathered`
 pub still_gathered : (outcome : Outcome) (onto : Option ℕ) (d : ℕ) → while_gathered outcome onto ≡ Some d → (outcome ≡ outcomes.Gathered) × (onto ≡ Some d)
 still_gathered outcomes.Gathered onto d is = (refl, is)
 still_gathered outcomes.Quiet onto d is = absurd cc
@@ -407,14 +407,14 @@ unfolding landed_packets
 gathered_lands topology e flit past same =
     landed-enters topology e flit outcomes.Gathered past same ∙ append-nil (entered topology past (landing_buffer topology e))
 
-pub passing_landed : (topology : Topology) (past : List Entry) (e0 : ℕ) (flit : List ℕ) (outcome : Outcome) → Wired topology → e0 < directions_in topology → ArePassing topology past → ArePassing topology (Landed e0 flit outcome ∷ past)
-passing_landed topology past e0 flit outcome wires real passing e d less is = by_here (e0 == e) refl (sym (passed_landed topology e e0 flit outcome past) ∙ is)
+pub forwarding_landed : (topology : Topology) (past : List Entry) (e0 : ℕ) (flit : List ℕ) (outcome : Outcome) → Wired topology → e0 < directions_in topology → AreForwarding topology past → AreForwarding topology (Landed e0 flit outcome ∷ past)
+forwarding_landed topology past e0 flit outcome wires real forwarding e d less is = by_here (e0 == e) refl (sym (forwarded_landed topology e e0 flit outcome past) ∙ is)
   where
-    by_here : (here : Bool) → (e0 == e) ≡ here → choose here (while_gathered outcome (passed_onto topology e past)) (passed_onto topology e past) ≡ Some d → IsPassing topology (Landed e0 flit outcome ∷ past) e d
+    by_here : (here : Bool) → (e0 == e) ≡ here → choose here (while_gathered outcome (forwarded_onto topology e past)) (forwarded_onto topology e past) ≡ Some d → IsForwarding topology (Landed e0 flit outcome ∷ past) e d
     by_here true on now =
         let one : e0 ≡ e = eqb-true e0 e on in
-        let still = still_gathered outcome (passed_onto topology e past) d now in
-        let old = passing e d less still.1 in
+        let still = still_gathered outcome (forwarded_onto topology e past) d now in
+        let old = forwarding e d less still.1 in
         let test : ((old.pipe.from == e0) && is_none old.pipe.pipe.good) ≡ true = ap₂ (λ (a : Bool) (b : Bool). a && b) (eq-eqb old.pipe.from e0 (old.from ∙ sym one)) (ap is_none old.gathers) in
         let pipe = record old.pipe { pipe = with_landing flit outcome old.pipe.pipe } in record {
           pipe = pipe;
@@ -426,7 +426,7 @@ passing_landed topology past e0 flit outcome wires real passing e d less is = by
               (stays_empty topology (Landed e flit outcomes.Gathered) past (landing_buffer topology e) (gathered_lands topology e flit past (same_queue_refl (landing_buffer topology e))) old.empty));
         }
     by_here false off now =
-        let old = passing e d less now in
+        let old = forwarding e d less now in
         let from_off : (old.pipe.from == e0) ≡ false = ap (λ (n : ℕ). n == e0) old.from ∙ back_false e0 e off in
         let apart : same_queue (landing_buffer topology e0) (landing_buffer topology e) ≡ false =
         never (same_queue (landing_buffer topology e0) (landing_buffer topology e)) (λ same. let clash : true ≡ false = sym (eq-eqb e0 e (one_buffer topology wires e0 e real less same)) ∙ off in cc) in record {
@@ -440,9 +440,9 @@ passing_landed topology past e0 flit outcome wires real passing e d less is = by
 
 -- ---- unlocks
 
-pub passed_unlocked : (topology : Topology) (e direction : ℕ) (past : List Entry) → passed_onto topology e (Unlocked direction ∷ past) ≡ choose (direction == e) None (passed_onto topology e past)
-unfolding passed_onto
-passed_unlocked topology e direction past = refl
+pub forwarded_unlocked : (topology : Topology) (e direction : ℕ) (past : List Entry) → forwarded_onto topology e (Unlocked direction ∷ past) ≡ choose (direction == e) None (forwarded_onto topology e past)
+unfolding forwarded_onto
+forwarded_unlocked topology e direction past = refl
 
 received_unlocked : (e direction : ℕ) (past : List Entry) → receiver_of e (Unlocked direction ∷ past) ≡ put_if (direction == e) ReceiverEntry.Unlock (receiver_of e past)
 unfolding receiver_of
@@ -466,7 +466,7 @@ pipe_unlocks topology past d e p is = by_test ((p.from == e) && is_none p.pipe.g
       gathering = λ none.
           (let g = is.gathering none in
           let off : (e == p.from) ≡ false = back_false p.from e (first_false (p.from == e) p.pipe.good at none) in record {
-            passed = passed_unlocked topology p.from e past ∙ ap (λ (b : Bool). choose b None (passed_onto topology p.from past)) off ∙ g.passed;
+            forwarded = forwarded_unlocked topology p.from e past ∙ ap (λ (b : Bool). choose b None (forwarded_onto topology p.from past)) off ∙ g.forwarded;
             came = g.came ∙ sym (ap pending (received_unlocked p.from e past ∙ ap (λ (b : Bool). put_if b ReceiverEntry.Unlock (receiver_of p.from past)) off));
             up = subst Waits (sym (no-send (under_way (sizes_on topology d).profile) (of_sends-up topology d) topology d (Unlocked e) past tt)) g.up;
           });
@@ -480,13 +480,13 @@ on_unlocked topology past d e (Some p) is = pipe_unlocks topology past d e p is
 pub piped_unlocked : (topology : Topology) (past : List Entry) (e : ℕ) → ArePiped topology past → ArePiped topology (Unlocked e ∷ past)
 piped_unlocked topology past e piped d = subst (OnPipe topology (Unlocked e ∷ past) d) (sym (pipe_unlocked topology d e past)) (on_unlocked topology past d e (pipe_onto topology d past) (piped d))
 
-pub passing_unlocked : (topology : Topology) (past : List Entry) (e0 : ℕ) → ArePassing topology past → ArePassing topology (Unlocked e0 ∷ past)
-passing_unlocked topology past e0 passing e d less is = by_here (e0 == e) refl (sym (passed_unlocked topology e e0 past) ∙ is)
+pub forwarding_unlocked : (topology : Topology) (past : List Entry) (e0 : ℕ) → AreForwarding topology past → AreForwarding topology (Unlocked e0 ∷ past)
+forwarding_unlocked topology past e0 forwarding e d less is = by_here (e0 == e) refl (sym (forwarded_unlocked topology e e0 past) ∙ is)
   where
-    by_here : (here : Bool) → (e0 == e) ≡ here → choose here None (passed_onto topology e past) ≡ Some d → IsPassing topology (Unlocked e0 ∷ past) e d
+    by_here : (here : Bool) → (e0 == e) ≡ here → choose here None (forwarded_onto topology e past) ≡ Some d → IsForwarding topology (Unlocked e0 ∷ past) e d
     by_here true on now = absurd cc
     by_here false off now =
-        let old = passing e d less now in
+        let old = forwarding e d less now in
         let from_off : (old.pipe.from == e0) ≡ false = ap (λ (n : ℕ). n == e0) old.from ∙ back_false e0 e off in record {
           pipe = old.pipe;
           is = pipe_unlocked topology d e0 past ∙ ap (option_map (while_gathering e0 with_unlock)) old.is
@@ -496,18 +496,18 @@ passing_unlocked topology past e0 passing e d less is = by_here (e0 == e) refl (
           empty = stays_empty topology (Unlocked e0) past (landing_buffer topology e) (entered-same topology (landing_buffer topology e) (is_buffer (end_of topology e)) (Unlocked e0) past tt) old.empty;
         }
 
--- ---- a packet is passed on
+-- ---- a packet is forwarded
 
-pub passed_through : (topology : Topology) (e cube port direction : ℕ) (past : List Entry) → passed_onto topology e (Through cube port direction ∷ past) ≡ choose (lands_at topology e cube port) (Some direction) (passed_onto topology e past)
-unfolding passed_onto
-passed_through topology e cube port direction past = refl
+pub forwarded_through : (topology : Topology) (e cube port direction : ℕ) (past : List Entry) → forwarded_onto topology e (Through cube port direction ∷ past) ≡ choose (lands_at topology e cube port) (Some direction) (forwarded_onto topology e past)
+unfolding forwarded_onto
+forwarded_through topology e cube port direction past = refl
 
 received_through : (e cube port direction : ℕ) (past : List Entry) → receiver_of e (Through cube port direction ∷ past) ≡ receiver_of e past
 unfolding receiver_of
 received_through e cube port direction past = refl
 
--- what is known where a packet is passed on
-pub record PassesOn (topology : Topology) (past : List Entry) (cube port direction : ℕ) : Type 0 where
+-- what is known where a packet is forwarded
+pub record Forwards (topology : Topology) (past : List Entry) (cube port direction : ℕ) : Type 0 where
   pub from : ℕ
   pub inside : from < directions_in topology
   pub lands : end_of topology from ≡ ends.Port cube port
@@ -520,41 +520,41 @@ pub record PassesOn (topology : Topology) (past : List Entry) (cube port directi
   pub is_onward : port_by topology cube head (family_of head.command) ≡ Some onward
   pub starts : direction_from topology (ends.Port cube onward) ≡ Some direction
   pub arrives : direction_to topology (ends.Port cube port) ≡ Some from
-  pub alone : passed_onto topology from past ≡ None
+  pub alone : forwarded_onto topology from past ≡ None
   pub empty : contents topology past (landing_buffer topology from) ≡ []
   -- and after it the packet is under way there, where nothing was before
   pub free : up_on topology direction past ≡ None
   pub up : Waits (up_on topology direction (Through cube port direction ∷ past))
 
 -- a direction lands at the port only where it is this one
-lands_there : (topology : Topology) (past : List Entry) (cube port direction e : ℕ) → Wired topology → (is : PassesOn topology past cube port direction) → e < directions_in topology → lands_at topology e cube port ≡ true → e ≡ is.from
+lands_there : (topology : Topology) (past : List Entry) (cube port direction e : ℕ) → Wired topology → (is : Forwards topology past cube port direction) → e < directions_in topology → lands_at topology e cube port ≡ true → e ≡ is.from
 lands_there topology past cube port direction e wires is less lands =
     one_buffer topology wires e is.from less is.inside
     (ap₂ (λ (p : End) (q : End). same_queue (buffer_at p) (buffer_at q)) (same_place_is (end_of topology e) (ends.Port cube port) lands) is.lands ∙ same_queue_refl (buffer_at (ends.Port cube port)))
 
 -- a pipe of another direction stays
-through_other : (topology : Topology) (past : List Entry) (cube port direction d : ℕ) (pipe : Option PipeFrom) → Wired topology → PassesOn topology past cube port direction → (direction == d) ≡ false → OnPipe topology past d pipe → OnPipe topology (Through cube port direction ∷ past) d pipe
-through_other topology past cube port direction d None wires passes off is = tt
-through_other topology past cube port direction d (Some p) wires passes off is = record {
+through_other : (topology : Topology) (past : List Entry) (cube port direction d : ℕ) (pipe : Option PipeFrom) → Wired topology → Forwards topology past cube port direction → (direction == d) ≡ false → OnPipe topology past d pipe → OnPipe topology (Through cube port direction ∷ past) d pipe
+through_other topology past cube port direction d None wires forwards off is = tt
+through_other topology past cube port direction d (Some p) wires forwards off is = record {
   way = is.way;
   some = is.some;
   profile = is.profile;
   gathering = λ none.
       (let g = is.gathering none in record {
-        passed = passed_through topology p.from cube port direction past ∙ by_lands g (lands_at topology p.from cube port) refl;
+        forwarded = forwarded_through topology p.from cube port direction past ∙ by_lands g (lands_at topology p.from cube port) refl;
         came = g.came ∙ ap pending (sym (received_through p.from cube port direction past));
         up = subst Waits (sym (through-elsewhere (under_way (sizes_on topology d).profile) topology d cube port direction past off)) g.up;
       });
   good = is.good;
 }
   where
-    by_lands : IsGathering topology past d p → (lands : Bool) → lands_at topology p.from cube port ≡ lands → choose lands (Some direction) (passed_onto topology p.from past) ≡ Some d
-    by_lands g false at = g.passed
+    by_lands : IsGathering topology past d p → (lands : Bool) → lands_at topology p.from cube port ≡ lands → choose lands (Some direction) (forwarded_onto topology p.from past) ≡ Some d
+    by_lands g false at = g.forwarded
     by_lands g true at =
-        let one = lands_there topology past cube port direction p.from wires passes is.way.inside at in
-        let clash : None ≡ Some d = sym passes.alone ∙ ap (λ (n : ℕ). passed_onto topology n past) (sym one) ∙ g.passed in absurd cc
+        let one = lands_there topology past cube port direction p.from wires forwards is.way.inside at in
+        let clash : None ≡ Some d = sym forwards.alone ∙ ap (λ (n : ℕ). forwarded_onto topology n past) (sym one) ∙ g.forwarded in absurd cc
 
-new_kept : (topology : Topology) (past : List Entry) (cube port d : ℕ) → (is : PassesOn topology past cube port d) → PipeKept topology (Through cube port d ∷ past) d (pipe_of topology is.from (pending (receiver_of is.from past)))
+new_kept : (topology : Topology) (past : List Entry) (cube port d : ℕ) → (is : Forwards topology past cube port d) → PipeKept topology (Through cube port d ∷ past) d (pipe_of topology is.from (pending (receiver_of is.from past)))
 new_kept topology past cube port d is = record {
   way = record {
     cube = cube;
@@ -570,7 +570,7 @@ new_kept topology past cube port d is = record {
   some = (let long = ap length is.came in omega arith);
   profile = refl;
   gathering = λ none. record {
-    passed = passed_through topology is.from cube port d past ∙ ap (λ (b : Bool). choose b (Some d) (passed_onto topology is.from past)) (lands_is topology is.from cube port is.lands);
+    forwarded = forwarded_through topology is.from cube port d past ∙ ap (λ (b : Bool). choose b (Some d) (forwarded_onto topology is.from past)) (lands_is topology is.from cube port is.lands);
     came = ap pending (sym (received_through is.from cube port d past));
     up = is.up;
   };
@@ -583,45 +583,45 @@ new_kept topology past cube port d is = record {
     lands_is : (topology : Topology) (e cube port : ℕ) → end_of topology e ≡ ends.Port cube port → lands_at topology e cube port ≡ true
     lands_is topology e cube port ends_at = ap (λ (p : End). same_place p (ends.Port cube port)) ends_at ∙ place_refl cube port
 
-pub piped_through : (topology : Topology) (past : List Entry) (cube port direction : ℕ) → Wired topology → PassesOn topology past cube port direction → ArePiped topology past → ArePiped topology (Through cube port direction ∷ past)
-piped_through topology past cube port direction wires passes piped d = by_here (direction == d) refl
+pub piped_through : (topology : Topology) (past : List Entry) (cube port direction : ℕ) → Wired topology → Forwards topology past cube port direction → ArePiped topology past → ArePiped topology (Through cube port direction ∷ past)
+piped_through topology past cube port direction wires forwards piped d = by_here (direction == d) refl
   where
     by_here : (here : Bool) → (direction == d) ≡ here → OnPipe topology (Through cube port direction ∷ past) d (pipe_onto topology d (Through cube port direction ∷ past))
     by_here false off =
         subst (OnPipe topology (Through cube port direction ∷ past) d)
         (sym (pipe_through topology d cube port direction past ∙ ap (λ (b : Bool). choose b (option_map (λ from. pipe_of topology from (pending (receiver_of from past))) (direction_to topology (ends.Port cube port))) (pipe_onto topology d past)) off))
-        (through_other topology past cube port direction d (pipe_onto topology d past) wires passes off (piped d))
+        (through_other topology past cube port direction d (pipe_onto topology d past) wires forwards off (piped d))
     by_here true on =
         let one : direction ≡ d = eqb-true direction d on in
-        subst (λ (e : ℕ). OnPipe topology (Through cube port e ∷ past) d (pipe_onto topology d (Through cube port e ∷ past))) (sym one) (new_here (subst (PassesOn topology past cube port) one passes))
+        subst (λ (e : ℕ). OnPipe topology (Through cube port e ∷ past) d (pipe_onto topology d (Through cube port e ∷ past))) (sym one) (new_here (subst (Forwards topology past cube port) one forwards))
       where
-        new_here : PassesOn topology past cube port d → OnPipe topology (Through cube port d ∷ past) d (pipe_onto topology d (Through cube port d ∷ past))
+        new_here : Forwards topology past cube port d → OnPipe topology (Through cube port d ∷ past) d (pipe_onto topology d (Through cube port d ∷ past))
         new_here now =
             subst (OnPipe topology (Through cube port d ∷ past) d)
             (sym (pipe_through topology d cube port d past ∙ ap (λ (b : Bool). choose b (option_map (λ from. pipe_of topology from (pending (receiver_of from past))) (direction_to topology (ends.Port cube port))) (pipe_onto topology d past)) (eq-eqb d d refl)
             ∙ ap (option_map (λ from. pipe_of topology from (pending (receiver_of from past)))) now.arrives))
             (new_kept topology past cube port d now)
 
-pub passing_through : (topology : Topology) (past : List Entry) (cube port direction : ℕ) → Wired topology → (passes : PassesOn topology past cube port direction) → ArePiped topology past → ArePassing topology past → ArePassing topology (Through cube port direction ∷ past)
-passing_through topology past cube port direction wires passes piped passing e d less is = by_lands (lands_at topology e cube port) refl (sym (passed_through topology e cube port direction past) ∙ is)
+pub forwarding_through : (topology : Topology) (past : List Entry) (cube port direction : ℕ) → Wired topology → (forwards : Forwards topology past cube port direction) → ArePiped topology past → AreForwarding topology past → AreForwarding topology (Through cube port direction ∷ past)
+forwarding_through topology past cube port direction wires forwards piped forwarding e d less is = by_lands (lands_at topology e cube port) refl (sym (forwarded_through topology e cube port direction past) ∙ is)
   where
     quiet : (e : ℕ) → contents topology past (landing_buffer topology e) ≡ [] → contents topology (Through cube port direction ∷ past) (landing_buffer topology e) ≡ []
     quiet e empty = stays_empty topology (Through cube port direction) past (landing_buffer topology e) (entered-same topology (landing_buffer topology e) (is_buffer (end_of topology e)) (Through cube port direction) past tt) empty
 
-    by_lands : (lands : Bool) → lands_at topology e cube port ≡ lands → choose lands (Some direction) (passed_onto topology e past) ≡ Some d → IsPassing topology (Through cube port direction ∷ past) e d
+    by_lands : (lands : Bool) → lands_at topology e cube port ≡ lands → choose lands (Some direction) (forwarded_onto topology e past) ≡ Some d → IsForwarding topology (Through cube port direction ∷ past) e d
     by_lands true at now =
-        let one = lands_there topology past cube port direction e wires passes less at in
+        let one = lands_there topology past cube port direction e wires forwards less at in
         let onto : direction ≡ d = cc in record {
-          pipe = pipe_of topology passes.from (pending (receiver_of passes.from past));
+          pipe = pipe_of topology forwards.from (pending (receiver_of forwards.from past));
           is = pipe_through topology d cube port direction past
               ∙ ap (λ (b : Bool). choose b (option_map (λ from. pipe_of topology from (pending (receiver_of from past))) (direction_to topology (ends.Port cube port))) (pipe_onto topology d past)) (eq-eqb direction d onto)
-              ∙ ap (option_map (λ from. pipe_of topology from (pending (receiver_of from past)))) passes.arrives;
+              ∙ ap (option_map (λ from. pipe_of topology from (pending (receiver_of from past)))) forwards.arrives;
           from = sym one;
           gathers = refl;
-          empty = quiet e (ap (λ (n : ℕ). contents topology past (landing_buffer topology n)) one ∙ passes.empty);
+          empty = quiet e (ap (λ (n : ℕ). contents topology past (landing_buffer topology n)) one ∙ forwards.empty);
         }
     by_lands false at now =
-        let old = passing e d less now in record {
+        let old = forwarding e d less now in record {
           pipe = old.pipe;
           is = pipe_through topology d cube port direction past
               ∙ ap (λ (b : Bool). choose b (option_map (λ from. pipe_of topology from (pending (receiver_of from past))) (direction_to topology (ends.Port cube port))) (pipe_onto topology d past)) (other_one old)
@@ -634,5 +634,5 @@ passing_through topology past cube port direction wires passes piped passing e d
         kept_old : (p : PipeFrom) → pipe_onto topology d past ≡ Some p → PipeKept topology past d p
         kept_old p at_pipe = subst (OnPipe topology past d) at_pipe (piped d)
 
-        other_one : IsPassing topology past e d → (direction == d) ≡ false
-        other_one old = ne_eqb direction d (λ same. subst Waits (ap (λ (n : ℕ). up_on topology n past) (sym same) ∙ passes.free) ((kept_old old.pipe old.is).gathering old.gathers).up)
+        other_one : IsForwarding topology past e d → (direction == d) ≡ false
+        other_one old = ne_eqb direction d (λ same. subst Waits (ap (λ (n : ℕ). up_on topology n past) (sym same) ∙ forwards.free) ((kept_old old.pipe old.is).gathering old.gathers).up)

@@ -1,6 +1,6 @@
 -- Writes that were interrupted took nothing.
 use Rattle.std.specs.Io.KnownBytes.{Keeps}
-use Rattle.hmc_outside.proofs.std_sink.write_piece.Given as goal
+use Rattle.hmc_outside.proofs.std_sink.write_some.Given as goal
 
 abbrev pub invariant-tries : goal.invariant-tries
 invariant-tries g l = Keeps (g.W.Write.contents l.fn.writer) (g.W.Write.contents l.writer)

@@ -3,8 +3,8 @@ use Rattle.std.proofs.Common.{sym, subst}
 use Rattle.hmc_link.specs.declared.link_landed.LinkLanded.{LinkLanded}
 use Rattle.hmc_net.specs.LinkList.{LinksStandFor}
 use Rattle.hmc_net.specs.Links.{landing_goes_on, taken_where}
-use Rattle.hmc_net.proofs.network.links.pass_landed.Goals as goal
+use Rattle.hmc_net.proofs.network.links.forward_landed.Goals as goal
 
 pub returns-in-Came-clause-stands : goal.returns-in-Came-clause-stands
 returns-in-Came-clause-stands c = λ rows entries stand.
-    subst (λ (l : LinkLanded). LinksStandFor rows c.pass_came.new.links (taken_where (landing_goes_on c.args.piped.now c.args.direction l) rows c.args.direction entries)) (sym c.in-Came.is) (c.pass_came.ensures.stands rows entries stand)
+    subst (λ (l : LinkLanded). LinksStandFor rows c.forward_came.new.links (taken_where (landing_goes_on c.args.piped.now c.args.direction l) rows c.args.direction entries)) (sym c.in-Came.is) (c.forward_came.ensures.stands rows entries stand)

@@ -1,0 +1,6 @@
+mod Journals
+mod Replays
+mod Links
+mod Numbers
+mod Hops
+mod Texts
