@@ -14,7 +14,7 @@ placed_last : (x : Packet) (ys : List Packet) → NoneOfFlow x ys → IsPlaced (
 placed_last x [] apart = refl
 placed_last x (y ∷ ys) apart = (apart.0, placed_last x ys apart.1)
 
-without_last : (x : Packet) (ys : List Packet) → without (length ys) (ys ++ x ∷ []) ≡ ys
+pub without_last : (x : Packet) (ys : List Packet) → without (length ys) (ys ++ x ∷ []) ≡ ys
 unfolding without
 without_last x [] = refl
 without_last x (y ∷ ys) = ap (λ (l : List Packet). y ∷ l) (without_last x ys)

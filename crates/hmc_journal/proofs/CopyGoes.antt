@@ -24,7 +24,7 @@ use Rattle.hmc_packet.specs.Head.{named_by, head_in, head_with, head_slid, packe
 use Rattle.hmc_packet.specs.Header.{header_of, header_is_clean}
 use Rattle.hmc_packet.specs.Packet.{PacketFields, IsPacket, flits_of}
 use Rattle.hmc_packet.specs.Parts.{half_of, header_in, lng_of}
-use Rattle.hmc_packet.specs.Reading.{command_in, packet_from}
+use Rattle.hmc_packet.specs.Reading.{packet_from}
 use Rattle.hmc_packet.specs.Spelling.{FitsProfile, spelling}
 use Rattle.hmc_packet.specs.Tail.{tail_of}
 use Rattle.hmc_packet.proofs.FrontLemmas.{head_in-first}
@@ -41,7 +41,8 @@ use Rattle.hmc_send.specs.Places.{Place}
 use Rattle.hmc_send.proofs.CopyLemmas.{head-says, header-front}
 use Rattle.hmc_through.specs.Pipe.{PipeFields, flit_at, last_fed, whole_fed, feed_at}
 use Rattle.hmc_wire.specs.Conditions.{IsHalf}
-use Rattle.hmc_wire.proofs.Filled.{completed-last, copy-is, heads-lng}
+use Rattle.hmc_wire.proofs.Choices.{fit-last}
+use Rattle.hmc_wire.proofs.Filled.{completed-last, copy-is, head-same, heads-lng}
 use Rattle.hmc_wire.proofs.OpenPlaces.{IsOpen, open_place}
 use Rattle.hmc_wire.proofs.Places.{IsOpenPlace, FitOr, AllFit}
 use Rattle.hmc_journal.specs.Delivered.{unnumbered}
@@ -177,10 +178,6 @@ good_goes topology d p good wires way some =
 
 -- ---- the copy is a packet
 
-last_fit : (q : Profile) (l : List Place) (x : Place) → AllFit q (l ++ x ∷ []) → FitOr q x
-last_fit q [] x fit = fit.0
-last_fit q (y ∷ l) x fit = last_fit q l x fit.1
-
 open_fit : (q : Profile) (head : List ℕ) (count : ℕ) (n : Numbers) → FitOr q (Place.awaited head count n) → IsOpenPlace q (Place.awaited head count n)
 open_fit q head count n (inl has) = absurd (let clash : None ≡ Some has.packet = has.fits.known in cc)
 open_fit q head count n (inr is) = is
@@ -188,14 +185,10 @@ open_fit q head count n (inr is) = is
 pub copy_packet : (q : Profile) (T : List SenderEntry) (o : IsOpen q T) (half : List ℕ) (slid errstat : ℕ) (good : Bool) → AllFit q (entries.places q T) → IsFedNext o.part o.head (Last half slid errstat good) → IsHalf half
     → IsPacket (copy_of q o.part.sent half slid errstat good o.numbers)
 copy_packet q T o half slid errstat good fit next is =
-    let place = open_fit q o.head o.count o.numbers (last_fit q o.before (open_place o) (subst (AllFit q) o.places fit)) in
+    let place = open_fit q o.head o.count o.numbers (fit-last q o.before (open_place o) (subst (AllFit q) o.places fit)) in
     (completed-last q (open_place o) o.part half slid errstat good place o.whole_flits o.flits next.0 is.long is.bytes next.1).fits.packet
 
 -- ---- a poisoned copy
-
-head-same : (bytes flit : List ℕ) → header_in bytes ≡ header_in flit → head_in bytes ≡ head_in flit
-unfolding head_in named_by
-head-same bytes flit same = ap (λ (word : ℕ). option_and_then (λ command. head_with (layout_of command) command word) (command_in word)) same
 
 -- what a head has of its header
 record HasHeader (bytes : List ℕ) (h : Head) : Type 0 where

@@ -2,6 +2,7 @@
 use Rattle.std.proofs.Common.{◌≡◌, ◌≤◌, ◌∙◌, ◌==◌, ℕ, suc, Bool, true, false, if◌then◌else◌, List, Option, Some, None, length, take, drop, refl, sym, ap, arith, eqb-true, eq-eqb, nat_lt, ltb-false}
 use Rattle.std.proofs.lemmas.List.{length-take}
 use Rattle.hmc_codes.proofs.BytesLemmas.{IsBytes-take}
+use Rattle.hmc_codes.specs.Flit.{IsFlit}
 use Rattle.hmc_packet.specs.declared.feed.Feed.{Feed}
 use Rattle.hmc_packet.specs.declared.feed.Feed.TheVariants.{Waiting, Whole}
 use Rattle.hmc_packet.specs.Copy.{layout_named, last_feed}
@@ -12,7 +13,7 @@ use Rattle.hmc_packet.proofs.TailLemmas.{IsTail-of, slid-below, errstat-below}
 use Rattle.hmc_through.specs.Pipe.{PipeFields, flit_at, whole_fed, last_fed, feed_at}
 use Rattle.hmc_send.specs.Entries.{Part}
 use Rattle.hmc_send.specs.Kept.{IsFedNext}
-use Rattle.hmc_wire.specs.Conditions.{IsFlit, IsFeed}
+use Rattle.hmc_wire.specs.Conditions.{IsFeed}
 
 -- a pipe of a packet with this first flit and so many flits
 pub record IsPipeFor (pipe : PipeFields) (head : List ℕ) (count : ℕ) : Type 0 where

@@ -2,12 +2,12 @@
 -- what is gathered is shorter than its first flit says.
 use Rattle.std.proofs.Common.{◌≡◌, ◌≢◌, ◌≤◌, ◌<◌, ◌+◌, ◌∙◌, ◌==◌, ℕ, zero, suc, Bool, true, false, not, if◌then◌else◌, nat_le, nat_lt, Option, Some, None, Result, Ok, Err, List, [], ◌∷◌, ◌++◌, All, length, get_or, refl, sym, ap, subst, arith, eq-eqb, eqb-true, ltb-true}
 use Rattle.std.proofs.lemmas.Bool.{le-leb}
-use Rattle.std.specs.Prelude.{◌&&◌, filter, option_and_then}
+use Rattle.std.specs.Prelude.{◌&&◌, filter}
 use Rattle.std.specs.List.{concat}
 use Rattle.std.proofs.lemmas.List.Elements.{All-head, All-same}
 use Rattle.hmc_codes.specs.Bytes.{IsBytes}
 use Rattle.hmc_codes.specs.Commands.{layout_of, is_flow}
-use Rattle.hmc_codes.specs.Flit.{zero_flit}
+use Rattle.hmc_codes.specs.Flit.{zero_flit, IsFlit}
 use Rattle.hmc_codes.specs.declared.command.Command.{Command}
 use Rattle.hmc_codes.specs.declared.layout.Layout.{Layout}
 use Rattle.hmc_codes.specs.declared.layout.Layout.TheVariants as layouts
@@ -24,9 +24,7 @@ use Rattle.hmc_packet.specs.declared.outcome.Outcome.TheVariants as outcomes
 use Rattle.hmc_packet.specs.declared.seen.Seen.{Seen}
 use Rattle.hmc_packet.specs.declared.view.Mode.{Mode}
 use Rattle.hmc_packet.specs.declared.view.Mode.TheVariants as modes
-use Rattle.hmc_packet.specs.Bits.{bits_from}
-use Rattle.hmc_packet.specs.Head.{named_by, head_in, head_with}
-use Rattle.hmc_packet.specs.Header.{header_of, header_is_clean}
+use Rattle.hmc_packet.specs.Head.{named_by, head_in}
 use Rattle.hmc_packet.specs.Irtry.{kind_of, irtry_in}
 use Rattle.hmc_packet.specs.Landings.{ReceiverEntry, pending, packets_in, whole_run, whole_training, is_training}
 use Rattle.hmc_packet.specs.Packet.{PacketFields, IsPacket}
@@ -41,7 +39,7 @@ use Rattle.hmc_send.specs.LinkCalls.{names_flits}
 use Rattle.hmc_send.specs.LinkEntries.{put_if}
 use Rattle.hmc_send.specs.Places.{is_token}
 use Rattle.hmc_send.proofs.CopyLemmas.{head-says}
-use Rattle.hmc_wire.specs.Conditions.{IsFlit}
+use Rattle.hmc_wire.proofs.Filled.{head-lng}
 use Rattle.hmc_journal.specs.declared.entry.Entry.{Entry}
 use Rattle.hmc_journal.specs.declared.entry.Entry.TheVariants.{Gave, Sent, Landed, Shifted, Dropped, Spread, Executed, Lifted, Took, Discarded, Through, Unlocked, Retired, Passed, Idle}
 use Rattle.hmc_journal.specs.Directions.{receiver_of, profile_of, landed_packets}
@@ -214,18 +212,6 @@ short_step setup (Passed d flit) past right short e = short e
 short_step setup (Idle step cause) past right short e = short e
 
 -- its first flit names more than one flit
-head-lng : (flit : List ℕ) (o : Option Command) (head : Head) → option_and_then (λ (c : Command). head_with (layout_of c) c (header_in flit)) o ≡ Some head → head.flits ≡ bits_from 7 5 (header_in flit)
-unfolding head_with
-head-lng flit None head is = absurd cc
-head-lng flit (Some c) head is = by_test (not (is_flow (layout_of c)) && header_is_clean (layout_of c) (header_in flit)) is
-  where
-    found : Head
-    found = record { command = c; flits = bits_from 7 5 (header_in flit); cube = (header_of (layout_of c) (header_in flit)).cube; slid = (header_of (layout_of c) (header_in flit)).slid }
-
-    by_test : (b : Bool) → (if b then Some found else None) ≡ Some head → head.flits ≡ bits_from 7 5 (header_in flit)
-    by_test true same = let one : found ≡ head = cc in ap (λ (h : Head). h.flits) (sym one)
-    by_test false same = absurd cc
-
 lng_is : (flit : List ℕ) (head : Head) → head_in flit ≡ Some head → head.flits ≡ lng_of flit
 unfolding head_in named_by lng_of
 lng_is flit head is = head-lng flit (command_in (header_in flit)) head is

@@ -27,6 +27,7 @@ use Rattle.hmc_hops.specs.Queues.{QueueId as hops}
 use Rattle.hmc_hops.specs.Moves.{Move, without, without_if}
 use Rattle.hmc_hops.specs.Moves.{packet_if as hop_if, contents as hop_contents}
 use Rattle.hmc_hops.specs.Moves.Move.{Comes}
+use Rattle.hmc_hops.proofs.Forwarding.{without_last}
 use Rattle.hmc_hops.proofs.SameQueue.{queue_is}
 use Rattle.hmc_journal.specs.declared.entry.Entry.{Entry}
 use Rattle.hmc_journal.specs.declared.entry.Entry.TheVariants.{Landed, Unlocked}
@@ -318,11 +319,6 @@ spoiled_step setup m past moved d onto flit outcome wires keeps now agrees right
     (λ e. copy_lines t entry past onto copy e (onto == e) refl known.known (λ k off. other_known setup past d onto k flit outcome keeps forwarded off) within)))
 
 -- ---- it is accepted: the packet goes on at once
-
-pub without_last : (x : Packet) (ys : List Packet) → without (length ys) (ys ++ x ∷ []) ≡ ys
-unfolding without
-without_last x [] = refl
-without_last x (y ∷ ys) = ap (λ (l : List Packet). y ∷ l) (without_last x ys)
 
 through_none : (c : Bool) (n : ℕ) (x : Packet) → (c ≡ true → n ≡ 0) → without_if c n (hop_if c x) ++ [] ≡ []
 unfolding without

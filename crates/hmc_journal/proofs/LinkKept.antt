@@ -5,7 +5,7 @@ use Rattle.std.specs.Str.{bytes_eq}
 use Rattle.std.proofs.lemmas.Slice.Eq.{bytes_eq-Decides}
 use Rattle.std.proofs.lemmas.Nat.Bits.{bit_at_xor, bit_at-lt, same_from_bits}
 use Rattle.hmc_codes.specs.Bytes.{IsBytes}
-use Rattle.hmc_codes.specs.Flit.{zero_flit}
+use Rattle.hmc_codes.specs.Flit.{zero_flit, IsFlit}
 use Rattle.hmc_codes.specs.Link.{LinkFields}
 use Rattle.hmc_codes.specs.Profile.{most_retry}
 use Rattle.hmc_codes.specs.declared.profile.Profile.{Profile}
@@ -31,7 +31,7 @@ use Rattle.hmc_send.specs.LinkLines.{StampedFlit, line, under_mask, changes, is_
 use Rattle.hmc_send.specs.LinkSenders.{sender_entries, places_in, given_after, run_entries, acknowledgement}
 use Rattle.hmc_send.specs.Places.{Place, is_token, place_at}
 use Rattle.hmc_send.proofs.LinkLawful.{IsSend, IsLanding}
-use Rattle.hmc_wire.specs.Conditions.{IsFlit, IsFeed, IsHanded, AreHanded, AreFed}
+use Rattle.hmc_wire.specs.Conditions.{IsFeed, IsHanded, AreHanded, AreFed}
 use Rattle.hmc_wire.specs.LinkLaws.{IsKept}
 use Rattle.hmc_wire.proofs.Places.{packet_of}
 use Rattle.hmc_wire.proofs.OpenPlaces.{AreKnown, IsOpen, open-place}

@@ -16,6 +16,7 @@ use Rattle.hmc_codes.specs.Answer.{is_returned, IsAnswer}
 use Rattle.hmc_codes.specs.Bytes.{IsBytes}
 use Rattle.hmc_codes.specs.Request.{RequestFields, IsRequest}
 use Rattle.hmc_codes.specs.Text.{flag_text, spaced_words}
+use Rattle.hmc_codes.specs.Flit.{IsFlit}
 use Rattle.hmc_codes.specs.declared.answer.Answer.{Answer}
 use Rattle.hmc_codes.specs.declared.answer.Answer.TheVariants.{Silent, Done, Read, Register, Stored, Refused}
 use Rattle.hmc_codes.specs.declared.lift.Lift.{Lift}
@@ -46,7 +47,6 @@ use Rattle.hmc_journal.specs.declared.outcome.Cause.TheVariants as causes
 use Rattle.hmc_journal.specs.declared.entry.Entry.{Entry}
 use Rattle.hmc_journal.specs.declared.entry.Entry.TheVariants.{Gave, Sent, Landed, Shifted, Dropped, Spread, Executed, Lifted, Took, Discarded, Through, Unlocked, Retired, Passed, Idle}
 use Rattle.hmc_journal.specs.Lines.{tag_text, what_text, goal_text, lift_text, cause_text, step_words, line_of}
-use Rattle.hmc_wire.specs.Conditions.{IsFlit}
 use Rattle.hmc_journal.specs.Parse.{CanBeShown, HasNoMask, IsTag, IsUnit, IsLift, IsGoal, IsStep, IsPrintable, IsLineOf}
 use Rattle.hmc_journal.specs.ParseWords.{byte_of, flit_of, tag_of, whats, what_of, causes_known, cause_named, outcome_named, goal_of, port_of, lift_of, flag_of, returned_of, value_of}
 use Rattle.hmc_journal.specs.ParseParts.{take_bank, take_unit, outcome_among, outcome_in, done_in, read_in, register_in, refused_in, answer_after, answer_in, numbered_step, pair_step, take_bank_step, take_lift_step, take_pair_step, take_long_step, take_step}

@@ -1,7 +1,7 @@
 -- What each entry leaves of the packet under way on a direction, where it is forwarded.
 use Rattle.std.proofs.Common.{◌≡◌, ◌≤◌, ◌∙◌, ◌/◌, ◌==◌, ℕ, suc, Bool, true, false, Option, Some, List, [], ◌∷◌, length, refl, sym, ap, subst, arith, eqb-true, eq-eqb}
 use Rattle.std.specs.Prelude.{option_map, slice_index_or}
-use Rattle.hmc_codes.specs.Flit.{zero_flit}
+use Rattle.hmc_codes.specs.Flit.{zero_flit, IsFlit}
 use Rattle.hmc_codes.specs.declared.profile.Profile.{Profile}
 use Rattle.hmc_codes.specs.declared.place.Place.TheVariants as places
 use Rattle.hmc_packet.specs.declared.outcome.Outcome.{Outcome}
@@ -18,7 +18,6 @@ use Rattle.hmc_send.specs.Places.{Place, pointer_of, number_of, numbers_after}
 use Rattle.hmc_send.proofs.Lists.{place-push}
 use Rattle.hmc_send.proofs.LinkLawful.{lawful-through}
 use Rattle.hmc_send.proofs.LinkProjections.{sender-sent, sender-through}
-use Rattle.hmc_wire.specs.Conditions.{IsFlit}
 use Rattle.hmc_wire.specs.LinkLaws.{IsKept}
 use Rattle.hmc_wire.proofs.Filled.{heads}
 use Rattle.hmc_journal.specs.Choice.{choose}

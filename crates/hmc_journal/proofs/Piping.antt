@@ -1,7 +1,7 @@
 -- The packet under way on a direction, where it is forwarded, and the pipe that feeds it.
 use Rattle.std.proofs.Common.{◌≡◌, ◌≤◌, ◌<◌, ◌-◌, ◌∙◌, ◌==◌, ◌&&◌, ℕ, zero, suc, Bool, true, false, if◌then◌else◌, Option, Some, None, List, [], ◌∷◌, ◌++◌, length, get_or, refl, sym, ap, subst, arith, length-append, nat_lt, ltb-true, ltb-false}
 use Rattle.std.specs.Prelude.{is_none, option_map, slice_index_or}
-use Rattle.hmc_codes.specs.Flit.{zero_flit}
+use Rattle.hmc_codes.specs.Flit.{zero_flit, IsFlit}
 use Rattle.hmc_packet.specs.declared.feed.Feed.{Feed}
 use Rattle.hmc_packet.specs.declared.feed.Feed.TheVariants.{Waiting, Whole}
 use Rattle.hmc_packet.specs.declared.outcome.Outcome.{Outcome}
@@ -22,7 +22,7 @@ use Rattle.hmc_send.specs.LinkSenders.{sender_entries}
 use Rattle.hmc_send.specs.Places.{Place, place_at}
 use Rattle.hmc_wire.proofs.OpenPlaces.{AreKnown}
 use Rattle.hmc_wire.proofs.Places.{packet_of}
-use Rattle.hmc_wire.specs.Conditions.{IsFlit, IsFeed}
+use Rattle.hmc_wire.specs.Conditions.{IsFeed}
 use Rattle.hmc_journal.specs.declared.entry.Entry.{Entry}
 use Rattle.hmc_journal.specs.Links.{toward, sizes_on, entries_on}
 use Rattle.hmc_journal.specs.Piped.{PipeFrom, with_landing, with_unlock, while_gathering, fed}

@@ -28,10 +28,11 @@ use Rattle.hmc_send.specs.declared.toward.Toward.TheVariants.{Forth, Back}
 use Rattle.hmc_send.specs.Entries.{Given, Part, unfinished, places, last_begun, SenderEntry, UnderWay, through_place, under_way, with_place}
 use Rattle.hmc_send.specs.LinkCalls.{has_room, holds_packet, may_pass_on, view_in}
 use Rattle.hmc_codes.specs.Link.{LinkFields}
+use Rattle.hmc_codes.specs.Flit.{IsFlit, zero_flit}
 use Rattle.hmc_send.specs.LinkEntries.{LinkEntry, put_if, handed_packets, same_way, count_if, accepted_packets, takes}
 use Rattle.hmc_send.specs.LinkSenders.{sender_entries, given_after, given_in, queue_in}
 use Rattle.hmc_send.specs.Places.{Place, is_token, place_at, numbers_at}
-use Rattle.hmc_wire.specs.Conditions.{IsHanded, IsFlit, IsHalf, IsFeed}
+use Rattle.hmc_wire.specs.Conditions.{IsHanded, IsHalf, IsFeed}
 use Rattle.hmc_wire.specs.LinkLaws.{IsKept}
 use Rattle.hmc_journal.specs.Choice.{append_if}
 use Rattle.hmc_journal.specs.Directions.{sent_flits, unsent, receiver_of, accepted, awaits_first, landed_packets}
@@ -78,7 +79,6 @@ use Rattle.hmc_packet.specs.Landings.{pending}
 use Rattle.hmc_packet.specs.Receptions.{reception_of}
 use Rattle.hmc_packet.specs.Parts.{lng_of}
 use Rattle.hmc_through.specs.Pipe.{feed_at}
-use Rattle.hmc_codes.specs.Flit.{zero_flit}
 use Rattle.hmc_packet.specs.declared.outcome.Outcome.TheVariants as outcomes
 use Rattle.hmc_send.specs.Entries as begun
 use Rattle.hmc_journal.proofs.CopyGoes.{copy_is, good_same, good_goes, copy_packet, bad_spoiled}

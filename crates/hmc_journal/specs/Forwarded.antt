@@ -1,5 +1,6 @@
 -- What a lawful journal promises of packets that are forwarded while they are gathered.
 use Rattle.std.specs.Prelude.{◌≡◌, ◌≤◌, ◌<◌, ℕ, true, false, Some, None, List, [], ◌∷◌, length, slice_index_or}
+use Rattle.hmc_codes.specs.Flit.{IsFlit}
 use Rattle.hmc_packet.specs.declared.feed.Feed.TheVariants.{Waiting}
 use Rattle.hmc_packet.specs.declared.outcome.Outcome.TheVariants.{Accepted}
 use Rattle.hmc_packet.specs.Landings.{pending}
@@ -10,7 +11,6 @@ use Rattle.hmc_send.specs.IsSender.{IsFed}
 use Rattle.hmc_send.specs.LinkCalls.{holds_packet, may_pass_on, view_in}
 use Rattle.hmc_send.specs.LinkEntries.{LinkEntry}
 use Rattle.hmc_send.specs.LinkSenders.{sender_entries}
-use Rattle.hmc_wire.specs.Conditions.{IsFlit}
 use Rattle.hmc_journal.specs.declared.entry.Entry.{Entry}
 use Rattle.hmc_journal.specs.Directions.{receiver_of}
 use Rattle.hmc_journal.specs.Links.{toward, entries_on, sizes_on, fed_after}

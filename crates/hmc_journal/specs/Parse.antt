@@ -3,7 +3,7 @@
 use Rattle.std.specs.Prelude.{◌≡◌, ◌<◌, ◌^◌, ℕ, List, ◌∷◌, [], ◌++◌, Option, Some, None}
 use Rattle.std.specs.List.{All, flat_map}
 use Rattle.hmc_codes.specs.Answer.{CanReply, IsAnswer}
-use Rattle.hmc_codes.specs.Flit.{zero_flit}
+use Rattle.hmc_codes.specs.Flit.{zero_flit, IsFlit}
 use Rattle.hmc_codes.specs.Request.{IsRequest}
 use Rattle.hmc_codes.specs.declared.answer.Answer.{Answer}
 use Rattle.hmc_codes.specs.declared.answer.Answer.TheVariants.{Silent}
@@ -13,7 +13,6 @@ use Rattle.hmc_codes.specs.declared.unit.Unit.{Unit as Executor}
 use Rattle.hmc_codes.specs.declared.unit.Unit.TheVariants as units
 use Rattle.hmc_schedule.specs.declared.step.Step.{Step}
 use Rattle.hmc_schedule.specs.declared.step.Step.TheVariants as steps
-use Rattle.hmc_wire.specs.Conditions.{IsFlit}
 use Rattle.hmc_journal.specs.declared.outcome.Goal.{Goal}
 use Rattle.hmc_journal.specs.declared.outcome.Goal.TheVariants as goals
 use Rattle.hmc_journal.specs.declared.entry.Entry.{Entry}

@@ -5,7 +5,7 @@ ghost use Rattle.std.specs.Prelude.{◌<◌, ◌^◌};
 ghost use Rattle.hmc_codes.specs.Answer.{IsAnswer};
 ghost use Rattle.hmc_codes.specs.Bytes.{IsBytes};
 ghost use Rattle.hmc_codes.specs.Request.{IsRequest};
-ghost use Rattle.hmc_wire.specs.Conditions.{IsFlit};
+ghost use Rattle.hmc_codes.specs.Flit.{IsFlit};
 ghost use Rattle.hmc_journal.specs.Parse.{IsTag, IsUnit, IsLift, IsGoal, IsStep, FitsTypes};
 
 use crate::{Entry, Goal};

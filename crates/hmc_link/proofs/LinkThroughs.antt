@@ -1,6 +1,7 @@
 -- A link that begins a cut-through.
 use Rattle.std.proofs.Common.{◌≡◌, ◌∙◌, ℕ, Bool, true, ◌&&◌, List, ◌∷◌, Some, refl, sym, ap, subst}
 use Rattle.hmc_codes.specs.Link.{LinkFields}
+use Rattle.hmc_codes.specs.Flit.{IsFlit}
 use Rattle.hmc_packet.specs.declared.feed.Feed.TheVariants.{Waiting}
 use Rattle.hmc_packet.specs.Head.{head_in}
 use Rattle.hmc_send.specs.LinkCalls.{LinkCall, next_entry, may_pass_on, names_flits, view_in}
@@ -8,7 +9,7 @@ use Rattle.hmc_send.specs.LinkEntries.{LinkEntry}
 use Rattle.hmc_send.specs.LinkSenders.{sender_entries, given_after}
 use Rattle.hmc_send.specs.declared.toward.Toward.{Toward}
 use Rattle.hmc_send.specs.declared.toward.Toward.TheVariants.{Forth, Back}
-use Rattle.hmc_wire.specs.Conditions.{IsFlit, AreMet, AreHanded, AreFed}
+use Rattle.hmc_wire.specs.Conditions.{AreMet, AreHanded, AreFed}
 use Rattle.hmc_wire.specs.LinkLaws.{IsKept}
 use Rattle.hmc_link.specs.Answers.{after_call}
 use Rattle.hmc_link.specs.Held.{EndFields, LinkHeld, sending_end, is_ready}

@@ -2,6 +2,7 @@
 use Rattle.std.proofs.Common.{◌≡◌, ◌≤◌, ◌<◌, ◌+◌, ◌/◌, ◌==◌, ◌&&◌, ◌∙◌, ℕ, Bool, true, false, nat_lt, if◌then◌else◌, Option, Some, None, List, [], ◌∷◌, ◌++◌, length, refl, sym, ap, subst, arith, eq-eqb, eqb-true, length-append, ltb-false}
 use Rattle.std.specs.Prelude.{slice_index_or, slice_get}
 use Rattle.hmc_codes.specs.Link.{LinkFields}
+use Rattle.hmc_codes.specs.Flit.{IsFlit}
 use Rattle.hmc_codes.specs.declared.profile.Profile.{Profile}
 use Rattle.hmc_packet.specs.declared.outcome.Outcome.{Outcome}
 use Rattle.hmc_packet.specs.declared.outcome.Outcome.TheVariants as outcomes
@@ -26,7 +27,6 @@ use Rattle.hmc_journal.specs.StepView.{StepView}
 use Rattle.hmc_net.specs.LinkList.{sizes_by, LinksStandFor, called}
 use Rattle.hmc_case.specs.declared.setup.LinkRow.{LinkRow}
 use Rattle.hmc_link.specs.Held.{LinkHeld}
-use Rattle.hmc_wire.specs.Conditions.{IsFlit}
 use Rattle.hmc_net.specs.Links.{outcome_of, IsCameFlit, MayForward}
 use Rattle.hmc_net.specs.NetState.{NetState}
 use Rattle.hmc_net.specs.Pipes.{PipesHeld, AreGathering, IsLastOf, forwarded_at, is_whole_outcome}

@@ -26,7 +26,7 @@ use Rattle.hmc_journal.specs.Serial.{state_after}
 use Rattle.hmc_journal.specs.Setup.{Topology, Setup, no_cube as no_setup, cube_setup, cubes_in, hosts_in, directions_in}
 use Rattle.hmc_journal.specs.StepView.{state_of}
 use Rattle.hmc_net.specs.Pipes.{AreCounted}
-use Rattle.hmc_net.specs.NetState.{NetState, cube_in, no_cube, no_host, packets_in, queue_cube, inside, machine_of}
+use Rattle.hmc_net.specs.NetState.{NetState, cube_in, no_cube, no_host, packets_in, queue_cube, inside, machine_in}
 use Rattle.hmc_net.specs.Opening.{AreNewCubes, IsOpening}
 use Rattle.hmc_net.specs.Ready.{IsStepFor}
 use Rattle.hmc_net.specs.Sees.{CubeFits, IsSized}
@@ -110,7 +110,7 @@ states_from (s ∷ setups) (x ∷ cubes) n same each =
     ap₂ (λ (c : CubeState) (l : List CubeState). c ∷ l) (each 0 (omega arith) ∙ ap (opening s.shape) zero_is)
     (states_from setups cubes (n + 1) (omega arith) (λ k less. each (suc k) (omega arith) ∙ ap (opening (slice_index_or setups k no_setup).shape) (omega arith)))
 
-new_states : (setup : Setup) (cubes : List CubeFields) (slots : List (Option UnitFields)) → AreNewCubes setup.topology.cubes cubes → slots ≡ setup.slots → machine_of cubes slots ≡ state_of setup []
+new_states : (setup : Setup) (cubes : List CubeFields) (slots : List (Option UnitFields)) → AreNewCubes setup.topology.cubes cubes → slots ≡ setup.slots → machine_in cubes slots ≡ state_of setup []
 unfolding state_of state_after opening_state
 new_states setup cubes slots new same =
     let topology = setup.topology in

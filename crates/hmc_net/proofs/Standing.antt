@@ -56,7 +56,7 @@ use Rattle.hmc_journal.specs.StepView.{StepView, state_of, view_of}
 use Rattle.hmc_journal.proofs.EntryRule.{EntryRule, next_rule}
 use Rattle.hmc_net.specs.Apply.{after_unit, cubes_after, hosts_after, slots_after, gathered_from, piped_after, entries_after, IsAfter, DoesStep, IsEntryIn, IsHostIn, gave_one, with_cube, with_host}
 use Rattle.hmc_net.specs.LinkList.{LinksStandFor}
-use Rattle.hmc_net.specs.NetState.{NetState, cube_in, no_cube, host_in, no_host, inside, machine_of}
+use Rattle.hmc_net.specs.NetState.{NetState, cube_in, no_cube, host_in, no_host, inside, machine_in}
 use Rattle.hmc_net.specs.Pipes.{AreCounted}
 use Rattle.hmc_net.specs.Sees.{Sees}
 use Rattle.hmc_net.specs.Stands.{StandsFor, IsNext}
@@ -76,21 +76,21 @@ use Rattle.hmc_net.proofs.Telling.{told_by}
 -- ---- the plain machine
 
 -- a change of a cube that leaves its state
-state_same : (cubes : List CubeFields) (slots : List (Option UnitFields)) (c : ℕ) (f : CubeFields → CubeFields) → (f (cube_in cubes c)).state ≡ (cube_in cubes c).state → machine_of (with_cube c f cubes) slots ≡ machine_of cubes slots
+state_same : (cubes : List CubeFields) (slots : List (Option UnitFields)) (c : ℕ) (f : CubeFields → CubeFields) → (f (cube_in cubes c)).state ≡ (cube_in cubes c).state → machine_in (with_cube c f cubes) slots ≡ machine_in cubes slots
 state_same cubes slots c f same = ap {B = State} (λ (l : List CubeState). record { cubes = l; slots = slots }) (map-set_same (λ (x : CubeFields). x.state) cubes c (f (cube_in cubes c)) no_cube same)
 
-pub state_at : (cubes : List CubeFields) (slots : List (Option UnitFields)) (c : ℕ) → cube_state_at (machine_of cubes slots) c ≡ (cube_in cubes c).state
+pub state_at : (cubes : List CubeFields) (slots : List (Option UnitFields)) (c : ℕ) → cube_state_at (machine_in cubes slots) c ≡ (cube_in cubes c).state
 state_at cubes slots c = get_or-map (λ (x : CubeFields). x.state) cubes c no_cube
 
 -- an execution leaves of the machine what it leaves of its cube and of the logic units
 state_run : (cubes : List CubeFields) (slots : List (Option UnitFields)) (c : ℕ) (f : CubeFields → CubeFields) (request : RequestFields) → request.cube ≡ c → (f (cube_in cubes c)).state ≡ (perform_on (cube_in cubes c).state slots request).cube
-    → machine_of (with_cube c f cubes) (perform_on (cube_state_at (machine_of cubes slots) c) slots request).slots ≡ apply (machine_of cubes slots) request
+    → machine_in (with_cube c f cubes) (perform_on (cube_state_at (machine_in cubes slots) c) slots request).slots ≡ apply (machine_in cubes slots) request
 unfolding apply
 state_run cubes slots c f request own run =
-    let left = (perform_on (cube_state_at (machine_of cubes slots) c) slots request).slots in
+    let left = (perform_on (cube_state_at (machine_in cubes slots) c) slots request).slots in
     ap {B = State} (λ (l : List CubeState). record { cubes = l; slots = left }) (map-set (λ (x : CubeFields). x.state) cubes c (f (cube_in cubes c)))
     ∙ ap {B = State} (λ (s : CubeState). record { cubes = slice_set (map (λ (x : CubeFields). x.state) cubes) c s; slots = left }) (run ∙ ap (λ (s : CubeState). (perform_on s slots request).cube) (sym (state_at cubes slots c)))
-    ∙ ap {B = State} (λ (n : ℕ). record { cubes = slice_set (map (λ (x : CubeFields). x.state) cubes) n (perform_on (cube_state_at (machine_of cubes slots) n) slots request).cube; slots = (perform_on (cube_state_at (machine_of cubes slots) n) slots request).slots }) (sym own)
+    ∙ ap {B = State} (λ (n : ℕ). record { cubes = slice_set (map (λ (x : CubeFields). x.state) cubes) n (perform_on (cube_state_at (machine_in cubes slots) n) slots request).cube; slots = (perform_on (cube_state_at (machine_in cubes slots) n) slots request).slots }) (sym own)
 
 -- an executed request is one of the unit's cube
 abbrev pub IsOwn : Entry → Type 0
@@ -98,14 +98,14 @@ IsOwn (Executed unit host tag request answer) = request.cube ≡ unit_cube unit
 IsOwn _ = Unit {0}
 
 -- what the step saw of the machine is what it has
-seen_first : (view : StepView) (cubes : List CubeFields) (slots : List (Option UnitFields)) (unit : RequestUnit) (host : ℕ) (tag : Option ℕ) (request : RequestFields) (answer : Answer) → view.state ≡ machine_of cubes slots
-    → machine_of (after_unit unit (Executed unit host tag request answer) view.state.slots cubes) (perform_on (cube_state_at view.state (unit_cube unit)) slots request).slots
-    ≡ machine_of (after_unit unit (Executed unit host tag request answer) slots cubes) (perform_on (cube_state_at (machine_of cubes slots) (unit_cube unit)) slots request).slots
+seen_first : (view : StepView) (cubes : List CubeFields) (slots : List (Option UnitFields)) (unit : RequestUnit) (host : ℕ) (tag : Option ℕ) (request : RequestFields) (answer : Answer) → view.state ≡ machine_in cubes slots
+    → machine_in (after_unit unit (Executed unit host tag request answer) view.state.slots cubes) (perform_on (cube_state_at view.state (unit_cube unit)) slots request).slots
+    ≡ machine_in (after_unit unit (Executed unit host tag request answer) slots cubes) (perform_on (cube_state_at (machine_in cubes slots) (unit_cube unit)) slots request).slots
 seen_first view cubes slots unit host tag request answer seen =
-    ap (λ (s : State). machine_of (after_unit unit (Executed unit host tag request answer) s.slots cubes) (perform_on (cube_state_at s (unit_cube unit)) slots request).slots) seen
+    ap (λ (s : State). machine_in (after_unit unit (Executed unit host tag request answer) s.slots cubes) (perform_on (cube_state_at s (unit_cube unit)) slots request).slots) seen
 
-state_then : (view : StepView) (setup : Setup) (past : List Entry) (entry : Entry) (cubes : List CubeFields) (slots : List (Option UnitFields)) → IsOwn entry → view.state ≡ machine_of cubes slots → machine_of cubes slots ≡ state_of setup past
-    → machine_of (cubes_after view entry cubes) (slots_after view entry slots) ≡ state_of setup (entry ∷ past)
+state_then : (view : StepView) (setup : Setup) (past : List Entry) (entry : Entry) (cubes : List CubeFields) (slots : List (Option UnitFields)) → IsOwn entry → view.state ≡ machine_in cubes slots → machine_in cubes slots ≡ state_of setup past
+    → machine_in (cubes_after view entry cubes) (slots_after view entry slots) ≡ state_of setup (entry ∷ past)
 unfolding state_of state_after retire
 state_then view setup past (Executed (units.Bank cube vault bank) host tag request answer) cubes slots own seen same =
     seen_first view cubes slots (units.Bank cube vault bank) host tag request answer seen ∙ state_run cubes slots cube (after_execute vault bank (Ran host (tag_number tag) request answer) slots) request own refl ∙ ap (λ (s : State). apply s request) same
@@ -261,7 +261,7 @@ stands_by net now tally changed was_good past setup step entry last is law next_
       lawful = lawful_then net past setup step entry is next_is;
       queues = λ queue cube. ap (λ (l : List CubeFields). inside l queue) cubes ∙ moved.same queue ∙ queues_step setup.topology past entry net.cubes left_is moved.there moved.going queue cube (stands.moves queue cube) (stands.queues queue cube);
       moves = λ queue cube. within_step setup.topology past entry queue cube left_is (stands.moves queue cube);
-      state = ap₂ machine_of cubes slots ∙ state_then view setup past entry net.cubes net.slots (own_of setup past entry law rule) (sym sees.shows.state) stands.state;
+      state = ap₂ machine_in cubes slots ∙ state_then view setup past entry net.cubes net.slots (own_of setup past entry law rule) (sym sees.shows.state) stands.state;
       hosts = subst (λ (l : List HostFields). (host : ℕ) → host < length l → host_in l host ≡ host_of setup (entry ∷ past) host) (sym hosts) (hosts_then setup past entry net.hosts (subst (IsHostIn net.hosts) (sym last) does.host) stands.hosts);
       forwarded = next.forwarded;
       pipes = next.pipes;

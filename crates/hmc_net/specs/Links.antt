@@ -1,6 +1,6 @@
 -- The entries that the answers of a link, and of a bench of logic units, are.
 use Rattle.std.specs.Prelude.{ℕ, Bool, true, false, List}
-use Rattle.hmc_codes.specs.Flit.{zero_flit}
+use Rattle.hmc_codes.specs.Flit.{zero_flit, IsFlit}
 use Rattle.hmc_link.specs.declared.link_landed.LinkLanded.{LinkLanded}
 use Rattle.hmc_link.specs.declared.link_landed.LinkLanded.TheVariants as landings
 use Rattle.hmc_link.specs.declared.link_sent.LinkSent.{LinkSent}
@@ -14,7 +14,6 @@ use Rattle.hmc_case.specs.declared.setup.LinkRow.{LinkRow}
 use Rattle.hmc_link.specs.Held.{LinkHeld}
 use Rattle.hmc_send.specs.LinkCalls.{LinkCall}
 use Rattle.hmc_send.specs.LinkEntries.{LinkEntry}
-use Rattle.hmc_wire.specs.Conditions.{IsFlit}
 use Rattle.hmc_journal.specs.declared.outcome.Cause.TheVariants as causes
 use Rattle.hmc_journal.specs.declared.entry.Entry.{Entry}
 use Rattle.hmc_journal.specs.declared.entry.Entry.TheVariants.{Sent, Landed, Retired, Passed, Idle}

@@ -2,7 +2,7 @@
 use Rattle.std.specs.Prelude.{◌<◌, ℕ, List, [], length, map, slice_index_or, Option}
 use Rattle.hmc_codes.specs.declared.lift.Lift.TheVariants as lifts
 use Rattle.hmc_packet.specs.Packet.{PacketFields}
-use Rattle.hmc_serial.specs.Machine.{State, no_cube_state}
+use Rattle.hmc_serial.specs.Machine.{State, machine_of, no_cube_state}
 use Rattle.hmc_vault.specs.Vault.{bank_at}
 use Rattle.hmc_cube.specs.Cube.{CubeFields, vault_at}
 use Rattle.hmc_cube.specs.Places.{answers_at}
@@ -109,5 +109,5 @@ IsQueueOf cubes (Host h) = Unit {0}
 IsQueueOf cubes r = (queue_cube r < length cubes) × IsIn (cube_in cubes (queue_cube r)) r
 
 -- the plain machine of the cubes and the logic units
-abbrev pub machine_of : List CubeFields → List (Option UnitFields) → State
-machine_of cubes slots = record { cubes = map (λ cube. cube.state) cubes; slots = slots }
+abbrev pub machine_in : List CubeFields → List (Option UnitFields) → State
+machine_in cubes slots = machine_of (map (λ cube. cube.state) cubes) slots

@@ -1,6 +1,7 @@
 -- What a step sees of a network.
 use Rattle.std.specs.Prelude.{◌≡◌, ◌<◌, ◌≤◌, ◌/◌, ℕ, true, List, All, [], ◌∷◌, length, slice_index_or, drop, filter, Option, Some, None}
 use Rattle.hmc_codes.specs.declared.lift.Lift.{Lift}
+use Rattle.hmc_codes.specs.Flit.{IsFlit}
 use Rattle.hmc_packet.specs.declared.outcome.Outcome.TheVariants.{Accepted}
 use Rattle.hmc_packet.specs.Landings.{mode, pending}
 use Rattle.hmc_packet.specs.Parts.{lng_of}
@@ -14,7 +15,6 @@ use Rattle.hmc_send.specs.LinkCalls.{holds_packet}
 use Rattle.hmc_send.specs.LinkSenders.{sender_entries, queue_in}
 use Rattle.hmc_send.specs.Places.{is_token}
 use Rattle.hmc_link.specs.Held.{flits_seen}
-use Rattle.hmc_wire.specs.Conditions.{IsFlit}
 use Rattle.hmc_journal.specs.Links.{toward, sizes_on, fed_after}
 use Rattle.hmc_journal.specs.Piped.{PipeFrom, pipe_of}
 use Rattle.hmc_journal.specs.QueueInvariant.{IsOnItsWay, IsCubeRequest, IsHostAnswer, IsAnswerFor}
@@ -24,7 +24,7 @@ use Rattle.hmc_journal.specs.Setup.{Topology, cubes_in, hosts_in, directions_in,
 use Rattle.hmc_journal.specs.StepView.{StepView}
 use Rattle.hmc_net.specs.LinkList.{LinksStandFor}
 use Rattle.hmc_net.specs.Pipes.{AreCounted, IsPlace, forwarded_at, pipe_at}
-use Rattle.hmc_net.specs.NetState.{NetState, cube_in, host_in, inside, machine_of}
+use Rattle.hmc_net.specs.NetState.{NetState, cube_in, host_in, inside, machine_in}
 
 -- a queue of a cube that is no buffer of a link
 abbrev pub IsCubeQueue : QueueId → Type 0
@@ -51,7 +51,7 @@ pub record IsSized (net : NetState) : Type 0 where
 pub record Shows (net : NetState) (view : StepView) : Type 0 where
   pub queues : (queue : QueueId) → IsCubeQueue queue →
       inside net.cubes queue ≡ view.inside queue
-  pub state : machine_of net.cubes net.slots ≡ view.state
+  pub state : machine_in net.cubes net.slots ≡ view.state
   pub hosts : (host : ℕ) → host < length net.hosts →
       host_in net.hosts host ≡ view.host host
   pub links : LinksStandFor net.topology.links net.links view.entries

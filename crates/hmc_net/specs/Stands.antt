@@ -12,7 +12,7 @@ use Rattle.hmc_journal.specs.Setup.{Setup, directions_in}
 use Rattle.hmc_journal.specs.StepView.{state_of}
 use Rattle.hmc_net.specs.LinkList.{LinksStandFor}
 use Rattle.hmc_net.specs.Pipes.{forwarded_at, pipe_at}
-use Rattle.hmc_net.specs.NetState.{NetState, host_in, inside, machine_of}
+use Rattle.hmc_net.specs.NetState.{NetState, host_in, inside, machine_in}
 use Rattle.hmc_net.specs.Ready.{IsStepFor}
 use Rattle.hmc_net.specs.Sees.{IsCubeQueue, IsSized}
 use Rattle.hmc_net.specs.Tally.{IsWithin, tally_of}
@@ -31,7 +31,7 @@ pub record StandsFor (net : NetState) (setup : Setup) (past : List Entry) : Type
       inside net.cubes queue ≡ contents setup.topology past queue
   pub moves : (queue : QueueId) → IsCubeQueue queue →
       left past queue ≤ length (entered setup.topology past queue)
-  pub state : machine_of net.cubes net.slots ≡ state_of setup past
+  pub state : machine_in net.cubes net.slots ≡ state_of setup past
   pub hosts : (host : ℕ) → host < length net.hosts →
       host_in net.hosts host ≡ host_of setup past host
   pub forwarded : (direction : ℕ) → direction < directions_in setup.topology →

@@ -73,10 +73,10 @@ one_sent counts = record counts { sent = counts.sent + 1 }
 
 -- outcomes that are counted: of a packet that is accepted, poisoned or not, of one that was
 -- accepted before, and of an abort
-abbrev pub is_accepted : Outcome → Bool
-is_accepted Accepted = true
-is_accepted Poisoned = true
-is_accepted _ = false
+abbrev pub counts_as_accepted : Outcome → Bool
+counts_as_accepted Accepted = true
+counts_as_accepted Poisoned = true
+counts_as_accepted _ = false
 
 abbrev pub is_repeat : Outcome → Bool
 is_repeat Repeat = true
@@ -92,7 +92,7 @@ abbrev pub one_landed : (changed : Bool) → Outcome → Counters → Counters
 one_landed changed outcome counts = record counts {
   landed = counts.landed + 1;
   changed = count_if changed counts.changed;
-  accepted = count_if (is_accepted outcome) counts.accepted;
+  accepted = count_if (counts_as_accepted outcome) counts.accepted;
   repeats = count_if (is_repeat outcome) counts.repeats;
   aborts = count_if (is_abort outcome) counts.aborts;
 }

@@ -7,14 +7,13 @@ use Rattle.std.proofs.lemmas.List.Elements.{filter-append, All-nil, All-cons, Al
 use Rattle.std.proofs.lemmas.List.FromFn.{length-map-range_with_len}
 use Rattle.std.proofs.Math.Nat.{add-div_left, add-mod_left, div-eq_of_lt, mod-eq_of_lt}
 use Rattle.std.proofs.Math.Seq.{take-append-add}
-use Rattle.hmc_codes.specs.Flit.{zero_flit}
+use Rattle.hmc_codes.specs.Flit.{zero_flit, IsFlit}
 use Rattle.hmc_codes.specs.Numbers.{upto}
 use Rattle.hmc_codes.specs.declared.lift.Lift.TheVariants as lifts
 use Rattle.hmc_schedule.specs.declared.noise.Noise.{Noise}
 use Rattle.hmc_schedule.specs.declared.step.Step.{Step}
 use Rattle.hmc_schedule.specs.declared.step.Step.TheVariants.{Give, Send, Land, Shift, Spread, Bank, Registers, Lift, Take}
 use Rattle.hmc_schedule.specs.Noise.{is_land, lands_in, lands_of, count_after, noisy_step, noisy, noisy_if}
-use Rattle.hmc_schedule.specs.Mask.{IsMask}
 use Rattle.hmc_schedule.specs.Plan.{PlanFields, IsWorking, is_joined, vaults_at, banks_at}
 use Rattle.hmc_schedule.specs.Round.{repeated, shifts_of, spreads_of, banks_of, lifts_of, round_of}
 
@@ -194,22 +193,22 @@ pub number_in_round : (directions : ℕ) (round : List Step) (k direction : ℕ)
 number_in_round directions round k direction mask e lands small at =
     sym (zero-add (lands_in (take k round))) ∙ land_number 0 directions round k direction mask e lands small at
 
-step_works : (plan : PlanFields) (noise : Noise) (n : ℕ) (x : Step) → IsMask noise.mask → IsWorking plan x → IsWorking plan (noisy_step noise n x)
+step_works : (plan : PlanFields) (noise : Noise) (n : ℕ) (x : Step) → IsFlit noise.mask → IsWorking plan x → IsWorking plan (noisy_step noise n x)
 step_works plan noise n (Land direction mask) long is = record {
   within = is.within;
   mask = by_due ((n + 1) % noise.every == 0);
 } where
-  by_due : (b : Bool) → IsMask (cond {A = List ℕ} b noise.mask mask)
+  by_due : (b : Bool) → IsFlit (cond {A = List ℕ} b noise.mask mask)
   by_due true = long
   by_due false = is.mask
 step_works plan noise n x long is = is
 
-noisy_works : (plan : PlanFields) (noise : Noise) (n : ℕ) (xs : List Step) → IsMask noise.mask → All (IsWorking plan) xs → All (IsWorking plan) (noisy noise n xs)
+noisy_works : (plan : PlanFields) (noise : Noise) (n : ℕ) (xs : List Step) → IsFlit noise.mask → All (IsWorking plan) xs → All (IsWorking plan) (noisy noise n xs)
 unfolding noisy
 noisy_works plan noise n [] long all = All-nil (IsWorking plan)
 noisy_works plan noise n (x ∷ xs) long all =
     All-cons (IsWorking plan) (noisy_step noise n x) (noisy noise (count_after n x) xs) (step_works plan noise n x long (All-head (IsWorking plan) x xs all)) (noisy_works plan noise (count_after n x) xs long (All-tail (IsWorking plan) x xs all))
 
-pub noisy_if-works : (plan : PlanFields) (noise : Option Noise) (xs : List Step) → ((n : Noise) → noise ≡ Some n → IsMask n.mask) → All (IsWorking plan) xs → All (IsWorking plan) (noisy_if noise xs)
+pub noisy_if-works : (plan : PlanFields) (noise : Option Noise) (xs : List Step) → ((n : Noise) → noise ≡ Some n → IsFlit n.mask) → All (IsWorking plan) xs → All (IsWorking plan) (noisy_if noise xs)
 noisy_if-works plan None xs long all = all
 noisy_if-works plan (Some noise) xs long all = noisy_works plan noise noise.count xs (long noise refl) all

@@ -6,17 +6,16 @@ use Rattle.std.proofs.lemmas.List.Elements.{All-nil, All-cons, All-head, All-tai
 use Rattle.std.proofs.lemmas.List.FromFn.{length-range_with_len, get_or-range_with_len}
 use Rattle.hmc_codes.specs.declared.lift.Lift.TheVariants as lifts
 use Rattle.hmc_codes.proofs.BytesLemmas.{IsBytes-zeros}
+use Rattle.hmc_codes.specs.Flit.{IsFlit, zero_flit}
 use Rattle.hmc_schedule.specs.declared.meaning.Meaning.{Meaning}
 use Rattle.hmc_schedule.specs.declared.meaning.Meaning.TheVariants.{Nothing, One, Rounds, Noisy}
 use Rattle.hmc_schedule.specs.declared.step.Step.{Step}
 use Rattle.hmc_schedule.specs.declared.step.Step.TheVariants.{Give, Send, Land, Shift, Spread, Bank, Registers, Lift, Take}
 use Rattle.hmc_schedule.specs.declared.noise.Noise.{Noise}
 use Rattle.hmc_schedule.specs.Meaning.{IsMeaning}
-use Rattle.hmc_schedule.specs.Mask.{IsMask}
 use Rattle.hmc_schedule.specs.Noise.{lands_in, new_noise, counted, noisy_if, IsNoise}
 use Rattle.hmc_schedule.proofs.NoiseLemmas.{lands-le, noisy_if-length, noisy_if-works}
 use Rattle.hmc_schedule.specs.Plan.{PlanFields, IsStepOf, HasFlit, IsWorking, is_joined, vaults_at, banks_at}
-use Rattle.hmc_codes.specs.Flit.{zero_flit}
 use Rattle.hmc_schedule.specs.Round.{shifts_of, spreads_of, banks_of, lifts_of, round_of, rounds_of}
 use Rattle.hmc_codes.specs.Numbers.{upto}
 use Rattle.hmc_codes.specs.Limits.{most_steps}
@@ -82,7 +81,7 @@ lifts_work plan cube some =
     (map_all P (λ vault. Lift cube (lifts.Vault vault)) (vaults_at plan cube) (λ vault small. record { within = record { some_cube = some; some_lift = small }; mask = tt }))
     (All-cons P (Lift cube lifts.Registers) [] last (All-nil P))
 
-zero_mask : IsMask zero_flit
+zero_mask : IsFlit zero_flit
 unfolding zero_flit
 zero_mask = record { long = refl; bytes = IsBytes-zeros 16 }
 
@@ -125,10 +124,10 @@ noise_counted None n m more le is = tt
 noise_counted (Some noise) n m more le is =
     record { some = is.some; few = omega (arith, is.few, le); mask = is.mask }
 
-noise_mask : (noise : Option Noise) (n : ℕ) → IfSome noise (IsNoise n) → (one : Noise) → noise ≡ Some one → IsMask one.mask
+noise_mask : (noise : Option Noise) (n : ℕ) → IfSome noise (IsNoise n) → (one : Noise) → noise ≡ Some one → IsFlit one.mask
 noise_mask None n is one same = absurd (cc (same))
 noise_mask (Some noise) n is one same =
-    let equal : noise ≡ one = cc (same) in subst (λ (o : Noise). IsMask o.mask) equal is.mask
+    let equal : noise ≡ one = cc (same) in subst (λ (o : Noise). IsFlit o.mask) equal is.mask
 
 one_added : (plan : PlanFields) (progress new : Progress) (step : Step) → IsProgress plan progress → IsWorking plan step → add_one progress step ≡ Ok new → IsProgress plan new
 unfolding add_one
@@ -179,23 +178,23 @@ still_progress plan progress new (Noisy noise) is works made =
       noise = noise_kept noise 0 (length progress.steps) (omega arith) works;
     }
 
-some_mask : (noise : Option Noise) → IfSome noise (λ n. IsMask n.mask) → (one : Noise) → noise ≡ Some one → IsMask one.mask
+some_mask : (noise : Option Noise) → IfSome noise (λ n. IsFlit n.mask) → (one : Noise) → noise ≡ Some one → IsFlit one.mask
 some_mask None long one same = absurd (cc (same))
 some_mask (Some noise) long one same =
-    let equal : noise ≡ one = cc (same) in subst (λ (o : Noise). IsMask o.mask) equal long
+    let equal : noise ≡ one = cc (same) in subst (λ (o : Noise). IsFlit o.mask) equal long
 
-rounds_work : (plan : PlanFields) (noise : Option (ℕ × List ℕ)) (n : ℕ) → IfSome (option_map new_noise noise) (λ n. IsMask n.mask) → All (IsWorking plan) (noisy_if (option_map new_noise noise) (rounds_of plan n))
+rounds_work : (plan : PlanFields) (noise : Option (ℕ × List ℕ)) (n : ℕ) → IfSome (option_map new_noise noise) (λ n. IsFlit n.mask) → All (IsWorking plan) (noisy_if (option_map new_noise noise) (rounds_of plan n))
 rounds_work plan noise n long =
     noisy_if-works plan (option_map new_noise noise) (rounds_of plan n) (some_mask (option_map new_noise noise) long) (repeated_works plan n)
 
 -- rounds that are appended name parts of the plan
-pub rounds_within : (plan : PlanFields) (noise : Option (ℕ × List ℕ)) (n : ℕ) (before : List Step) → IfSome (option_map new_noise noise) (λ n. IsMask n.mask) → All (IsStepOf plan) before → All (IsStepOf plan) (before ++ noisy_if (option_map new_noise noise) (rounds_of plan n))
+pub rounds_within : (plan : PlanFields) (noise : Option (ℕ × List ℕ)) (n : ℕ) (before : List Step) → IfSome (option_map new_noise noise) (λ n. IsFlit n.mask) → All (IsStepOf plan) before → All (IsStepOf plan) (before ++ noisy_if (option_map new_noise noise) (rounds_of plan n))
 rounds_within plan noise n before long all =
     let work = rounds_work plan noise n long in
     All-append (IsStepOf plan) before (noisy_if (option_map new_noise noise) (rounds_of plan n)) all (λ k d small. (work k d small).within)
 
 -- and have masks as long as a flit
-pub rounds_masks : (plan : PlanFields) (noise : Option (ℕ × List ℕ)) (n : ℕ) (before : List Step) → IfSome (option_map new_noise noise) (λ n. IsMask n.mask) → All HasFlit before → All HasFlit (before ++ noisy_if (option_map new_noise noise) (rounds_of plan n))
+pub rounds_masks : (plan : PlanFields) (noise : Option (ℕ × List ℕ)) (n : ℕ) (before : List Step) → IfSome (option_map new_noise noise) (λ n. IsFlit n.mask) → All HasFlit before → All HasFlit (before ++ noisy_if (option_map new_noise noise) (rounds_of plan n))
 rounds_masks plan noise n before long all =
     let work = rounds_work plan noise n long in
     All-append HasFlit before (noisy_if (option_map new_noise noise) (rounds_of plan n)) all (λ k d small. (work k d small).mask)

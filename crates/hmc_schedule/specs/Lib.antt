@@ -3,7 +3,6 @@ pub mod Kind
 pub mod Verb
 pub mod Operands
 pub mod Noise
-pub mod Mask
 pub mod Meaning
 pub mod Round
 pub mod Written

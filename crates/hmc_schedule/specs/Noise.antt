@@ -1,11 +1,10 @@
 -- Noise: each n-th landing that rounds make has a mask.
 use Rattle.std.specs.Prelude.{◌≡◌, ◌≤◌, ◌+◌, ◌%◌, ◌==◌, ℕ, Bool, true, false, List, [], ◌∷◌, length, map, filter, Option, Some, None, if◌then◌else◌}
-use Rattle.hmc_codes.specs.Flit.{zero_flit}
+use Rattle.hmc_codes.specs.Flit.{zero_flit, IsFlit}
 use Rattle.hmc_codes.specs.Numbers.{upto}
 use Rattle.hmc_schedule.specs.declared.noise.Noise.{Noise}
 use Rattle.hmc_schedule.specs.declared.step.Step.{Step}
 use Rattle.hmc_schedule.specs.declared.step.Step.TheVariants.{Land}
-use Rattle.hmc_schedule.specs.Mask.{IsMask}
 
 -- whether the step is a landing; an idle one is one too
 abbrev pub is_land : Step → Bool
@@ -56,4 +55,4 @@ noisy_if (Some noise) steps = noisy noise noise.count steps
 pub record IsNoise (steps : ℕ) (noise : Noise) : Type 0 where
   pub some : 1 ≤ noise.every
   pub few : noise.count ≤ steps
-  pub mask : IsMask noise.mask
+  pub mask : IsFlit noise.mask

@@ -2,12 +2,12 @@
 use Rattle.std.specs.Prelude.{◌≡◌, ◌<◌, ◌≤◌, ◌*◌, ◌^◌, ℕ, Bool, true, false, List, length, slice_index_or, slice_get}
 use Rattle.std.specs.Option.{option_map_or}
 use Rattle.hmc_codes.specs.Limits.{most_cubes, most_links, most_hosts, ports}
+use Rattle.hmc_codes.specs.Flit.{IsFlit}
 use Rattle.hmc_codes.specs.declared.lift.Lift.{Lift}
 use Rattle.hmc_codes.specs.declared.lift.Lift.TheVariants as lifts
 use Rattle.hmc_schedule.specs.declared.plan.CubePlan.{CubePlan}
 use Rattle.hmc_schedule.specs.declared.step.Step.{Step}
 use Rattle.hmc_schedule.specs.declared.step.Step.TheVariants as steps
-use Rattle.hmc_schedule.specs.Mask.{IsMask}
 
 -- a cube, as contracts see it: its shape, and which of its ports a link joins
 abbrev pub CubePlanFields : Type 0
@@ -93,7 +93,7 @@ IsStepOf plan (steps.Retire slot) = slot < slots
 
 -- the mask of a landing is as long as a flit
 abbrev pub HasFlit : Step → Type 0
-HasFlit (steps.Land direction mask) = IsMask mask
+HasFlit (steps.Land direction mask) = IsFlit mask
 HasFlit step = Unit {0}
 
 -- a step of the plan, with a mask as long as a flit if it has one

@@ -3,9 +3,9 @@
 ghost use Rattle.std.specs.Prelude.{◌≡◌, ◌<◌, ◌≤◌, ℕ, IfOk};
 ghost use Rattle.std.specs.Result.{result_ok};
 ghost use Rattle.hex.specs.Hex.{decode_sized};
+ghost use Rattle.hmc_codes.specs.Flit.{IsFlit};
 ghost use Rattle.hmc_text.specs.Reading.{Gives};
 ghost use Rattle.hmc_text.specs.Words.{words_of};
-ghost use Rattle.hmc_schedule.specs.Mask.{IsMask};
 ghost use Rattle.hmc_schedule.specs.Operands.{index_word, port_words, vault_words, vault_lift, lift_word, mask_word, mask_words, due_mask, count_word};
 ghost use Rattle.hmc_schedule.specs.Plan.{IsPortOf, IsVaultOf, IsLiftBelow};
 
@@ -92,7 +92,7 @@ fn flit(digits: &[u8]) -> Option<Flit>
 #[tactic(auto, unfolding(crate::specs::Operands::mask_word))]
 fn mask_word(word: &[u8]) -> Result<Flit, ScheduleKind>
     ensures value { result ≡ mask_word word.now }
-    ensures mask { IfOk result IsMask }
+    ensures mask { IfOk result IsFlit }
 {
     let Some(mask) = flit(word) else {
         return Err(ScheduleKind::Mask);
@@ -104,7 +104,7 @@ fn mask_word(word: &[u8]) -> Result<Flit, ScheduleKind>
 #[tactic(auto, unfolding(crate::specs::Operands::mask_words, hmc_codes::specs::Flit::zero_flit))]
 pub fn mask_words(line: &[u8]) -> Result<(Flit, &[u8]), ScheduleKind>
     ensures value { Gives (λ p. (p.0, words_of p.1.now)) result (mask_words (words_of line.now)) }
-    ensures mask { IfOk result (λ p. IsMask p.0) }
+    ensures mask { IfOk result (λ p. IsFlit p.0) }
 {
     let Some((word, rest)) = first_word(line) else {
         return Ok((ZERO_FLIT, line));
@@ -117,7 +117,7 @@ pub fn mask_words(line: &[u8]) -> Result<(Flit, &[u8]), ScheduleKind>
 #[tactic(auto, unfolding(crate::specs::Operands::due_mask))]
 pub fn due_mask(line: &[u8]) -> Result<(Flit, &[u8]), ScheduleKind>
     ensures value { Gives (λ p. (p.0, words_of p.1.now)) result (due_mask (words_of line.now)) }
-    ensures mask { IfOk result (λ p. IsMask p.0) }
+    ensures mask { IfOk result (λ p. IsFlit p.0) }
 {
     let (word, rest) = next_word(ScheduleKind::Words, line)?;
     let mask = mask_word(word)?;

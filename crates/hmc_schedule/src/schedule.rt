@@ -3,7 +3,7 @@
 ghost use Rattle.std.specs.Prelude.{◌≡◌, ◌<◌, ◌≤◌, ◌+◌, ◌*◌, ◌++◌, [], length, option_map, slice_get, Some, IfSome, OnOk, OnErr};
 ghost use Rattle.std.specs.List.{All};
 ghost use Rattle.hmc_codes.specs.Limits.{most_steps};
-ghost use Rattle.hmc_schedule.specs.Mask.{IsMask};
+ghost use Rattle.hmc_codes.specs.Flit.{IsFlit};
 ghost use Rattle.hmc_schedule.specs.Plan.{IsStepOf, HasFlit};
 ghost use Rattle.hmc_schedule.specs.Noise.{new_noise, noisy_if};
 ghost use Rattle.hmc_schedule.specs.Round.{round_of, rounds_of};
@@ -40,7 +40,7 @@ impl Model for Schedule {
 // Noise of this number and mask that has counted nothing yet.
 fn new_noise(noise: Option<(u32, Flit)>) -> Option<Noise>
     ensures value { result ≡ option_map new_noise noise }
-    ensures mask { IfSome result (λ noise. IsMask noise.mask) }
+    ensures mask { IfSome result (λ noise. IsFlit noise.mask) }
 {
     match noise {
         Some(pair) => {

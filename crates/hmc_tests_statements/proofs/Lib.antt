@@ -1,5 +1,6 @@
 mod Journals
 mod Replays
+mod Programs
 mod Links
 mod Numbers
 mod Hops

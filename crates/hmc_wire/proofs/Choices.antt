@@ -8,6 +8,7 @@ use Rattle.std.proofs.lemmas.List.{map_push}
 use Rattle.std.proofs.lemmas.Option.{slice_get_within, get_or_from_slice_get}
 use Rattle.hmc_codes.specs.Table.{table_line}
 use Rattle.hmc_codes.specs.Commands.{layout_of, is_flow}
+use Rattle.hmc_codes.specs.Flit.{IsFlit}
 use Rattle.hmc_codes.specs.declared.profile.Profile.{Profile}
 use Rattle.hmc_codes.specs.declared.profile.Profile.TheVariants.{One, Two}
 use Rattle.hmc_packet.specs.declared.feed.Feed.{Feed}
@@ -39,7 +40,7 @@ use Rattle.hmc_numbers.specs.Events.{Event}
 use Rattle.hmc_numbers.specs.Events.Event.{begins, begins_again}
 use Rattle.hmc_numbers.specs.Pair.{Half}
 use Rattle.hmc_numbers.specs.Tokens.{cost}
-use Rattle.hmc_wire.specs.Conditions.{IsFeed, IsFlit}
+use Rattle.hmc_wire.specs.Conditions.{IsFeed}
 use Rattle.hmc_wire.proofs.Flits.{irtry-flit, null-flit, pret-flit, training-is_flit}
 use Rattle.hmc_wire.proofs.Spelled.{Sent}
 use Rattle.hmc_wire.proofs.PacketGrammar.{grammar, IsSequenced}

@@ -70,7 +70,7 @@ pub heads : (flits : ℕ) (flit : List ℕ) → names_flits flits (head_in flit)
 heads flits flit is = heads-by flits flit (head_in flit) refl is
 
 -- the length that a head has is that of its flit
-head-lng : (flit : List ℕ) (o : Option Command) (head : Head) → option_and_then (λ (c : Command). head_with (layout_of c) c (header_in flit)) o ≡ Some head → head.flits ≡ bits_from 7 5 (header_in flit)
+pub head-lng : (flit : List ℕ) (o : Option Command) (head : Head) → option_and_then (λ (c : Command). head_with (layout_of c) c (header_in flit)) o ≡ Some head → head.flits ≡ bits_from 7 5 (header_in flit)
 unfolding head_with
 head-lng flit None head is = absurd cc
 head-lng flit (Some c) head is = by_test (not (is_flow (layout_of c)) && header_is_clean (layout_of c) (header_in flit)) is
@@ -97,7 +97,7 @@ header-first (f ∷ fs) half some are =
     ap word_of (ap (take 8) (append_assoc f (concat fs) half) ∙ take-append-le 8 f (concat fs ++ half) (omega arith))
 
 -- the head of bytes is read from their header alone
-head-same : (bytes flit : List ℕ) → header_in bytes ≡ header_in flit → head_in bytes ≡ head_in flit
+pub head-same : (bytes flit : List ℕ) → header_in bytes ≡ header_in flit → head_in bytes ≡ head_in flit
 unfolding head_in named_by
 head-same bytes flit same = ap (λ (word : ℕ). option_and_then (λ command. head_with (layout_of command) command word) (command_in word)) same
 

@@ -6,7 +6,7 @@ use Rattle.std.proofs.lemmas.List.{length-take, length-drop}
 use Rattle.std.proofs.lemmas.Nat.{xor_of_8}
 use Rattle.hmc_codes.specs.Bytes.{IsBytes}
 use Rattle.hmc_codes.specs.Commands.{layout_of}
-use Rattle.hmc_codes.specs.Flit.{zero_flit}
+use Rattle.hmc_codes.specs.Flit.{zero_flit, IsFlit}
 use Rattle.hmc_codes.specs.declared.layout.Layout.{Layout}
 use Rattle.hmc_codes.specs.declared.layout.Layout.TheVariants as layouts
 use Rattle.hmc_codes.specs.declared.profile.Profile.{Profile}
@@ -23,7 +23,6 @@ use Rattle.hmc_packet.proofs.ReadOf.{null-null_packet, spelling-null, spelling-o
 use Rattle.hmc_packet.proofs.SpelledLemmas.{length-bytes_of}
 use Rattle.hmc_send.specs.LinkLines.{StampedFlit, under_mask}
 use Rattle.hmc_send.specs.Places.{flit_of, pret_packet}
-use Rattle.hmc_wire.specs.Conditions.{IsFlit}
 
 -- each of these has a flit
 abbrev pub AreFlits : List StampedFlit → Type 0

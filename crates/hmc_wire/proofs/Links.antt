@@ -4,7 +4,7 @@ use Rattle.std.specs.Prelude.{◌&&◌, ◌||◌, not, slice_get, sum_by, replic
 use Rattle.std.specs.Str.{bytes_eq}
 use Rattle.std.proofs.lemmas.Slice.Eq.{bytes_eq-Decides}
 use Rattle.std.proofs.lemmas.List.Sums.{sum_by_push, sum_by-cons, sum_by-take-le}
-use Rattle.hmc_codes.specs.Flit.{zero_flit}
+use Rattle.hmc_codes.specs.Flit.{zero_flit, IsFlit}
 use Rattle.hmc_codes.specs.Profile.{modulus_of}
 use Rattle.hmc_codes.specs.declared.profile.Profile.{Profile}
 use Rattle.hmc_codes.specs.declared.profile.Profile.TheVariants.{One, Two}
@@ -43,7 +43,6 @@ use Rattle.hmc_wire.proofs.Parts.{Sends}
 use Rattle.hmc_wire.proofs.Mirrors.{mirrored, flits-same}
 use Rattle.hmc_wire.proofs.Senders.{Env, begun-length}
 use Rattle.hmc_wire.proofs.Choices.{IsGood}
-use Rattle.hmc_wire.specs.Conditions.{IsFlit}
 use Rattle.hmc_wire.proofs.Flits.{flits-left}
 use Rattle.hmc_wire.proofs.Ways.{Lists, Way, AllGood, front-drop}
 

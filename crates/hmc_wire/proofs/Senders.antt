@@ -6,6 +6,7 @@ use Rattle.std.proofs.lemmas.Bool.{eqb-true}
 use Rattle.std.proofs.lemmas.List.{length-map, map_push}
 use Rattle.std.proofs.lemmas.List.Sums.{sum_by-take-drop}
 use Rattle.hmc_codes.specs.Profile.{modulus_of}
+use Rattle.hmc_codes.specs.Flit.{IsFlit}
 use Rattle.hmc_codes.specs.declared.profile.Profile.{Profile}
 use Rattle.hmc_packet.specs.declared.kind.Kind.TheVariants as kinds
 use Rattle.hmc_packet.specs.Irtry.{irtry_flit}
@@ -38,7 +39,6 @@ use Rattle.hmc_wire.specs.EntryTurns.{weight, left_of}
 use Rattle.hmc_wire.proofs.SenderLists.{Chosen, within}
 use Rattle.hmc_wire.proofs.OpenPlaces.{AreKnown, IsOpen}
 use Rattle.hmc_wire.proofs.Places.{packet_of, Fits, AllFit, fit-push, upto-sum, upto-all, size-weight, AreNumbered, numbered-at, Agrees, AgreesWith, agrees-packet}
-use Rattle.hmc_wire.specs.Conditions.{IsFlit}
 use Rattle.hmc_wire.proofs.Flits.{first-flit, irtry-flit, packet-flit}
 use Rattle.hmc_wire.proofs.Marks.{mark-clear, mark-part, mark-open, first-lng}
 use Rattle.hmc_wire.proofs.Parts.{Sends, IsPart, PartsFit, grown-left, part-grows, part-begins}

@@ -5,6 +5,7 @@ use Rattle.std.specs.Prelude.{◌||◌, slice_get, filter, take}
 use Rattle.std.proofs.lemmas.List.{map_push, drop-append-le, take-append-le}
 use Rattle.std.proofs.lemmas.List.Elements.{filter-append}
 use Rattle.hmc_codes.specs.Link.{LinkFields}
+use Rattle.hmc_codes.specs.Flit.{IsFlit}
 use Rattle.hmc_codes.specs.declared.profile.Profile.{Profile}
 use Rattle.hmc_packet.specs.declared.bad.Bad.{Bad}
 use Rattle.hmc_packet.specs.declared.outcome.Outcome as outer_outcome
@@ -42,7 +43,6 @@ use Rattle.hmc_wire.proofs.Places.{AllFit}
 use Rattle.hmc_wire.proofs.Parts.{Sends, PartsFit}
 use Rattle.hmc_wire.proofs.Senders.{sends-stay}
 use Rattle.hmc_wire.proofs.Choices.{IsGood}
-use Rattle.hmc_wire.specs.Conditions.{IsFlit}
 use Rattle.hmc_wire.proofs.Flits.{AreFlits, flits-push}
 
 abbrev pub AllGood : Profile → List PacketFields → Type 0

@@ -9,7 +9,7 @@ use Rattle.std.proofs.lemmas.Slice.Eq.{bytes_eq-Decides}
 use mathlib.Core.Bool.{xor}
 use Rattle.hmc_codes.specs.Bytes.{IsBytes}
 use Rattle.hmc_codes.specs.Codes.{all_commands, command_of}
-use Rattle.hmc_codes.specs.Flit.{zero_flit}
+use Rattle.hmc_codes.specs.Flit.{zero_flit, IsFlit}
 use Rattle.hmc_codes.specs.Table.{table_line}
 use Rattle.hmc_codes.specs.declared.profile.Profile.{Profile}
 use Rattle.hmc_codes.specs.declared.profile.Profile.TheVariants.{One, Two}
@@ -45,7 +45,7 @@ use Rattle.hmc_send.proofs.WorkedLinkRetry.{packet_1, packet_2, repeated, repeat
 use Rattle.hmc_send.proofs.WorkedLinkThrough.{passed_on, passed_on-lawful}
 use Rattle.hmc_send.proofs.WorkedLinkTwo as second
 use Rattle.hmc_send.proofs.WorkedLinkTwo.{poisoned, poisoned-lawful}
-use Rattle.hmc_wire.specs.Conditions.{AreHanded, IsFlit, IsHalf, IsFeed, AreFed}
+use Rattle.hmc_wire.specs.Conditions.{AreHanded, IsHalf, IsFeed, AreFed}
 use Rattle.hmc_wire.specs.LinkLaws.{IsKept}
 
 -- ---- a test of what was fed

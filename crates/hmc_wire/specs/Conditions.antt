@@ -2,6 +2,7 @@
 -- are fed to it, and of its masks nothing.
 use Rattle.std.specs.Prelude.{◌≡◌, ℕ, List, [], ◌∷◌, length}
 use Rattle.hmc_codes.specs.Bytes.{IsBytes}
+use Rattle.hmc_codes.specs.Flit.{IsFlit}
 use Rattle.hmc_codes.specs.Link.{LinkFields}
 use Rattle.hmc_codes.specs.declared.profile.Profile.{Profile}
 use Rattle.hmc_packet.specs.declared.feed.Feed.{Feed}
@@ -25,11 +26,6 @@ AreHanded profile [] = Unit {0}
 AreHanded profile (LinkEntry.handed d packet ∷ past) =
     IsHanded profile packet × AreHanded profile past
 AreHanded profile (_ ∷ past) = AreHanded profile past
-
--- a flit: 16 bytes
-pub record IsFlit (flit : List ℕ) : Type 0 where
-  pub bytes : IsBytes flit
-  pub long : length flit ≡ 16
 
 -- a half of a flit
 pub record IsHalf (half : List ℕ) : Type 0 where

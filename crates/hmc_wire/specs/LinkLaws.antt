@@ -3,6 +3,7 @@
 use Rattle.std.specs.Prelude.{◌≡◌, ◌≢◌, ℕ, suc, ◌+◌, ◌%◌, ◌<◌, ◌≤◌, List, [], ◌∷◌, ◌++◌, map, take, drop, length, slice_get, slice_index_or, is_none, Some, Ok}
 use Rattle.hmc_codes.specs.Link.{LinkFields}
 use Rattle.hmc_codes.specs.Profile.{most_retry, modulus_of}
+use Rattle.hmc_codes.specs.Flit.{IsFlit}
 use Rattle.hmc_codes.specs.declared.profile.Profile.{Profile}
 use Rattle.hmc_packet.specs.declared.outcome.Outcome.{Outcome}
 use Rattle.hmc_packet.specs.declared.outcome.Outcome.TheVariants.{Repeat, AbortedOrder}
@@ -20,7 +21,7 @@ use Rattle.hmc_send.specs.LinkLines.{StampedFlit, line}
 use Rattle.hmc_send.specs.LinkSenders.{sender_entries, places_in, queue_in, tokens}
 use Rattle.hmc_send.specs.LinkTokens.{flits_begun, flits_accepted, flits_taken, tokens_returned, tokens_credited}
 use Rattle.hmc_send.specs.Places.{Place, flits_in, numbers_at, pointer_of, with_numbers, tret_packet}
-use Rattle.hmc_wire.specs.Conditions.{AreMet, IsFlit}
+use Rattle.hmc_wire.specs.Conditions.{AreMet}
 
 -- how many packets of a direction are acknowledged
 abbrev pub acked_in : LinkFields → Toward → List LinkEntry → ℕ

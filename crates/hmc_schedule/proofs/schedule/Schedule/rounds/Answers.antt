@@ -1,7 +1,7 @@
 use Rattle.std.proofs.Common.{rules, ◌≡◌, ◌∙◌, ◌*◌, ◌++◌, List, Option, IfSome, length, sym, subst, ap}
+use Rattle.hmc_codes.specs.Flit.{IsFlit}
 use Rattle.hmc_schedule.specs.declared.noise.Noise.{Noise}
 use Rattle.hmc_schedule.specs.declared.step.Step.{Step}
-use Rattle.hmc_schedule.specs.Mask.{IsMask}
 use Rattle.hmc_schedule.specs.Noise.{lands_of, noisy_if}
 use Rattle.hmc_schedule.specs.Plan.{PlanFields}
 use Rattle.hmc_schedule.specs.Round.{repeated, round_of, rounds_of}
@@ -38,8 +38,8 @@ returns-clause-ok c =
 
 pub returns-clause-within : goal.returns-clause-within
 returns-clause-within c before =
-    rw (returns-clause-ok c) (rounds_within c.args.plan.now c.args.noise c.args.n c.args.self.now (subst (λ (o : Option Noise). IfSome o (λ noise. IsMask noise.mask)) c.new_noise.ensures.value c.new_noise.ensures.mask) before)
+    rw (returns-clause-ok c) (rounds_within c.args.plan.now c.args.noise c.args.n c.args.self.now (subst (λ (o : Option Noise). IfSome o (λ noise. IsFlit noise.mask)) c.new_noise.ensures.value c.new_noise.ensures.mask) before)
 
 pub returns-clause-masks : goal.returns-clause-masks
 returns-clause-masks c before =
-    rw (returns-clause-ok c) (rounds_masks c.args.plan.now c.args.noise c.args.n c.args.self.now (subst (λ (o : Option Noise). IfSome o (λ noise. IsMask noise.mask)) c.new_noise.ensures.value c.new_noise.ensures.mask) before)
+    rw (returns-clause-ok c) (rounds_masks c.args.plan.now c.args.noise c.args.n c.args.self.now (subst (λ (o : Option Noise). IfSome o (λ noise. IsFlit noise.mask)) c.new_noise.ensures.value c.new_noise.ensures.mask) before)
