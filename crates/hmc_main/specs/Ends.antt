@@ -1,24 +1,41 @@
 -- What the program does.
-use Rattle.std.specs.Prelude.{◌≡◌, ◌⊎◌, ℕ, List, [], ◌∷◌}
+use Rattle.std.specs.Prelude.{◌≡◌, ◌⊎◌, ℕ, true, false, List, is_some, Result, Ok, Err}
 use Rattle.hmc_outside.specs.Views.{SourceView, SinkView}
-use Rattle.hmc_replay.specs.Top.{OneOf, Replayed}
+use Rattle.hmc_replay.specs.Top.{Replayed}
+use Rattle.hmc_replay.specs.Words.{form_of}
 use Rattle.hmc_main.specs.Shipped.{shipped_slots}
 
--- The words of the command line, or the logic units, can't be had: out of memory (1), or a word
--- isn't UTF-8 text (2). Nothing is read or written.
-pub record IsNotReplayed {S O : Type 0} (source source' : S) (sink sink' : O)
+-- Nothing is read or written, and this is the status.
+pub record EndsWith {S O : Type 0} (due : ℕ) (source source' : S) (sink sink' : O)
     (status : ℕ) : Type 0 where
-  pub is_one : OneOf (1 ∷ 2 ∷ []) status
+  pub status_is : status ≡ due
   pub source_same : source' ≡ source
   pub sink_same : sink' ≡ sink
 
--- Some words were replayed with the program's units, or there were none to be had.
-abbrev pub Ends : {S O : Type 0} → (S → SourceView) → (O → SinkView) → (source source' : S) →
-    (sink sink' : O) → (status : ℕ) → Type 0
-Ends source_view sink_view source source' sink sink' status =
-    ((words : List (List ℕ)) ×
-    Replayed source_view sink_view words shipped_slots source source' sink sink' status)
-    ⊎ IsNotReplayed source source' sink sink' status
+-- There is no memory for the logic units: 1 where the words are a defined form, else 2.
+pub record IsWithoutUnits {S O : Type 0} (words : List (List ℕ)) (source source' : S)
+    (sink sink' : O) (status : ℕ) : Type 0 where
+  pub form : is_some (form_of words) ≡ true → status ≡ 1
+  pub usage : is_some (form_of words) ≡ false → status ≡ 2
+  pub source_same : source' ≡ source
+  pub sink_same : sink' ≡ sink
+
+-- These words were replayed with the program's units, or there were none to be had.
+abbrev pub Ends : {S O : Type 0} → (S → SourceView) → (O → SinkView) → (words : List (List ℕ)) →
+    (source source' : S) → (sink sink' : O) → (status : ℕ) → Type 0
+Ends source_view sink_view words source source' sink sink' status =
+    Replayed source_view sink_view words shipped_slots source source' sink sink' status
+    ⊎ IsWithoutUnits words source source' sink sink' status
+
+-- So it is where there are words, of which `text_of` tells the bytes; else there is a status in
+-- their place.
+abbrev pub EndsBy : {W S O : Type 0} → (text_of : W → List (List ℕ)) → Result W ℕ →
+    (S → SourceView) → (O → SinkView) → (source source' : S) → (sink sink' : O) →
+    (status : ℕ) → Type 0
+EndsBy text_of (Ok words) source_view sink_view source source' sink sink' status =
+    Ends source_view sink_view (text_of words) source source' sink sink' status
+EndsBy text_of (Err due) source_view sink_view source source' sink sink' status =
+    EndsWith due source source' sink sink' status
 
 -- There is no memory for the sink. Nothing is read.
 pub record IsWithoutSink {S : Type 0} (source source' : S) (status : ℕ) : Type 0 where

@@ -1,23 +1,27 @@
 //! What the program does: the words of the command line, a source, a sink and the two shipped logic
 //! units go to `replay`, where the words, the sink and the units can be had.
 //!
+//! [`words_of`] has the words after the program's name, and [`run_program`] replays by exactly these.
+//!
 //! `hmc_prog` is the program, which has standard input and output. A second program,
 //! `hmc_prog_refused`, does the same, and is there for a stored run that ends with another status.
 #![tactic(auto)]
 
-ghost use Rattle.std.specs.Prelude.{◌≡◌, ◌≢◌, ◌⊎◌, drop, map, string_bytes, IfOk, IfErr, OnErr};
+ghost use Rattle.std.specs.Prelude.{◌≡◌, ◌≢◌, drop, map, string_bytes, is_some, true, false, IsOk, IfOk, IfErr, OnErr, Err};
+ghost use Rattle.std.specs.IoError.{error_kind};
 ghost use Rattle.std.specs.Vec.Iter.{into_iter_items};
-ghost use Rattle.hmc_main.specs.Ends.{Ends, IsWithoutSink};
+ghost use Rattle.hmc_main.specs.Ends.{EndsBy, Ends, IsWithoutSink};
 ghost use Rattle.hmc_main.specs.Shipped.{shipped_slots};
 ghost use Rattle.hmc_replay.specs.Top.{Replayed};
+ghost use Rattle.hmc_replay.specs.Words.{form_of};
 
 use hmc_codes::Memory;
 use hmc_outside::{Sink, Source};
-use hmc_replay::replay;
+use hmc_replay::{is_form, replay};
 use hmc_units::{LogicUnit, Reverse, Stamp};
 use std::alloc::{AllocError, Global};
-use std::env;
-use std::env::{Args, Env};
+use std::env::Args;
+use std::io;
 use std::io::ErrorKind;
 
 /// The status of `replay` for "out of memory".
@@ -74,12 +78,19 @@ fn words_after_name(alloc: Global, args: Args) -> Result<Vec<String>, u8>
     }
 }
 
-// The words of the command line after the program's name; else the status to end with.
-fn words(rt: &(impl Env + AllocGlobal)) -> Result<Vec<String>, u8>
-    ensures { IfErr result (λ status. (status ≡ 1) ⊎ (status ≡ 2)) }
+/// The words of the command line after the program's name; else the status to end with: 1 out of
+/// memory, and 2 where a word isn't UTF-8 text.
+pub fn words_of(alloc: Global, args: io::Result<Args>) -> Result<Vec<String>, u8>
+    ensures words { IfOk args (λ args.
+        IfOk result (λ words. words.items ≡ drop 1 (into_iter_items args))) }
+    ensures memory { IfOk args (λ _. IfErr result (λ status. status ≡ 1)) }
+    ensures no_memory { IfErr args (λ e.
+        error_kind e ≡ ErrorKind.OutOfMemory → result ≡ Err 1) }
+    ensures no_text { IfErr args (λ e.
+        error_kind e ≢ ErrorKind.OutOfMemory → result ≡ Err 2) }
 {
-    match env::args(rt) {
-        Ok(args) => words_after_name(rt.alloc(), args),
+    match args {
+        Ok(args) => words_after_name(alloc, args),
         Err(error) => Err(status_of(error.kind())),
     }
 }
@@ -104,42 +115,62 @@ fn replay_shipped<S: Source, O: Sink>(
     Ok(replay(alloc, words, source, sink, units))
 }
 
-// Replays where the words can be had, and returns the status to end with.
+// The status where there is no memory for the units.
+fn without_units(words: &[String]) -> u8
+    ensures form { is_some (form_of (map string_bytes words.now)) ≡ true → result ≡ 1 }
+    ensures usage { is_some (form_of (map string_bytes words.now)) ≡ false → result ≡ 2 }
+{
+    if is_form(words) { OUT_OF_MEMORY } else { USAGE }
+}
+
+// Replays by these words.
+fn replay_words<S: Source, O: Sink>(
+    alloc: Global,
+    words: &[String],
+    source: &mut S,
+    sink: &mut O,
+) -> u8
+    ensures { Ends S.shows O.shows (map string_bytes words.now)
+        source.old source.new sink.old sink.new result }
+{
+    match replay_shipped(alloc, words, source, sink) {
+        Ok(status) => status,
+        Err(_) => without_units(words),
+    }
+}
+
+// Replays by these words, where they could be had.
 fn end<S: Source, O: Sink>(
     alloc: Global,
     words: Result<Vec<String>, u8>,
     source: &mut S,
     sink: &mut O,
 ) -> u8
-    requires { IfErr words (λ status. (status ≡ 1) ⊎ (status ≡ 2)) }
-    ensures { Ends S.shows O.shows source.old source.new sink.old sink.new result }
+    ensures { EndsBy (λ words. map string_bytes words.items) words S.shows O.shows
+        source.old source.new sink.old sink.new result }
 {
     match words {
-        Ok(words) => replay_shipped(alloc, &words, source, sink).unwrap_or(OUT_OF_MEMORY),
+        Ok(words) => replay_words(alloc, &words, source, sink),
         Err(status) => status,
     }
 }
 
-// Replays by the words of the command line.
-fn run_words<S: Source, O: Sink>(rt: &(impl Env + AllocGlobal), source: &mut S, sink: &mut O) -> u8
-    ensures { Ends S.shows O.shows source.old source.new sink.old sink.new result }
-{
-    end(rt.alloc(), words(rt), source, sink)
-}
-
-/// Replays by the words of the command line, and returns the status to end with. `sink` is what
+/// Replays by exactly these words, and returns the status to end with. Where the words could not be
+/// had it is the one that stands in their place, and nothing is read or written. `sink` is what
 /// making the sink gave: out of memory is 1, before the words are looked at or anything is read.
 pub fn run_program<S: Source, O: Sink + Drop>(
-    rt: &(impl Env + AllocGlobal),
+    alloc: Global,
+    words: Result<Vec<String>, u8>,
     source: &mut S,
     sink: Result<O, Memory>,
 ) -> u8
     ensures ended { IfOk sink (λ sink. (sink' : O) ×
-        Ends S.shows O.shows source.old source.new sink sink' result) }
+        EndsBy (λ words. map string_bytes words.items) words S.shows O.shows
+        source.old source.new sink sink' result) }
     ensures without_sink { IfErr sink (λ _. IsWithoutSink source.old source.new result) }
 {
     match sink {
-        Ok(mut sink) => run_words(rt, source, &mut sink),
+        Ok(mut sink) => end(alloc, words, source, &mut sink),
         Err(_) => OUT_OF_MEMORY,
     }
 }

@@ -193,6 +193,23 @@ impl<B: Workbench> Network<B> {
         &self.last
     }
 
+    /// The logic units, as they are after the steps so far.
+    pub fn into_bench(self) -> B
+        ensures { result ≡ self.bench }
+    {
+        let Network {
+            wiring: _,
+            cubes: _,
+            hosts: _,
+            bench,
+            links: _,
+            piped: _,
+            tally: _,
+            last: _,
+        } = self;
+        bench
+    }
+
     /// Whether nothing is on its way. After a landing that passed this says nothing.
     pub fn drained(&self) -> bool
         ensures { (setup : Setup) (past : List Entry) →

@@ -2,4 +2,5 @@ pub mod CutLemmas
 pub mod KeptLemmas
 pub mod LinesLemmas
 pub mod PrefixLemmas
+pub mod ReadingLemmas
 mod Worked

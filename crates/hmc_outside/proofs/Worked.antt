@@ -39,12 +39,12 @@ space_of-after_three = refl
 
 -- and finished: the pieces stay, and the last call did not fail
 finished-view : view_of (after_finish after_three) ≡
-    record { pieces = Some ((97 ∷ 98 ∷ 99 ∷ []) ∷ (100 ∷ 101 ∷ []) ∷ []); writes = 3; finishes = 1; faults = 1; failed = false; finished = true }
+    record { pieces = Some ((97 ∷ 98 ∷ 99 ∷ []) ∷ (100 ∷ 101 ∷ []) ∷ []); bytes = Some (97 ∷ 98 ∷ 99 ∷ 100 ∷ 101 ∷ []); writes = 3; finishes = 1; faults = 1; failed = false; finished = true }
 finished-view = refl
 
 -- a write after a finish is the last call again
 written_after_finish-view : view_of (after_write (after_finish (opened 6 [])) (97 ∷ [])) ≡
-    record { pieces = Some ((97 ∷ []) ∷ []); writes = 1; finishes = 1; faults = 0; failed = false; finished = false }
+    record { pieces = Some ((97 ∷ []) ∷ []); bytes = Some (97 ∷ []); writes = 1; finishes = 1; faults = 0; failed = false; finished = false }
 written_after_finish-view = refl
 
 -- a finish that fails counts as a finish and as a fault
@@ -53,18 +53,18 @@ failed_finish-counts = refl
 
 -- a source of three bytes after a read of two and a failure
 abbrev after_two : source.SourceState
-after_two = source.after_failure (source.after_read (source.opened (97 ∷ 98 ∷ 99 ∷ []) (2 ∷ [])) 2 2)
+after_two = source.after_failure (source.after_read (source.opened (97 ∷ 98 ∷ 99 ∷ []) (2 ∷ [])) 2 2) 2
 
 after_two-state : after_two ≡
-    record { left = 99 ∷ []; failing = 2 ∷ []; calls = 2; counts = record { faults = 1; stops = 1; stopped = true } }
+    record { left = 99 ∷ []; failing = 2 ∷ []; counts = record { reads = 2; empty_reads = 0; faults = 1; stops = 1; stopped = true; failed = true } }
 after_two-state = refl
 
 -- the byte that is left, the end, and a read that asks for none
 at_end-state : source.after_read (source.after_read (source.after_read after_two 1 2) 0 2) 0 0 ≡
-    record { left = []; failing = 2 ∷ []; calls = 5; counts = record { faults = 1; stops = 2; stopped = true } }
+    record { left = []; failing = 2 ∷ []; counts = record { reads = 5; empty_reads = 1; faults = 1; stops = 2; stopped = true; failed = false } }
 at_end-state = refl
 
 -- a read that gave a byte did not stop
 goes_on-state : source.after_read after_two 1 2 ≡
-    record { left = []; failing = 2 ∷ []; calls = 3; counts = record { faults = 1; stops = 1; stopped = false } }
+    record { left = []; failing = 2 ∷ []; counts = record { reads = 3; empty_reads = 0; faults = 1; stops = 1; stopped = false; failed = false } }
 goes_on-state = refl

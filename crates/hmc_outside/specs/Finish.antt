@@ -1,5 +1,7 @@
 -- Handing on what a sink has gathered.
 use Rattle.std.specs.Prelude.{◌≡◌, ◌⊎◌, true, false, ℕ, List, length}
+use Rattle.std.specs.Io.KnownBytes.{Appends, Keeps}
+use Rattle.std.specs.List.{concat}
 use Rattle.hmc_outside.specs.Lines.{BreaksOff}
 use Rattle.hmc_outside.specs.Pieces.{with_pieces}
 use Rattle.hmc_outside.specs.Raised.{raised, raised_by}
@@ -12,12 +14,15 @@ pub record Finishes (old new : SinkView) : Type 0 where
   pub last : new.finished ≡ true
   -- what the sink holds stays
   pub pieces : new.pieces ≡ old.pieces
+  pub bytes : Keeps old.bytes new.bytes
   pub writes : new.writes ≡ old.writes
 
 -- each line was written, by one write, and then the sink was finished
 pub record WritesAndFinishes (old new : SinkView) (lines : List (List ℕ)) : Type 0 where
   -- the pieces written are exactly the lines
   pub pieces : new.pieces ≡ with_pieces old.pieces lines
+  -- and the bytes written are theirs
+  pub bytes : Appends old.bytes new.bytes (concat lines)
   -- there was one write a line
   pub writes : new.writes ≡ raised_by (length lines) old.writes
   -- there was one finish, and it was the last call

@@ -1,5 +1,7 @@
 -- Lines that are written one after another, each by one write.
 use Rattle.std.specs.Prelude.{◌≡◌, true, false, ℕ, List, ◌∷◌, ◌++◌, length}
+use Rattle.std.specs.Io.KnownBytes.{Appends}
+use Rattle.std.specs.List.{concat}
 use Rattle.hmc_outside.specs.Raised.{raised, raised_by}
 use Rattle.hmc_outside.specs.Pieces.{pieces_of, with_pieces}
 use Rattle.hmc_outside.specs.Views.{SinkView}
@@ -8,6 +10,8 @@ use Rattle.hmc_outside.specs.Views.{SinkView}
 pub record WritesLines (old new : SinkView) (lines : List (List ℕ)) : Type 0 where
   -- the pieces written are exactly the lines
   pub pieces : new.pieces ≡ with_pieces old.pieces lines
+  -- and the bytes written are theirs
+  pub bytes : Appends old.bytes new.bytes (concat lines)
   -- there was one write a line
   pub writes : new.writes ≡ raised_by (length lines) old.writes
   -- there was no finish
@@ -33,8 +37,9 @@ pub record BreaksOff (old new : SinkView) (lines : List (List ℕ)) : Type 0 whe
   pub prefix : List ℕ
   pub cut : List ℕ
   pub halves : line ≡ prefix ++ cut
-  -- these are the pieces written
+  -- these are the pieces written, and the bytes
   pub pieces : new.pieces ≡ with_pieces old.pieces (whole ++ pieces_of prefix)
+  pub bytes : Appends old.bytes new.bytes (concat whole ++ prefix)
   -- the failed write was the last call
   pub writes : new.writes ≡ raised (raised_by (length whole) old.writes)
   pub finishes : new.finishes ≡ old.finishes

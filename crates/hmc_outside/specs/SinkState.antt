@@ -22,6 +22,7 @@ pub record SinkState : Type 0 where
 abbrev pub view_of : SinkState → SinkView
 view_of s = record {
   pieces = Some s.pieces;
+  bytes = Some (concat s.pieces);
   writes = s.counts.writes;
   finishes = s.counts.finishes;
   faults = s.counts.faults;

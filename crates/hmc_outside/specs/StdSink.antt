@@ -17,10 +17,11 @@ gathered_bytes sink = writer_buffer sink.writer
 abbrev pub contents_of : {W : Type 0} → (W → Option (List ℕ)) → StdSink W → Option (List ℕ)
 contents_of contents sink = writer_contents contents sink.writer
 
--- what these counts show: no pieces, since a writer knows only its bytes
-abbrev pub view_of_counts : CallCounts → SinkView
-view_of_counts counts = record {
+-- what such bytes and counts show: no pieces, since a writer knows only its bytes
+abbrev pub view_with : (bytes : Option (List ℕ)) → CallCounts → SinkView
+view_with bytes counts = record {
   pieces = None;
+  bytes = bytes;
   writes = counts.writes;
   finishes = counts.finishes;
   faults = counts.faults;
@@ -28,6 +29,6 @@ view_of_counts counts = record {
   finished = counts.finished;
 }
 
--- what it shows
-abbrev pub view_of : {W : Type 0} → StdSink W → SinkView
-view_of sink = view_of_counts sink.counts
+-- what it shows, of which the writer shows its bytes
+abbrev pub view_of : {W : Type 0} → (W → Option (List ℕ)) → StdSink W → SinkView
+view_of contents sink = view_with (contents_of contents sink) sink.counts

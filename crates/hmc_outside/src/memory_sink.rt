@@ -1,6 +1,7 @@
 //! A sink in memory, which fails at listed calls and where its room ends.
 ghost use Rattle.std.specs.Prelude.{◌≡◌, ◌⊎◌, ◌<◌, ◌≤◌, ◌↔◌, [], length, take, min, map, true, false, IsOk, IsErr, IsSome, IfOk, IfNone, IfSome, OnOk, OnErr};
 ghost use Rattle.std.specs.List.{concat};
+ghost use Rattle.std.specs.Io.KnownBytes.{Appends};
 ghost use Rattle.hmc_outside.specs.Finish.{Finishes};
 ghost use Rattle.hmc_outside.specs.Pieces.{pieces_of, with_pieces, WritesPrefix};
 ghost use Rattle.hmc_outside.specs.Raised.{raised};
@@ -95,8 +96,10 @@ impl Sink for MemorySink {
         ensures piece { OnOk result
             ((view_of self.new).pieces ≡
             with_pieces (view_of self.old).pieces (pieces_of bytes.now)) }
+        ensures appended { OnOk result
+            (Appends (view_of self.old).bytes (view_of self.new).bytes bytes.now) }
         ensures prefix { OnErr result
-            (WritesPrefix (view_of self.old).pieces (view_of self.new).pieces bytes.now) }
+            (WritesPrefix (view_of self.old) (view_of self.new) bytes.now) }
         ensures sound { OnOk result ((view_of self.new).faults ≡ (view_of self.old).faults) }
         ensures fault { OnErr result
             ((view_of self.new).faults ≡ raised (view_of self.old).faults) }

@@ -1,8 +1,8 @@
 //! A source in memory, which fails at listed calls.
-ghost use Rattle.std.specs.Prelude.{◌≡◌, ◌<◌, ◌≤◌, ◌↔◌, ◌++◌, length, take, drop, min, Contains, IsTrue, IsErr, IfOk, OnOk, OnErr};
+ghost use Rattle.std.specs.Prelude.{◌≡◌, ◌<◌, ◌≤◌, ◌↔◌, ◌++◌, length, take, drop, min, true, false, Contains, IsTrue, IsErr, IfOk, OnOk, OnErr};
 ghost use Rattle.std.specs.Io.KnownBytes.{Consumes, Keeps, IsAtEnd};
 ghost use Rattle.hmc_outside.specs.Raised.{raised};
-ghost use Rattle.hmc_outside.specs.Reading.{Stops, GoesOn, Stays};
+ghost use Rattle.hmc_outside.specs.Reading.{Stops, GoesOn, Stays, ReadsOnce};
 ghost use Rattle.hmc_outside.specs.SourceState.{view_of, opened, after_read, after_failure};
 
 use crate::counts::{ReadCounts, one_more};
@@ -18,7 +18,6 @@ pub struct MemorySource {
     bytes: Vec<u8>,
     given: usize,
     failing: Vec<u32>,
-    calls: u64,
     counts: ReadCounts,
 }
 
@@ -31,7 +30,6 @@ impl Model for MemorySource {
     ghost view = { λ s. record {
       left = drop s.given s.bytes.items;
       failing = s.failing.items;
-      calls = s.calls;
       counts = s.counts;
     } };
 
@@ -47,16 +45,15 @@ impl MemorySource {
             bytes: Vec::from_slice(alloc, bytes)?,
             given: 0,
             failing: Vec::from_slice(alloc, failing)?,
-            calls: 0,
             counts: ReadCounts::new(),
         })
     }
 
     /// How many calls were made.
     pub fn reads(&self) -> u64
-        ensures { result ≡ self.now.calls }
+        ensures { result ≡ self.now.counts.reads }
     {
-        self.calls
+        self.counts.reads
     }
 
     /// How many calls have failed.
@@ -78,9 +75,12 @@ impl Source for MemorySource {
         ensures ended { IfOk result
             (λ n. n ≡ 0 → 0 < length into.old → IsAtEnd (view_of self.new).left) }
         ensures unchanged { OnErr result (Keeps (view_of self.old).left (view_of self.new).left) }
+        ensures counted { ReadsOnce (view_of self.old) (view_of self.new) (length into.old) }
         ensures sound { OnOk result ((view_of self.new).faults ≡ (view_of self.old).faults) }
         ensures fault { OnErr result
             ((view_of self.new).faults ≡ raised (view_of self.old).faults) }
+        ensures not_failed { OnOk result ((view_of self.new).failed ≡ false) }
+        ensures failed { OnErr result ((view_of self.new).failed ≡ true) }
         ensures goes_on { IfOk result (λ n. 0 < n → GoesOn (view_of self.old) (view_of self.new)) }
         ensures stays { IfOk result
             (λ n. length into.old ≡ 0 → Stays (view_of self.old) (view_of self.new)) }
@@ -89,16 +89,15 @@ impl Source for MemorySource {
         ensures fault_stops { OnErr result (Stops (view_of self.old) (view_of self.new)) }
 
         // Exactly.
-        ensures fails { IsErr result ↔ Contains self.old.failing (raised self.old.calls) }
+        ensures fails { IsErr result ↔ Contains self.old.failing (raised self.old.counts.reads) }
         ensures count { IfOk result (λ n. n ≡ min (length self.old.left) (length into.old)) }
         ensures given { IfOk result (λ n. into.new ≡ take n self.old.left ++ drop n into.old) }
         ensures after { IfOk result (λ n. self.new ≡ after_read self.old n (length into.old)) }
-        ensures failed { OnErr result (self.new ≡ after_failure self.old) }
+        ensures after_fault { OnErr result (self.new ≡ after_failure self.old (length into.old)) }
         ensures untouched { OnErr result (into.new ≡ into.old) }
     {
-        self.calls = one_more(self.calls);
-        if is_listed(&self.failing, self.calls) {
-            self.counts.count_fault();
+        if is_listed(&self.failing, one_more(self.counts.reads)) {
+            self.counts.count_fault(into.len());
             return Err(Failed);
         }
         let count = give(&self.bytes[self.given..], into);

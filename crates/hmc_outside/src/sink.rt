@@ -1,5 +1,6 @@
 //! Where output bytes go.
 ghost use Rattle.std.specs.Prelude.{◌≡◌, true, false, OnOk, OnErr};
+ghost use Rattle.std.specs.Io.KnownBytes.{Appends};
 ghost use Rattle.hmc_outside.specs.Finish.{Finishes};
 ghost use Rattle.hmc_outside.specs.Pieces.{pieces_of, with_pieces, WritesPrefix};
 ghost use Rattle.hmc_outside.specs.Raised.{raised};
@@ -9,7 +10,7 @@ use crate::Failed;
 
 /// Takes bytes, a piece at a time. It may gather them, and hand them on later.
 pub trait Sink {
-    /// The pieces written, and the counts of calls.
+    /// The pieces and the bytes written, and the counts of calls.
     ghost shows: { Self → SinkView };
 
     /// Takes all the bytes, or fails and has taken a prefix of them, which may be none or all.
@@ -17,8 +18,10 @@ pub trait Sink {
         ensures counted { (shows self.new).writes ≡ raised (shows self.old).writes }
         ensures piece { OnOk result
             ((shows self.new).pieces ≡ with_pieces (shows self.old).pieces (pieces_of bytes.now)) }
+        ensures appended { OnOk result
+            (Appends (shows self.old).bytes (shows self.new).bytes bytes.now) }
         ensures prefix { OnErr result
-            (WritesPrefix (shows self.old).pieces (shows self.new).pieces bytes.now) }
+            (WritesPrefix (shows self.old) (shows self.new) bytes.now) }
         ensures sound { OnOk result ((shows self.new).faults ≡ (shows self.old).faults) }
         ensures fault { OnErr result ((shows self.new).faults ≡ raised (shows self.old).faults) }
         ensures not_failed { OnOk result ((shows self.new).failed ≡ false) }

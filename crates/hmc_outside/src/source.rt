@@ -1,8 +1,8 @@
 //! Where input bytes come from.
-ghost use Rattle.std.specs.Prelude.{◌≡◌, ◌<◌, ◌≤◌, length, take, IfOk, OnOk, OnErr};
+ghost use Rattle.std.specs.Prelude.{◌≡◌, ◌<◌, ◌≤◌, length, take, true, false, IfOk, OnOk, OnErr};
 ghost use Rattle.std.specs.Io.KnownBytes.{Consumes, Keeps, IsAtEnd};
 ghost use Rattle.hmc_outside.specs.Raised.{raised};
-ghost use Rattle.hmc_outside.specs.Reading.{Stops, GoesOn, Stays};
+ghost use Rattle.hmc_outside.specs.Reading.{Stops, GoesOn, Stays, ReadsOnce};
 ghost use Rattle.hmc_outside.specs.Views.{SourceView};
 
 use crate::Failed;
@@ -23,9 +23,14 @@ pub trait Source {
             (λ n. n ≡ 0 → 0 < length into.old → IsAtEnd (shows self.new).left) }
         ensures unchanged { OnErr result (Keeps (shows self.old).left (shows self.new).left) }
 
+        // The reads.
+        ensures counted { ReadsOnce (shows self.old) (shows self.new) (length into.old) }
+
         // The faults.
         ensures sound { OnOk result ((shows self.new).faults ≡ (shows self.old).faults) }
         ensures fault { OnErr result ((shows self.new).faults ≡ raised (shows self.old).faults) }
+        ensures not_failed { OnOk result ((shows self.new).failed ≡ false) }
+        ensures failed { OnErr result ((shows self.new).failed ≡ true) }
 
         // The stops.
         ensures goes_on { IfOk result (λ n. 0 < n → GoesOn (shows self.old) (shows self.new)) }

@@ -8,7 +8,7 @@ ghost use Rattle.hmc_outside.specs.Finish.{Finishes};
 ghost use Rattle.hmc_outside.specs.Pieces.{pieces_of, with_pieces, WritesPrefix};
 ghost use Rattle.hmc_outside.specs.Prefix.{AppendsPrefix};
 ghost use Rattle.hmc_outside.specs.Raised.{raised};
-ghost use Rattle.hmc_outside.specs.StdSink.{writer_of, gathered_bytes, contents_of, view_of_counts, view_of};
+ghost use Rattle.hmc_outside.specs.StdSink.{writer_of, gathered_bytes, contents_of, view_with, view_of};
 
 use crate::counts::CallCounts;
 use crate::{Failed, Sink};
@@ -21,8 +21,8 @@ use std::io::{BufWriter, ErrorKind, Write};
 const GATHERED: usize = 65_536;
 
 /// What goes to a writer. The bytes are gathered, and handed on when there are many, or by
-/// `finish`. It shows no pieces, but its own clauses say what the writer's bytes are, where the
-/// writer shows them.
+/// `finish`. It shows no pieces. It shows its bytes where the writer does: those are the writer's,
+/// and then the ones gathered.
 pub struct StdSink<W: Write + Drop> {
     writer: BufWriter<W>,
     counts: CallCounts,
@@ -34,7 +34,8 @@ impl<W: Write + Drop> StdSink<W> {
     pub fn new(alloc: Global, writer: W) -> Result<Self, Memory>
         ensures writer { IfOk result (λ sink. writer_of sink ≡ writer) }
         ensures none_gathered { IfOk result (λ sink. gathered_bytes sink ≡ []) }
-        ensures counts { IfOk result (λ sink. view_of sink ≡ view_of_counts opened) }
+        ensures counts { IfOk result (λ sink.
+            view_of W.contents sink ≡ view_with (contents_of W.contents sink) opened) }
     {
         match BufWriter::with_capacity(alloc, GATHERED, writer) {
             Ok(writer) => Ok(StdSink {
@@ -47,36 +48,32 @@ impl<W: Write + Drop> StdSink<W> {
 
     /// How many calls have failed.
     pub fn faults(&self) -> u64
-        ensures { result ≡ (view_of self.now).faults }
+        ensures { result ≡ (view_of W.contents self.now).faults }
     {
         self.counts.faults
     }
 }
 
 impl<W: Write + Drop> Sink for StdSink<W> {
-    ghost shows = { view_of };
+    ghost shows = { view_of W.contents };
 
     fn write(&mut self, bytes: &[u8]) -> Result<(), Failed>
         // As at each sink.
-        ensures counted { (view_of self.new).writes ≡ raised (view_of self.old).writes }
+        ensures counted { (view_of W.contents self.new).writes ≡ raised (view_of W.contents self.old).writes }
         ensures piece { OnOk result
-            ((view_of self.new).pieces ≡
-            with_pieces (view_of self.old).pieces (pieces_of bytes.now)) }
-        ensures prefix { OnErr result
-            (WritesPrefix (view_of self.old).pieces (view_of self.new).pieces bytes.now) }
-        ensures sound { OnOk result ((view_of self.new).faults ≡ (view_of self.old).faults) }
-        ensures fault { OnErr result
-            ((view_of self.new).faults ≡ raised (view_of self.old).faults) }
-        ensures not_failed { OnOk result ((view_of self.new).failed ≡ false) }
-        ensures failed { OnErr result ((view_of self.new).failed ≡ true) }
-        ensures finishes { (view_of self.new).finishes ≡ (view_of self.old).finishes }
-        ensures not_finished { (view_of self.new).finished ≡ false }
-
-        // The writer's bytes, and then those gathered.
+            ((view_of W.contents self.new).pieces ≡
+            with_pieces (view_of W.contents self.old).pieces (pieces_of bytes.now)) }
         ensures appended { OnOk result (Appends
-            (contents_of W.contents self.old) (contents_of W.contents self.new) bytes.now) }
-        ensures appended_prefix { OnErr result (AppendsPrefix
-            (contents_of W.contents self.old) (contents_of W.contents self.new) bytes.now) }
+            (view_of W.contents self.old).bytes (view_of W.contents self.new).bytes bytes.now) }
+        ensures prefix { OnErr result
+            (WritesPrefix (view_of W.contents self.old) (view_of W.contents self.new) bytes.now) }
+        ensures sound { OnOk result ((view_of W.contents self.new).faults ≡ (view_of W.contents self.old).faults) }
+        ensures fault { OnErr result
+            ((view_of W.contents self.new).faults ≡ raised (view_of W.contents self.old).faults) }
+        ensures not_failed { OnOk result ((view_of W.contents self.new).failed ≡ false) }
+        ensures failed { OnErr result ((view_of W.contents self.new).failed ≡ true) }
+        ensures finishes { (view_of W.contents self.new).finishes ≡ (view_of W.contents self.old).finishes }
+        ensures not_finished { (view_of W.contents self.new).finished ≡ false }
     {
         let written = write_whole(&mut self.writer, bytes);
         self.counts.count_write(written.is_err());
@@ -85,16 +82,14 @@ impl<W: Write + Drop> Sink for StdSink<W> {
 
     fn finish(&mut self) -> Result<(), Failed>
         // As at each sink.
-        ensures finished { Finishes (view_of self.old) (view_of self.new) }
-        ensures sound { OnOk result ((view_of self.new).faults ≡ (view_of self.old).faults) }
+        ensures finished { Finishes (view_of W.contents self.old) (view_of W.contents self.new) }
+        ensures sound { OnOk result ((view_of W.contents self.new).faults ≡ (view_of W.contents self.old).faults) }
         ensures fault { OnErr result
-            ((view_of self.new).faults ≡ raised (view_of self.old).faults) }
-        ensures not_failed { OnOk result ((view_of self.new).failed ≡ false) }
-        ensures failed { OnErr result ((view_of self.new).failed ≡ true) }
+            ((view_of W.contents self.new).faults ≡ raised (view_of W.contents self.old).faults) }
+        ensures not_failed { OnOk result ((view_of W.contents self.new).failed ≡ false) }
+        ensures failed { OnErr result ((view_of W.contents self.new).failed ≡ true) }
 
-        // The writer's bytes, and then those gathered.
-        ensures kept { Keeps
-            (contents_of W.contents self.old) (contents_of W.contents self.new) }
+        // All bytes are the writer's.
         ensures none_gathered { OnOk result (gathered_bytes self.new ≡ []) }
     {
         let flushed = flush(&mut self.writer);

@@ -1,10 +1,11 @@
 //! A reader of std as a source.
-ghost use Rattle.std.specs.Prelude.{◌≡◌, ◌≢◌, ◌<◌, ◌≤◌, length, take, false, IfOk, IfErr, OnOk, OnErr};
+ghost use Rattle.std.specs.Prelude.{◌≡◌, ◌≢◌, ◌<◌, ◌≤◌, length, take, true, false, IfOk, IfErr, OnOk, OnErr};
 ghost use Rattle.std.specs.IoError.{error_kind};
 ghost use Rattle.std.specs.Io.KnownBytes.{Consumes, Keeps, IsAtEnd};
+ghost use Rattle.hmc_outside.specs.Counts.{unread};
 ghost use Rattle.hmc_outside.specs.Raised.{raised};
-ghost use Rattle.hmc_outside.specs.Reading.{Stops, GoesOn, Stays};
-ghost use Rattle.hmc_outside.specs.StdSource.{reader_of, view_of};
+ghost use Rattle.hmc_outside.specs.Reading.{Stops, GoesOn, Stays, ReadsOnce};
+ghost use Rattle.hmc_outside.specs.StdSource.{reader_of, view_with, view_of};
 
 use crate::counts::ReadCounts;
 use crate::{Failed, Source};
@@ -23,9 +24,7 @@ impl<R: Read> StdSource<R> {
     /// A source before its first call.
     pub fn new(reader: R) -> Self
         ensures reader { reader_of result ≡ reader }
-        ensures faults { (view_of R.remaining result).faults ≡ 0 }
-        ensures stops { (view_of R.remaining result).stops ≡ 0 }
-        ensures not_stopped { (view_of R.remaining result).stopped ≡ false }
+        ensures counts { view_of R.remaining result ≡ view_with (R.remaining reader) unread }
     {
         StdSource {
             reader,
@@ -54,10 +53,14 @@ impl<R: Read> Source for StdSource<R> {
             (λ n. n ≡ 0 → 0 < length into.old → IsAtEnd (view_of R.remaining self.new).left) }
         ensures unchanged { OnErr result
             (Keeps (view_of R.remaining self.old).left (view_of R.remaining self.new).left) }
+        ensures counted { ReadsOnce
+            (view_of R.remaining self.old) (view_of R.remaining self.new) (length into.old) }
         ensures sound { OnOk result
             ((view_of R.remaining self.new).faults ≡ (view_of R.remaining self.old).faults) }
         ensures fault { OnErr result
             ((view_of R.remaining self.new).faults ≡ raised (view_of R.remaining self.old).faults) }
+        ensures not_failed { OnOk result ((view_of R.remaining self.new).failed ≡ false) }
+        ensures failed { OnErr result ((view_of R.remaining self.new).failed ≡ true) }
         ensures goes_on { IfOk result
             (λ n. 0 < n → GoesOn (view_of R.remaining self.old) (view_of R.remaining self.new)) }
         ensures stays { IfOk result (λ n. length into.old ≡ 0 →
@@ -73,7 +76,7 @@ impl<R: Read> Source for StdSource<R> {
                 Ok(count)
             }
             Err(_) => {
-                self.counts.count_fault();
+                self.counts.count_fault(into.len());
                 Err(Failed)
             }
         }

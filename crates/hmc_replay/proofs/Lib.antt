@@ -3,7 +3,11 @@ pub mod Stepping
 pub mod Writing
 pub mod EntryLines
 pub mod Reading
+pub mod Answering
 pub mod Reports
-pub mod CaseAnswers
 pub mod Replays
+pub mod OneAnswer
+pub mod SomeAnswer
+pub mod Complete
 mod Worked
+pub mod Leaving

@@ -1,8 +1,9 @@
 -- The report of a case, from the network after the case's steps.
-use Rattle.std.proofs.Common.{◌≡◌, ◌∙◌, ℕ, Bool, true, false, List, [], ◌∷◌, ◌++◌, Result, Ok, Err, IsErrAnd, refl, sym, ap, subst, append-nil, append_assoc}
+use Rattle.std.proofs.Common.{◌≡◌, ◌∙◌, ℕ, Bool, true, false, List, [], ◌∷◌, ◌++◌, Result, Ok, Err, IsErrAnd, if◌then◌else◌, arith, refl, sym, ap, subst, append-nil, append_assoc}
 use Rattle.hmc_journal.specs.declared.entry.Entry.{Entry}
 use Rattle.hmc_journal.specs.declared.entry.Entry.TheVariants.{Passed}
 use Rattle.hmc_journal.specs.Final.{final_lines_of}
+use Rattle.hmc_journal.specs.Guarantees.{Guarantees}
 use Rattle.hmc_journal.specs.Lawful.{has_passed, journal_of}
 use Rattle.hmc_journal.specs.Lines.{line_of}
 use Rattle.hmc_journal.specs.Setup.{Setup}
@@ -17,11 +18,10 @@ use Rattle.hmc_outside.specs.declared.counts.Failed.{Failed}
 use Rattle.hmc_outside.proofs.LinesLemmas.{WritesLines-none, WritesLines-after, BreaksOff-after, BreaksOff-more}
 use Rattle.hmc_report.specs.Final.{final_lines, ending_lines}
 use Rattle.hmc_replay.specs.Output.{WritesReport, DeliversReport}
-use Rattle.hmc_replay.specs.Report.{passes, lines_unless, report_of, last_line, short_lines, short_report_of}
-use Rattle.hmc_replay.specs.Runs.{IsWritten}
+use Rattle.hmc_replay.specs.Report.{passes, lines_unless, report_of, last_line, short_lines, short_report_of, report_status}
+use Rattle.hmc_replay.specs.Reported.{EndsAtPass, IsReport}
+use Rattle.hmc_replay.specs.Answered.{IsAnswered, IsCutOff}
 use Rattle.hmc_replay.specs.Steps.{TookAll}
-use Rattle.hmc_replay.specs.Top.{IsMade, IsMadeAtPass, EndsAtPass}
-use Rattle.hmc_replay.specs.declared.extent.Extent.TheVariants.{Whole, Short}
 use Rattle.hmc_replay.proofs.Passes.{passes_is}
 
 -- ---- lines that are made one after another
@@ -143,40 +143,34 @@ lines-last : (entry : Entry) (before : List Entry) → lines_of (entry ∷ befor
 unfolding lines_of
 lines-last entry before = refl
 
-pub passes_there : (setup : Setup) (a b : SinkView) → EndsAtPass setup a b → passes setup ≡ true
-passes_there setup a b at = passes_is setup ∙ ap has_passed at.last
-
-pub passed_lines : (setup : Setup) (a b : SinkView) → EndsAtPass setup a b → HandsOn a b (report_of setup)
-passed_lines setup a b at =
-    let lines : lines_of at.before ++ line_of (Passed at.direction at.flit) ∷ [] ≡ report_of setup =
-    sym (ap lines_of at.last ∙ lines-last (Passed at.direction at.flit) at.before) ∙ report_passed setup (passes_there setup a b at) in
-    subst (HandsOn a b) lines at.written
-
--- and one that was written where a landing passes
-pub ends_at_pass : (setup : Setup) (a b : SinkView) → passes setup ≡ true → IsWritten Whole setup a b → EndsAtPass setup a b
-ends_at_pass setup a b passed report =
+-- of a setup whose landing passes the journal is such
+ends_at_pass : (setup : Setup) → passes setup ≡ true → EndsAtPass (journal_of setup)
+ends_at_pass setup passed =
     let last = passing (journal_of setup) (sym (passes_is setup) ∙ passed) in
-    let lines : report_of setup ≡ lines_of last.before ++ line_of (Passed last.direction last.flit) ∷ [] =
-    sym (report_passed setup passed) ∙ ap lines_of last.is ∙ lines-last (Passed last.direction last.flit) last.before in record {
-      direction = last.direction;
-      flit = last.flit;
-      before = last.before;
-      last = last.is;
-      written = subst (HandsOn a b) lines report.written;
-      guarantees = report.guarantees;
-    }
+    record { direction = last.direction; flit = last.flit; before = last.before; last = last.is }
 
-pub made_at_pass : (setup : Setup) (a b : SinkView) → passes setup ≡ true → IsWritten Short setup a b → IsMadeAtPass setup a b
-made_at_pass setup a b passed report =
-    let last = passing (journal_of setup) (sym (passes_is setup) ∙ passed) in record {
-      direction = last.direction;
-      flit = last.flit;
-      before = last.before;
-      last = last.is;
-      written = subst (HandsOn a b) (sym (short_by setup true passed) ∙ ap last_line last.is) report.written;
-      guarantees = report.guarantees;
-    }
+not_seven : (setup : Setup) → passes setup ≡ false → report_status setup ≡ 7 → ⊥
+not_seven setup on is = let off : ◌≡◌ {A = ℕ} 0 7 = ap (λ (p : Bool). if p then 7 else 0) (sym on) ∙ is in omega (arith, off)
 
-pub made_whole : (setup : Setup) (a b : SinkView) → passes setup ≡ false → IsWritten Short setup a b → IsMade setup a b
-made_whole setup a b on report =
-    record { no_pass = on; written = subst (HandsOn a b) (sym (short_by setup false on)) report.written; guarantees = report.guarantees }
+by_status : (setup : Setup) (passed : Bool) → passes setup ≡ passed → (if passed then 7 else 0) ≡ report_status setup
+by_status setup passed is = ap (λ (p : Bool). if p then 7 else 0) (sym is)
+
+-- a report that was written is the one that is due
+pub reported : (setup : Setup) (lines : List (List ℕ)) (passed : Bool) (a b : SinkView) → passes setup ≡ passed → Guarantees setup (journal_of setup) → HandsOn a b lines → IsAnswered (IsReport setup lines) (if passed then 7 else 0) a b
+reported setup lines true a b is guarantees written =
+    record { lines = lines; due = record { status_is = by_status setup true is; lines_are = refl; passed = λ _. ends_at_pass setup is; guarantees = guarantees }; written = written }
+reported setup lines false a b is guarantees written =
+    record { lines = lines; due = record { status_is = by_status setup false is; lines_are = refl; passed = λ (seven : ◌≡◌ {A = ℕ} 0 7). absurd (omega (arith, seven)); guarantees = guarantees }; written = written }
+
+-- a report of these lines is due
+pub due_report : (setup : Setup) (lines : List (List ℕ)) → Guarantees setup (journal_of setup) → IsReport setup lines (report_status setup) lines
+due_report setup lines guarantees = by_passed (passes setup) refl
+  where
+    by_passed : (passed : Bool) → passes setup ≡ passed → IsReport setup lines (report_status setup) lines
+    by_passed true is = record { status_is = refl; lines_are = refl; passed = λ _. ends_at_pass setup is; guarantees = guarantees }
+    by_passed false is = record { status_is = refl; lines_are = refl; passed = λ seven. absurd (not_seven setup is seven); guarantees = guarantees }
+
+-- nor is another one cut off
+pub cut_off : (setup : Setup) (lines : List (List ℕ)) (a b : SinkView) → Guarantees setup (journal_of setup) → FailsToHandOn a b lines → IsCutOff (IsReport setup lines) a b
+cut_off setup lines a b guarantees failed =
+    record { status = report_status setup; lines = lines; due = due_report setup lines guarantees; written = failed }

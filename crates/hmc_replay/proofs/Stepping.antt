@@ -1,5 +1,5 @@
 -- Taking the steps of a case one after another, and writing the line of each.
-use Rattle.std.proofs.Common.{◌≡◌, ◌∙◌, ◌+◌, inl, inr, ℕ, suc, Bool, true, false, List, [], ◌∷◌, ◌++◌, length, drop, slice_get, Some, refl, sym, ap, subst, add-one, append-nil, append_assoc}
+use Rattle.std.proofs.Common.{◌≡◌, ◌∙◌, ◌+◌, ◌⊎◌, inl, inr, Result, Ok, Err, IsErrAnd, ℕ, suc, Bool, true, false, List, [], ◌∷◌, ◌++◌, length, drop, slice_get, Some, refl, sym, ap, subst, add-one, append-nil, append_assoc}
 use Rattle.hmc_schedule.specs.declared.step.Step.{Step}
 use Rattle.hmc_journal.specs.declared.entry.Entry.{Entry}
 use Rattle.hmc_journal.specs.Event.{is_passed}
@@ -13,8 +13,11 @@ use Rattle.hmc_net.specs.NetState.{NetState}
 use Rattle.hmc_net.specs.Stands.{StandsFor, IsNext}
 use Rattle.hmc_outside.specs.Lines.{WritesLines, BreaksOff}
 use Rattle.hmc_outside.specs.Views.{SinkView}
-use Rattle.hmc_outside.proofs.LinesLemmas.{WritesLines-none, WritesLines-after, BreaksOff-after, BreaksOff-more}
-use Rattle.hmc_replay.specs.Steps.{IsAt, IsAfter, TookAll}
+use Rattle.hmc_outside.proofs.LinesLemmas.{WritesLines-none, WritesLines-after, BreaksOff-after, BreaksOff-after-rest, BreaksOff-more}
+use Rattle.hmc_replay.specs.Steps.{IsAt, IsAfter, TookAll, BreaksAt, Stepped}
+use Rattle.hmc_outside.specs.declared.counts.Failed.{Failed}
+use Rattle.hmc_replay.specs.declared.extent.Extent.{Extent}
+use Rattle.hmc_replay.specs.declared.extent.Extent.TheVariants.{Whole, Short}
 use Rattle.hmc_replay.proofs.Passes.{passes_is}
 
 -- the step that comes next
@@ -108,9 +111,58 @@ begins setup past lawful =
     let later = lines-behind setup past (drop (length past) setup.schedule) in
     (later.0, ap lines_of (behind setup past lawful) ∙ later.1)
 
+-- of one line none is left after it
+one_line : (line : List ℕ) (whole : List (List ℕ)) (broken : List ℕ) (rest : List (List ℕ)) → line ∷ [] ≡ whole ++ broken ∷ rest → rest ≡ []
+one_line line [] broken rest is = cc
+one_line line (first ∷ []) broken rest is = absurd (cc)
+one_line line (first ∷ second ∷ whole) broken rest is = absurd (cc)
+
 -- the line of a step was broken off
-pub broken_at : (net : NetState) (setup : Setup) (past : List Entry) (passed : Bool) (a b c : SinkView) → IsAfter net setup past passed → WritesLines a b (lines_of past) → BreaksOff b c (line_of net.last ∷ []) → BreaksOff a c (lines_of (journal_of setup))
+pub broken_at : (net : NetState) (setup : Setup) (past : List Entry) (passed : Bool) (a b c : SinkView) → IsAfter net setup past passed → WritesLines a b (lines_of past) → BreaksOff b c (line_of net.last ∷ []) → BreaksAt net setup a c
 broken_at net setup past passed a b c after written broken =
-    let later = begins setup (net.last ∷ past) after.stands.lawful in
-    let here = subst (BreaksOff a c) (lines-next net.last past) (BreaksOff-after a b c (lines_of past) (line_of net.last ∷ []) written broken) in
-    subst (BreaksOff a c) (sym later.1) (BreaksOff-more a c (lines_of (net.last ∷ past)) later.0 here)
+    let here = BreaksOff-after a b c (lines_of past) (line_of net.last ∷ []) written broken in
+    let none = BreaksOff-after-rest a b c (lines_of past) (line_of net.last ∷ []) written broken ∙ one_line (line_of net.last) broken.whole broken.line broken.rest broken.parts in record {
+      past = net.last ∷ past;
+      stands = after.stands;
+      broken = record {
+        whole = here.whole;
+        line = here.line;
+        rest = here.rest;
+        parts = sym (lines-next net.last past) ∙ here.parts;
+        prefix = here.prefix;
+        cut = here.cut;
+        halves = here.halves;
+        pieces = here.pieces;
+        bytes = here.bytes;
+        writes = here.writes;
+        finishes = here.finishes;
+        last = here.last;
+        failed = here.failed;
+        faults = here.faults;
+      };
+      last = none;
+    }
+
+-- and so the lines of the whole journal were
+pub broken_all : (net : NetState) (setup : Setup) (a b : SinkView) → BreaksAt net setup a b → BreaksOff a b (lines_of (journal_of setup))
+broken_all net setup a b broken =
+    let later = begins setup broken.past broken.stands.lawful in subst (BreaksOff a b) (sym later.1) (BreaksOff-more a b (lines_of broken.past) later.0 broken.broken)
+
+-- ---- how far the network came, by the result
+
+-- a call failed
+pub stepped_err : (net : NetState) (setup : Setup) (a b : SinkView) (error : Failed) (result : Result Bool Failed) → IsErrAnd result (λ told. told ≡ error) → StandsFor net setup (journal_of setup) ⊎ BreaksAt net setup a b → Stepped result Whole net setup a b
+stepped_err net setup a b error (Ok passed) told far = absurd told
+stepped_err net setup a b error (Err cause) told far = far
+
+-- the error is forwarded as it is
+pub stepped_on : (extent : Extent) (net : NetState) (setup : Setup) (a b : SinkView) (error : Failed) (result : Result Bool Failed) → IsErrAnd result (λ told. told ≡ error) → Stepped (Err error) extent net setup a b → Stepped result extent net setup a b
+stepped_on extent net setup a b error (Ok passed) told far = absurd told
+stepped_on Whole net setup a b error (Err cause) told far = far
+stepped_on Short net setup a b error (Err cause) told far = far
+
+-- the finish failed
+pub stepped_late : (extent : Extent) (net : NetState) (setup : Setup) (a b : SinkView) (error : Failed) (result : Result Bool Failed) → IsErrAnd result (λ told. told ≡ error) → StandsFor net setup (journal_of setup) → Stepped result extent net setup a b
+stepped_late extent net setup a b error (Ok passed) told far = absurd told
+stepped_late Whole net setup a b error (Err cause) told far = inl far
+stepped_late Short net setup a b error (Err cause) told far = far

@@ -1,5 +1,6 @@
 -- Writing lines one after another, whatever the result.
 use Rattle.std.proofs.Common.{inl, inr, true, false, ◌≡◌, ◌<◌, ◌∙◌, ℕ, List, [], ◌∷◌, ◌++◌, length, ap, Result, Ok, Err, OnOk, OnErr, IsErrAnd}
+use Rattle.std.specs.Io.KnownBytes.{Appends}
 use Rattle.hmc_outside.specs.Finish.{Finishes, FailsToHandOn}
 use Rattle.hmc_outside.specs.Lines.{WritesLines, BreaksOff}
 use Rattle.hmc_outside.specs.Pieces.{pieces_of, with_pieces, WritesPrefix}
@@ -11,10 +12,10 @@ use Rattle.hmc_replay.specs.Output.{Writes, Delivers}
 
 -- one write
 pub Writes-one : (a b : SinkView) (line : List ℕ) (result : Result (Unit {0}) Failed) → 0 < length line → b.writes ≡ raised a.writes → b.finishes ≡ a.finishes → b.finished ≡ false
-    → OnOk result (b.pieces ≡ with_pieces a.pieces (pieces_of line)) → OnOk result (b.faults ≡ a.faults) → OnErr result (WritesPrefix a.pieces b.pieces line) → OnErr result (b.faults ≡ raised a.faults) → OnErr result (b.failed ≡ true)
+    → OnOk result (b.pieces ≡ with_pieces a.pieces (pieces_of line)) → OnOk result (Appends a.bytes b.bytes line) → OnOk result (b.faults ≡ a.faults) → OnErr result (WritesPrefix a b line) → OnErr result (b.faults ≡ raised a.faults) → OnErr result (b.failed ≡ true)
     → Writes result a b (line ∷ [])
-Writes-one a b line (Ok done) some writes finishes last piece sound prefix fault failed = WritesLines-one a b line some piece writes finishes sound
-Writes-one a b line (Err error) some writes finishes last piece sound prefix fault failed = BreaksOff-one a b line prefix writes finishes last fault failed
+Writes-one a b line (Ok done) some writes finishes last piece bytes sound prefix fault failed = WritesLines-one a b line some piece bytes writes finishes sound
+Writes-one a b line (Err error) some writes finishes last piece bytes sound prefix fault failed = BreaksOff-one a b line prefix writes finishes last fault failed
 
 -- lines, and then others
 pub Writes-after : {T : Type 0} (a b c : SinkView) (first rest : List (List ℕ)) (result : Result T Failed) → WritesLines a b first → Writes result b c rest → Writes result a c (first ++ rest)

@@ -1,7 +1,13 @@
+pub mod Answer
+pub mod Answered
 pub mod Causes
 pub mod Input
+pub mod Left
+pub mod MakeAnswer
 pub mod Output
 pub mod Report
+pub mod Reported
+pub mod RunAnswer
 pub mod Runs
 pub mod Steps
 pub mod Top

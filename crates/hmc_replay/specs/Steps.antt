@@ -1,5 +1,5 @@
 -- Taking the steps of a case, one after another.
-use Rattle.std.specs.Prelude.{◌≡◌, ℕ, Bool, true, false, List, ◌∷◌, length, Result, Ok, Err}
+use Rattle.std.specs.Prelude.{◌≡◌, ◌⊎◌, ℕ, Bool, true, false, List, [], ◌∷◌, length, Result, Ok, Err}
 use Rattle.hmc_schedule.specs.declared.step.Step.{Step}
 use Rattle.hmc_journal.specs.declared.entry.Entry.{Entry}
 use Rattle.hmc_journal.specs.Event.{is_passed}
@@ -12,6 +12,8 @@ use Rattle.hmc_outside.specs.Lines.{WritesLines, BreaksOff}
 use Rattle.hmc_outside.specs.Views.{SinkView}
 use Rattle.hmc_outside.specs.declared.counts.Failed.{Failed}
 use Rattle.hmc_replay.specs.Report.{passes}
+use Rattle.hmc_replay.specs.declared.extent.Extent.{Extent}
+use Rattle.hmc_replay.specs.declared.extent.Extent.TheVariants.{Whole, Short}
 
 -- so many of these steps, which are those of the setup, were taken, and no landing passed
 pub record IsAt (net : NetState) (setup : Setup) (steps : List Step) (past : List Entry)
@@ -34,8 +36,24 @@ pub record TookAll (net : NetState) (setup : Setup) (passed : Bool) : Type 0 whe
   pub passed_is : passed ≡ passes setup
   pub last : passed ≡ true → (before : List Entry) × (journal_of setup ≡ net.last ∷ before)
 
+-- Steps and writes go by turns: the network stands for the journal of the steps so far, and their
+-- lines were written, of which the last one broke off.
+pub record BreaksAt (net : NetState) (setup : Setup) (old new : SinkView) : Type 0 where
+  pub past : List Entry
+  pub stands : StandsFor net setup past
+  pub broken : BreaksOff old new (lines_of past)
+  pub last : broken.rest ≡ []
+
 -- and the line of each was written, or they broke off
 abbrev pub WroteAll : Result Bool Failed → NetState → Setup → (old new : SinkView) → Type 0
 WroteAll (Ok passed) net setup old new =
     TookAll net setup passed × WritesLines old new (lines_of (journal_of setup))
-WroteAll (Err failed) net setup old new = BreaksOff old new (lines_of (journal_of setup))
+WroteAll (Err failed) net setup old new = BreaksAt net setup old new
+
+-- How far the network came, by the result: it stands for the whole journal, or a line of a step
+-- broke off. A short report has no lines of steps but that of a landing that passed.
+abbrev pub Stepped : Result Bool Failed → Extent → NetState → Setup → (old new : SinkView) → Type 0
+Stepped (Ok passed) extent net setup old new = StandsFor net setup (journal_of setup)
+Stepped (Err failed) Whole net setup old new =
+    StandsFor net setup (journal_of setup) ⊎ BreaksAt net setup old new
+Stepped (Err failed) Short net setup old new = StandsFor net setup (journal_of setup)

@@ -1,6 +1,6 @@
 //! The words that are a defined form.
 
-ghost use Rattle.std.specs.Prelude.{◌≡◌, map, string_bytes};
+ghost use Rattle.std.specs.Prelude.{◌≡◌, map, string_bytes, is_some};
 ghost use Rattle.hmc_replay.specs.Words.{make_form, form_of};
 
 use hmc_make::number_of;
@@ -33,4 +33,11 @@ pub fn form_of(words: &[String]) -> Option<Form>
         [word, number] if word.as_str() == "make" => make_form(number.as_str()),
         _ => None,
     }
+}
+
+/// Whether the words are a defined form. It takes no memory.
+pub fn is_form(words: &[String]) -> bool
+    ensures { result ≡ is_some (form_of (map string_bytes words.now)) }
+{
+    form_of(words).is_some()
 }

@@ -1,17 +1,23 @@
 //! The top call `replay`: from words and input to a report and a status.
 //!
-//! Its contract is `Replayed` (specs/Top), a field a promise. The report of a case is `report_of`
-//! (specs/Report): the lines of the case's one journal, and those of what the journal leaves and
-//! counts. What that journal guarantees is said in hmc_journal.
+//! Its contract is `Replayed` (specs/Top). What a form of words answers to an input, a status and
+//! lines, is one relation (`IsAnswer` of specs/Answer), a file for each form: specs/RunAnswer and
+//! specs/MakeAnswer. How the input is read and the lines are written is the same for all forms. The
+//! report of a case is `report_of` (specs/Report): the lines of the case's one journal, and those of
+//! what the journal leaves and counts. What that journal guarantees is said in hmc_journal.
 #![tactic(auto)]
 
 mod extent;
 mod form;
 mod input;
+mod on;
 mod output;
 mod report;
 mod run;
 mod steps;
 mod top;
 
+pub use extent::Extent;
+pub use form::is_form;
+pub use on::replay_on;
 pub use top::replay;

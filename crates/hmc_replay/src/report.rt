@@ -1,14 +1,16 @@
 //! The report of a case, in which nothing happened yet: whole or short.
 
-ghost use Rattle.std.specs.Prelude.{[], OnOk};
+ghost use Rattle.std.specs.Prelude.{[]};
 ghost use Rattle.hmc_journal.specs.Guarantees.{Guarantees};
 ghost use Rattle.hmc_journal.specs.Lawful.{journal_of};
 ghost use Rattle.hmc_journal.specs.Setup.{Setup};
 ghost use Rattle.hmc_net.specs.NetState.{net_of};
+ghost use Rattle.hmc_net.specs.Stands.{StandsFor};
 ghost use Rattle.hmc_report.specs.Final.{lines_from};
 ghost use Rattle.hmc_replay.specs.Output.{Writes, WritesReport, DeliversReport};
 ghost use Rattle.hmc_replay.specs.Report.{passes, report_of, short_report_of, lines_in};
-ghost use Rattle.hmc_replay.specs.Steps.{IsAt};
+ghost use Rattle.hmc_replay.specs.declared.extent.Extent.TheVariants.{Whole, Short};
+ghost use Rattle.hmc_replay.specs.Steps.{IsAt, Stepped};
 
 use crate::extent::Extent;
 use crate::output::{finish, write_line};
@@ -44,8 +46,11 @@ fn write_whole<O: Sink, B: Workbench>(
     schedule: &Schedule,
 ) -> Result<bool, Failed>
     requires { (setup : Setup) × IsAt (net_of B.slots network.old) setup schedule.now [] 0 }
-    ensures { (setup : Setup) → IsAt (net_of B.slots network.old) setup schedule.now [] 0 →
+    ensures written { (setup : Setup) → IsAt (net_of B.slots network.old) setup schedule.now [] 0 →
         WritesReport result (report_of setup) (passes setup) (O.shows sink.old) (O.shows sink.new) }
+    ensures stepped { (setup : Setup) → IsAt (net_of B.slots network.old) setup schedule.now [] 0 →
+        Stepped result Whole (net_of B.slots network.new) setup
+        (O.shows sink.old) (O.shows sink.new) }
 {
     let mut text = LineText::new();
     let passed = write_steps(sink, &mut text, network, schedule)?;
@@ -61,9 +66,11 @@ fn write_short<O: Sink, B: Workbench>(
     schedule: &Schedule,
 ) -> Result<bool, Failed>
     requires { (setup : Setup) × IsAt (net_of B.slots network.old) setup schedule.now [] 0 }
-    ensures { (setup : Setup) → IsAt (net_of B.slots network.old) setup schedule.now [] 0 →
+    ensures written { (setup : Setup) → IsAt (net_of B.slots network.old) setup schedule.now [] 0 →
         WritesReport result (short_report_of setup) (passes setup)
         (O.shows sink.old) (O.shows sink.new) }
+    ensures stepped { (setup : Setup) → IsAt (net_of B.slots network.old) setup schedule.now [] 0 →
+        StandsFor (net_of B.slots network.new) setup (journal_of setup) }
 {
     let passed = take_steps(network, schedule);
     if passed {
@@ -82,8 +89,11 @@ fn write_lines<O: Sink, B: Workbench>(
     schedule: &Schedule,
 ) -> Result<bool, Failed>
     requires { (setup : Setup) × IsAt (net_of B.slots network.old) setup schedule.now [] 0 }
-    ensures { (setup : Setup) → IsAt (net_of B.slots network.old) setup schedule.now [] 0 →
+    ensures written { (setup : Setup) → IsAt (net_of B.slots network.old) setup schedule.now [] 0 →
         WritesReport result (lines_in extent setup) (passes setup)
+        (O.shows sink.old) (O.shows sink.new) }
+    ensures stepped { (setup : Setup) → IsAt (net_of B.slots network.old) setup schedule.now [] 0 →
+        Stepped result extent (net_of B.slots network.new) setup
         (O.shows sink.old) (O.shows sink.new) }
 {
     match extent {
@@ -106,7 +116,10 @@ pub fn write_report<O: Sink, B: Workbench>(
         (O.shows sink.old) (O.shows sink.new) }
     ensures guarantees { (setup : Setup) →
         IsAt (net_of B.slots network.old) setup schedule.now [] 0 →
-        OnOk result (Guarantees setup (journal_of setup)) }
+        Guarantees setup (journal_of setup) }
+    ensures stepped { (setup : Setup) → IsAt (net_of B.slots network.old) setup schedule.now [] 0 →
+        Stepped result extent (net_of B.slots network.new) setup
+        (O.shows sink.old) (O.shows sink.new) }
 {
     journal_guarantees();
     let passed = write_lines(sink, extent, network, schedule)?;

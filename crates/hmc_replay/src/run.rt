@@ -1,16 +1,22 @@
 //! From input, or from a number, to output.
 
-ghost use Rattle.std.specs.Prelude.{◌≡◌, ◌≤◌, ◌<◌, ◌∷◌, [], length, IfOk, vec_len};
+ghost use Rattle.std.specs.Prelude.{◌≡◌, ◌≤◌, ◌<◌, ◌∷◌, [], length, IfOk, vec_len, Err};
 ghost use Rattle.hmc_journal.specs.Setup.{setup_of};
-ghost use Rattle.hmc_make.specs.Numbered.{case_of_number};
 ghost use Rattle.hmc_net.specs.NetState.{net_of};
 ghost use Rattle.hmc_net.specs.Stands.{StandsFor};
 ghost use Rattle.hmc_units.specs.Bench.{most_units};
 ghost use Rattle.hmc_units.specs.Slots.{units_in};
+ghost use Rattle.hmc_codes.specs.Limits.{most_input};
+ghost use Rattle.hmc_replay.specs.Answer.{IsAnswer};
+ghost use Rattle.hmc_replay.specs.Answered.{Answers};
 ghost use Rattle.hmc_replay.specs.Causes.{cause_of_input};
 ghost use Rattle.hmc_replay.specs.Output.{Delivers};
-ghost use Rattle.hmc_replay.specs.Runs.{Refuses, Reports, Answers, Runs};
+ghost use Rattle.hmc_replay.specs.Report.{lines_in};
+ghost use Rattle.hmc_replay.specs.Reported.{IsReport};
+ghost use Rattle.hmc_replay.specs.RunAnswer.{IsRefusal, IsRunAnswer};
+ghost use Rattle.hmc_replay.specs.Runs.{Runs};
 ghost use Rattle.hmc_replay.specs.Units.{slots_of};
+ghost use Rattle.hmc_replay.specs.declared.form.Form.TheVariants as forms;
 ghost use Rattle.hmc_replay.specs.declared.run.RunError.TheVariants.{Memory, WriteFault};
 
 use crate::extent::Extent;
@@ -18,7 +24,7 @@ use crate::input::{InputError, read_input};
 use crate::output::{finish, write_line};
 use crate::report::write_report;
 use hmc_case::{Case, CaseFault, CaseKind, Section, bad_line};
-use hmc_codes::{LineText, Memory};
+use hmc_codes::{LineText, MOST_INPUT, Memory};
 use hmc_make::make;
 use hmc_net::Network;
 use hmc_outside::{Failed, Sink, Source};
@@ -81,8 +87,8 @@ fn write_only<O: Sink>(sink: &mut O, line: &str) -> Result<(), Failed>
 
 // Writes the line for what is not a valid case, and hands it on.
 fn refuse<O: Sink>(sink: &mut O, section: Section, line: u32, kind: CaseKind) -> RunError
-    ensures { Refuses (record { section = section; line = line; kind = kind })
-        result O.shows sink.old sink.new }
+    ensures { Answers (IsRefusal (record { section = section; line = line; kind = kind }))
+        (Err result) O.shows sink.old sink.new }
 {
     let mut text = LineText::new();
     bad_line(&mut text, section, line, kind);
@@ -116,7 +122,8 @@ fn report<O: Sink, U: LogicUnit>(
     units: Vec<U>,
 ) -> Result<(), RunError>
     requires { vec_len units ≤ most_units }
-    ensures { Reports extent (setup_of case.now (slots_of U.meaning units.items))
+    ensures { Answers (IsReport (setup_of case.now (slots_of U.meaning units.items))
+        (lines_in extent (setup_of case.now (slots_of U.meaning units.items))))
         result O.shows sink.old sink.new }
 {
     let mut network = network_of(alloc, case, units)?;
@@ -135,7 +142,7 @@ fn answer<O: Sink, U: LogicUnit>(
     units: Vec<U>,
 ) -> Result<(), RunError>
     requires { vec_len units ≤ most_units }
-    ensures { Answers (slots_of U.meaning units.items) input.now
+    ensures { Answers (IsRunAnswer (slots_of U.meaning units.items) input.now)
         result O.shows sink.old sink.new }
 {
     match Case::read(alloc, input) {
@@ -159,10 +166,10 @@ pub fn run<S: Source, O: Sink, U: LogicUnit>(
     units: Vec<U>,
 ) -> Result<(), RunError>
     requires { vec_len units ≤ most_units }
-    ensures { Runs (slots_of U.meaning units.items)
+    ensures { Runs most_input (IsAnswer forms.Run (slots_of U.meaning units.items))
         S.shows O.shows source.old source.new sink.old sink.new result }
 {
-    let input = read_input(alloc, source)?;
+    let input = read_input(alloc, source, MOST_INPUT)?;
     answer(alloc, sink, &input, units)
 }
 
@@ -174,8 +181,7 @@ pub fn run_made<O: Sink, U: LogicUnit>(
     units: Vec<U>,
 ) -> Result<(), RunError>
     requires { vec_len units ≤ most_units }
-    ensures { Reports Extent.Short
-        (setup_of (case_of_number number) (slots_of U.meaning units.items))
+    ensures { Answers (IsAnswer (forms.Make number) (slots_of U.meaning units.items) [])
         result O.shows sink.old sink.new }
 {
     let case = make(alloc, number)?;

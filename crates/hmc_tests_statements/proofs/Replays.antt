@@ -1,24 +1,29 @@
 -- Results of a call of `replay` that break its promises, one row for each promise. At first the
 -- source shows its bytes, and nothing was read, written or finished.
-use Rattle.std.proofs.Common.{Ok, subst, ◌≡◌, ◌≤◌, ◌<◌, ◌++◌, ℕ, suc, Bool, true, false, List, [], ◌∷◌, length, if◌then◌else◌, Option, Some, None, inl, inr, ⊎_elim, refl, ap, arith}
+use Rattle.std.proofs.Common.{Ok, Err, Result, subst, ◌≡◌, ◌≤◌, ◌<◌, ◌++◌, ◌⊎◌, ◌∙◌, ℕ, zero, suc, Bool, true, false, List, [], ◌∷◌, length, append-nil, if◌then◌else◌, Option, Some, None, inl, inr, ⊎_elim, refl, ap, arith}
 use Rattle.std.specs.Prelude.{codes}
+use Rattle.std.specs.Io.KnownBytes.{Consumes, IsAtEnd}
 use Rattle.std.specs.List.{concat}
 use Rattle.hmc_codes.specs.Limits.{most_input}
 use Rattle.hmc_outside.specs.Finish.{HandsOn, FailsToHandOn}
 use Rattle.hmc_outside.specs.Lines.{BreaksOff}
 use Rattle.hmc_outside.specs.Raised.{raised_by}
 use Rattle.hmc_outside.specs.Views.{SourceView, SinkView}
-use Rattle.hmc_report.specs.Final.{ending_lines, AppendsSome}
+use Rattle.hmc_report.specs.Final.{AppendsSome}
 use Rattle.hmc_case.specs.Case.{CaseFields, case_of}
-use Rattle.hmc_journal.specs.Final.{values_of, final_lines_of}
+use Rattle.hmc_case.specs.Reading.{Fault}
+use Rattle.hmc_journal.specs.Final.{final_lines_of}
 use Rattle.hmc_journal.specs.Text.{lines_of}
-use Rattle.hmc_replay.specs.Report.{passes, lines_unless, report_of}
-use Rattle.hmc_replay.specs.Top.{IsCaseText, IsFaulty, made_setup, Replayed}
+use Rattle.hmc_replay.specs.MakeAnswer.{made_setup}
+use Rattle.hmc_replay.specs.Report.{passes, lines_unless, report_of, short_report_of}
+use Rattle.hmc_replay.specs.Reported.{EndsAtPass}
+use Rattle.hmc_replay.specs.RunAnswer.{IsRunAnswer}
+use Rattle.hmc_replay.specs.Top.{NoneOf, Replayed}
 use Rattle.hmc_replay.specs.Words.{IsMake}
 use Rattle.hmc_journal.specs.Setup.{setup_of}
 use Rattle.hmc_journal.specs.Guarantees.{Guarantees}
 use Rattle.hmc_journal.specs.Lawful.{journal_of}
-use Rattle.hmc_replay.specs.declared.form.Form.TheVariants.{Run}
+use Rattle.hmc_replay.specs.declared.form.Form.TheVariants.{Run, Make}
 
 -- ---- what never holds
 
@@ -41,10 +46,10 @@ is_empty (x ∷ xs) = false
 -- ---- calls
 
 abbrev source : List ℕ → SourceView
-source bytes = record { left = Some bytes; faults = 0; stops = 0; stopped = false }
+source bytes = record { left = Some bytes; reads = 0; empty_reads = 0; faults = 0; stops = 0; stopped = false; failed = false }
 
 abbrev sink : SinkView
-sink = record { pieces = Some []; writes = 0; finishes = 0; faults = 0; failed = false; finished = false }
+sink = record { pieces = Some []; bytes = Some []; writes = 0; finishes = 0; faults = 0; failed = false; finished = false }
 
 abbrev run : List (List ℕ)
 run = codes "run" ∷ []
@@ -60,10 +65,10 @@ GivesAtOnce words status = Gives words [] (source []) sink status
 
 -- the end was read
 abbrev ended : SourceView
-ended = record (source []) { stops = 1; stopped = true }
+ended = record (source []) { reads = 1; stops = 1; stopped = true }
 
 abbrev failed_read : SourceView
-failed_read = record ended { faults = 1 }
+failed_read = record ended { faults = 1; failed = true }
 
 -- the sink was finished, with nothing written
 abbrev finished : SinkView
@@ -85,7 +90,7 @@ no_fault lines is = ⊎_elim (λ breaks. not_one breaks.faults) (λ fails. not_o
 
 -- no line, another line, and two lines in the wrong order
 abbrev wrote : List (List ℕ) → SinkView
-wrote pieces = record finished { pieces = Some pieces; writes = length pieces }
+wrote pieces = record finished { pieces = Some pieces; bytes = Some (concat pieces); writes = length pieces }
 
 abbrev first_byte : Option (List (List ℕ)) → ℕ
 first_byte (Some ((byte ∷ bytes) ∷ pieces)) = byte
@@ -121,10 +126,15 @@ appends_some-other is = none is.whole is.rest is.parts is.appended
     none [] rest parts appended = not_true (ap is_empty appended)
     none (line ∷ lines) rest parts appended = not_false (ap is_empty parts)
 
--- ---- the status
+-- the bytes aren't those of the lines
+hands_on-bytes : HandsOn sink (record (wrote ((97 ∷ []) ∷ [])) { bytes = Some (98 ∷ []) }) ((97 ∷ []) ∷ []) → ⊥
+hands_on-bytes is = let off : ◌≡◌ {A = ℕ} 98 97 = ap first is.calls.bytes in omega (arith, off)
+  where
+    first : List ℕ → ℕ
+    first [] = 0
+    first (byte ∷ bytes) = byte
 
-range-8 : GivesAtOnce run 8 → ⊥
-range-8 is = omega (arith, is.range)
+-- ---- the words
 
 usage-run : GivesAtOnce run 2 → ⊥
 usage-run is = let none : Some Run ≡ None = is.usage.0 refl in cc
@@ -138,145 +148,197 @@ untouched-source is = nor_one (ap (λ (s : SourceView). s.stops) (is.untouched r
 untouched-sink : Gives [] [] (source []) finished 2 → ⊥
 untouched-sink is = nor_one (ap (λ (o : SinkView). o.finishes) (is.untouched refl).1)
 
--- ---- run
+-- ---- what is read
 
-reported-nothing : Gives run [] ended sink 0 → ⊥
-reported-nothing is = no_finish _ (is.reported refl refl).report.written
+-- 0, 2, 4, 6 and 8 are none of 1, 3 and 5
+zero_whole : NoneOf (1 ∷ 3 ∷ 5 ∷ []) 0
+zero_whole is = grind (arith, is)
 
-passed-nothing : Gives run [] ended sink 7 → ⊥
-passed-nothing is = no_finish _ (is.passed refl refl).report.report.written
+zero_done : NoneOf (1 ∷ 3 ∷ 4 ∷ 5 ∷ []) 0
+zero_done is = grind (arith, is)
 
-refused-nothing : Gives run [] ended sink 6 → ⊥
-refused-nothing is = no_finish _ (is.refused refl).refusal.written
+six_whole : NoneOf (1 ∷ 3 ∷ 5 ∷ []) 6
+six_whole is = grind (arith, is)
+
+six_done : NoneOf (1 ∷ 3 ∷ 4 ∷ 5 ∷ []) 6
+six_done is = grind (arith, is)
+
+seven_done : NoneOf (1 ∷ 3 ∷ 4 ∷ 5 ∷ []) 7
+seven_done is = grind (arith, is)
+
+four_whole : NoneOf (1 ∷ 3 ∷ 5 ∷ []) 4
+four_whole is = grind (arith, is)
+
+-- a byte is left, or the end was not read, or was read twice
+whole-left : Gives run (7 ∷ []) (record ended { left = Some (7 ∷ []) }) finished 0 → ⊥
+whole-left is = not_true (ap is_empty ((is.replays Run refl).read.whole zero_whole).ended)
+
+whole-no_stop : Gives run [] (source []) finished 6 → ⊥
+whole-no_stop is = not_one ((is.replays Run refl).read.whole six_whole).stops.counted
+
+whole-two_stops : Gives run [] (record ended { stops = 2 }) finished 0 → ⊥
+whole-two_stops is = let off : ◌≡◌ {A = ℕ} 2 1 = ((is.replays Run refl).read.whole zero_whole).stops.counted in omega (arith, off)
+
+-- written before the end was read
+whole-early : Gives run (7 ∷ []) (source (7 ∷ [])) failed_write 4 → ⊥
+whole-early is = not_true (ap is_empty ((is.replays Run refl).read.whole four_whole).ended)
 
 -- no byte was there, and so not one too many
 too_long-empty : GivesAtOnce run 5 → ⊥
-too_long-empty is = none (is.too_long refl).read.input (is.too_long refl).read.consumed (is.too_long refl).full
+too_long-empty is = let r = is.replays Run refl in none r.input r.read.reading.consumed (r.read.too_long refl).0
   where
     none : (input : List ℕ) → [] ≡ input ++ [] → length input ≡ suc most_input → ⊥
     none [] parts full = let off : ◌≡◌ {A = ℕ} 0 (suc most_input) = full in omega (arith, off)
     none (byte ∷ input) parts full = not_false (ap is_empty parts)
 
--- a byte is left, or the end was not read
-read_whole-left : Gives run (7 ∷ []) (record ended { left = Some (7 ∷ []) }) finished 0 → ⊥
-read_whole-left is = not_true (ap is_empty (is.read_whole refl (inl refl)))
+too_long-stopped : Gives run [] ended sink 5 → ⊥
+too_long-stopped is = nor_one ((is.replays Run refl).read.too_long refl).1
 
-stops-none : Gives run [] (source []) finished 6 → ⊥
-stops-none is = not_one (is.stops refl (inr (inr (inr (inl refl))))).counted
+-- out of memory after two stops, or after one though bytes are left
+memory-two_stops : Gives run [] (record ended { stops = 2 }) sink 1 → ⊥
+memory-two_stops is = ⊎_elim (λ whole. let off : ◌≡◌ {A = ℕ} 2 1 = whole.stops.counted in omega (arith, off)) (λ (e : ◌≡◌ {A = ℕ} 2 0). omega (arith, e)) ((is.replays Run refl).read.memory refl)
 
-stops-two : Gives run [] (record ended { stops = 2 }) finished 0 → ⊥
-stops-two is = let off : ◌≡◌ {A = ℕ} 2 1 = (is.stops refl (inl refl)).counted in omega (arith, off)
+memory-left : Gives run (7 ∷ []) (record ended { left = Some (7 ∷ []) }) sink 1 → ⊥
+memory-left is = ⊎_elim (λ whole. not_true (ap is_empty whole.ended)) (λ (e : ◌≡◌ {A = ℕ} 1 0). omega (arith, e)) ((is.replays Run refl).read.memory refl)
 
-answered-unfinished : Gives run [] ended sink 6 → ⊥
-answered-unfinished is = no_finish _ ((is.answered refl).all_lines (inr (inl refl)))
+-- a fault of the source that was none, and one that was passed over
+read_fault-none : GivesAtOnce run 3 → ⊥
+read_fault-none is = not_true ((is.replays Run refl).read.read_fault.0 refl)
 
-answered-written : Gives run [] ended (record sink { pieces = Some ((97 ∷ []) ∷ []); writes = 1 }) 1 → ⊥
+read_fault-done : Gives run [] failed_read finished 0 → ⊥
+read_fault-done is = let three : ◌≡◌ {A = ℕ} 0 3 = (is.replays Run refl).read.read_fault.1 refl in omega (arith, three)
+
+no_fault-counted : Gives run [] (record ended { faults = 1 }) finished 0 → ⊥
+no_fault-counted is = ⊎_elim (λ (e : ◌≡◌ {A = ℕ} 0 3). omega (arith, e)) nor_one (is.replays Run refl).read.no_fault
+
+one_fault-two : Gives run [] (record failed_read { faults = 2 }) sink 3 → ⊥
+one_fault-two is = let off : ◌≡◌ {A = ℕ} 2 1 = ((is.replays Run refl).read.one_fault refl).1 in omega (arith, off)
+
+-- one read more than bytes and one, and a read of no bytes
+reads-more : Gives run [] (record ended { reads = 3 }) finished 0 → ⊥
 unfolding raised_by
-answered-written is = nor_one ((is.answered refl).no_lines (inl refl)).writes
+reads-more is =
+    let r = is.replays Run refl in
+    let reading = r.read.reading in by_times r.input reading.consumed reading.reads.times reading.reads.few reading.reads.reads
+  where
+    by_times : (input : List ℕ) → [] ≡ input ++ [] → (times : ℕ) → times ≤ suc (length input) → 3 ≡ raised_by times 0 → ⊥
+    by_times [] parts zero few is = omega (arith, is)
+    by_times [] parts (suc zero) few is = omega (arith, is)
+    by_times [] parts (suc (suc times)) few is = omega (arith, few)
+    by_times (byte ∷ input) parts times few is = not_false (ap is_empty parts)
 
-answered-no_fault : Gives run [] ended sink 4 → ⊥
-answered-no_fault is = no_fault _ ((is.answered refl).written_prefix refl)
+reads-no_bytes : Gives run [] (record ended { empty_reads = 1 }) finished 0 → ⊥
+reads-no_bytes is = nor_one (is.replays Run refl).read.reading.reads.empty_reads
 
--- written before the end was read
-answered-early : Gives run (7 ∷ []) (source (7 ∷ [])) failed_write 4 → ⊥
-unfolding raised_by
-answered-early is = ⊎_elim (λ nothing. nor_one nothing.writes) (λ end. not_true (ap is_empty end)) (is.answered refl).not_early
+make_reads_nothing : (words : List (List ℕ)) (number : ℕ) → IsMake words number → Gives words [] ended finished 0 → ⊥
+make_reads_nothing words number make is = nor_one (ap (λ (s : SourceView). s.stops) (is.replays (Make number) make).read.same)
 
--- a case is neither refused nor too long, and nothing else is reported
-is_status : (b : Bool) → ◌≡◌ {A = ℕ} 6 (if b then 7 else 0) → ⊥
-is_status true is = omega (arith, is)
-is_status false is = omega (arith, is)
+make_no_fault : (words : List (List ℕ)) (number : ℕ) → IsMake words number → GivesAtOnce words 3 → ⊥
+make_no_fault words number make is = (is.replays (Make number) make).read.no_read (inl refl)
 
-case_reports-refused : (bytes : List ℕ) (source' : SourceView) (sink' : SinkView) → length bytes ≤ most_input → IsCaseText bytes → Gives run bytes source' sink' 6 → ⊥
-case_reports-refused bytes source' sink' few case is =
-    ⊎_elim (is_status (passes (setup_of case.0 []))) (λ rest. ⊎_elim (λ (e : ◌≡◌ {A = ℕ} 6 1). omega (arith, e)) (λ rest. ⊎_elim (λ (e : ◌≡◌ {A = ℕ} 6 3). omega (arith, e)) (λ rest. ⊎_elim (λ (e : ◌≡◌ {A = ℕ} 6 4). omega (arith, e)) (λ none. none) rest) rest) rest)
-    (is.case_reports refl few case)
+-- ---- what is written
 
-fault_refuses-reported : (bytes : List ℕ) (source' : SourceView) (sink' : SinkView) → length bytes ≤ most_input → IsFaulty bytes → Gives run bytes source' sink' 0 → ⊥
-fault_refuses-reported bytes source' sink' few fault is =
-    ⊎_elim (λ (e : ◌≡◌ {A = ℕ} 0 6). omega (arith, e)) (λ rest. ⊎_elim (λ (e : ◌≡◌ {A = ℕ} 0 1). omega (arith, e)) (λ rest. ⊎_elim (λ (e : ◌≡◌ {A = ℕ} 0 3). omega (arith, e)) (λ rest. ⊎_elim (λ (e : ◌≡◌ {A = ℕ} 0 4). omega (arith, e)) (λ none. none) rest) rest) rest)
-    (is.fault_refuses refl few fault)
+-- nothing was written, and the sink not finished
+answered-report : Gives run [] ended sink 0 → ⊥
+answered-report is = no_finish _ ((is.replays Run refl).written.answered zero_done).written
 
-excess_stops-refused : (bytes : List ℕ) (source' : SourceView) (sink' : SinkView) → most_input < length bytes → Gives run bytes source' sink' 6 → ⊥
-excess_stops-refused bytes source' sink' many is =
-    ⊎_elim (λ (e : ◌≡◌ {A = ℕ} 6 5). omega (arith, e)) (λ rest. ⊎_elim (λ (e : ◌≡◌ {A = ℕ} 6 1). omega (arith, e)) (λ rest. ⊎_elim (λ (e : ◌≡◌ {A = ℕ} 6 3). omega (arith, e)) (λ none. none) rest) rest)
-    (is.excess_stops refl many)
+answered-passed : Gives run [] ended sink 7 → ⊥
+answered-passed is = no_finish _ ((is.replays Run refl).written.answered seven_done).written
+
+answered-refusal : Gives run [] ended sink 6 → ⊥
+answered-refusal is = no_finish _ ((is.replays Run refl).written.answered six_done).written
+
+answered-made : (words : List (List ℕ)) (number : ℕ) → IsMake words number → GivesAtOnce words 0 → ⊥
+answered-made words number make is = no_finish _ ((is.replays (Make number) make).written.answered zero_done).written
+
+-- no call failed, or calls went on after it
+cut_off-no_fault : Gives run [] ended sink 4 → ⊥
+cut_off-no_fault is = no_fault _ ((is.replays Run refl).written.cut_off refl).written
+
+cut_off-more : Gives run [] ended (record failed_write { failed = false }) 4 → ⊥
+cut_off-more is = ⊎_elim (λ breaks. not_true breaks.failed) (λ fails. not_true fails.failed) ((is.replays Run refl).written.cut_off refl).written
+
+cut_off-made : (words : List (List ℕ)) (number : ℕ) → IsMake words number → GivesAtOnce words 4 → ⊥
+cut_off-made words number make is = no_fault _ ((is.replays (Make number) make).written.cut_off refl).written
+
+unwritten-memory : Gives run [] ended finished 1 → ⊥
+unwritten-memory is = nor_one (ap (λ (o : SinkView). o.finishes) ((is.replays Run refl).written.unwritten (inl refl)))
+
+unwritten-fault : Gives run [] failed_read finished 3 → ⊥
+unwritten-fault is = nor_one (ap (λ (o : SinkView). o.finishes) ((is.replays Run refl).written.unwritten (inr (inl refl))))
+
+-- ---- which answer is due
+
+eight_done : NoneOf (1 ∷ 3 ∷ 4 ∷ 5 ∷ []) 8
+eight_done is = grind (arith, is)
+
+report_status_is : (b : Bool) (n : ℕ) → n ≡ (if b then 7 else 0) → (n ≡ 0) ⊎ (n ≡ 7)
+report_status_is true n is = inr is
+report_status_is false n is = inl is
+
+-- there is no status 8
+answer-eight : (source' : SourceView) (sink' : SinkView) → Gives run [] source' sink' 8 → ⊥
+answer-eight source' sink' is = by_due _ ((is.replays Run refl).written.answered eight_done).due
+  where
+    by_due : (input : List ℕ) {lines : List (List ℕ)} → IsRunAnswer [] input 8 lines → ⊥
+    by_due input (inl a) = ⊎_elim (λ (e : ◌≡◌ {A = ℕ} 8 0). omega (arith, e)) (λ (e : ◌≡◌ {A = ℕ} 8 7). omega (arith, e)) (report_status_is (passes (setup_of a.case [])) 8 a.report.status_is)
+    by_due input (inr a) = let six : ◌≡◌ {A = ℕ} 8 6 = a.refusal.status_is in omega (arith, six)
+
+-- what was read to its end is all that there was
+input_is : (bytes : List ℕ) (left : Option (List ℕ)) (input : List ℕ) → Consumes (Some bytes) left input → IsAtEnd left → bytes ≡ input
+input_is bytes None input consumed none = absurd consumed
+input_is bytes (Some rest) input consumed none = consumed ∙ ap (λ l. input ++ l) none ∙ append-nil input
+
+case_fault : (result : Result CaseFields Fault) (case : CaseFields) (fault : Fault) → result ≡ Ok case → result ≡ Err fault → ⊥
+case_fault result case fault is other = cc
+
+-- a case isn't refused, and nothing else is reported
+case-refused : (bytes : List ℕ) (source' : SourceView) (sink' : SinkView) (case : CaseFields) → case_of bytes ≡ Ok case → Gives run bytes source' sink' 6 → ⊥
+case-refused bytes source' sink' case is_case is =
+    let r = is.replays Run refl in by_due r.input (input_is bytes source'.left r.input r.read.reading.consumed (r.read.whole six_whole).ended) (r.written.answered six_done).due
+  where
+    by_due : (input : List ℕ) {lines : List (List ℕ)} → bytes ≡ input → IsRunAnswer [] input 6 lines → ⊥
+    by_due input same (inl a) = ⊎_elim (λ (e : ◌≡◌ {A = ℕ} 6 0). omega (arith, e)) (λ (e : ◌≡◌ {A = ℕ} 6 7). omega (arith, e)) (report_status_is (passes (setup_of a.case [])) 6 a.report.status_is)
+    by_due input same (inr a) = case_fault (case_of bytes) case a.fault is_case (ap case_of same ∙ a.is_fault)
+
+fault-reported : (bytes : List ℕ) (source' : SourceView) (sink' : SinkView) (fault : Fault) → case_of bytes ≡ Err fault → Gives run bytes source' sink' 0 → ⊥
+fault-reported bytes source' sink' fault is_fault is =
+    let r = is.replays Run refl in by_due r.input (input_is bytes source'.left r.input r.read.reading.consumed (r.read.whole zero_whole).ended) (r.written.answered zero_done).due
+  where
+    by_due : (input : List ℕ) {lines : List (List ℕ)} → bytes ≡ input → IsRunAnswer [] input 0 lines → ⊥
+    by_due input same (inl a) = case_fault (case_of bytes) a.case fault (ap case_of same ∙ a.is_case) is_fault
+    by_due input same (inr a) = let six : ◌≡◌ {A = ℕ} 0 6 = a.refusal.status_is in omega (arith, six)
+
+-- an input that is too long isn't judged
+excess-refused : (bytes : List ℕ) (source' : SourceView) (sink' : SinkView) → most_input < length bytes → Gives run bytes source' sink' 6 → ⊥
+excess-refused bytes source' sink' many is =
+    let r = is.replays Run refl in
+    let whole = r.read.whole six_whole in
+    omega (arith, many, whole.few, ap length (input_is bytes source'.left r.input r.read.reading.consumed whole.ended))
 
 -- with status 0 and 7 the bytes read are a case whose journal has the guarantees, and what was
 -- written are its lines
-reported-guarantees : (bytes : List ℕ) (source' : SourceView) (sink' : SinkView) → Gives run bytes source' sink' 0 → (input : List ℕ) × (case : CaseFields) ×
-    (case_of input ≡ Ok case) × Guarantees (setup_of case []) (journal_of (setup_of case [])) × HandsOn sink sink' (lines_of (journal_of (setup_of case [])) ++ final_lines_of (setup_of case []) (journal_of (setup_of case [])))
+reported-guarantees : (bytes : List ℕ) (source' : SourceView) (sink' : SinkView) → Gives run bytes source' sink' 0 → (input : List ℕ) × (case : CaseFields) × (case_of input ≡ Ok case) × Guarantees (setup_of case []) (journal_of (setup_of case []))
+    × HandsOn sink sink' (lines_of (journal_of (setup_of case [])) ++ lines_unless (passes (setup_of case [])) (final_lines_of (setup_of case []) (journal_of (setup_of case []))))
 unfolding report_of
-reported-guarantees bytes source' sink' is =
-    let r = (is.reported refl refl).report in
-    ((is.reported refl refl).read.input, r.case, r.is_case, r.guarantees, subst (λ passed. HandsOn sink sink' (lines_of (journal_of (setup_of r.case [])) ++ lines_unless passed (final_lines_of (setup_of r.case []) (journal_of (setup_of r.case []))))) r.no_pass r.written)
+reported-guarantees bytes source' sink' is = let r = is.replays Run refl in let answered = r.written.answered zero_done in by_due r.input answered.lines answered.due answered.written
+  where
+    by_due : (input : List ℕ) (lines : List (List ℕ)) → IsRunAnswer [] input 0 lines → HandsOn sink sink' lines → (input : List ℕ) × (case : CaseFields) × (case_of input ≡ Ok case) × Guarantees (setup_of case []) (journal_of (setup_of case []))
+        × HandsOn sink sink' (lines_of (journal_of (setup_of case [])) ++ lines_unless (passes (setup_of case [])) (final_lines_of (setup_of case []) (journal_of (setup_of case []))))
+    by_due input lines (inl a) written = (input, a.case, a.is_case, a.report.guarantees, subst (HandsOn sink sink') a.report.lines_are written)
+    by_due input lines (inr a) written = let six : ◌≡◌ {A = ℕ} 0 6 = a.refusal.status_is in absurd (omega (arith, six))
 
 passed-guarantees : (bytes : List ℕ) (source' : SourceView) (sink' : SinkView) → Gives run bytes source' sink' 7 → (input : List ℕ) × (case : CaseFields) ×
-    (case_of input ≡ Ok case) × Guarantees (setup_of case []) (journal_of (setup_of case []))
-passed-guarantees bytes source' sink' is =
-    let r = (is.passed refl refl).report in
-    ((is.passed refl refl).read.input, r.case, r.is_case, r.report.guarantees)
-
--- ---- make
+    (case_of input ≡ Ok case) × Guarantees (setup_of case []) (journal_of (setup_of case [])) × EndsAtPass (journal_of (setup_of case []))
+passed-guarantees bytes source' sink' is = let r = is.replays Run refl in let answered = r.written.answered seven_done in by_due r.input answered.lines answered.due
+  where
+    by_due : (input : List ℕ) (lines : List (List ℕ)) → IsRunAnswer [] input 7 lines → (input : List ℕ) × (case : CaseFields) ×
+        (case_of input ≡ Ok case) × Guarantees (setup_of case []) (journal_of (setup_of case [])) × EndsAtPass (journal_of (setup_of case []))
+    by_due input lines (inl a) = (input, a.case, a.is_case, a.report.guarantees, a.report.passed refl)
+    by_due input lines (inr a) = let six : ◌≡◌ {A = ℕ} 7 6 = a.refusal.status_is in absurd (omega (arith, six))
 
 made-guarantees : (words : List (List ℕ)) (number : ℕ) (source' : SourceView) (sink' : SinkView) → IsMake words number → Gives words [] source' sink' 0
-    → Guarantees (made_setup [] number) (journal_of (made_setup [] number)) × HandsOn sink sink' (ending_lines (values_of (made_setup [] number) (journal_of (made_setup [] number))))
-made-guarantees words number source' sink' make is = let r = is.made number make refl in (r.guarantees, r.written)
-
-made_passed-guarantees : (words : List (List ℕ)) (number : ℕ) (source' : SourceView) (sink' : SinkView) → IsMake words number → Gives words [] source' sink' 7
-    → Guarantees (made_setup [] number) (journal_of (made_setup [] number))
-made_passed-guarantees words number source' sink' make is = (is.made_passed number make refl).guarantees
-
-made-nothing : (words : List (List ℕ)) (number : ℕ) → IsMake words number → GivesAtOnce words 0 → ⊥
-made-nothing words number make is = no_finish _ (is.made number make refl).written
-
-made_passed-nothing : (words : List (List ℕ)) (number : ℕ) → IsMake words number → GivesAtOnce words 7 → ⊥
-made_passed-nothing words number make is = no_finish _ (is.made_passed number make refl).written
-
-made_prefix-no_fault : (words : List (List ℕ)) (number : ℕ) → IsMake words number → GivesAtOnce words 4 → ⊥
-made_prefix-no_fault words number make is = no_fault _ (is.made_prefix number make refl)
-
-make_reads_nothing-read : (words : List (List ℕ)) (number : ℕ) → IsMake words number → Gives words [] ended finished 0 → ⊥
-make_reads_nothing-read words number make is = nor_one (ap (λ (s : SourceView). s.stops) (is.make_reads_nothing number make))
-
-make_ends-refused : (words : List (List ℕ)) (number : ℕ) (sink' : SinkView) → IsMake words number → Gives words [] (source []) sink' 6 → ⊥
-make_ends-refused words number sink' make is =
-    ⊎_elim (is_status (passes (made_setup [] number))) (λ rest. ⊎_elim (λ (e : ◌≡◌ {A = ℕ} 6 1). omega (arith, e)) (λ rest. ⊎_elim (λ (e : ◌≡◌ {A = ℕ} 6 4). omega (arith, e)) (λ none. none) rest) rest)
-    (is.make_ends number make)
-
--- ---- faults, stops and finishes
-
-read_fault-none : GivesAtOnce run 3 → ⊥
-read_fault-none is = not_one (is.read_fault refl)
-
-no_read_fault-done : Gives run [] failed_read finished 0 → ⊥
-no_read_fault-done is = ⊎_elim (λ (e : ◌≡◌ {A = ℕ} 0 3). omega (arith, e)) nor_one is.no_read_fault
-
-write_fault-none : Gives run [] ended sink 4 → ⊥
-write_fault-none is = not_one (is.write_fault refl)
-
--- a call after the one that failed
-last_failed-more : Gives run [] ended (record failed_write { failed = false }) 4 → ⊥
-last_failed-more is = not_true (is.last_failed refl)
-
-no_write_fault-done : Gives run [] ended failed_write 0 → ⊥
-no_write_fault-done is = ⊎_elim (λ (e : ◌≡◌ {A = ℕ} 0 4). omega (arith, e)) nor_one is.no_write_fault
-
-finished-none : Gives run [] ended sink 6 → ⊥
-finished-none is = not_one (is.finished (inr (inl refl))).0
-
--- a write after the finish
-finished-early : Gives run [] ended (record finished { finished = false }) 7 → ⊥
-finished-early is = not_true (is.finished (inr (inr (inl refl)))).1
-
-no_stop-usage : Gives [] [] ended sink 2 → ⊥
-no_stop-usage is = nor_one (is.no_stop (inl refl))
-
-no_stop-too_long : Gives run [] ended sink 5 → ⊥
-no_stop-too_long is = nor_one (is.no_stop (inr (inl refl)))
-
-few_stops-two : Gives run [] (record ended { stops = 2 }) sink 1 → ⊥
-few_stops-two is = ⊎_elim (λ (e : ◌≡◌ {A = ℕ} 2 0). omega (arith, e)) (λ (e : ◌≡◌ {A = ℕ} 2 1). omega (arith, e)) (is.few_stops refl)
-
-unwritten-memory : Gives run [] ended finished 1 → ⊥
-unwritten-memory is = nor_one (ap (λ (o : SinkView). o.finishes) (is.unwritten (inl refl)))
+    → Guarantees (made_setup [] number) (journal_of (made_setup [] number)) × HandsOn sink sink' (short_report_of (made_setup [] number))
+made-guarantees words number source' sink' make is =
+    let answered = (is.replays (Make number) make).written.answered zero_done in
+    (answered.due.guarantees, subst (HandsOn sink sink') answered.due.lines_are answered.written)

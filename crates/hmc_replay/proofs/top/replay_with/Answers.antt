@@ -1,6 +1,7 @@
 -- By the words, and then by the result of the run.
-use Rattle.std.proofs.Common.{◌∙◌, Some, ap, sym}
+use Rattle.std.proofs.Common.{◌∙◌, Some, refl, ap, sym}
 use Rattle.std.specs.Prelude.{map, string_bytes}
+use Rattle.hmc_replay.specs.declared.form.Form.TheVariants.{Run, Make}
 use Rattle.hmc_replay.proofs.Replays.{replayed_none, replayed_of, made_of}
 use Rattle.hmc_replay.proofs.top.replay_with.Goals as goal
 
@@ -10,9 +11,9 @@ returns-in-None g c = replayed_none g.S.Source.shows g.O.Sink.shows _ _ _ _ (sym
 pub returns-in-Some-Run : goal.returns-in-Some-Run
 returns-in-Some-Run g c =
     let is = sym c.form_of.ensures ∙ c.in-Some-Run.is ∙ ap Some c.in-Some-Run.field-0-is in
-    replayed_of g.S.Source.shows g.O.Sink.shows (map string_bytes c.args.words.now) _ _ _ _ _ c.run.result _ is c.status_of.ensures c.run.ensures
+    replayed_of g.S.Source.shows g.O.Sink.shows (map string_bytes c.args.words.now) _ Run _ _ _ _ _ c.run.result _ is refl c.status_of.ensures c.run.ensures
 
 pub returns-in-Some-Make : goal.returns-in-Some-Make
 returns-in-Some-Make g c =
     let is = sym c.form_of.ensures ∙ c.in-Some-Make.is ∙ ap Some c.in-Some-Make.field-0-is in
-    made_of g.S.Source.shows g.O.Sink.shows (map string_bytes c.args.words.now) _ _ _ _ c.in-Some-Make.number c.run_made.result _ is c.status_of-in-Some-Make.ensures c.run_made.ensures
+    made_of g.S.Source.shows g.O.Sink.shows (map string_bytes c.args.words.now) _ (Make c.in-Some-Make.number) _ _ _ c.run_made.result _ is refl c.status_of-in-Some-Make.ensures c.run_made.ensures

@@ -1,0 +1,51 @@
+-- Each form has one answer to an input, and a status of its own.
+use Rattle.std.proofs.Common.{inl, inr, ◌≡◌, ◌∙◌, ℕ, Bool, true, false, List, [], ◌∷◌, Option, Result, Ok, Err, if◌then◌else◌, refl, sym, ap, subst, arith}
+use Rattle.hmc_case.specs.Case.{CaseFields, case_of}
+use Rattle.hmc_case.specs.Line.{bad_line}
+use Rattle.hmc_case.specs.Reading.{Fault}
+use Rattle.hmc_journal.specs.Setup.{Setup, setup_of}
+use Rattle.hmc_units.specs.Unit.{UnitFields}
+use Rattle.hmc_replay.specs.Answer.{IsAnswer}
+use Rattle.hmc_replay.specs.Report.{passes, report_of, report_status}
+use Rattle.hmc_replay.specs.Reported.{IsReport}
+use Rattle.hmc_replay.specs.Top.{NoneOf}
+use Rattle.hmc_replay.specs.declared.form.Form.{Form}
+use Rattle.hmc_replay.specs.declared.form.Form.TheVariants.{Run, Make}
+
+report_is_one : (setup : Setup) (report : List (List ℕ)) (one other : ℕ) (first second : List (List ℕ)) → IsReport setup report one first → IsReport setup report other second → (one ≡ other) × (first ≡ second)
+report_is_one setup report one other first second a b = (a.status_is ∙ sym b.status_is, a.lines_are ∙ sym b.lines_are)
+
+same_case : (result : Result CaseFields Fault) (case other : CaseFields) → result ≡ Ok case → result ≡ Ok other → other ≡ case
+same_case result case other is as_other = cc
+
+pub same_fault_of : (result : Result CaseFields Fault) (fault other : Fault) → result ≡ Err fault → result ≡ Err other → fault ≡ other
+same_fault_of result fault other is as_other = cc
+
+case_fault : (result : Result CaseFields Fault) (case : CaseFields) (fault : Fault) → result ≡ Ok case → result ≡ Err fault → ⊥
+case_fault result case fault is other = cc
+
+pub answer_is_one : (form : Form) (slots : List (Option UnitFields)) (input : List ℕ) (one other : ℕ) (first second : List (List ℕ)) → IsAnswer form slots input one first → IsAnswer form slots input other second → (one ≡ other) × (first ≡ second)
+answer_is_one Run slots input one other first second (inl a) (inl b) =
+    let report = subst (λ (k : CaseFields). IsReport (setup_of k slots) (report_of (setup_of k slots)) other second) (same_case (case_of input) a.case b.case a.is_case b.is_case) b.report in
+    report_is_one (setup_of a.case slots) (report_of (setup_of a.case slots)) one other first second a.report report
+answer_is_one Run slots input one other first second (inl a) (inr b) = absurd (case_fault (case_of input) a.case b.fault a.is_case b.is_fault)
+answer_is_one Run slots input one other first second (inr a) (inl b) = absurd (case_fault (case_of input) b.case a.fault b.is_case a.is_fault)
+answer_is_one Run slots input one other first second (inr a) (inr b) =
+    (a.refusal.status_is ∙ sym b.refusal.status_is, a.refusal.lines_are ∙ ap (λ (f : Fault). bad_line f ∷ []) (same_fault_of (case_of input) a.fault b.fault a.is_fault b.is_fault) ∙ sym b.refusal.lines_are)
+answer_is_one (Make number) slots input one other first second a b = report_is_one _ _ one other first second a b
+
+pub by_passes : (setup : Setup) (status : ℕ) → status ≡ report_status setup → (passed : Bool) → passes setup ≡ passed → status ≡ (if passed then 7 else 0)
+by_passes setup status is passed passed_is = is ∙ ap (λ (p : Bool). if p then 7 else 0) passed_is
+
+report_ends : (setup : Setup) (report : List (List ℕ)) (status : ℕ) (lines : List (List ℕ)) → IsReport setup report status lines → NoneOf (1 ∷ 2 ∷ 3 ∷ 4 ∷ 5 ∷ []) status
+report_ends setup report status lines is = by_passed (passes setup) refl
+  where
+    by_passed : (passed : Bool) → passes setup ≡ passed → NoneOf (1 ∷ 2 ∷ 3 ∷ 4 ∷ 5 ∷ []) status
+    by_passed true passed_is = let seven : status ≡ 7 = by_passes setup status is.status_is true passed_is in λ one. grind (arith, seven, one)
+    by_passed false passed_is = let zero : status ≡ 0 = by_passes setup status is.status_is false passed_is in λ one. grind (arith, zero, one)
+
+-- 1 to 5 are the status of no answer
+pub answer_status : (form : Form) (slots : List (Option UnitFields)) (input : List ℕ) (status : ℕ) (lines : List (List ℕ)) → IsAnswer form slots input status lines → NoneOf (1 ∷ 2 ∷ 3 ∷ 4 ∷ 5 ∷ []) status
+answer_status Run slots input status lines (inl a) = report_ends _ _ status lines a.report
+answer_status Run slots input status lines (inr a) = let six : status ≡ 6 = a.refusal.status_is in λ one. grind (arith, six, one)
+answer_status (Make number) slots input status lines a = report_ends _ _ status lines a
