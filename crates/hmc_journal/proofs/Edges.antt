@@ -8,7 +8,7 @@ use Rattle.hmc_codes.specs.declared.lift.Lift.TheVariants as lifts
 use Rattle.hmc_codes.specs.declared.place.Place.TheVariants as places
 use Rattle.hmc_codes.specs.declared.unit.Unit.TheVariants as units
 use Rattle.hmc_serial.specs.Unit.{unit_of}
-use Rattle.hmc_journal.specs.declared.entry.Entry.TheVariants.{Gave}
+use Rattle.hmc_entries.specs.declared.entry.Entry.TheVariants.{Gave}
 use Rattle.hmc_journal.specs.Setup.{Topology}
 use Rattle.hmc_journal.specs.Queues.QueueId.{Output, Port, Host, Vault, Bank, Registers, Answers}
 use Rattle.hmc_journal.specs.Waiting.{size_of, is_filled}

@@ -7,8 +7,8 @@ use Rattle.hmc_codes.specs.declared.lift.Lift.{Lift}
 use Rattle.hmc_codes.specs.declared.lift.Lift.TheVariants as lifts
 use Rattle.hmc_packet.specs.declared.what.What.TheVariants.{New}
 use Rattle.hmc_packet.specs.Packet.{PacketFields, null_packet}
-use Rattle.hmc_journal.specs.declared.entry.Entry.{Entry}
-use Rattle.hmc_journal.specs.declared.entry.Entry.TheVariants.{Sent, Shifted, Dropped, Spread, Executed, Lifted, Took, Discarded}
+use Rattle.hmc_entries.specs.declared.entry.Entry.{Entry}
+use Rattle.hmc_entries.specs.declared.entry.Entry.TheVariants.{Sent, Shifted, Dropped, Spread, Executed, Lifted, Took, Discarded}
 use Rattle.hmc_journal.specs.Setup.{Setup, Topology}
 use Rattle.hmc_journal.specs.Directions.{unsent, awaits_first}
 use Rattle.hmc_journal.specs.Queues.{QueueId, same_lift, same_queue, is_at, leaves, enters, begins, Arrival, arrival_in, arrival_of, arrived, front_of, one_if, packet_if, left, entered, contents}

@@ -2,7 +2,7 @@
 use Rattle.std.proofs.Common.{◌≡◌, ◌∙◌, ◌⊎◌, inl, inr, ℕ, zero, suc, Bool, true, false, Option, Some, None, List, [], ◌∷◌, ◌++◌, length, drop, slice_get, refl, sym, ap, subst, arith}
 use Rattle.std.proofs.lemmas.List.{drop_all}
 use Rattle.hmc_schedule.specs.declared.step.Step.{Step}
-use Rattle.hmc_journal.specs.declared.entry.Entry.{Entry}
+use Rattle.hmc_entries.specs.declared.entry.Entry.{Entry}
 use Rattle.hmc_journal.specs.Setup.{Setup}
 use Rattle.hmc_journal.specs.Next.{next}
 use Rattle.hmc_journal.specs.Lawful.{Follows, has_passed, Lawful, IsWhole, unless_passed, journal_behind, journal_of}

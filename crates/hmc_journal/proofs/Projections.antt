@@ -16,10 +16,10 @@ use Rattle.hmc_send.specs.LinkEntries.{LinkEntry, same_way, put_if, push_if, cou
 use Rattle.hmc_send.specs.LinkLines.{StampedFlit}
 use Rattle.hmc_send.specs.LinkLines as lines
 use Rattle.hmc_journal.specs.Choice.{append_if}
-use Rattle.hmc_journal.specs.declared.outcome.Goal.{Goal}
-use Rattle.hmc_journal.specs.declared.outcome.Goal.TheVariants as goals
-use Rattle.hmc_journal.specs.declared.entry.Entry.{Entry}
-use Rattle.hmc_journal.specs.declared.entry.Entry.TheVariants.{Gave, Sent, Landed, Shifted, Dropped, Spread, Executed, Lifted, Took, Discarded, Through, Unlocked, Retired, Passed, Idle}
+use Rattle.hmc_entries.specs.declared.outcome.Goal.{Goal}
+use Rattle.hmc_entries.specs.declared.outcome.Goal.TheVariants as goals
+use Rattle.hmc_entries.specs.declared.entry.Entry.{Entry}
+use Rattle.hmc_entries.specs.declared.entry.Entry.TheVariants.{Gave, Sent, Landed, Shifted, Dropped, Spread, Executed, Lifted, Took, Discarded, Through, Unlocked, Retired, Passed, Idle}
 use Rattle.hmc_codes.specs.Commands.{is_posted}
 use Rattle.hmc_codes.specs.declared.unit.Unit.{Unit as RequestUnit}
 use Rattle.hmc_codes.specs.declared.unit.Unit.TheVariants as units

@@ -1,7 +1,7 @@
 -- The journal of a case is whole.
 use Rattle.std.proofs.Common.{◌≡◌, ◌+◌, ◌⊎◌, inl, inr, ℕ, zero, suc, Bool, true, false, Option, Some, List, [], ◌∷◌, length, drop, slice_get, refl, sym, subst, arith}
 use Rattle.hmc_schedule.specs.declared.step.Step.{Step}
-use Rattle.hmc_journal.specs.declared.entry.Entry.{Entry}
+use Rattle.hmc_entries.specs.declared.entry.Entry.{Entry}
 use Rattle.hmc_journal.specs.Setup.{Setup}
 use Rattle.hmc_journal.specs.Next.{next}
 use Rattle.hmc_journal.specs.Lawful.{Follows, has_passed, Lawful, IsWhole, journal_behind, journal_of}

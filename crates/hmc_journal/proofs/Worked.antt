@@ -34,8 +34,8 @@ use Rattle.hmc_serial.specs.Machine.{opening_state, apply, answer_to}
 use Rattle.hmc_serial.specs.Perform.{perform_on}
 use Rattle.hmc_host.specs.Give.{give_says}
 use Rattle.hmc_host.specs.Tags.{none_out, number_out, lowest_free}
-use Rattle.hmc_journal.specs.declared.outcome.Cause.TheVariants.{Fence, Full}
-use Rattle.hmc_journal.specs.declared.outcome.Goal.TheVariants.{Vault}
+use Rattle.hmc_entries.specs.declared.outcome.Cause.TheVariants.{Fence, Full}
+use Rattle.hmc_entries.specs.declared.outcome.Goal.TheVariants.{Vault}
 use Rattle.hmc_packet.specs.declared.outcome.Outcome.TheVariants.{Accepted, Poisoned}
 use Rattle.hmc_packet.specs.Landings.{pending, mode}
 use Rattle.hmc_packet.specs.Landings as landings
@@ -44,8 +44,8 @@ use Rattle.hmc_send.specs.Entries.{places, unfinished, taken_fronts}
 use Rattle.hmc_send.specs.LinkEntries.{receiver_entries, handed_packets, takes}
 use Rattle.hmc_send.specs.LinkSenders.{given_after, sender_entries, tokens}
 use Rattle.hmc_send.specs.Places.{flit_of}
-use Rattle.hmc_journal.specs.declared.entry.Entry.{Entry}
-use Rattle.hmc_journal.specs.declared.entry.Entry.TheVariants.{Gave, Sent, Landed, Shifted, Dropped, Spread, Executed, Lifted, Took, Discarded, Idle}
+use Rattle.hmc_entries.specs.declared.entry.Entry.{Entry}
+use Rattle.hmc_entries.specs.declared.entry.Entry.TheVariants.{Gave, Sent, Landed, Shifted, Dropped, Spread, Executed, Lifted, Took, Discarded, Idle}
 use Rattle.hmc_serial.specs.Unit.{unit_of}
 use Rattle.hmc_journal.specs.Setup.{Topology, Setup, other, start_of, end_of, direction_from, unit_in}
 use Rattle.hmc_journal.specs.Routes.{port_towards}
@@ -62,10 +62,9 @@ use Rattle.hmc_journal.specs.StepView.{opening_of, view_of, state_of}
 use Rattle.hmc_journal.specs.Serial.{state_after, IsSerial}
 use Rattle.hmc_journal.specs.Next.{next, choice}
 use Rattle.hmc_journal.specs.Drained.{is_drained}
-use Rattle.hmc_journal.specs.Counts.{token_counts}
-use Rattle.hmc_journal.specs.Lines.{line_of as entry_line}
-use Rattle.hmc_journal.specs.Text.{lines_of}
-use Rattle.hmc_journal.specs.Counts.{taken_count, executed_count, dropped_count, host_counts, cube_counts}
+use Rattle.hmc_journal.specs.Counts.{token_counts, taken_count, executed_count, dropped_count, host_counts, cube_counts}
+use Rattle.hmc_entries.specs.Lines.{line_of as entry_line}
+use Rattle.hmc_entries.specs.Text.{lines_of}
 use Rattle.hmc_journal.specs.Filters.{given_by, given_to, executed_by, asked_under, replies_under, answers_under, answered_into, taken_by}
 use Rattle.hmc_journal.specs.Carried.{tagged_requests, tagged_answers}
 use Rattle.hmc_journal.specs.Piped.{forwarded_onto, pipe_onto}

@@ -29,35 +29,31 @@ use Rattle.hmc_serial.specs.Cube.{opening}
 use Rattle.hmc_serial.specs.Errors.{memory_error}
 use Rattle.hmc_serial.specs.Machine.{opening_state, apply, answer_to}
 use Rattle.hmc_serial.specs.Perform.{perform_on}
-use Rattle.hmc_journal.specs.declared.outcome.Cause.TheVariants.{Full}
+use Rattle.hmc_entries.specs.declared.outcome.Cause.TheVariants.{Full, Empty}
 use Rattle.hmc_packet.specs.declared.outcome.Outcome.TheVariants.{Accepted}
 use Rattle.hmc_packet.specs.Landings.{pending}
 use Rattle.hmc_packet.specs.Landings as landings
-use Rattle.hmc_journal.specs.declared.entry.Entry.{Entry}
-use Rattle.hmc_journal.specs.declared.entry.Entry.TheVariants.{Gave, Sent, Landed, Shifted, Spread, Executed, Lifted, Took, Idle}
+use Rattle.hmc_entries.specs.declared.entry.Entry.{Entry}
+use Rattle.hmc_entries.specs.declared.entry.Entry.TheVariants.{Gave, Sent, Landed, Shifted, Spread, Executed, Lifted, Took, Idle}
 use Rattle.hmc_serial.specs.Unit.{unit_of}
 use Rattle.hmc_journal.specs.Setup.{Topology, Setup}
 use Rattle.hmc_routes.specs.Directions.{direction_among}
 use Rattle.hmc_routes.specs.Distance.{within, distance}
 use Rattle.hmc_routes.specs.Neighbours.{joined_to}
 use Rattle.hmc_routes.specs.Ports.{port_to_cube, port_to_host}
-use Rattle.hmc_journal.specs.Directions.{unsent, receiver_of, landed_packets, awaits_first}
+use Rattle.hmc_journal.specs.Directions.{unsent, receiver_of, landed_packets, awaits_first, accepted}
 use Rattle.hmc_journal.specs.Queues.{contents, entered, left, leaves, enters}
 use Rattle.hmc_journal.specs.StepView.{view_of, state_of}
 use Rattle.hmc_journal.specs.Serial.{state_after}
 use Rattle.hmc_journal.specs.Next.{next, choice}
-use Rattle.hmc_journal.specs.Filters.{given_to, executed_by}
-use Rattle.hmc_journal.specs.Carried.{tagged_requests}
+use Rattle.hmc_journal.specs.Filters.{given_to, executed_by, TaggedRequest, TaggedAnswer}
+use Rattle.hmc_journal.specs.Carried.{tagged_requests, requests_along, answers_along, answers_lifted, answers_taken, answers_to}
 use Rattle.hmc_codes.specs.Link.{LinkFields}
 use Rattle.hmc_case.specs.Setup.{CubeSetupFields}
 use Rattle.hmc_codes.specs.declared.command.Command.TheVariants.{Inc8}
-use Rattle.hmc_journal.specs.declared.outcome.Cause.TheVariants.{Empty}
-use Rattle.hmc_journal.specs.declared.outcome.Goal.TheVariants as goals
+use Rattle.hmc_entries.specs.declared.outcome.Goal.TheVariants as goals
 use Rattle.hmc_routes.specs.Route.{hops_from}
 use Rattle.hmc_journal.specs.Routes.{route_to_cube, route_to_host}
-use Rattle.hmc_journal.specs.Carried.{requests_along, answers_along, answers_lifted, answers_taken, answers_to}
-use Rattle.hmc_journal.specs.Filters.{TaggedRequest, TaggedAnswer}
-use Rattle.hmc_journal.specs.Directions.{accepted}
 use Rattle.hmc_journal.specs.Piped.{forwarded_onto, pipe_onto}
 
 abbrev one_vault : CubeSetupFields

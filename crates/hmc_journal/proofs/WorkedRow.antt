@@ -58,10 +58,10 @@ use Rattle.hmc_send.specs.LinkLines.{line, is_pending_changed, passes}
 use Rattle.hmc_send.specs.LinkLines as lines
 use Rattle.hmc_send.specs.LinkSenders.{given_after, sender_entries, tokens}
 use Rattle.hmc_send.specs.Places.{flit_of}
-use Rattle.hmc_journal.specs.declared.outcome.Cause.TheVariants.{Ended, Empty, Full}
-use Rattle.hmc_journal.specs.declared.outcome.Goal.TheVariants as goals
-use Rattle.hmc_journal.specs.declared.entry.Entry.{Entry}
-use Rattle.hmc_journal.specs.declared.entry.Entry.TheVariants.{Gave, Sent, Landed, Shifted, Spread, Executed, Lifted, Took, Unlocked, Passed, Idle}
+use Rattle.hmc_entries.specs.declared.outcome.Cause.TheVariants.{Ended, Empty, Full}
+use Rattle.hmc_entries.specs.declared.outcome.Goal.TheVariants as goals
+use Rattle.hmc_entries.specs.declared.entry.Entry.{Entry}
+use Rattle.hmc_entries.specs.declared.entry.Entry.TheVariants.{Gave, Sent, Landed, Shifted, Spread, Executed, Lifted, Took, Unlocked, Passed, Idle}
 use Rattle.hmc_journal.specs.Setup.{Topology, Setup}
 use Rattle.hmc_routes.specs.Directions.{direction_among}
 use Rattle.hmc_routes.specs.Distance.{within, distance}

@@ -56,9 +56,9 @@ use Rattle.hmc_send.specs.LinkLines.{line, is_pending_changed, passes}
 use Rattle.hmc_send.specs.LinkLines as lines
 use Rattle.hmc_send.specs.LinkSenders.{given_after, sender_entries, tokens}
 use Rattle.hmc_send.specs.Places.{flit_of}
-use Rattle.hmc_journal.specs.declared.outcome.Cause.TheVariants.{Empty, Starved, NoPacket, Busy}
-use Rattle.hmc_journal.specs.declared.entry.Entry.{Entry}
-use Rattle.hmc_journal.specs.declared.entry.Entry.TheVariants.{Gave, Sent, Landed, Through, Unlocked, Idle}
+use Rattle.hmc_entries.specs.declared.outcome.Cause.TheVariants.{Empty, Starved, NoPacket, Busy}
+use Rattle.hmc_entries.specs.declared.entry.Entry.{Entry}
+use Rattle.hmc_entries.specs.declared.entry.Entry.TheVariants.{Gave, Sent, Landed, Through, Unlocked, Idle}
 use Rattle.hmc_journal.specs.Setup.{Setup}
 use Rattle.hmc_routes.specs.Directions.{direction_among}
 use Rattle.hmc_routes.specs.Distance.{within, distance}

@@ -31,10 +31,10 @@ use Rattle.hmc_serial.specs.Errors.{memory_error}
 use Rattle.hmc_serial.specs.Machine.{opening_state, apply, answer_to, retire}
 use Rattle.hmc_serial.specs.Perform.{perform_on}
 use Rattle.hmc_schedule.specs.declared.step.Step.TheVariants as steps
-use Rattle.hmc_journal.specs.declared.outcome.Cause.TheVariants.{Empty}
-use Rattle.hmc_journal.specs.declared.outcome.Goal.TheVariants.{Vault}
-use Rattle.hmc_journal.specs.declared.entry.Entry.{Entry}
-use Rattle.hmc_journal.specs.declared.entry.Entry.TheVariants.{Landed, Shifted, Spread, Executed, Retired, Idle}
+use Rattle.hmc_entries.specs.declared.outcome.Cause.TheVariants.{Empty}
+use Rattle.hmc_entries.specs.declared.outcome.Goal.TheVariants.{Vault}
+use Rattle.hmc_entries.specs.declared.entry.Entry.{Entry}
+use Rattle.hmc_entries.specs.declared.entry.Entry.TheVariants.{Landed, Shifted, Spread, Executed, Retired, Idle}
 use Rattle.hmc_journal.specs.Setup.{Topology, Setup}
 use Rattle.hmc_routes.specs.Directions.{direction_among}
 use Rattle.hmc_routes.specs.Distance.{within, distance}

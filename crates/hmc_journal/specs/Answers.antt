@@ -12,9 +12,9 @@ use Rattle.hmc_vault.specs.declared.execute.Executed.{Executed as Execution}
 use Rattle.hmc_vault.specs.declared.execute.Executed.TheVariants as executions
 use Rattle.hmc_vault.specs.declared.spread.Spread.{Spread as Spreading}
 use Rattle.hmc_vault.specs.declared.spread.Spread.TheVariants as spreads
-use Rattle.hmc_journal.specs.declared.outcome.Cause.TheVariants as causes
-use Rattle.hmc_journal.specs.declared.entry.Entry.{Entry}
-use Rattle.hmc_journal.specs.declared.entry.Entry.TheVariants.{Gave, Spread, Executed, Took, Discarded, Idle}
+use Rattle.hmc_entries.specs.declared.outcome.Cause.TheVariants as causes
+use Rattle.hmc_entries.specs.declared.entry.Entry.{Entry}
+use Rattle.hmc_entries.specs.declared.entry.Entry.TheVariants.{Gave, Spread, Executed, Took, Discarded, Idle}
 
 -- a host gave its next request, or says why it gave none
 abbrev pub gave_entry : (host : ℕ) → Given → Entry

@@ -15,8 +15,8 @@ use Rattle.hmc_packet.specs.declared.what.What.TheVariants.{New, Tret}
 use Rattle.hmc_send.specs.Copies.{place_fed}
 use Rattle.hmc_send.specs.Places.{Place, packet_in}
 use Rattle.hmc_through.specs.Pipe.{PipeFields, flit_at, feed_at}
-use Rattle.hmc_journal.specs.declared.entry.Entry.{Entry}
-use Rattle.hmc_journal.specs.declared.entry.Entry.TheVariants.{Sent, Lifted, Took, Through}
+use Rattle.hmc_entries.specs.declared.entry.Entry.{Entry}
+use Rattle.hmc_entries.specs.declared.entry.Entry.TheVariants.{Sent, Lifted, Took, Through}
 use Rattle.hmc_journal.specs.Choice.{append_if}
 use Rattle.hmc_journal.specs.Answers.{tag_of}
 use Rattle.hmc_journal.specs.Directions.{accepted, profile_of, unsent, awaits_first}

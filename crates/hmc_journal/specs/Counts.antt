@@ -14,8 +14,8 @@ use Rattle.hmc_send.specs.declared.toward.Toward.{Toward}
 use Rattle.hmc_send.specs.LinkEntries.{LinkEntry, same_way}
 use Rattle.hmc_send.specs.LinkLines.{changes}
 use Rattle.hmc_send.specs.LinkSenders.{tokens}
-use Rattle.hmc_journal.specs.declared.entry.Entry.{Entry}
-use Rattle.hmc_journal.specs.declared.entry.Entry.TheVariants.{Executed, Took, Dropped}
+use Rattle.hmc_entries.specs.declared.entry.Entry.{Entry}
+use Rattle.hmc_entries.specs.declared.entry.Entry.TheVariants.{Executed, Took, Dropped}
 use Rattle.hmc_journal.specs.Directions.{sent_flits, landed_flits, receiver_of, accepted}
 use Rattle.hmc_journal.specs.Hosts.{given_count, tags_out, count_if}
 use Rattle.hmc_journal.specs.Links.{toward, entries_on, sizes_on}

@@ -15,11 +15,11 @@ use Rattle.hmc_crossbar.specs.declared.to.To.{To}
 use Rattle.hmc_crossbar.specs.declared.to.To.TheVariants as tos
 use Rattle.hmc_crossbar.specs.To.{where_to}
 use Rattle.hmc_vault.specs.Execute.{runs}
-use Rattle.hmc_journal.specs.declared.outcome.Cause.TheVariants as causes
-use Rattle.hmc_journal.specs.declared.outcome.Goal.{Goal}
-use Rattle.hmc_journal.specs.declared.outcome.Goal.TheVariants as goals
-use Rattle.hmc_journal.specs.declared.entry.Entry.{Entry}
-use Rattle.hmc_journal.specs.declared.entry.Entry.TheVariants.{Shifted, Dropped, Spread, Lifted, Retired, Idle}
+use Rattle.hmc_entries.specs.declared.outcome.Cause.TheVariants as causes
+use Rattle.hmc_entries.specs.declared.outcome.Goal.{Goal}
+use Rattle.hmc_entries.specs.declared.outcome.Goal.TheVariants as goals
+use Rattle.hmc_entries.specs.declared.entry.Entry.{Entry}
+use Rattle.hmc_entries.specs.declared.entry.Entry.TheVariants.{Shifted, Dropped, Spread, Lifted, Retired, Idle}
 use Rattle.hmc_journal.specs.Setup.{Topology, shape_of, graph_of}
 use Rattle.hmc_journal.specs.Queues.{output_from, queue_of, answers_of, goal_queue}
 use Rattle.hmc_journal.specs.Queues.QueueId.{Bank}

@@ -11,8 +11,8 @@ use Rattle.hmc_send.specs.LinkLines.{under_mask}
 use Rattle.hmc_send.specs.Places.{is_token}
 use Rattle.hmc_wire.specs.LinkLaws.{TokenLaws}
 pub use Rattle.hmc_hops.specs.Delivered.{IsPrefix, IsChain}
-use Rattle.hmc_journal.specs.declared.entry.Entry.{Entry}
-use Rattle.hmc_journal.specs.declared.entry.Entry.TheVariants.{Landed}
+use Rattle.hmc_entries.specs.declared.entry.Entry.{Entry}
+use Rattle.hmc_entries.specs.declared.entry.Entry.TheVariants.{Landed}
 use Rattle.hmc_journal.specs.Carried.{begun_on, begun_here, marked, tagged_answers, tagged_answers_gone, requests_along, requests_waiting, answers_along, answers_waiting, answers_lifted, answers_taken}
 use Rattle.hmc_journal.specs.Filters.{ScriptRequest, given_by, given_to, executed_by, asked_under, replies_under, answers_under, answered_into, taken_by}
 use Rattle.hmc_journal.specs.Queues.{entered}

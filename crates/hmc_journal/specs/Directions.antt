@@ -13,8 +13,8 @@ use Rattle.hmc_schedule.specs.declared.step.Step.{Step}
 use Rattle.hmc_schedule.specs.declared.step.Step.TheVariants as steps
 use Rattle.hmc_send.specs.LinkEntries.{put_if}
 use Rattle.hmc_journal.specs.Choice.{choose, append_if}
-use Rattle.hmc_journal.specs.declared.entry.Entry.{Entry}
-use Rattle.hmc_journal.specs.declared.entry.Entry.TheVariants.{Sent, Landed, Through, Unlocked, Passed}
+use Rattle.hmc_entries.specs.declared.entry.Entry.{Entry}
+use Rattle.hmc_entries.specs.declared.entry.Entry.TheVariants.{Sent, Landed, Through, Unlocked, Passed}
 use Rattle.hmc_journal.specs.Setup.{Topology, link_of}
 
 -- the flits that were sent on a direction

@@ -3,7 +3,7 @@ use Rattle.std.specs.Prelude.{◌≡◌, ℕ, ◌^◌, Bool, ◌==◌, ◌&&◌,
 use Rattle.std.specs.List.{list_all}
 use Rattle.hmc_codes.specs.Numbers.{upto}
 use Rattle.hmc_codes.specs.declared.lift.Lift.TheVariants as lifts
-use Rattle.hmc_journal.specs.declared.entry.Entry.{Entry}
+use Rattle.hmc_entries.specs.declared.entry.Entry.{Entry}
 use Rattle.hmc_journal.specs.Setup.{Topology, shape_of, cubes_in, directions_in}
 use Rattle.hmc_journal.specs.Counts.{token_counts}
 use Rattle.hmc_journal.specs.Queues.{QueueId, landing_buffer, contents}

@@ -8,8 +8,8 @@ use Rattle.hmc_codes.specs.declared.answer.Answer.{Answer}
 use Rattle.hmc_codes.specs.declared.unit.Unit.{Unit as RequestUnit}
 use Rattle.hmc_codes.specs.declared.unit.Unit.TheVariants as units
 pub use Rattle.hmc_hops.specs.Flows.{TaggedRequest, TaggedAnswer}
-use Rattle.hmc_journal.specs.declared.entry.Entry.{Entry}
-use Rattle.hmc_journal.specs.declared.entry.Entry.TheVariants.{Gave, Executed, Took}
+use Rattle.hmc_entries.specs.declared.entry.Entry.{Entry}
+use Rattle.hmc_entries.specs.declared.entry.Entry.TheVariants.{Gave, Executed, Took}
 use Rattle.hmc_journal.specs.Setup.{Topology, unit_in}
 use Rattle.hmc_journal.specs.Queues.{QueueId, same_queue, answers_of, tag_number}
 

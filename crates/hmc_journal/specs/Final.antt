@@ -3,7 +3,7 @@ use Rattle.std.specs.Prelude.{ℕ, List}
 use Rattle.hmc_report.specs.Final.{FinalValues, final_lines}
 use Rattle.hmc_serial.specs.Cube.{CubeState}
 use Rattle.hmc_serial.specs.Machine.{cube_state_at}
-use Rattle.hmc_journal.specs.declared.entry.Entry.{Entry}
+use Rattle.hmc_entries.specs.declared.entry.Entry.{Entry}
 use Rattle.hmc_journal.specs.Counts.{host_counts, cube_counts, direction_counts, token_counts}
 use Rattle.hmc_journal.specs.Drained.{is_drained}
 use Rattle.hmc_journal.specs.Setup.{Setup, cubes_in, directions_in, hosts_in}

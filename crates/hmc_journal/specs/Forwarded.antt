@@ -11,7 +11,7 @@ use Rattle.hmc_send.specs.IsSender.{IsFed}
 use Rattle.hmc_send.specs.LinkCalls.{holds_packet, may_pass_on, view_in}
 use Rattle.hmc_send.specs.LinkEntries.{LinkEntry}
 use Rattle.hmc_send.specs.LinkSenders.{sender_entries}
-use Rattle.hmc_journal.specs.declared.entry.Entry.{Entry}
+use Rattle.hmc_entries.specs.declared.entry.Entry.{Entry}
 use Rattle.hmc_journal.specs.Directions.{receiver_of}
 use Rattle.hmc_journal.specs.Links.{toward, entries_on, sizes_on, fed_after}
 use Rattle.hmc_journal.specs.Piped.{PipeFrom, pipe_of, forwarded_onto, pipe_onto}

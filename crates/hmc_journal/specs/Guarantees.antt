@@ -1,6 +1,6 @@
 -- What the journal of a case guarantees.
 use Rattle.std.specs.Prelude.{◌≡◌, ◌++◌, true, List}
-use Rattle.hmc_journal.specs.declared.entry.Entry.{Entry}
+use Rattle.hmc_entries.specs.declared.entry.Entry.{Entry}
 use Rattle.hmc_journal.specs.Delivered.{IsScripted, LinksInOrder, DeliveredInOrder, AllServed}
 use Rattle.hmc_journal.specs.Drained.{is_drained}
 use Rattle.hmc_journal.specs.Lawful.{IsWhole}

@@ -3,8 +3,8 @@ use Rattle.std.specs.Prelude.{ℕ, ◌+◌, Bool, true, false, ◌==◌, List, [
 use Rattle.hmc_journal.specs.Choice.{choose}
 use Rattle.hmc_host.specs.Host.{HostFields, items_of}
 use Rattle.hmc_host.specs.Tags.{none_out, with_out}
-use Rattle.hmc_journal.specs.declared.entry.Entry.{Entry}
-use Rattle.hmc_journal.specs.declared.entry.Entry.TheVariants.{Gave, Took}
+use Rattle.hmc_entries.specs.declared.entry.Entry.{Entry}
+use Rattle.hmc_entries.specs.declared.entry.Entry.TheVariants.{Gave, Took}
 use Rattle.hmc_journal.specs.Setup.{Setup}
 
 -- one more where a test holds

@@ -1,8 +1,8 @@
 -- Lawful journals: each entry is the one that its step gives after the entries before it.
 use Rattle.std.specs.Prelude.{◌≡◌, ◌⊎◌, Bool, true, false, List, [], ◌∷◌, length, slice_get, Option, Some, None}
 use Rattle.hmc_schedule.specs.declared.step.Step.{Step}
-use Rattle.hmc_journal.specs.declared.entry.Entry.{Entry}
-use Rattle.hmc_journal.specs.Event.{is_passed}
+use Rattle.hmc_entries.specs.declared.entry.Entry.{Entry}
+use Rattle.hmc_entries.specs.Event.{is_passed}
 use Rattle.hmc_journal.specs.Setup.{Setup}
 use Rattle.hmc_journal.specs.Next.{next}
 

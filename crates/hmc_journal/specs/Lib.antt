@@ -1,4 +1,3 @@
-pub mod Lines
 pub mod Setup
 pub mod Routes
 pub mod Choice
@@ -26,14 +25,5 @@ pub mod Delivered
 pub mod Guarantees
 pub mod Counts
 pub mod Final
-pub mod Text
-pub mod Journal
-pub mod Event
-pub mod LastEntry
-pub mod ParseWords
-pub mod Parse
-pub mod ParseParts
-pub mod ParseHead
-pub mod ParseEntry
 pub mod ParseJournals
 pub mod Forwarded

@@ -13,9 +13,9 @@ use Rattle.hmc_send.specs.Choice as cases
 use Rattle.hmc_send.specs.LinkCalls.{is_full, view_in}
 use Rattle.hmc_send.specs.LinkEntries.{LinkEntry, receiver_entries}
 use Rattle.hmc_send.specs.LinkLines.{StampedFlit, line, under_mask, passes}
-use Rattle.hmc_journal.specs.declared.outcome.Cause.TheVariants as causes
-use Rattle.hmc_journal.specs.declared.entry.Entry.{Entry}
-use Rattle.hmc_journal.specs.declared.entry.Entry.TheVariants.{Sent, Landed, Passed, Idle}
+use Rattle.hmc_entries.specs.declared.outcome.Cause.TheVariants as causes
+use Rattle.hmc_entries.specs.declared.entry.Entry.{Entry}
+use Rattle.hmc_entries.specs.declared.entry.Entry.TheVariants.{Sent, Landed, Passed, Idle}
 use Rattle.hmc_journal.specs.Links.{toward}
 
 -- a flit is sent, unless the line is full or the next flit isn't there

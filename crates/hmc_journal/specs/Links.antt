@@ -17,10 +17,10 @@ use Rattle.hmc_send.specs.LinkEntries.{LinkEntry, put_if}
 use Rattle.hmc_send.specs.Entries.{through_at}
 use Rattle.hmc_send.specs.LinkLines.{StampedFlit, line, under_mask}
 use Rattle.hmc_send.specs.LinkSenders.{sender_entries}
-use Rattle.hmc_journal.specs.declared.outcome.Goal.{Goal}
-use Rattle.hmc_journal.specs.declared.outcome.Goal.TheVariants as goals
-use Rattle.hmc_journal.specs.declared.entry.Entry.{Entry}
-use Rattle.hmc_journal.specs.declared.entry.Entry.TheVariants.{Gave, Sent, Landed, Shifted, Dropped, Lifted, Took, Discarded, Through, Unlocked}
+use Rattle.hmc_entries.specs.declared.outcome.Goal.{Goal}
+use Rattle.hmc_entries.specs.declared.outcome.Goal.TheVariants as goals
+use Rattle.hmc_entries.specs.declared.entry.Entry.{Entry}
+use Rattle.hmc_entries.specs.declared.entry.Entry.TheVariants.{Gave, Sent, Landed, Shifted, Dropped, Lifted, Took, Discarded, Through, Unlocked}
 use Rattle.hmc_journal.specs.Directions.{receiver_of}
 use Rattle.hmc_journal.specs.Piped.{PipeFrom, forwarded_onto, goes_on, pipe_onto, fed}
 use Rattle.hmc_journal.specs.Setup.{Topology, no_link, direction_from}

@@ -1,12 +1,12 @@
 -- The text of a journal shows the journal.
 use Rattle.std.specs.Prelude.{◌≡◌, List, All}
 use Rattle.std.specs.List.{concat}
-use Rattle.hmc_journal.specs.declared.entry.Entry.{Entry}
+use Rattle.hmc_entries.specs.declared.entry.Entry.{Entry}
 use Rattle.hmc_journal.specs.Lawful.{Lawful}
 use Rattle.hmc_journal.specs.Network.{IsNetwork}
-use Rattle.hmc_journal.specs.Parse.{FitsTypes, IsShown}
+use Rattle.hmc_entries.specs.Parse.{FitsTypes, IsShown}
 use Rattle.hmc_journal.specs.Setup.{Setup}
-use Rattle.hmc_journal.specs.Text.{lines_of}
+use Rattle.hmc_entries.specs.Text.{lines_of}
 
 -- a journal of a network, whose entries are values of their type
 pub record IsJournalOf (setup : Setup) (journal : List Entry) : Type 0 where

@@ -11,8 +11,8 @@ use Rattle.hmc_packet.specs.Landings.{pending}
 use Rattle.hmc_packet.specs.Parts.{lng_of}
 use Rattle.hmc_through.specs.Pipe.{PipeFields, feed_at}
 use Rattle.hmc_journal.specs.Choice.{choose}
-use Rattle.hmc_journal.specs.declared.entry.Entry.{Entry}
-use Rattle.hmc_journal.specs.declared.entry.Entry.TheVariants.{Landed, Through, Unlocked}
+use Rattle.hmc_entries.specs.declared.entry.Entry.{Entry}
+use Rattle.hmc_entries.specs.declared.entry.Entry.TheVariants.{Landed, Through, Unlocked}
 use Rattle.hmc_journal.specs.Directions.{receiver_of, profile_of}
 use Rattle.hmc_journal.specs.Setup.{Topology, end_of, direction_to}
 

@@ -7,7 +7,7 @@ use Rattle.hmc_packet.specs.Packet.{PacketFields}
 use Rattle.hmc_crossbar.specs.To.{HasGoal}
 use Rattle.hmc_host.specs.Host.{HostFields}
 use Rattle.hmc_host.specs.Settle.{IsAwaited}
-use Rattle.hmc_journal.specs.declared.entry.Entry.{Entry}
+use Rattle.hmc_entries.specs.declared.entry.Entry.{Entry}
 use Rattle.hmc_send.specs.LinkEntries.{receiver_entries, takes}
 use Rattle.hmc_send.specs.LinkSenders.{queue_in}
 use Rattle.hmc_send.specs.Places.{is_token}

@@ -12,10 +12,10 @@ use Rattle.hmc_packet.specs.declared.what.What.TheVariants.{New}
 use Rattle.hmc_packet.specs.Packet.{PacketFields}
 use Rattle.hmc_packet.specs.Transactions.{request_packet, reply_packet}
 use Rattle.hmc_send.specs.Places.{is_token}
-use Rattle.hmc_journal.specs.declared.outcome.Goal.{Goal}
-use Rattle.hmc_journal.specs.declared.outcome.Goal.TheVariants as goals
-use Rattle.hmc_journal.specs.declared.entry.Entry.{Entry}
-use Rattle.hmc_journal.specs.declared.entry.Entry.TheVariants.{Gave, Sent, Landed, Shifted, Dropped, Spread, Executed, Lifted, Took, Discarded}
+use Rattle.hmc_entries.specs.declared.outcome.Goal.{Goal}
+use Rattle.hmc_entries.specs.declared.outcome.Goal.TheVariants as goals
+use Rattle.hmc_entries.specs.declared.entry.Entry.{Entry}
+use Rattle.hmc_entries.specs.declared.entry.Entry.TheVariants.{Gave, Sent, Landed, Shifted, Dropped, Spread, Executed, Lifted, Took, Discarded}
 use Rattle.hmc_journal.specs.Setup.{Topology, end_of, direction_from}
 use Rattle.hmc_journal.specs.Directions.{unsent, awaits_first, landed_packets}
 use Rattle.hmc_journal.specs.Piped.{forwarded_onto, goes_on}

@@ -2,8 +2,8 @@
 -- the journal says so.
 use Rattle.std.specs.Prelude.{◌≡◌, List, [], ◌∷◌}
 use Rattle.hmc_serial.specs.Machine.{State, apply, answer_to, retire}
-use Rattle.hmc_journal.specs.declared.entry.Entry.{Entry}
-use Rattle.hmc_journal.specs.declared.entry.Entry.TheVariants.{Executed, Retired}
+use Rattle.hmc_entries.specs.declared.entry.Entry.{Entry}
+use Rattle.hmc_entries.specs.declared.entry.Entry.TheVariants.{Executed, Retired}
 
 -- the state that it leaves
 unfoldable pub state_after : State → List Entry → State

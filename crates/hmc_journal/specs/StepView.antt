@@ -4,7 +4,7 @@ use Rattle.hmc_packet.specs.Packet.{PacketFields}
 use Rattle.hmc_host.specs.Host.{HostFields}
 use Rattle.hmc_send.specs.LinkEntries.{LinkEntry}
 use Rattle.hmc_serial.specs.Machine.{State, opening_state}
-use Rattle.hmc_journal.specs.declared.entry.Entry.{Entry}
+use Rattle.hmc_entries.specs.declared.entry.Entry.{Entry}
 use Rattle.hmc_journal.specs.Setup.{Setup, shapes_of}
 use Rattle.hmc_journal.specs.Queues.{QueueId, contents}
 use Rattle.hmc_journal.specs.Links.{link_entries}

@@ -12,9 +12,9 @@ use Rattle.hmc_schedule.specs.declared.step.Step.TheVariants as steps
 use Rattle.hmc_routes.specs.Ports.{port_to_cube, port_to_host}
 use Rattle.hmc_send.specs.LinkCalls.{view_in, may_pass_on}
 use Rattle.hmc_send.specs.LinkEntries.{receiver_entries}
-use Rattle.hmc_journal.specs.declared.outcome.Cause.TheVariants as causes
-use Rattle.hmc_journal.specs.declared.entry.Entry.{Entry}
-use Rattle.hmc_journal.specs.declared.entry.Entry.TheVariants.{Through, Idle}
+use Rattle.hmc_entries.specs.declared.outcome.Cause.TheVariants as causes
+use Rattle.hmc_entries.specs.declared.entry.Entry.{Entry}
+use Rattle.hmc_entries.specs.declared.entry.Entry.TheVariants.{Through, Idle}
 use Rattle.hmc_journal.specs.Links.{toward, direction_to, sizes_on}
 use Rattle.hmc_journal.specs.Queues.QueueId.{Port}
 use Rattle.hmc_journal.specs.Setup.{Topology, cubes_in, hosts_in, graph_of, direction_from}

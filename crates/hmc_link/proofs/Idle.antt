@@ -1,10 +1,11 @@
 -- What the calls leave that had no flit to send or to land. The clauses `idle` cite it.
 use Rattle.std.proofs.Common.{◌≡◌, ◌∙◌, ◌-◌, ℕ, Bool, true, false, not, List, [], ◌∷◌, Option, Some, None, length, drop, refl, sym, ap, arith}
 use Rattle.std.specs.Prelude.{slice_get}
-use Rattle.hmc_link.specs.Held.{EndFields, LinkHeld}
-use Rattle.hmc_link.specs.Landings.{has_passed, lands_none, removed}
-use Rattle.hmc_link.specs.declared.link_landed.LinkLanded.{LinkLanded}
-use Rattle.hmc_link.specs.declared.link_landed.LinkLanded.TheVariants as links
+use Rattle.hmc_ends.specs.End.{EndFields}
+use Rattle.hmc_link.specs.Held.{LinkHeld}
+use Rattle.hmc_ends.specs.Landings.{has_passed, lands_none, removed}
+use Rattle.hmc_ends.specs.declared.link_landed.LinkLanded.{LinkLanded}
+use Rattle.hmc_ends.specs.declared.link_landed.LinkLanded.TheVariants as links
 
 none-dropped : (line : List (List ℕ)) → None ≡ slice_get line 0 → drop 1 line ≡ line
 none-dropped [] is = refl

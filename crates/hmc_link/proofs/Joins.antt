@@ -1,24 +1,21 @@
 -- A link as the end that sends in a direction and the end at which that direction lands.
-use Rattle.std.proofs.Common.{◌≡◌, ◌∙◌, true, List, [], ◌∷◌, Option, Some, None, sym, ap, subst}
+use Rattle.std.proofs.Common.{◌≡◌, true, List, [], sym, subst}
 use Rattle.hmc_codes.specs.Link.{LinkFields, IsLinkSetup}
-use Rattle.hmc_send.specs.LinkCalls.{LinkCall, next_entry, with_entry, IsLawful}
+use Rattle.hmc_send.specs.LinkCalls.{LinkCall, IsLawful}
 use Rattle.hmc_packet.specs.Landings.{accepted}
 use Rattle.hmc_send.specs.Entries.{places, taken_fronts}
 use Rattle.hmc_send.specs.LinkEntries.{LinkEntry, receiver_entries, handed_packets}
 use Rattle.hmc_send.specs.LinkSenders.{sender_entries}
 use Rattle.hmc_send.specs.declared.toward.Toward.{Toward}
 use Rattle.hmc_send.specs.declared.toward.Toward.TheVariants.{Forth, Back}
-use Rattle.hmc_send.proofs.LinkLists.{next-call}
-use Rattle.hmc_wire.specs.Conditions.{AreMet, AreHanded, AreFed}
+use Rattle.hmc_wire.specs.Conditions.{AreHanded, AreFed}
 use Rattle.hmc_wire.specs.LinkLaws.{IsKept}
-use Rattle.hmc_link.specs.Answers.{after_call}
-use Rattle.hmc_link.specs.Held.{EndFields, LinkHeld, sending_end}
-use Rattle.hmc_link.specs.Parts.{parts_of}
-use Rattle.hmc_link.specs.StandsFor.{EndStandsFor, EndsStandFor, LinkStandsFor, AreLengths, StandsForSome, IsLink}
-
--- a call leaves these ends: they stand for the entries after it
-pub record Steps (d : Toward) (call : LinkCall) (s l s' l' : EndFields) : Type 0 where
-  pub after : (link : LinkFields) (past : List LinkEntry) → EndsStandFor link d s l past → EndsStandFor link d s' l' (after_call link past call)
+use Rattle.hmc_ends.specs.Answers.{after_call}
+use Rattle.hmc_link.specs.Held.{LinkHeld, sending_end}
+use Rattle.hmc_ends.specs.Parts.{parts_of}
+use Rattle.hmc_ends.specs.StandsFor.{EndStandsFor, EndsStandFor}
+use Rattle.hmc_link.specs.StandsFor.{LinkStandsFor, AreLengths, StandsForSome, IsLink}
+use Rattle.hmc_ends.proofs.Steps.{Steps}
 
 -- a call leaves these lengths
 pub record Numbers (call : LinkCall) (h h' : LinkHeld) : Type 0 where
@@ -66,24 +63,6 @@ keep-back call h h' steps numbers is going =
     let past = after_call some.link some.past call in
     let after = steps.after some.link some.past (back-both some.link h some.past some.stands) in
     record { link = some.link; past = past; stands = both-back some.link h' past after (numbers.after some.link some.past some.stands after.kept) }
-
--- ---- one entry more
-
-pub kept-more : (link : LinkFields) (past : List LinkEntry) (call : LinkCall) (entry : LinkEntry) → next_entry link past call ≡ Some entry → IsKept link past → AreMet link (entry ∷ past) → IsKept link (entry ∷ past)
-unfolding IsLawful
-kept-more link past call entry is kept met = record {
-  retry = kept.retry;
-  lawful = (ap (next_entry link past) (next-call link past call entry is) ∙ is, kept.lawful);
-  met = met;
-}
-
--- the ends stand for the entry that the call makes
-pub both-more : (link : LinkFields) (d : Toward) (past : List LinkEntry) (call : LinkCall) (entry : LinkEntry) (s l : EndFields) → next_entry link past call ≡ Some entry → EndsStandFor link d s l (entry ∷ past) → EndsStandFor link d s l (after_call link past call)
-both-more link d past call entry s l is both = subst (λ (o : Option LinkEntry). EndsStandFor link d s l (with_entry past o)) (sym is) both
-
--- and for those before it where it makes none
-pub both-same : (link : LinkFields) (d : Toward) (past : List LinkEntry) (call : LinkCall) (s l : EndFields) → next_entry link past call ≡ None → EndsStandFor link d s l past → EndsStandFor link d s l (after_call link past call)
-both-same link d past call s l is both = subst (λ (o : Option LinkEntry). EndsStandFor link d s l (with_entry past o)) (sym is) both
 
 -- ---- the ends of a direction
 

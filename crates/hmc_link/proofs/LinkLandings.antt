@@ -13,15 +13,18 @@ use Rattle.hmc_send.specs.LinkLines.{StampedFlit, line, under_mask, passes}
 use Rattle.hmc_send.specs.declared.toward.Toward.{Toward}
 use Rattle.hmc_send.specs.declared.toward.Toward.TheVariants.{Forth, Back}
 use Rattle.hmc_wire.specs.LinkLaws.{IsKept}
-use Rattle.hmc_link.specs.declared.link_landed.LinkLanded.{LinkLanded}
-use Rattle.hmc_link.specs.declared.link_landed.LinkLanded.TheVariants as links
-use Rattle.hmc_link.specs.Answers.{after_call}
-use Rattle.hmc_link.specs.Held.{EndFields, LinkHeld}
-use Rattle.hmc_link.specs.Landings.{landed_in, link_landed, came, has_passed, is_out_of_order}
-use Rattle.hmc_link.specs.StandsFor.{EndsStandFor, IsLink, AreEnds}
-use Rattle.hmc_link.proofs.Joins.{Steps, forth-both, back-both}
-use Rattle.hmc_link.proofs.LandStands.{kept-landed}
-use Rattle.hmc_link.proofs.WireLaws.{direction_laws}
+use Rattle.hmc_ends.specs.declared.link_landed.LinkLanded.{LinkLanded}
+use Rattle.hmc_ends.specs.declared.link_landed.LinkLanded.TheVariants as links
+use Rattle.hmc_ends.specs.Answers.{after_call}
+use Rattle.hmc_ends.specs.End.{EndFields}
+use Rattle.hmc_link.specs.Held.{LinkHeld}
+use Rattle.hmc_ends.specs.Landings.{landed_in, link_landed, came, has_passed, is_out_of_order}
+use Rattle.hmc_ends.specs.StandsFor.{EndsStandFor, AreEnds}
+use Rattle.hmc_link.specs.StandsFor.{IsLink}
+use Rattle.hmc_ends.proofs.Steps.{Steps}
+use Rattle.hmc_link.proofs.Joins.{forth-both, back-both}
+use Rattle.hmc_ends.proofs.LandStands.{kept-landed}
+use Rattle.hmc_ends.proofs.WireLaws.{direction_laws}
 
 -- ---- in order
 

@@ -11,14 +11,16 @@ use Rattle.hmc_send.specs.declared.toward.Toward.{Toward}
 use Rattle.hmc_send.specs.declared.toward.Toward.TheVariants.{Forth, Back}
 use Rattle.hmc_wire.specs.Conditions.{AreMet, AreHanded, AreFed}
 use Rattle.hmc_wire.specs.LinkLaws.{IsKept}
-use Rattle.hmc_link.specs.Answers.{after_call}
-use Rattle.hmc_link.specs.Held.{EndFields, LinkHeld, sending_end, is_ready}
-use Rattle.hmc_link.specs.Parts.{EndParts, parts_of, parts_through, view_by}
-use Rattle.hmc_link.specs.StandsFor.{EndStandsFor, EndsStandFor, CanPassOn, IsLink}
-use Rattle.hmc_link.proofs.Calls.{entry-if, both-true}
-use Rattle.hmc_link.proofs.Joins.{Steps, kept-more, both-more}
-use Rattle.hmc_link.proofs.Projections.{through-here, through-there}
-use Rattle.hmc_link.proofs.Throughs.{ready-held}
+use Rattle.hmc_ends.specs.Answers.{after_call}
+use Rattle.hmc_ends.specs.End.{EndFields, is_ready}
+use Rattle.hmc_link.specs.Held.{LinkHeld, sending_end}
+use Rattle.hmc_ends.specs.Parts.{EndParts, parts_of, parts_through, view_by}
+use Rattle.hmc_ends.specs.StandsFor.{EndStandsFor, EndsStandFor, CanPassOn}
+use Rattle.hmc_link.specs.StandsFor.{IsLink}
+use Rattle.hmc_ends.proofs.Calls.{entry-if, both-true}
+use Rattle.hmc_ends.proofs.Steps.{Steps, kept-more, both-more}
+use Rattle.hmc_ends.proofs.Projections.{through-here, through-there}
+use Rattle.hmc_ends.proofs.Throughs.{ready-held}
 
 pub may-in : (link : LinkFields) (d : Toward) (past : List LinkEntry) (flits : ℕ) → may_pass_on (view_by link (parts_of link d past) Waiting) flits ≡ may_pass_on (view_in link d past Waiting) flits
 unfolding given_after

@@ -10,18 +10,19 @@ use Rattle.hmc_send.specs.LinkEntries.{LinkEntry}
 use Rattle.hmc_send.specs.LinkLines.{StampedFlit, line, under_mask, passes}
 use Rattle.hmc_send.specs.declared.toward.Toward.{Toward}
 use Rattle.hmc_wire.specs.LinkLaws.{IsKept}
-use Rattle.hmc_link.specs.declared.link_landed.LinkLanded.{LinkLanded}
-use Rattle.hmc_link.specs.Answers.{after_call}
-use Rattle.hmc_link.specs.Held.{EndFields, LinkHeld, sending_end, is_ready}
-use Rattle.hmc_link.specs.Landings.{link_landed, came, has_passed, landed_in, entry_landed, removed}
-use Rattle.hmc_link.specs.List.{handed_list, listed_packet, listed_open}
-use Rattle.hmc_link.specs.StandsFor.{EndsStandFor}
-use Rattle.hmc_link.proofs.Calls.{next-handed}
-use Rattle.hmc_link.proofs.CrossLemmas.{next-empty}
-use Rattle.hmc_link.proofs.Joins.{Steps}
-use Rattle.hmc_link.proofs.LandStands.{next-landed}
+use Rattle.hmc_ends.specs.declared.link_landed.LinkLanded.{LinkLanded}
+use Rattle.hmc_ends.specs.Answers.{after_call}
+use Rattle.hmc_ends.specs.End.{EndFields, is_ready}
+use Rattle.hmc_link.specs.Held.{LinkHeld, sending_end}
+use Rattle.hmc_ends.specs.Landings.{link_landed, came, has_passed, landed_in, entry_landed, removed}
+use Rattle.hmc_ends.specs.List.{handed_list, listed_packet, listed_open}
+use Rattle.hmc_ends.specs.StandsFor.{EndsStandFor}
+use Rattle.hmc_ends.proofs.Calls.{next-handed}
+use Rattle.hmc_ends.proofs.CrossLemmas.{next-empty}
+use Rattle.hmc_ends.proofs.Steps.{Steps}
+use Rattle.hmc_ends.proofs.LandStands.{next-landed}
 use Rattle.hmc_link.proofs.LinkThroughs.{next-begun}
-use Rattle.hmc_link.proofs.ListLaws.{list-handed, list-through, list-gives}
+use Rattle.hmc_ends.proofs.ListLaws.{list-handed, list-through, list-gives}
 
 pub hand-list : (d toward : Toward) (now : LinkHeld) (s l s' : EndFields) (packet : PacketFields) → sending_end toward now ≡ s → length (sending_end toward now).queue < (sending_end toward now).setup.output → IsTaken (sending_end toward now).setup.profile packet → Steps d (LinkCall.hand d packet) s l s' l →
     (link : LinkFields) (past : List LinkEntry) → EndsStandFor link d s l past → handed_list link d (after_call link past (LinkCall.hand d packet)) ≡ handed_list link d past ++ listed_packet packet ∷ []

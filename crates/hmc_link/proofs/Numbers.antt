@@ -26,22 +26,24 @@ use Rattle.hmc_send.specs.declared.toward.Toward.TheVariants.{Forth, Back}
 use Rattle.hmc_send.proofs.LinkLists.{next-call}
 use Rattle.hmc_wire.specs.LinkLaws.{IsKept}
 use Rattle.hmc_wire.proofs.Places.{AllFit, FitOr}
-use Rattle.hmc_link.specs.declared.link_landed.LinkLanded.{LinkLanded}
-use Rattle.hmc_link.specs.Answers.{after_call}
-use Rattle.hmc_link.specs.Held.{EndFields, LinkHeld, sending_end, listed_at, own_view, is_ready}
-use Rattle.hmc_link.specs.Landings.{link_landed, came, has_passed, landed_in, entry_landed, removed, stored}
-use Rattle.hmc_link.specs.List.{handed_list, listed_place, listed_packet, listed_open, place_sent, leaves}
-use Rattle.hmc_link.specs.Parts.{parts_of}
-use Rattle.hmc_link.specs.StandsFor.{EndStandsFor, LinkStandsFor, IsLink}
-use Rattle.hmc_link.proofs.Calls.{next-handed}
-use Rattle.hmc_link.proofs.CrossLemmas.{next-empty}
-use Rattle.hmc_link.proofs.Fed.{sender-is}
+use Rattle.hmc_ends.specs.declared.link_landed.LinkLanded.{LinkLanded}
+use Rattle.hmc_ends.specs.Answers.{after_call}
+use Rattle.hmc_ends.specs.End.{EndFields, own_view, is_ready}
+use Rattle.hmc_link.specs.Held.{LinkHeld, sending_end, listed_at}
+use Rattle.hmc_ends.specs.Landings.{link_landed, came, has_passed, landed_in, entry_landed, removed, stored}
+use Rattle.hmc_ends.specs.List.{handed_list, listed_place, listed_packet, listed_open, place_sent, leaves}
+use Rattle.hmc_ends.specs.Parts.{parts_of}
+use Rattle.hmc_ends.specs.StandsFor.{EndStandsFor}
+use Rattle.hmc_link.specs.StandsFor.{LinkStandsFor, IsLink}
+use Rattle.hmc_ends.proofs.Calls.{next-handed}
+use Rattle.hmc_ends.proofs.CrossLemmas.{next-empty}
+use Rattle.hmc_ends.proofs.Fed.{sender-is}
 use Rattle.hmc_link.proofs.Joins.{Numbers}
-use Rattle.hmc_link.proofs.LandStands.{next-landed}
-use Rattle.hmc_link.proofs.Lists.{length-map}
+use Rattle.hmc_ends.proofs.LandStands.{next-landed}
+use Rattle.hmc_ends.proofs.Lists.{length-map}
 use Rattle.hmc_link.proofs.LinkThroughs.{next-begun}
-use Rattle.hmc_link.proofs.ListLaws.{list-handed, list-through, list-sent, list-gives, list-over}
-use Rattle.hmc_link.proofs.WireLaws.{direction_laws}
+use Rattle.hmc_ends.proofs.ListLaws.{list-handed, list-through, list-sent, list-gives, list-over}
+use Rattle.hmc_ends.proofs.WireLaws.{direction_laws}
 
 abbrev number : LinkFields → Toward → List LinkEntry → ℕ
 number link d past = length (handed_list link d past)

@@ -7,8 +7,8 @@ ghost use Rattle.hmc_send.specs.LinkSenders.{run_entries};
 ghost use Rattle.hmc_send.specs.Places.{is_token};
 ghost use Rattle.hmc_send.specs.StandsFor.{StandsFor};
 ghost use Rattle.hmc_tokens.specs.Account.{tokens_of_code};
-ghost use Rattle.hmc_link.specs.Held.{flits_seen};
-ghost use Rattle.hmc_link.specs.Landings.{arriving, is_start_run, noted, pending_changed, KeepsSizes};
+ghost use Rattle.hmc_ends.specs.End.{flits_seen};
+ghost use Rattle.hmc_ends.specs.Landings.{arriving, is_start_run, noted, pending_changed, KeepsSizes};
 
 use hmc_codes::{Flit, Layout};
 use hmc_packet::{Kind, Landed, Mode, Outcome, Packet};

@@ -6,15 +6,14 @@ ghost use Rattle.hmc_send.specs.LinkCalls.{LinkCall};
 ghost use Rattle.hmc_send.specs.LinkEntries.{LinkEntry};
 ghost use Rattle.hmc_send.specs.LinkLines.{line};
 ghost use Rattle.hmc_send.specs.declared.toward.Toward.{Toward};
-ghost use Rattle.hmc_link.specs.Answers.{after_call};
-ghost use Rattle.hmc_link.specs.Landings.{link_landed, has_passed, lands_none, removed, stored, IsUntouched};
-ghost use Rattle.hmc_link.specs.StandsFor.{EndsStandFor, AreEnds};
+ghost use Rattle.hmc_ends.specs.Answers.{after_call};
+ghost use Rattle.hmc_ends.specs.Landings.{link_landed, has_passed, lands_none, removed, stored, IsUntouched};
+ghost use Rattle.hmc_ends.specs.StandsFor.{EndsStandFor, AreEnds};
 
-use crate::LinkLanded;
 use crate::arrival::{arriving, is_token};
 use crate::end::End;
-use crate::masks::{changes, under_mask};
 use hmc_codes::Flit;
+use hmc_ends::{LinkLanded, changes, under_mask};
 use hmc_packet::Landed;
 use hmc_tokens::Intake;
 

@@ -4,14 +4,13 @@ ghost use Rattle.std.specs.Prelude.{◌≡◌, ◌<◌, ◌≤◌, ◌+◌, ◌&
 ghost use Rattle.hmc_send.specs.declared.toward.Toward.{Toward};
 ghost use Rattle.hmc_packet.specs.Packet.{flits_of};
 
-use crate::LinkSent;
 use crate::arrival::{
     all_four, arriving, either, flits_seen, is_token, note, note_run, passes, pending_changed,
     store,
 };
-use crate::feed::feed_is_bytes;
 use circular_buffer::HeapCircularBuffer;
 use hmc_codes::{Flit, LinkSetup, Memory};
+use hmc_ends::{LinkSent, feed_is_bytes};
 use hmc_packet::{Feed, Landed, Mode, Packet, Reception};
 use hmc_receive::{Receiver, landed_with};
 use hmc_send::{Sender, Sent};
@@ -38,8 +37,8 @@ pub struct End<I: Intake> {
 }
 
 impl<I: Intake> Model for End<I> {
-    ghost use Rattle.hmc_link.specs.Held.{EndFields};
-    ghost use Rattle.hmc_link.specs.StandsFor.{IsEnd};
+    ghost use Rattle.hmc_ends.specs.End.{EndFields};
+    ghost use Rattle.hmc_ends.specs.StandsFor.{IsEnd};
     ghost use Rattle.hmc_tokens.specs.Queue.{packets_of, size_of};
 
     ghost Value = { EndFields };
@@ -71,18 +70,16 @@ impl<I: Intake> Model for End<I> {
 
 #[tactic(auto, using(hmc_tokens::specs::Queue::all_cost_one))]
 impl<I: Intake> End<I> {
-    ghost use Rattle.std.specs.Prelude.{◌++◌, ◌∷◌, ◌-◌, ℕ, None, true, false, List, drop, nat_lt, nat_le, slice_get, sum_by, option_map};
+    ghost use Rattle.std.specs.Prelude.{◌++◌, ◌∷◌, ◌-◌, ℕ, None, true, false, List, drop, nat_lt, nat_le, slice_get, sum_by, option_map, ◌↔◌, IsTrue, is_some, not};
     ghost use Rattle.std.specs.Option.{ForSome};
     ghost use Rattle.hmc_codes.specs.Limits.{most_tokens};
     ghost use Rattle.hmc_codes.specs.Link.{LinkFields};
-    ghost use Rattle.hmc_packet.specs.Landings.{mode, pending};
+    ghost use Rattle.hmc_packet.specs.Landings.{mode, pending, ReceiverEntry, flits_in};
     ghost use Rattle.hmc_send.specs.Given.{IsTaken};
-    ghost use Rattle.std.specs.Prelude.{◌↔◌, IsTrue, is_some, not};
-    ghost use Rattle.hmc_link.specs.Held.{after_taken, flits_seen, IsQuiet};
-    ghost use Rattle.hmc_link.specs.Answers.{link_sent, sends_none};
-    ghost use Rattle.hmc_link.specs.Parts.{EndParts, parts_of, parts_unlocked, parts_after_send, parts_through, line_of, view_by};
+    ghost use Rattle.hmc_ends.specs.End.{after_taken, flits_seen, IsQuiet};
+    ghost use Rattle.hmc_ends.specs.Answers.{link_sent, sends_none};
+    ghost use Rattle.hmc_ends.specs.Parts.{EndParts, parts_of, parts_unlocked, parts_after_send, parts_through, line_of, view_by};
     ghost use Rattle.hmc_codes.specs.declared.profile.Profile.{Profile};
-    ghost use Rattle.hmc_packet.specs.Landings.{ReceiverEntry, flits_in};
     ghost use Rattle.hmc_packet.specs.Receptions.{landed_with};
     ghost use Rattle.hmc_receive.specs.StandsFor.{ReceiverStandsFor, latest};
     ghost use Rattle.hmc_send.specs.Choice.{choice};
@@ -93,11 +90,11 @@ impl<I: Intake> End<I> {
     ghost use Rattle.hmc_send.specs.LinkSenders.{run_entries};
     ghost use Rattle.hmc_send.specs.LinkTokens.{tokens_credited};
     ghost use Rattle.hmc_send.specs.StandsFor.{StandsFor};
-    ghost use Rattle.hmc_link.specs.Landings.{arrived, stored, noted, pending_changed, unless_passed, KeepsSizes, Lands, CanLand, CanTake, landed_in, entry_landed};
+    ghost use Rattle.hmc_ends.specs.Landings.{arrived, stored, noted, pending_changed, unless_passed, KeepsSizes, Lands, CanLand, CanTake, landed_in, entry_landed};
     ghost use Rattle.hmc_send.specs.LinkEntries.{LinkEntry, other};
     ghost use Rattle.hmc_wire.specs.Conditions.{IsFeed};
     ghost use Rattle.hmc_wire.specs.LinkLaws.{IsKept};
-    ghost use Rattle.hmc_link.specs.StandsFor.{EndStandsFor, CanSend, CanPassOn};
+    ghost use Rattle.hmc_ends.specs.StandsFor.{EndStandsFor, CanSend, CanPassOn};
 
     /// An end that did nothing, with this buffer.
     pub fn new(alloc: Global, setup: LinkSetup, intake: I) -> Result<Self, Memory>

@@ -15,27 +15,18 @@
 //! no call that changes it may be made, and nothing is claimed of what the others answer.
 //!
 //! An end sends in one direction, and the other lands at it. What the entries of a link are to an
-//! end is in `specs/Parts.antt`, what an end holds in `specs/Held.antt`, and when the one is the
-//! other in `specs/StandsFor.antt`.
+//! end, what an end holds, and when the one is the other is in hmc_ends.
 //!
-//! Each direction is a list (`specs/List.antt`): what was handed and is not accepted.
-//! [`directions_are_lists`] says what each entry does to it, and `handed` is its length.
+//! Each direction is a list (`handed_list` of hmc_ends): what was handed and is not accepted.
+//! [`hmc_ends::directions_are_lists`] says what each entry does to it, and `handed` is its length.
 #![tactic(auto)]
 
 mod arrival;
 mod crossing;
 mod end;
-mod feed;
-mod laws;
 mod link;
-mod link_landed;
-mod link_sent;
-mod masks;
 mod row;
 
-pub use feed::flit_is_bytes;
+pub use hmc_ends::{LinkLanded, LinkSent};
 pub use hmc_send::Toward;
-pub use laws::directions_are_lists;
 pub use link::Link;
-pub use link_landed::LinkLanded;
-pub use link_sent::LinkSent;

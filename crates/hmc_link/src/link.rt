@@ -14,18 +14,19 @@ ghost use Rattle.hmc_send.specs.LinkCalls.{LinkCall, has_room, is_full, may_pass
 ghost use Rattle.hmc_send.specs.LinkEntries.{LinkEntry, receiver_entries};
 ghost use Rattle.hmc_send.specs.LinkLines.{line};
 ghost use Rattle.hmc_send.specs.LinkSenders.{sender_entries, tokens};
-ghost use Rattle.hmc_link.specs.Held.{sending_end, landing_end, row_held, is_ready, flits_seen, IsQuiet};
-ghost use Rattle.hmc_link.specs.Answers.{after_call, front_in, link_sent, sends_none};
-ghost use Rattle.hmc_link.specs.Landings.{link_landed, has_passed, lands_none, is_out_of_order, removed, IsUntouched};
-ghost use Rattle.hmc_link.specs.List.{handed_list, listed_packet, listed_open};
+ghost use Rattle.hmc_link.specs.Held.{sending_end, landing_end};
+ghost use Rattle.hmc_ends.specs.End.{row_held, is_ready, flits_seen, IsQuiet};
+ghost use Rattle.hmc_ends.specs.Answers.{after_call, front_in, link_sent, sends_none};
+ghost use Rattle.hmc_ends.specs.Landings.{link_landed, has_passed, lands_none, is_out_of_order, removed, IsUntouched};
+ghost use Rattle.hmc_ends.specs.List.{handed_list, listed_packet, listed_open};
 ghost use Rattle.hmc_link.specs.StandsFor.{LinkStandsFor};
 
+use crate::Toward;
 use crate::crossing::{cross, has_passed, without_landed};
 use crate::end::End;
-use crate::feed::{feed_is_bytes, flit_is_bytes};
 use crate::row::token_row;
-use crate::{LinkLanded, LinkSent, Toward};
 use hmc_codes::{Flit, LinkSetup, Memory, TokenRow};
+use hmc_ends::{LinkLanded, LinkSent, feed_is_bytes, flit_is_bytes};
 use hmc_packet::{Feed, Mode, Packet};
 use hmc_tokens::Intake;
 use std::alloc::Global;

@@ -1,7 +1,7 @@
 //! The tokens of a direction.
 
 ghost use Rattle.std.specs.Prelude.{◌≡◌, ◌+◌, ◌-◌};
-ghost use Rattle.hmc_link.specs.Held.{row_held};
+ghost use Rattle.hmc_ends.specs.End.{row_held};
 
 use crate::end::End;
 use hmc_codes::TokenRow;

@@ -23,7 +23,7 @@ use Rattle.hmc_case.specs.declared.setup.LinkRow.{LinkRow}
 use Rattle.hmc_case.proofs.PlanLemmas.{length-plans_of}
 use Rattle.hmc_units.specs.Unit.{UnitFields}
 use Rattle.hmc_journal.specs.Setup.{Topology, setup_of, no_cube, hosts_in}
-use Rattle.hmc_net.specs.Ready.{IsPortIn, IsVaultIn, IsBankIn, IsLiftIn, IsStepFor}
+use Rattle.hmc_wiring.specs.Ready.{IsPortIn, IsVaultIn, IsBankIn, IsLiftIn, IsStepFor}
 
 -- the plan of a cube
 plan_at : (links : List LinkRow) (n : ℕ) (cubes : List CubeSetupFields) (k : ℕ) → k < length cubes → slice_get (plans_of links n cubes) k ≡ Some (ports_of links (n + k) (slice_index_or cubes k no_cube))

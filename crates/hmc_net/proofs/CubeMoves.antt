@@ -17,9 +17,9 @@ use Rattle.hmc_vault.specs.Vault.{VaultFields, bank_at}
 use Rattle.hmc_vault.specs.Execute.{replies_to}
 use Rattle.hmc_cube.specs.Cube.{CubeFields, vault_at, with_vault, no_vault}
 use Rattle.hmc_journal.specs.Choice.{choose}
-use Rattle.hmc_journal.specs.declared.outcome.Goal.TheVariants as goals
-use Rattle.hmc_journal.specs.declared.entry.Entry.{Entry}
-use Rattle.hmc_journal.specs.declared.entry.Entry.TheVariants.{Gave, Sent, Landed, Shifted, Dropped, Spread, Executed, Lifted, Took, Discarded, Through, Unlocked, Retired, Passed, Idle}
+use Rattle.hmc_entries.specs.declared.outcome.Goal.TheVariants as goals
+use Rattle.hmc_entries.specs.declared.entry.Entry.{Entry}
+use Rattle.hmc_entries.specs.declared.entry.Entry.TheVariants.{Gave, Sent, Landed, Shifted, Dropped, Spread, Executed, Lifted, Took, Discarded, Through, Unlocked, Retired, Passed, Idle}
 use Rattle.hmc_journal.specs.Directions.{unsent, awaits_first}
 use Rattle.hmc_journal.specs.Queues.{QueueId, leaves, enters, begins, buffer_at, unless_posted, front_of, tag_number, contents, arrival_in, arrival_of}
 use Rattle.hmc_journal.specs.Queues.QueueId.{Output, Port, Host, Vault, Bank, Registers, Answers}
@@ -30,7 +30,7 @@ use Rattle.hmc_journal.proofs.Moves.{arrives}
 use Rattle.hmc_net.specs.NetState.{cube_in, no_cube, packets_in, queue_cube, inside, IsQueueOf}
 use Rattle.hmc_net.specs.Sees.{IsCubeQueue}
 use Rattle.hmc_net.specs.Apply.{cubes_after, IsEntryIn}
-use Rattle.hmc_net.proofs.Elements.{changed_at}
+use Rattle.hmc_kept.proofs.Elements.{changed_at}
 use Rattle.hmc_net.proofs.Moves.{without, with_arrival, IsThere, IsGoing}
 use Rattle.hmc_net.proofs.QueueChanges.{changed_in}
 

@@ -34,25 +34,26 @@ use Rattle.hmc_link.specs.Held.{LinkHeld}
 use Rattle.hmc_schedule.specs.declared.step.Step.{Step}
 use Rattle.hmc_schedule.specs.declared.step.Step.TheVariants as steps
 use Rattle.hmc_journal.specs.Answers.{spread_entry, ran_entry, tag_of}
-use Rattle.hmc_journal.specs.declared.outcome.Cause.{Cause}
-use Rattle.hmc_journal.specs.declared.outcome.Cause.TheVariants as causes
-use Rattle.hmc_journal.specs.declared.entry.Entry.{Entry}
-use Rattle.hmc_journal.specs.declared.entry.Entry.TheVariants as entries
-use Rattle.hmc_journal.specs.Event.{cause_of}
+use Rattle.hmc_entries.specs.declared.outcome.Cause.{Cause}
+use Rattle.hmc_entries.specs.declared.outcome.Cause.TheVariants as causes
+use Rattle.hmc_entries.specs.declared.entry.Entry.{Entry}
+use Rattle.hmc_entries.specs.declared.entry.Entry.TheVariants as entries
+use Rattle.hmc_entries.specs.Event.{cause_of}
 use Rattle.hmc_journal.specs.Next.{choice, with_front, unless_full, spread_to_bank, execution_entry, queue_size}
 use Rattle.hmc_journal.specs.QueueInvariant.{IsCubeRequest}
 use Rattle.hmc_journal.specs.Queues.{tag_number, queue_of}
 use Rattle.hmc_journal.specs.Queues.QueueId.{Vault, Bank, Registers, Answers}
 use Rattle.hmc_journal.specs.Setup.{Topology, cube_setup, shape_of, cubes_in, unit_cube}
 use Rattle.hmc_journal.specs.StepView.{StepView}
-use Rattle.hmc_net.specs.Apply.{cubes_after, hosts_after, slots_after, piped_after, entries_after, with_cube, IsEntryIn, IsHostIn, DoesStep}
-use Rattle.hmc_net.specs.Pipes.{PipesHeld}
-use Rattle.hmc_net.specs.LinkList.{LinksStandFor}
+use Rattle.hmc_net.specs.Apply.{cubes_after, hosts_after, with_cube, IsEntryIn, IsHostIn, DoesStep}
+use Rattle.hmc_kept.specs.After.{slots_after, piped_after, entries_after}
+use Rattle.hmc_kept.specs.Pipes.{PipesHeld}
+use Rattle.hmc_links.specs.LinkList.{LinksStandFor}
 use Rattle.hmc_net.specs.NetState.{NetState, cube_in, no_cube, IsQueueOf}
-use Rattle.hmc_net.specs.Ready.{IsVaultIn, IsBankIn}
+use Rattle.hmc_wiring.specs.Ready.{IsVaultIn, IsBankIn}
 use Rattle.hmc_net.specs.Sees.{Sees, IsSized, CubeFits, IsReady}
 use Rattle.hmc_net.proofs.Doing.{with_all, with_parts, does_by, sized_units, units_seen, idle_does, front_none, no_front}
-use Rattle.hmc_net.proofs.Elements.{changed_at}
+use Rattle.hmc_kept.proofs.Elements.{changed_at}
 use Rattle.hmc_net.proofs.Standing.{own_cube, state_at}
 
 -- ---- the sizes of cubes

@@ -1,9 +1,8 @@
 -- What a step does of a network, part by part.
-use Rattle.std.proofs.Common.{◌≡◌, ◌<◌, ◌*◌, ◌/◌, ◌==◌, ◌∙◌, ℕ, Bool, true, false, not, nat_le, nat_lt, Option, Some, None, List, [], ◌∷◌, length, slice_get, refl, sym, ap, subst, arith, eqb-true}
+use Rattle.std.proofs.Common.{◌≡◌, ◌<◌, ◌/◌, ◌==◌, ◌∙◌, ℕ, Bool, true, false, not, nat_le, nat_lt, Option, Some, None, List, [], ◌∷◌, length, slice_get, refl, sym, ap, subst, arith, eqb-true}
 use Rattle.std.specs.Prelude.{is_some, option_map}
 use Rattle.std.proofs.lemmas.Bool.Decides.{nat_tests}
 use Rattle.std.specs.List.{All}
-use Rattle.std.proofs.lemmas.List.{length-map}
 use Rattle.std.proofs.lemmas.List.Elements.{All-head}
 use Rattle.hmc_codes.specs.declared.place.Place.{Place}
 use Rattle.hmc_packet.specs.Packet.{PacketFields}
@@ -12,31 +11,32 @@ use Rattle.hmc_units.specs.Unit.{UnitFields}
 use Rattle.hmc_serial.specs.Machine.{State}
 use Rattle.hmc_cube.specs.Cube.{CubeFields}
 use Rattle.hmc_host.specs.Host.{HostFields}
-use Rattle.hmc_link.specs.Answers.{after_call}
+use Rattle.hmc_ends.specs.Answers.{after_call}
 use Rattle.hmc_link.specs.Held.{LinkHeld}
 use Rattle.hmc_routes.specs.Directions.{other}
 use Rattle.hmc_send.specs.LinkCalls.{LinkCall, has_room}
 use Rattle.hmc_send.specs.LinkEntries.{LinkEntry, put_if}
 use Rattle.hmc_send.specs.declared.toward.Toward.{Toward}
 use Rattle.hmc_schedule.specs.declared.step.Step.{Step}
-use Rattle.hmc_journal.specs.declared.outcome.Cause.{Cause}
-use Rattle.hmc_journal.specs.declared.outcome.Cause.TheVariants as causes
-use Rattle.hmc_journal.specs.declared.entry.Entry.{Entry}
-use Rattle.hmc_journal.specs.declared.entry.Entry.TheVariants.{Idle}
-use Rattle.hmc_journal.specs.Event.{cause_of, is_passed}
+use Rattle.hmc_entries.specs.declared.outcome.Cause.{Cause}
+use Rattle.hmc_entries.specs.declared.outcome.Cause.TheVariants as causes
+use Rattle.hmc_entries.specs.declared.entry.Entry.{Entry}
+use Rattle.hmc_entries.specs.declared.entry.Entry.TheVariants.{Idle}
+use Rattle.hmc_entries.specs.Event.{cause_of, is_passed}
 use Rattle.hmc_journal.specs.Links.{toward, put_on, direction_to}
 use Rattle.hmc_journal.specs.Next.{choice, is_full, lacks_room, with_front}
 use Rattle.hmc_journal.specs.Queues.{buffer_at, output_from, front_of}
 use Rattle.hmc_journal.specs.Queues.QueueId.{Output}
-use Rattle.hmc_journal.specs.Setup.{Topology, joins_of, directions_in, direction_from, end_of}
+use Rattle.hmc_journal.specs.Setup.{directions_in, direction_from}
 use Rattle.hmc_journal.specs.StepView.{StepView}
-use Rattle.hmc_journal.proofs.Joins.{from_place, start_is_end, other_inside}
-use Rattle.hmc_net.specs.Apply.{cubes_after, hosts_after, slots_after, piped_after, entries_after, DoesStep, IsEntryIn, IsHostIn}
-use Rattle.hmc_net.specs.Pipes.{PipesHeld, AreCounted}
-use Rattle.hmc_net.specs.LinkList.{sizes_by, LinksStandFor, called, IsDirection, IsRoom, IsArrival, IsFrontAt}
+use Rattle.hmc_net.specs.Apply.{cubes_after, hosts_after, DoesStep, IsEntryIn, IsHostIn}
+use Rattle.hmc_kept.specs.After.{slots_after, piped_after, entries_after}
+use Rattle.hmc_kept.specs.Pipes.{PipesHeld, AreCounted}
+use Rattle.hmc_links.specs.LinkList.{sizes_by, LinksStandFor, called, IsDirection, IsRoom, IsArrival, IsFrontAt}
 use Rattle.hmc_net.specs.NetState.{NetState}
 use Rattle.hmc_net.specs.Sees.{Sees, IsSized, IsReady}
-use Rattle.hmc_net.proofs.LinkCalls.{called_here, called_other}
+use Rattle.hmc_links.proofs.LinkCalls.{called_here, called_other}
+use Rattle.hmc_journal.proofs.DirectionEnds.{starts_there, ends_at}
 
 -- a network with other parts and another last entry
 abbrev pub with_all : NetState → List CubeFields → List HostFields → List (Option UnitFields) → List LinkHeld → Entry → NetState
@@ -122,28 +122,6 @@ idle_does net now step here cause same sized chosen = does_by net now net.cubes 
 })
 
 -- ---- directions and places
-
-pub starts_there : (topology : Topology) (place : Place) (d : ℕ) → direction_from topology place ≡ Some d → d < directions_in topology
-starts_there topology place d is =
-    let at = from_place (joins_of topology) place d is in
-    let inside : d < 2 * length (joins_of topology) = at.inside in omega (arith, length-map topology.links (λ (link : LinkRow). link.join))
-
-pub record EndsAt (topology : Topology) (place : Place) (d : ℕ) : Type 0 where
-  pub there : d < directions_in topology
-  pub ends : end_of topology d ≡ place
-
-to_by : (topology : Topology) (place : Place) (d : ℕ) (found : Option ℕ) → direction_from topology place ≡ found → option_map other found ≡ Some d → EndsAt topology place d
-to_by topology place d None is to = absurd (cc)
-to_by topology place d (Some e) is to =
-    let same : other e ≡ d = cc in
-    let at = from_place (joins_of topology) place e is in
-    subst (EndsAt topology place) same (record {
-      there = other_inside e (length topology.links) (starts_there topology place e is);
-      ends = sym (start_is_end (joins_of topology) e) ∙ at.starts;
-    })
-
-pub ends_at : (topology : Topology) (place : Place) (d : ℕ) → direction_to topology place ≡ Some d → EndsAt topology place d
-ends_at topology place d to = to_by topology place d (direction_from topology place) refl to
 
 -- the direction that starts, or ends, at a place is one of the network's links
 pub starts_in : (net : NetState) (place : Place) (d : ℕ) → IsReady net → direction_from net.topology place ≡ Some d → IsDirection net.links d

@@ -10,9 +10,10 @@ use Rattle.hmc_report.specs.Final.{FinalValues, ending_lines, final_lines}
 use Rattle.hmc_report.specs.Lines.{memory_lines, register_lines, token_line, counter_line, host_line, cube_line, state_line}
 use Rattle.hmc_host.specs.Host.{HostFields}
 use Rattle.hmc_host.specs.Tags.{number_out}
-use Rattle.hmc_link.specs.Held.{LinkHeld, sending_end, landing_end, row_held}
+use Rattle.hmc_link.specs.Held.{LinkHeld, sending_end, landing_end}
+use Rattle.hmc_ends.specs.End.{row_held}
 use Rattle.hmc_link.proofs.Joins.{forth-both, back-both}
-use Rattle.hmc_link.proofs.TokenRows.{row-is}
+use Rattle.hmc_ends.proofs.TokenRows.{row-is}
 use Rattle.hmc_link.specs.StandsFor.{LinkStandsFor}
 use Rattle.hmc_codes.specs.Link.{LinkFields}
 use Rattle.hmc_send.specs.LinkEntries.{LinkEntry}
@@ -21,23 +22,24 @@ use Rattle.hmc_send.specs.declared.toward.Toward.{Toward}
 use Rattle.hmc_send.specs.declared.toward.Toward.TheVariants.{Forth, Back}
 use Rattle.hmc_serial.specs.Cube.{CubeState}
 use Rattle.hmc_serial.specs.Machine.{State, cube_state_at}
-use Rattle.hmc_journal.specs.declared.entry.Entry.{Entry}
+use Rattle.hmc_entries.specs.declared.entry.Entry.{Entry}
 use Rattle.hmc_journal.specs.Counts.{host_counts, cube_counts, direction_counts, token_counts}
 use Rattle.hmc_journal.specs.Final.{values_of, final_lines_of, cube_left}
 use Rattle.hmc_journal.specs.Hosts.{host_of, tags_out}
 use Rattle.hmc_journal.specs.Lawful.{has_passed}
 use Rattle.hmc_journal.specs.Links.{toward, link_entries}
 use Rattle.hmc_journal.specs.Setup.{Setup, cubes_in, hosts_in, directions_in}
-use Rattle.hmc_net.specs.Finished.{memory_of, registers_of, tokens_of, tokens_at, out_of, host_counts_in, is_quiescent, net_values}
-use Rattle.hmc_net.specs.LinkList.{sizes_by}
+use Rattle.hmc_net.specs.Finished.{memory_of, registers_of, out_of, host_counts_in, is_quiescent, net_values}
+use Rattle.hmc_links.specs.Tokens.{tokens_of, tokens_at}
+use Rattle.hmc_links.specs.LinkList.{sizes_by}
 use Rattle.hmc_net.specs.NetState.{NetState, cube_in, no_cube, no_host}
 use Rattle.hmc_net.specs.Stands.{StandsFor}
-use Rattle.hmc_net.specs.Tally.{TallyFields, no_counters, no_host_steps, no_cube_counts, direction_row, host_row, cube_row, host_steps, tally_of}
-use Rattle.hmc_net.proofs.Rows.{value_at}
+use Rattle.hmc_tally.specs.Tally.{TallyFields, no_counters, no_host_steps, no_cube_counts, direction_row, host_row, cube_row, host_steps, tally_of}
+use Rattle.hmc_tally.proofs.Rows.{value_at}
 use Rattle.hmc_net.proofs.Standing.{state_at}
 use Rattle.hmc_net.proofs.Stillness.{drained_test}
 use Rattle.hmc_net.proofs.Still.{still_iff}
-use Rattle.hmc_net.proofs.TokensTold.{tokens_told}
+use Rattle.hmc_links.proofs.TokensTold.{tokens_told}
 
 -- two lists of values agree at the numbers that are there
 record AreAlike (v w : FinalValues) : Type 0 where

@@ -13,9 +13,9 @@ use Rattle.hmc_packet.specs.Reading.{is_null, read_of}
 use Rattle.hmc_packet.specs.Receptions.{LandingView, landing_view, reception_by, reception_of, mode_reception, good_reception, flits_reception, read_reception, unchecked, checked, lng_with, is_no_length}
 use Rattle.hmc_packet.specs.declared.bad.Bad.TheVariants as bads
 use Rattle.hmc_packet.specs.declared.reception.Reception.{Reception}
-use Rattle.hmc_link.specs.Landings.{link_landed, landed_in, came, has_passed}
-use Rattle.hmc_link.specs.declared.link_landed.LinkLanded.{LinkLanded}
-use Rattle.hmc_link.specs.declared.link_landed.LinkLanded.TheVariants as lands
+use Rattle.hmc_ends.specs.Landings.{link_landed, landed_in, came, has_passed}
+use Rattle.hmc_ends.specs.declared.link_landed.LinkLanded.{LinkLanded}
+use Rattle.hmc_ends.specs.declared.link_landed.LinkLanded.TheVariants as lands
 use Rattle.hmc_send.specs.LinkCalls.{LinkCall, holds_packet}
 use Rattle.hmc_send.specs.LinkEntries.{LinkEntry, receiver_entries, put_if}
 use Rattle.hmc_send.specs.LinkLines.{StampedFlit, line, under_mask, passes}
@@ -24,17 +24,19 @@ use Rattle.hmc_journal.specs.Links.{toward, link_sizes, landing_mask}
 use Rattle.hmc_journal.specs.Piped.{PipeFrom, goes_on, pipe_of}
 use Rattle.hmc_journal.specs.Setup.{directions_in}
 use Rattle.hmc_journal.specs.StepView.{StepView}
-use Rattle.hmc_net.specs.LinkList.{sizes_by, LinksStandFor, called}
+use Rattle.hmc_links.specs.LinkList.{sizes_by, LinksStandFor, called}
 use Rattle.hmc_case.specs.declared.setup.LinkRow.{LinkRow}
 use Rattle.hmc_link.specs.Held.{LinkHeld}
-use Rattle.hmc_net.specs.Links.{outcome_of, IsCameFlit, MayForward}
+use Rattle.hmc_kept.specs.LinkAnswers.{outcome_of, IsCameFlit}
+use Rattle.hmc_net.specs.Links.{MayForward}
 use Rattle.hmc_net.specs.NetState.{NetState}
-use Rattle.hmc_net.specs.Pipes.{PipesHeld, AreGathering, IsLastOf, forwarded_at, is_whole_outcome}
-use Rattle.hmc_net.specs.Ready.{IsLandingIn}
-use Rattle.hmc_net.specs.Sees.{Sees, IsReady, gathered}
-use Rattle.hmc_net.proofs.Gathering.{NeedsGood, comes_in_good}
+use Rattle.hmc_kept.specs.Pipes.{PipesHeld, AreGathering, IsLastOf, forwarded_at, is_whole_outcome}
+use Rattle.hmc_wiring.specs.Ready.{IsLandingIn}
+use Rattle.hmc_net.specs.Sees.{Sees, IsReady}
+use Rattle.hmc_kept.specs.Shown.{gathered}
+use Rattle.hmc_kept.proofs.Gathering.{NeedsGood, comes_in_good}
 use Rattle.hmc_net.proofs.LinkSteps.{HoldsLanded, outcome_is}
-use Rattle.hmc_net.proofs.PipeLemmas.{same_pipe}
+use Rattle.hmc_kept.proofs.PipeLemmas.{same_pipe}
 
 -- ---- what goes on is the front of its buffer
 

@@ -30,11 +30,11 @@ use Rattle.hmc_send.specs.Given.{IsTaken}
 use Rattle.hmc_send.specs.LinkCalls.{LinkCall}
 use Rattle.hmc_send.specs.LinkEntries.{LinkEntry}
 use Rattle.hmc_schedule.specs.declared.step.Step.TheVariants as steps
-use Rattle.hmc_journal.specs.declared.outcome.Cause.{Cause}
-use Rattle.hmc_journal.specs.declared.outcome.Cause.TheVariants as causes
-use Rattle.hmc_journal.specs.declared.entry.Entry.{Entry}
-use Rattle.hmc_journal.specs.declared.entry.Entry.TheVariants.{Idle}
-use Rattle.hmc_journal.specs.Event.{is_passed, cause_of}
+use Rattle.hmc_entries.specs.declared.outcome.Cause.{Cause}
+use Rattle.hmc_entries.specs.declared.outcome.Cause.TheVariants as causes
+use Rattle.hmc_entries.specs.declared.entry.Entry.{Entry}
+use Rattle.hmc_entries.specs.declared.entry.Entry.TheVariants.{Idle}
+use Rattle.hmc_entries.specs.Event.{is_passed, cause_of}
 use Rattle.hmc_journal.specs.Links.{toward, put_on, direction_to}
 use Rattle.hmc_journal.specs.Next.{choice, gave_entry, took_entry}
 use Rattle.hmc_journal.specs.QueueInvariant.{IsAnswerFor}
@@ -42,15 +42,16 @@ use Rattle.hmc_journal.specs.Queues.{tag_number}
 use Rattle.hmc_journal.specs.Queues.QueueId.{Host}
 use Rattle.hmc_journal.specs.Setup.{hosts_in, direction_from, Topology}
 use Rattle.hmc_journal.specs.StepView.{StepView}
-use Rattle.hmc_net.specs.Apply.{cubes_after, hosts_after, slots_after, piped_after, entries_after, with_host, DoesStep, IsEntryIn, IsHostIn}
+use Rattle.hmc_net.specs.Apply.{cubes_after, hosts_after, with_host, DoesStep, IsEntryIn, IsHostIn}
+use Rattle.hmc_kept.specs.After.{slots_after, piped_after, entries_after}
 use Rattle.hmc_net.specs.Gives.{IsGiven, IsRequested, given_to, cause_by}
-use Rattle.hmc_net.specs.Pipes.{PipesHeld}
-use Rattle.hmc_net.specs.LinkList.{sizes_by, LinksStandFor, called, IsRoom, IsFrontAt, MayHand}
+use Rattle.hmc_kept.specs.Pipes.{PipesHeld}
+use Rattle.hmc_links.specs.LinkList.{sizes_by, LinksStandFor, called, IsRoom, IsFrontAt, MayHand}
 use Rattle.hmc_net.specs.NetState.{NetState, host_in, no_host}
 use Rattle.hmc_net.specs.Sees.{Sees, IsSized, IsReady}
 use Rattle.hmc_net.proofs.Doing.{with_parts, does_by, idle_does, place_room, front_seen, called_puts, front_some, front_none, front_all}
-use Rattle.hmc_net.proofs.LinkCalls.{same_entries}
-use Rattle.hmc_net.proofs.Linking.{handed_call, taken_call}
+use Rattle.hmc_links.proofs.LinkCalls.{same_entries}
+use Rattle.hmc_kept.proofs.Linking.{handed_call, taken_call}
 
 -- ---- what a host gives
 

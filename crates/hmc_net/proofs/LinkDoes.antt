@@ -8,27 +8,28 @@ use Rattle.hmc_send.specs.LinkCalls.{LinkCall, is_full, view_in}
 use Rattle.hmc_send.specs.LinkEntries.{LinkEntry}
 use Rattle.hmc_send.specs.LinkLines.{line}
 use Rattle.hmc_link.specs.Held.{LinkHeld}
-use Rattle.hmc_link.specs.Answers.{link_sent, sends_none}
-use Rattle.hmc_link.specs.Landings.{link_landed, has_passed, lands_none}
-use Rattle.hmc_link.specs.declared.link_landed.LinkLanded.{LinkLanded}
-use Rattle.hmc_link.specs.declared.link_sent.LinkSent.{LinkSent}
+use Rattle.hmc_ends.specs.Answers.{link_sent, sends_none}
+use Rattle.hmc_ends.specs.Landings.{link_landed, has_passed, lands_none}
+use Rattle.hmc_ends.specs.declared.link_landed.LinkLanded.{LinkLanded}
+use Rattle.hmc_ends.specs.declared.link_sent.LinkSent.{LinkSent}
 use Rattle.hmc_schedule.specs.declared.step.Step.{Step}
 use Rattle.hmc_schedule.specs.declared.step.Step.TheVariants as steps
-use Rattle.hmc_journal.specs.declared.entry.Entry.{Entry}
-use Rattle.hmc_journal.specs.declared.entry.Entry.TheVariants.{Unlocked}
+use Rattle.hmc_entries.specs.declared.entry.Entry.{Entry}
+use Rattle.hmc_entries.specs.declared.entry.Entry.TheVariants.{Unlocked}
 use Rattle.hmc_journal.specs.Links.{toward}
 use Rattle.hmc_journal.specs.Piped.{fed}
 use Rattle.hmc_journal.specs.Setup.{directions_in}
 use Rattle.hmc_net.specs.Apply.{DoesStep}
-use Rattle.hmc_net.specs.LinkList.{sizes_by, LinksStandFor, called, IsThroughAt}
-use Rattle.hmc_net.specs.Links.{sent_by, landed_by, landing_goes_on, after_landing, taken_where, IsCameFlit}
-use Rattle.hmc_net.specs.Pipes.{PipesHeld, AreCounted, pipe_at, after_loss}
+use Rattle.hmc_links.specs.LinkList.{sizes_by, LinksStandFor, called, IsThroughAt}
+use Rattle.hmc_kept.specs.LinkAnswers.{sent_by, landed_by, landing_goes_on, after_landing, IsCameFlit}
+use Rattle.hmc_net.specs.Links.{taken_where}
+use Rattle.hmc_kept.specs.Pipes.{PipesHeld, AreCounted, pipe_at, after_loss}
 use Rattle.hmc_net.specs.NetState.{NetState}
-use Rattle.hmc_net.specs.Ready.{IsLandingIn}
+use Rattle.hmc_wiring.specs.Ready.{IsLandingIn}
 use Rattle.hmc_net.specs.Sees.{IsReady}
 use Rattle.hmc_net.proofs.Doing.{with_parts}
 use Rattle.hmc_net.proofs.LinkSteps.{send_does, feed_seen, land_does, unlock_does}
-use Rattle.hmc_net.proofs.PipeLemmas.{landing_counted, loss_counted}
+use Rattle.hmc_kept.proofs.PipeLemmas.{landing_counted, loss_counted}
 use Rattle.hmc_net.proofs.Forwarding.{holds_landed}
 
 does_for : (own old now : NetState) (step : Step) → own ≡ old → IsReady old → (IsReady own → DoesStep own now step) → DoesStep old now step

@@ -19,18 +19,18 @@ use Rattle.hmc_send.specs.LinkLines.{StampedFlit, line, under_mask, passes}
 use Rattle.hmc_send.specs.declared.sent.Sent.{Sent as Sending}
 use Rattle.hmc_send.specs.declared.sent.Sent.TheVariants.{Out, Starved}
 use Rattle.hmc_send.specs.declared.toward.Toward.{Toward}
-use Rattle.hmc_link.specs.Answers.{after_call, link_sent, sends_none}
+use Rattle.hmc_ends.specs.Answers.{after_call, link_sent, sends_none}
 use Rattle.hmc_link.specs.Held.{LinkHeld}
-use Rattle.hmc_link.specs.Landings.{link_landed, landed_in, came, has_passed, lands_none}
-use Rattle.hmc_link.specs.declared.link_landed.LinkLanded.{LinkLanded}
-use Rattle.hmc_link.specs.declared.link_landed.LinkLanded.TheVariants as lands
-use Rattle.hmc_link.specs.declared.link_sent.LinkSent.{LinkSent}
-use Rattle.hmc_link.specs.declared.link_sent.LinkSent.TheVariants as links
+use Rattle.hmc_ends.specs.Landings.{link_landed, landed_in, came, has_passed, lands_none}
+use Rattle.hmc_ends.specs.declared.link_landed.LinkLanded.{LinkLanded}
+use Rattle.hmc_ends.specs.declared.link_landed.LinkLanded.TheVariants as lands
+use Rattle.hmc_ends.specs.declared.link_sent.LinkSent.{LinkSent}
+use Rattle.hmc_ends.specs.declared.link_sent.LinkSent.TheVariants as links
 use Rattle.hmc_schedule.specs.declared.step.Step.TheVariants as steps
-use Rattle.hmc_journal.specs.declared.outcome.Cause.{Cause}
-use Rattle.hmc_journal.specs.declared.entry.Entry.{Entry}
-use Rattle.hmc_journal.specs.declared.entry.Entry.TheVariants.{Landed, Unlocked}
-use Rattle.hmc_journal.specs.Event.{is_passed, cause_of}
+use Rattle.hmc_entries.specs.declared.outcome.Cause.{Cause}
+use Rattle.hmc_entries.specs.declared.entry.Entry.{Entry}
+use Rattle.hmc_entries.specs.declared.entry.Entry.TheVariants.{Landed, Unlocked}
+use Rattle.hmc_entries.specs.Event.{is_passed, cause_of}
 use Rattle.hmc_journal.specs.Links.{toward, link_sizes, landing_mask, put_on, fed_after, taken_if}
 use Rattle.hmc_journal.specs.Next as journals
 use Rattle.hmc_journal.specs.Next.{choice}
@@ -38,17 +38,19 @@ use Rattle.hmc_journal.specs.Piped.{PipeFrom, goes_on, fed}
 use Rattle.hmc_journal.specs.Setup.{directions_in}
 use Rattle.hmc_journal.specs.StepView.{StepView}
 use Rattle.hmc_journal.proofs.LinkKept.{line-flit}
-use Rattle.hmc_net.specs.Apply.{cubes_after, hosts_after, slots_after, piped_after, entries_after, IsEntryIn, IsHostIn, DoesStep}
-use Rattle.hmc_net.specs.LinkList.{sizes_at, sizes_by, LinksStandFor, called, MaySend, IsThroughAt}
-use Rattle.hmc_net.specs.Links.{outcome_of, sent_by, landed_by, landing_goes_on, after_landing, taken_where}
+use Rattle.hmc_net.specs.Apply.{cubes_after, hosts_after, IsEntryIn, IsHostIn, DoesStep}
+use Rattle.hmc_kept.specs.After.{slots_after, piped_after, entries_after}
+use Rattle.hmc_links.specs.LinkList.{sizes_at, sizes_by, LinksStandFor, called, MaySend, IsThroughAt}
+use Rattle.hmc_kept.specs.LinkAnswers.{outcome_of, sent_by, landed_by, landing_goes_on, after_landing}
+use Rattle.hmc_net.specs.Links.{taken_where}
 use Rattle.hmc_net.specs.NetState.{NetState}
-use Rattle.hmc_net.specs.Pipes.{PipesHeld, AreCounted, IsPlace, forwarded_at, pipe_at, after_loss}
-use Rattle.hmc_net.specs.Ready.{IsLandingIn}
+use Rattle.hmc_kept.specs.Pipes.{PipesHeld, AreCounted, IsPlace, forwarded_at, pipe_at, after_loss}
+use Rattle.hmc_wiring.specs.Ready.{IsLandingIn}
 use Rattle.hmc_net.specs.Sees.{Sees, IsReady}
 use Rattle.hmc_net.proofs.Doing.{with_parts, does_by, links_do, sized_links, called_puts, called_stays}
-use Rattle.hmc_net.proofs.LinkCalls.{same_entries, one_there}
-use Rattle.hmc_net.proofs.Linking.{unlocked_call}
-use Rattle.hmc_net.proofs.Masks.{mask_found}
+use Rattle.hmc_links.proofs.LinkCalls.{same_entries, one_there}
+use Rattle.hmc_kept.proofs.Linking.{unlocked_call}
+use Rattle.hmc_kept.proofs.Masks.{mask_found}
 
 -- an entry of a send or of a landing changes no cube, no host and no unit
 abbrev leaves_parts : NetState → StepView → Entry → Type 0

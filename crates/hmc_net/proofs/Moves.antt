@@ -7,8 +7,8 @@ use Rattle.hmc_codes.specs.declared.unit.Unit.TheVariants as units
 use Rattle.hmc_packet.specs.Packet.{PacketFields}
 use Rattle.hmc_packet.specs.declared.what.What.TheVariants.{New}
 use Rattle.hmc_cube.specs.Cube.{CubeFields}
-use Rattle.hmc_journal.specs.declared.entry.Entry.{Entry}
-use Rattle.hmc_journal.specs.declared.entry.Entry.TheVariants.{Sent, Shifted, Dropped, Spread, Executed, Lifted, Took, Discarded}
+use Rattle.hmc_entries.specs.declared.entry.Entry.{Entry}
+use Rattle.hmc_entries.specs.declared.entry.Entry.TheVariants.{Sent, Shifted, Dropped, Spread, Executed, Lifted, Took, Discarded}
 use Rattle.hmc_journal.specs.Directions.{unsent, awaits_first}
 use Rattle.hmc_journal.specs.Setup.{Topology, Setup}
 use Rattle.hmc_journal.specs.Queues.{QueueId, same_queue, is_at, leaves, begins, Arrival, arrived, one_if, packet_if, left, entered, contents}

@@ -5,7 +5,7 @@ use Rattle.std.proofs.lemmas.List.{get_or_default}
 use Rattle.hmc_case.specs.Setup.{CubeSetupFields}
 use Rattle.hmc_cube.specs.Cube.{CubeFields, opening_cube}
 use Rattle.hmc_net.specs.Opening.{AreNewCubes}
-use Rattle.hmc_net.proofs.Pushed.{each_pushed}
+use Rattle.hmc_kept.proofs.Pushed.{each_pushed}
 
 -- the cube with a number is new, by its setup
 abbrev IsNewCube : List CubeSetupFields → ℕ → CubeFields → Type 0

@@ -25,16 +25,16 @@ use Rattle.hmc_journal.specs.Piped.{forwarded_onto, pipe_onto}
 use Rattle.hmc_journal.specs.Serial.{state_after}
 use Rattle.hmc_journal.specs.Setup.{Topology, Setup, no_cube as no_setup, cube_setup, cubes_in, hosts_in, directions_in}
 use Rattle.hmc_journal.specs.StepView.{state_of}
-use Rattle.hmc_net.specs.Pipes.{AreCounted}
+use Rattle.hmc_kept.specs.Pipes.{AreCounted}
 use Rattle.hmc_net.specs.NetState.{NetState, cube_in, no_cube, no_host, packets_in, queue_cube, inside, machine_in}
 use Rattle.hmc_net.specs.Opening.{AreNewCubes, IsOpening}
-use Rattle.hmc_net.specs.Ready.{IsStepFor}
+use Rattle.hmc_wiring.specs.Ready.{IsStepFor}
 use Rattle.hmc_net.specs.Sees.{CubeFits, IsSized}
 use Rattle.hmc_net.specs.Stands.{StandsFor}
-use Rattle.hmc_net.specs.Tally.{no_counters, no_host_steps, no_cube_counts, opening_tally, CountersWithin, HostWithin, CubeWithin, IsWithin}
-use Rattle.hmc_net.specs.Wiring.{IsLaidOut}
-use Rattle.hmc_net.proofs.LinkCalls.{same_entries}
-use Rattle.hmc_net.proofs.TallyLaw.{tally_none}
+use Rattle.hmc_tally.specs.Tally.{no_counters, no_host_steps, no_cube_counts, opening_tally, CountersWithin, HostWithin, CubeWithin, IsWithin}
+use Rattle.hmc_wiring.specs.Wiring.{IsLaidOut}
+use Rattle.hmc_links.proofs.LinkCalls.{same_entries}
+use Rattle.hmc_tally.proofs.TallyLaw.{tally_none}
 
 pub laid_out : (setup : Setup) → IsNetwork setup → IsLaidOut setup.topology
 laid_out setup network = record { few_links = network.few_links; graph = network.graph; one_part = network.one_part; hosts = network.hosts }

@@ -32,10 +32,10 @@ use Rattle.hmc_send.specs.LinkEntries.{LinkEntry, put_if, handed_packets}
 use Rattle.hmc_send.specs.LinkSenders.{sender_entries}
 use Rattle.hmc_send.specs.declared.toward.Toward.{Toward}
 use Rattle.hmc_schedule.specs.declared.step.Step.TheVariants as steps
-use Rattle.hmc_journal.specs.declared.outcome.Cause.TheVariants as causes
-use Rattle.hmc_journal.specs.declared.outcome.Goal.{Goal}
-use Rattle.hmc_journal.specs.declared.outcome.Goal.TheVariants as goals
-use Rattle.hmc_journal.specs.declared.entry.Entry.TheVariants as entries
+use Rattle.hmc_entries.specs.declared.outcome.Cause.TheVariants as causes
+use Rattle.hmc_entries.specs.declared.outcome.Goal.{Goal}
+use Rattle.hmc_entries.specs.declared.outcome.Goal.TheVariants as goals
+use Rattle.hmc_entries.specs.declared.entry.Entry.TheVariants as entries
 use Rattle.hmc_journal.specs.Links.{toward, put_on, direction_to}
 use Rattle.hmc_journal.specs.Next.{choice, unless_full, lacks_room, goal_at, shift_entry, shifted_entry, lifted_entry}
 use Rattle.hmc_journal.specs.QueueInvariant.{IsOnItsWay, IsHostAnswer}
@@ -44,16 +44,17 @@ use Rattle.hmc_journal.specs.Queues.QueueId.{Output, Port, Vault, Registers, Ans
 use Rattle.hmc_journal.specs.Routes.{port_towards}
 use Rattle.hmc_journal.specs.Setup.{Topology, graph_of, shape_of, cube_setup, cubes_in, direction_from}
 use Rattle.hmc_journal.specs.StepView.{StepView}
-use Rattle.hmc_net.specs.Apply.{to_of, cubes_after, entries_after, with_cube, IsEntryIn, DoesStep}
-use Rattle.hmc_net.specs.LinkList.{sizes_by, LinksStandFor, called, IsDirection, IsRoom, IsFrontAt, MayHand}
+use Rattle.hmc_net.specs.Apply.{to_of, cubes_after, with_cube, IsEntryIn, DoesStep}
+use Rattle.hmc_kept.specs.After.{entries_after}
+use Rattle.hmc_links.specs.LinkList.{sizes_by, LinksStandFor, called, IsDirection, IsRoom, IsFrontAt, MayHand}
 use Rattle.hmc_net.specs.NetState.{NetState, cube_in}
 use Rattle.hmc_net.specs.Ports.{IsShifting, IsInner, IsWayOut}
-use Rattle.hmc_net.specs.Ready.{IsLiftIn}
+use Rattle.hmc_wiring.specs.Ready.{IsLiftIn}
 use Rattle.hmc_net.specs.Sees.{Sees, IsSized, IsReady}
 use Rattle.hmc_net.proofs.CubeSteps.{sized_cube, cube_inside}
 use Rattle.hmc_net.proofs.Doing.{with_parts, does_by, idle_does, starts_in, sized_links, place_room, place_has_room, front_seen, called_puts, front_some, front_none, front_all, front_here}
-use Rattle.hmc_net.proofs.LinkCalls.{same_entries}
-use Rattle.hmc_net.proofs.Linking.{handed_call, taken_call}
+use Rattle.hmc_links.proofs.LinkCalls.{same_entries}
+use Rattle.hmc_kept.proofs.Linking.{handed_call, taken_call}
 
 -- ---- packets at ports
 

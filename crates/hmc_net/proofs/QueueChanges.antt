@@ -10,7 +10,7 @@ use Rattle.hmc_journal.specs.Queues.{QueueId, same_queue, same_lift}
 use Rattle.hmc_journal.specs.Queues.QueueId.{Output, Port, Host, Vault, Bank, Registers, Answers}
 use Rattle.hmc_net.specs.NetState.{packets_in, queue_cube, cube_in, no_cube, inside, IsIn, IsQueueOf}
 use Rattle.hmc_net.specs.Sees.{IsCubeQueue}
-use Rattle.hmc_net.proofs.Elements.{other_than}
+use Rattle.hmc_kept.proofs.Elements.{other_than}
 
 -- the packets that are there after a change
 abbrev pub Change : Type 0

@@ -5,8 +5,8 @@ use Rattle.std.proofs.lemmas.List.{set-get_or}
 use Rattle.hmc_units.specs.Unit.{UnitFields}
 use Rattle.hmc_units.specs.Bench.{is_live, retired_slots}
 use Rattle.hmc_schedule.specs.declared.step.Step.TheVariants as steps
-use Rattle.hmc_journal.specs.declared.outcome.Cause.TheVariants as causes
-use Rattle.hmc_journal.specs.declared.entry.Entry.TheVariants.{Retired, Idle}
+use Rattle.hmc_entries.specs.declared.outcome.Cause.TheVariants as causes
+use Rattle.hmc_entries.specs.declared.entry.Entry.TheVariants.{Retired, Idle}
 use Rattle.hmc_journal.specs.Next.{choice}
 use Rattle.hmc_journal.specs.StepView.{StepView}
 use Rattle.hmc_net.specs.Apply.{DoesStep}

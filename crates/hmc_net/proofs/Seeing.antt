@@ -1,76 +1,23 @@
 -- What a step sees of a network is what it sees of the journal that the network stands for.
-use Rattle.std.proofs.Common.{◌≡◌, ◌<◌, ◌∙◌, ℕ, zero, suc, false, Some, List, [], ◌∷◌, length, drop, slice_get, refl, sym, ap, subst}
-use Rattle.std.specs.Prelude.{filter}
+use Rattle.std.proofs.Common.{◌≡◌, ◌<◌, ℕ, zero, suc, false, Some, List, [], ◌∷◌, length, slice_get, sym, ap, subst}
 use Rattle.std.specs.List.{All}
 use Rattle.std.proofs.lemmas.List.Elements.{All-head, All-tail}
-use Rattle.hmc_packet.specs.Landings as receivers
-use Rattle.hmc_packet.specs.Landings.{ReceiverEntry}
-use Rattle.hmc_send.specs.Entries.{under_way}
-use Rattle.hmc_send.specs.IsSender.{IsFed}
-use Rattle.hmc_send.specs.LinkEntries.{takes, receiver_entries}
-use Rattle.hmc_send.specs.LinkSenders.{sender_entries}
-use Rattle.hmc_send.specs.Places.{is_token}
 use Rattle.hmc_schedule.specs.declared.step.Step.{Step}
-use Rattle.hmc_journal.specs.declared.entry.Entry.{Entry}
-use Rattle.hmc_journal.specs.Directions.{accepted}
-use Rattle.hmc_journal.specs.Hosts.{host_of}
+use Rattle.hmc_entries.specs.declared.entry.Entry.{Entry}
 use Rattle.hmc_journal.specs.Lawful.{has_passed}
-use Rattle.hmc_journal.specs.Links.{toward, entries_on, sizes_on, link_entries, fed_after}
+use Rattle.hmc_journal.specs.Links.{link_entries}
 use Rattle.hmc_journal.specs.Piped.{forwarded_onto, pipe_onto}
 use Rattle.hmc_journal.specs.Next.{next, choice}
-use Rattle.hmc_journal.specs.QueueInvariant.{LinkInvariant, QueueInvariant, AnswersAwaited}
 use Rattle.hmc_journal.specs.Setup.{Topology, Setup, directions_in}
 use Rattle.hmc_journal.specs.StepView.{view_of}
-use Rattle.hmc_net.specs.LinkList.{LinksStandFor}
+use Rattle.hmc_links.specs.LinkList.{LinksStandFor}
 use Rattle.hmc_net.specs.NetState.{NetState}
-use Rattle.hmc_net.specs.Pipes.{forwarded_at, pipe_at}
-use Rattle.hmc_net.specs.Ready.{IsStepFor}
-use Rattle.hmc_net.specs.Sees.{ShowsDirection, IsForwarded, IsOnward, KeepsLaws, Shows, Sees, IsReady}
+use Rattle.hmc_kept.specs.Pipes.{forwarded_at, pipe_at}
+use Rattle.hmc_wiring.specs.Ready.{IsStepFor}
+use Rattle.hmc_kept.specs.Shown.{KeepsLaws}
+use Rattle.hmc_net.specs.Sees.{Shows, Sees, IsReady}
 use Rattle.hmc_net.specs.Stands.{StandsFor, IsNext}
-use Rattle.hmc_net.proofs.Gathering.{are_good, are_short, all_seen}
-
--- what a direction is fed fits the packet that is forwarded onto it
-abbrev pub IsWellFed : Topology → List Entry → (direction : ℕ) → Type 0
-IsWellFed topology past direction =
-    IsFed (under_way (sizes_on topology direction).profile (sender_entries (sizes_on topology direction) (toward direction) (entries_on topology direction past)))
-    (fed_after (sizes_on topology direction) (toward direction) (entries_on topology direction past) (pipe_onto topology direction past))
-
--- what the laws of journals promise
-pub record IsLawBound (setup : Setup) (past : List Entry) : Type 0 where
-  pub queues : QueueInvariant setup past
-  pub awaited : AnswersAwaited setup past
-  pub fed : (direction : ℕ) → direction < directions_in setup.topology → IsWellFed setup.topology past direction
-  pub onward : (direction : ℕ) → direction < directions_in setup.topology → IsOnward setup.topology (view_of setup past) direction
-  pub forwarded : (direction onto : ℕ) → direction < directions_in setup.topology → forwarded_onto setup.topology direction past ≡ Some onto → IsForwarded setup.topology (view_of setup past) direction onto
-
-pub direction_shown : (setup : Setup) (past : List Entry) (direction : ℕ) → LinkInvariant setup.topology past direction → IsWellFed setup.topology past direction → ShowsDirection setup.topology (view_of setup past) direction
-unfolding view_of accepted
-direction_shown setup past direction law fed = record {
-  output = law.output;
-  buffer = law.buffer ∙ ap (λ (r : List ReceiverEntry). drop (takes (toward direction) (entries_on setup.topology direction past)) (filter is_token (receivers.accepted (sizes_on setup.topology direction).profile r))) law.receiver;
-  fed = fed;
-  gathers = all_seen (receivers.mode (receiver_entries (toward direction) (entries_on setup.topology direction past))) (receivers.pending (receiver_entries (toward direction) (entries_on setup.topology direction past)))
-      (are_good (sizes_on setup.topology direction) (toward direction) (entries_on setup.topology direction past) law.kept.lawful);
-  short = are_short (sizes_on setup.topology direction) (toward direction) (entries_on setup.topology direction past) law.kept.lawful;
-}
-
-number_is : (setup : Setup) (past : List Entry) (host : ℕ) → (host_of setup past host).number ≡ host
-unfolding host_of
-number_is setup past host = refl
-
-laws_kept : (setup : Setup) (past : List Entry) → IsLawBound setup past → KeepsLaws setup.topology (view_of setup past)
-unfolding view_of
-laws_kept setup past law = record {
-  directions = λ direction there. direction_shown setup past direction (law.queues.links direction there) (law.fed direction there);
-  onward = law.onward;
-  forwarded = law.forwarded;
-  ports = law.queues.ports;
-  banks = law.queues.banks;
-  registers = law.queues.registers;
-  answers = law.queues.answers;
-  hosts = law.awaited.hosts;
-  numbers = number_is setup past;
-}
+use Rattle.hmc_kept.proofs.LawsShown.{IsLawBound, laws_kept}
 
 shown : (net : NetState) (past : List Entry) (setup : Setup) → StandsFor net setup past → has_passed past ≡ false → Shows net (view_of setup past)
 unfolding view_of

@@ -31,12 +31,12 @@ use Rattle.hmc_cube.specs.After.{after_enter, after_spread, after_execute, after
 use Rattle.hmc_host.specs.Host.{HostFields, items_of}
 use Rattle.hmc_schedule.specs.declared.step.Step.{Step}
 use Rattle.hmc_journal.specs.Choice.{choose}
-use Rattle.hmc_journal.specs.declared.outcome.Goal.TheVariants as goals
-use Rattle.hmc_journal.specs.declared.entry.Entry.{Entry}
-use Rattle.hmc_journal.specs.declared.entry.Entry.TheVariants.{Gave, Sent, Landed, Shifted, Dropped, Spread, Executed, Lifted, Took, Discarded, Through, Unlocked, Retired, Passed, Idle}
-use Rattle.hmc_journal.specs.declared.outcome.Cause.{Cause}
-use Rattle.hmc_journal.specs.declared.event.Event.TheVariants as events
-use Rattle.hmc_journal.specs.Event.{event_of, cause_of, is_passed, IsLongFlit}
+use Rattle.hmc_entries.specs.declared.outcome.Goal.TheVariants as goals
+use Rattle.hmc_entries.specs.declared.entry.Entry.{Entry}
+use Rattle.hmc_entries.specs.declared.entry.Entry.TheVariants.{Gave, Sent, Landed, Shifted, Dropped, Spread, Executed, Lifted, Took, Discarded, Through, Unlocked, Retired, Passed, Idle}
+use Rattle.hmc_entries.specs.declared.outcome.Cause.{Cause}
+use Rattle.hmc_entries.specs.declared.event.Event.TheVariants as events
+use Rattle.hmc_entries.specs.Event.{event_of, cause_of, is_passed, IsLongFlit}
 use Rattle.hmc_journal.specs.Hosts.{host_of, given_count, tags_out, count_if}
 use Rattle.hmc_journal.specs.Lawful.{Follows, Lawful}
 use Rattle.hmc_codes.specs.declared.place.Place.{Place}
@@ -54,23 +54,25 @@ use Rattle.hmc_journal.specs.Serial.{state_after}
 use Rattle.hmc_journal.specs.Setup.{Topology, Setup, unit_cube, directions_in, direction_to}
 use Rattle.hmc_journal.specs.StepView.{StepView, state_of, view_of}
 use Rattle.hmc_journal.proofs.EntryRule.{EntryRule, next_rule}
-use Rattle.hmc_net.specs.Apply.{after_unit, cubes_after, hosts_after, slots_after, gathered_from, piped_after, entries_after, IsAfter, DoesStep, IsEntryIn, IsHostIn, gave_one, with_cube, with_host}
-use Rattle.hmc_net.specs.LinkList.{LinksStandFor}
+use Rattle.hmc_net.specs.Apply.{after_unit, cubes_after, hosts_after, IsAfter, DoesStep, IsEntryIn, IsHostIn, gave_one, with_cube, with_host}
+use Rattle.hmc_kept.specs.After.{slots_after, gathered_from, piped_after, entries_after}
+use Rattle.hmc_links.specs.LinkList.{LinksStandFor}
 use Rattle.hmc_net.specs.NetState.{NetState, cube_in, no_cube, host_in, no_host, inside, machine_in}
-use Rattle.hmc_net.specs.Pipes.{AreCounted}
+use Rattle.hmc_kept.specs.Pipes.{AreCounted}
 use Rattle.hmc_net.specs.Sees.{Sees}
 use Rattle.hmc_net.specs.Stands.{StandsFor, IsNext}
-use Rattle.hmc_net.specs.Tally.{TallyFields, IsWithin, tallied, step_changes, unlocks_good}
+use Rattle.hmc_tally.specs.Tally.{TallyFields, IsWithin, tallied, step_changes, unlocks_good}
 use Rattle.hmc_net.specs.Went.{went_by, went_of}
 use Rattle.hmc_net.specs.declared.went.Went.TheVariants as wents
 use Rattle.hmc_net.proofs.CubeMoves.{moves_of}
-use Rattle.hmc_net.proofs.Doing.{ends_at}
-use Rattle.hmc_net.proofs.Elements.{changed_at}
-use Rattle.hmc_net.proofs.PipedThen.{ArePiped, AreLawful, piped_then}
-use Rattle.hmc_net.proofs.LinkCalls.{same_entries}
+use Rattle.hmc_journal.proofs.DirectionEnds.{ends_at}
+use Rattle.hmc_kept.proofs.Elements.{changed_at}
+use Rattle.hmc_kept.proofs.PipedThen.{ArePiped, AreLawful, piped_then}
+use Rattle.hmc_links.proofs.LinkCalls.{same_entries}
 use Rattle.hmc_net.proofs.Moves.{left_by_rule, queues_step, within_step}
-use Rattle.hmc_net.proofs.Seeing.{IsLawBound, sees_of, choice_seen}
-use Rattle.hmc_net.proofs.TallyLaw.{IsToldBy, tally_next}
+use Rattle.hmc_kept.proofs.LawsShown.{IsLawBound}
+use Rattle.hmc_net.proofs.Seeing.{sees_of, choice_seen}
+use Rattle.hmc_tally.proofs.TallyLaw.{IsToldBy, tally_next}
 use Rattle.hmc_net.proofs.Telling.{told_by}
 
 -- ---- the plain machine

@@ -6,10 +6,12 @@ use Rattle.std.proofs.lemmas.Bool.{and_parts}
 use Rattle.std.proofs.lemmas.List.Elements.{All-nil, All-cons, All-head, All-tail}
 use Rattle.hmc_packet.specs.Packet.{PacketFields}
 use Rattle.hmc_cube.specs.Cube.{held_in_cube}
-use Rattle.hmc_link.specs.Held.{EndFields, LinkHeld, IsQuiet}
+use Rattle.hmc_ends.specs.End.{EndFields, IsQuiet}
+use Rattle.hmc_link.specs.Held.{LinkHeld}
 use Rattle.hmc_net.specs.Finished.{is_quiet_end, is_quiet_link, is_empty_cube, is_quiescent}
 use Rattle.hmc_net.specs.NetState.{NetState}
-use Rattle.hmc_net.specs.Quiescent.{IsQuietLink, IsEmptyCube, IsQuiescent}
+use Rattle.hmc_links.specs.Quiet.{IsQuietLink}
+use Rattle.hmc_net.specs.Quiescent.{IsEmptyCube, IsQuiescent}
 use Rattle.hmc_net.proofs.Stillness.{same_test}
 
 both_true : (a b : Bool) → a ≡ true → b ≡ true → (a && b) ≡ true

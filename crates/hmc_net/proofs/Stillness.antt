@@ -18,7 +18,7 @@ use Rattle.hmc_send.specs.Places.{is_token}
 use Rattle.hmc_send.specs.declared.toward.Toward.{Toward}
 use Rattle.hmc_send.specs.declared.toward.Toward.TheVariants.{Forth, Back}
 use Rattle.hmc_journal.specs.Counts.{token_counts}
-use Rattle.hmc_journal.specs.declared.entry.Entry.{Entry}
+use Rattle.hmc_entries.specs.declared.entry.Entry.{Entry}
 use Rattle.hmc_journal.specs.Drained.{IsDrained, vault_queues, cube_queues, direction_queues, is_drained}
 use Rattle.hmc_journal.specs.Lawful.{has_passed}
 use Rattle.hmc_journal.specs.Links.{toward, link_entries, entries_on, sizes_on}
@@ -26,14 +26,16 @@ use Rattle.hmc_journal.specs.Queues.{QueueId, landing_buffer, contents}
 use Rattle.hmc_journal.specs.Queues.QueueId.{Output, Vault, Bank, Registers, Answers}
 use Rattle.hmc_journal.specs.Setup.{Topology, Setup, no_link, cubes_in, directions_in, shape_of}
 use Rattle.hmc_journal.specs.StepView.{view_of}
-use Rattle.hmc_net.specs.LinkList.{sizes_by, LinksStandFor}
+use Rattle.hmc_links.specs.LinkList.{sizes_by, LinksStandFor}
 use Rattle.hmc_net.specs.NetState.{NetState, cube_in, no_cube, inside}
-use Rattle.hmc_net.specs.Quiescent.{IsQuietLink, IsEmptyCube, IsQuiescent}
-use Rattle.hmc_net.specs.Sees.{IsCubeQueue, ShowsDirection}
+use Rattle.hmc_links.specs.Quiet.{IsQuietLink}
+use Rattle.hmc_net.specs.Quiescent.{IsEmptyCube, IsQuiescent}
+use Rattle.hmc_net.specs.Sees.{IsCubeQueue}
+use Rattle.hmc_kept.specs.Shown.{ShowsDirection}
 use Rattle.hmc_net.specs.Stands.{StandsFor}
-use Rattle.hmc_net.proofs.Elements.{default_same}
-use Rattle.hmc_net.proofs.Laws.{law_bound, drained_of}
-use Rattle.hmc_net.proofs.Seeing.{IsLawBound, direction_shown}
+use Rattle.hmc_kept.proofs.Elements.{default_same}
+use Rattle.hmc_kept.proofs.Laws.{law_bound, drained_of}
+use Rattle.hmc_kept.proofs.LawsShown.{IsLawBound, direction_shown}
 
 -- ---- sums that are nothing
 

@@ -11,23 +11,23 @@ use Rattle.hmc_journal.proofs.LinkKept.{line-flit}
 use Rattle.hmc_journal.proofs.Projections.{received}
 use Rattle.hmc_journal.specs.Counts.{is_good}
 use Rattle.hmc_journal.specs.Directions.{profile_of}
-use Rattle.hmc_journal.specs.Event.{IsLongFlit}
+use Rattle.hmc_entries.specs.Event.{IsLongFlit}
 use Rattle.hmc_journal.specs.Links.{toward, landing_mask, sizes_on, link_entries, entries_on}
 use Rattle.hmc_journal.specs.Next.{next}
 use Rattle.hmc_journal.specs.Setup.{Topology, Setup}
 use Rattle.hmc_journal.specs.StepView.{view_of}
-use Rattle.hmc_journal.specs.declared.entry.Entry.{Entry}
-use Rattle.hmc_journal.specs.declared.entry.Entry.TheVariants.{Landed, Unlocked}
+use Rattle.hmc_entries.specs.declared.entry.Entry.{Entry}
+use Rattle.hmc_entries.specs.declared.entry.Entry.TheVariants.{Landed, Unlocked}
 use Rattle.hmc_net.specs.NetState.{NetState}
-use Rattle.hmc_net.specs.Ready.{IsStepFor, IsLandingIn}
+use Rattle.hmc_wiring.specs.Ready.{IsStepFor, IsLandingIn}
 use Rattle.hmc_net.specs.Stands.{IsNext}
-use Rattle.hmc_net.specs.Tally.{step_changes, unlocks_good}
-use Rattle.hmc_net.proofs.Accepting.{IsCounted, accepts_counted}
-use Rattle.hmc_net.proofs.LinkCalls.{one_there}
-use Rattle.hmc_net.proofs.Masks.{mask_found}
-use Rattle.hmc_net.proofs.NoUnlocks.{unlock_step}
+use Rattle.hmc_tally.specs.Tally.{step_changes, unlocks_good}
+use Rattle.hmc_tally.proofs.Accepting.{IsCounted, accepts_counted}
+use Rattle.hmc_links.proofs.LinkCalls.{one_there}
+use Rattle.hmc_kept.proofs.Masks.{mask_found}
+use Rattle.hmc_kept.proofs.NoUnlocks.{unlock_step}
 use Rattle.hmc_net.proofs.Seeing.{step_there}
-use Rattle.hmc_net.proofs.TallyLaw.{IsToldBy}
+use Rattle.hmc_tally.proofs.TallyLaw.{IsToldBy}
 
 landed_tells : (net : NetState) (past : List Entry) (setup : Setup) (step : Step) (d : ℕ) (flit : List ℕ) (outcome : Outcome) → IsNext net setup past step → HasLanded setup past d flit outcome → length flit ≡ 16
     → IsToldBy setup.topology past (step_changes step) (unlocks_good (view_of setup past) step) (Landed d flit outcome)

@@ -8,14 +8,14 @@ use Rattle.hmc_packet.specs.declared.head.Head.{Head}
 use Rattle.hmc_packet.specs.Head.{head_in}
 use Rattle.hmc_packet.specs.Parts.{lng_of}
 use Rattle.hmc_case.specs.declared.setup.LinkRow.{LinkRow}
-use Rattle.hmc_link.specs.Answers.{after_call}
+use Rattle.hmc_ends.specs.Answers.{after_call}
 use Rattle.hmc_link.specs.Held.{LinkHeld}
 use Rattle.hmc_send.specs.LinkCalls.{LinkCall, next_entry, with_entry, entry_if, view_in, may_pass_on, names_flits}
 use Rattle.hmc_send.specs.LinkEntries.{LinkEntry}
 use Rattle.hmc_schedule.specs.declared.step.Step.TheVariants as steps
-use Rattle.hmc_journal.specs.declared.outcome.Cause.TheVariants as causes
-use Rattle.hmc_journal.specs.declared.entry.Entry.{Entry}
-use Rattle.hmc_journal.specs.declared.entry.Entry.TheVariants.{Through, Idle}
+use Rattle.hmc_entries.specs.declared.outcome.Cause.TheVariants as causes
+use Rattle.hmc_entries.specs.declared.entry.Entry.{Entry}
+use Rattle.hmc_entries.specs.declared.entry.Entry.TheVariants.{Through, Idle}
 use Rattle.hmc_journal.specs.Links.{toward, direction_to, forwarded_on}
 use Rattle.hmc_journal.specs.Next.{choice}
 use Rattle.hmc_journal.specs.Piped.{pipe_of}
@@ -24,18 +24,21 @@ use Rattle.hmc_journal.specs.Queues.QueueId.{Port}
 use Rattle.hmc_journal.specs.Setup.{Topology, directions_in, direction_from}
 use Rattle.hmc_journal.specs.StepView.{StepView}
 use Rattle.hmc_journal.specs.ThroughSteps.{gathered_head, onward_port, is_forwarded, takes_on, forwarded_entry, through_head}
-use Rattle.hmc_net.specs.Apply.{DoesStep, gathered_from, begun_from}
-use Rattle.hmc_net.specs.LinkList.{sizes_by, LinksStandFor, called, IsGathered}
+use Rattle.hmc_net.specs.Apply.{DoesStep}
+use Rattle.hmc_kept.specs.After.{gathered_from, begun_from}
+use Rattle.hmc_links.specs.LinkList.{sizes_by, LinksStandFor, called, IsGathered}
 use Rattle.hmc_net.specs.NetState.{NetState}
-use Rattle.hmc_net.specs.Pipes.{PipesHeld, AreCounted, after_begin}
+use Rattle.hmc_kept.specs.Pipes.{PipesHeld, AreCounted, after_begin}
 use Rattle.hmc_through.specs.Pipe.{PipeFields}
 use Rattle.hmc_codes.specs.declared.profile.Profile.{Profile}
 use Rattle.hmc_journal.specs.Directions.{profile_of}
-use Rattle.hmc_net.specs.Sees.{Sees, IsSized, IsReady, gathered}
+use Rattle.hmc_net.specs.Sees.{Sees, IsSized, IsReady}
+use Rattle.hmc_kept.specs.Shown.{gathered}
 use Rattle.hmc_net.specs.Throughs.{IsHeadAt, IsOnto, is_free, IsFree, IsComing, pipe_fields}
-use Rattle.hmc_net.proofs.Doing.{links_do, idle_does, ends_at, starts_there, called_puts}
-use Rattle.hmc_net.proofs.LinkCalls.{same_entries}
-use Rattle.hmc_net.proofs.PipeLemmas.{begin_counted}
+use Rattle.hmc_net.proofs.Doing.{links_do, idle_does, called_puts}
+use Rattle.hmc_journal.proofs.DirectionEnds.{ends_at, starts_there}
+use Rattle.hmc_links.proofs.LinkCalls.{same_entries}
+use Rattle.hmc_kept.proofs.PipeLemmas.{begin_counted}
 use Rattle.hmc_net.proofs.ThroughFacts.{going_on}
 
 -- the entry by the head of the packet that is gathered at the port

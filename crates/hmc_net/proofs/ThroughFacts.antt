@@ -12,17 +12,18 @@ use Rattle.hmc_packet.specs.Head.{head_in, head_with, named_by}
 use Rattle.hmc_packet.specs.Header.{header_of, header_is_clean}
 use Rattle.hmc_packet.specs.Packet.{PacketFields}
 use Rattle.hmc_packet.specs.Parts.{header_in, lng_of}
-use Rattle.hmc_link.specs.Answers.{front_in}
+use Rattle.hmc_ends.specs.Answers.{front_in}
 use Rattle.hmc_send.specs.LinkCalls.{view_in, may_pass_on, names_flits}
 use Rattle.hmc_journal.specs.Links.{toward}
 use Rattle.hmc_journal.specs.Queues.{landing_buffer}
 use Rattle.hmc_journal.specs.Setup.{directions_in}
 use Rattle.hmc_journal.specs.StepView.{StepView}
 use Rattle.hmc_journal.specs.ThroughSteps.{gathered_head, is_forwarded, takes_on}
-use Rattle.hmc_net.specs.LinkList.{sizes_by, IsArrival, IsGathered, IsTaking, MayBegin}
+use Rattle.hmc_links.specs.LinkList.{sizes_by, IsArrival, IsGathered, IsTaking, MayBegin}
 use Rattle.hmc_net.specs.NetState.{NetState}
-use Rattle.hmc_net.specs.Pipes.{forwarded_at}
-use Rattle.hmc_net.specs.Sees.{Sees, IsReady, gathered, some_flits, AreShort}
+use Rattle.hmc_kept.specs.Pipes.{forwarded_at}
+use Rattle.hmc_net.specs.Sees.{Sees, IsReady}
+use Rattle.hmc_kept.specs.Shown.{gathered, some_flits, AreShort}
 use Rattle.hmc_net.specs.Throughs.{IsComing, is_free}
 
 -- ---- the flits that are gathered

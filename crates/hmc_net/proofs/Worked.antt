@@ -23,14 +23,14 @@ use Rattle.hmc_schedule.specs.declared.step.Step.TheVariants as steps
 use Rattle.hmc_send.specs.LinkCalls.{LinkCall, next_entry}
 use Rattle.hmc_send.specs.LinkEntries.{LinkEntry}
 use Rattle.hmc_send.specs.declared.toward.Toward.TheVariants.{Back}
-use Rattle.hmc_journal.specs.declared.outcome.Cause.TheVariants as causes
-use Rattle.hmc_journal.specs.declared.entry.Entry.TheVariants.{Sent, Executed, Discarded, Unlocked, Retired, Passed, Idle}
+use Rattle.hmc_entries.specs.declared.outcome.Cause.TheVariants as causes
+use Rattle.hmc_entries.specs.declared.entry.Entry.TheVariants.{Sent, Executed, Discarded, Unlocked, Retired, Passed, Idle}
 use Rattle.hmc_journal.specs.Queues.QueueId.{Output, Host, Registers, Answers}
 use Rattle.hmc_journal.specs.StepView.{StepView}
 use Rattle.hmc_net.specs.declared.went.Went.TheVariants as wents
-use Rattle.hmc_net.specs.Apply.{slots_after}
+use Rattle.hmc_kept.specs.After.{slots_after}
 use Rattle.hmc_net.specs.Gives.{cause_by}
-use Rattle.hmc_net.specs.LinkList.{called}
+use Rattle.hmc_links.specs.LinkList.{called}
 use Rattle.hmc_net.specs.NetState.{no_cube, no_host, inside}
 use Rattle.hmc_net.specs.Went.{went_of}
 

@@ -1,17 +1,16 @@
 -- What a network shows at its end.
-use Rattle.std.specs.Prelude.{ℕ, ◌/◌, ◌==◌, ◌&&◌, Bool, List, [], replicate, length, is_none, slice_get, Option, Some, None}
+use Rattle.std.specs.Prelude.{ℕ, ◌==◌, ◌&&◌, Bool, List, [], replicate, length, is_none, slice_get, Option, Some, None}
 use Rattle.std.specs.List.{list_all}
 use Rattle.hmc_codes.specs.declared.counts.HostCounts.{HostCounts}
-use Rattle.hmc_codes.specs.declared.counts.TokenRow.{TokenRow}
 use Rattle.hmc_report.specs.Final.{FinalValues}
 use Rattle.hmc_cube.specs.Cube.{CubeFields, held_in_cube}
 use Rattle.hmc_host.specs.Host.{HostFields}
 use Rattle.hmc_host.specs.Tags.{number_out}
-use Rattle.hmc_link.specs.Held.{EndFields, LinkHeld, sending_end, landing_end, row_held}
-use Rattle.hmc_send.specs.declared.toward.Toward.{Toward}
-use Rattle.hmc_journal.specs.Links.{toward}
+use Rattle.hmc_ends.specs.End.{EndFields}
+use Rattle.hmc_link.specs.Held.{LinkHeld}
 use Rattle.hmc_net.specs.NetState.{NetState}
-use Rattle.hmc_net.specs.Tally.{direction_row, host_row, cube_row}
+use Rattle.hmc_tally.specs.Tally.{direction_row, host_row, cube_row}
+use Rattle.hmc_links.specs.Tokens.{tokens_at}
 
 -- the bytes and the registers of a cube; a cube that isn't there has no bytes
 abbrev pub memory_of : Option CubeFields → List ℕ
@@ -21,17 +20,6 @@ memory_of (Some cube) = cube.state.memory
 abbrev pub registers_of : Option CubeFields → List ℕ
 registers_of None = replicate 16 0
 registers_of (Some cube) = cube.state.registers
-
--- the tokens of a direction by what its link holds
-abbrev pub no_tokens : TokenRow
-no_tokens = record { held = 0; transit = 0; used = 0; due = 0; returning = 0 }
-
-abbrev pub tokens_of : Toward → Option LinkHeld → TokenRow
-tokens_of d None = no_tokens
-tokens_of d (Some link) = row_held (sending_end d link) (landing_end d link)
-
-abbrev pub tokens_at : List LinkHeld → (direction : ℕ) → TokenRow
-tokens_at links direction = tokens_of (toward direction) (slice_get links (direction / 2))
 
 -- the tags of a host that are out
 abbrev pub out_of : Option HostFields → ℕ

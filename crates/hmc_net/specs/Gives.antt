@@ -11,11 +11,11 @@ use Rattle.hmc_link.specs.Held.{LinkHeld}
 use Rattle.hmc_packet.specs.Transactions.{request_packet}
 use Rattle.hmc_send.specs.LinkCalls.{LinkCall, has_room}
 use Rattle.hmc_send.specs.LinkEntries.{LinkEntry}
-use Rattle.hmc_journal.specs.declared.outcome.Cause.{Cause}
-use Rattle.hmc_journal.specs.declared.outcome.Cause.TheVariants as causes
+use Rattle.hmc_entries.specs.declared.outcome.Cause.{Cause}
+use Rattle.hmc_entries.specs.declared.outcome.Cause.TheVariants as causes
 use Rattle.hmc_journal.specs.Links.{toward}
 use Rattle.hmc_journal.specs.Queues.{tag_number}
-use Rattle.hmc_net.specs.LinkList.{sizes_by, LinksStandFor, called}
+use Rattle.hmc_links.specs.LinkList.{sizes_by, LinksStandFor, called}
 
 -- the cause that a host gives nothing
 abbrev pub cause_by : Hindrance → Cause

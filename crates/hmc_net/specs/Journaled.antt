@@ -2,7 +2,7 @@
 use Rattle.std.specs.Prelude.{◌≡◌, ◌≤◌, false, length, slice_get, List, Option, Some}
 use Rattle.hmc_units.specs.Unit.{UnitFields}
 use Rattle.hmc_schedule.specs.declared.step.Step.{Step}
-use Rattle.hmc_journal.specs.Journal.{JournalFields}
+use Rattle.hmc_entries.specs.Journal.{JournalFields}
 use Rattle.hmc_journal.specs.Lawful.{has_passed}
 use Rattle.hmc_journal.specs.Setup.{Setup}
 use Rattle.hmc_net.specs.NetState.{NetState, NetParts, net_of}

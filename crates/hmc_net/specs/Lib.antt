@@ -1,11 +1,6 @@
-pub mod Tally
-pub mod Pipes
 pub mod NetState
-pub mod LinkList
-pub mod Wiring
 pub mod Sees
 pub mod Apply
-pub mod Ready
 pub mod Ports
 pub mod Throughs
 pub mod Stands

@@ -9,12 +9,12 @@ use Rattle.hmc_cube.specs.Places.{answers_at}
 use Rattle.hmc_host.specs.Host.{HostFields}
 use Rattle.hmc_link.specs.Held.{LinkHeld}
 use Rattle.hmc_units.specs.Unit.{UnitFields}
-use Rattle.hmc_journal.specs.declared.entry.Entry.{Entry}
+use Rattle.hmc_entries.specs.declared.entry.Entry.{Entry}
 use Rattle.hmc_journal.specs.Queues.{QueueId}
 use Rattle.hmc_journal.specs.Queues.QueueId.{Output, Port, Host, Vault, Bank, Registers, Answers}
 use Rattle.hmc_journal.specs.Setup.{Topology}
-use Rattle.hmc_net.specs.Pipes.{PipesHeld}
-use Rattle.hmc_net.specs.Tally.{TallyFields}
+use Rattle.hmc_kept.specs.Pipes.{PipesHeld}
+use Rattle.hmc_tally.specs.Tally.{TallyFields}
 
 -- its cubes, hosts and links, each by its number, the slots of its logic units, the packets that
 -- are forwarded, what is counted, and the entry of the latest step

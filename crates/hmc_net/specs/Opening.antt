@@ -6,10 +6,10 @@ use Rattle.hmc_units.specs.Unit.{UnitFields}
 use Rattle.hmc_cube.specs.Cube.{CubeFields, opening_cube}
 use Rattle.hmc_host.specs.Host.{HostFields, opening_host}
 use Rattle.hmc_journal.specs.Setup.{Topology, hosts_in, directions_in}
-use Rattle.hmc_net.specs.LinkList.{LinksStandFor}
-use Rattle.hmc_net.specs.Pipes.{AreCounted, AreUnused}
+use Rattle.hmc_links.specs.LinkList.{LinksStandFor}
+use Rattle.hmc_kept.specs.Pipes.{AreCounted, AreUnused}
 use Rattle.hmc_net.specs.NetState.{NetState}
-use Rattle.hmc_net.specs.Tally.{opening_tally}
+use Rattle.hmc_tally.specs.Tally.{opening_tally}
 
 -- empty cubes with these setups, numbered from 0
 pub record AreNewCubes (setups : List CubeSetupFields) (cubes : List CubeFields) : Type 0 where

@@ -3,14 +3,14 @@ use Rattle.std.specs.Prelude.{◌≡◌, ℕ, is_none, Option, Some}
 use Rattle.hmc_codes.specs.declared.place.Place.TheVariants as places
 use Rattle.hmc_packet.specs.Packet.{PacketFields}
 use Rattle.hmc_crossbar.specs.To.{where_to}
-use Rattle.hmc_journal.specs.declared.outcome.Goal.{Goal}
-use Rattle.hmc_journal.specs.declared.outcome.Goal.TheVariants as goals
+use Rattle.hmc_entries.specs.declared.outcome.Goal.{Goal}
+use Rattle.hmc_entries.specs.declared.outcome.Goal.TheVariants as goals
 use Rattle.hmc_journal.specs.Links.{direction_to}
 use Rattle.hmc_journal.specs.Next.{goal_at, lacks_room}
 use Rattle.hmc_journal.specs.Queues.{output_from}
 use Rattle.hmc_journal.specs.Setup.{graph_of, shape_of, direction_from}
 use Rattle.hmc_journal.specs.StepView.{StepView}
-use Rattle.hmc_net.specs.LinkList.{IsFrontAt}
+use Rattle.hmc_links.specs.LinkList.{IsFrontAt}
 use Rattle.hmc_net.specs.NetState.{NetState}
 use Rattle.hmc_net.specs.Sees.{Sees}
 

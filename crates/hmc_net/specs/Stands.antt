@@ -1,7 +1,7 @@
 -- When a network stands for a case and the journal of its steps.
 use Rattle.std.specs.Prelude.{◌≡◌, ◌≤◌, ◌<◌, ◌^◌, ℕ, false, List, All, length, slice_get, Some}
 use Rattle.hmc_schedule.specs.declared.step.Step.{Step}
-use Rattle.hmc_journal.specs.declared.entry.Entry.{Entry}
+use Rattle.hmc_entries.specs.declared.entry.Entry.{Entry}
 use Rattle.hmc_journal.specs.Hosts.{host_of}
 use Rattle.hmc_journal.specs.Lawful.{Lawful, has_passed}
 use Rattle.hmc_journal.specs.Links.{link_entries}
@@ -10,12 +10,12 @@ use Rattle.hmc_journal.specs.Queues.{QueueId, left, entered, contents}
 use Rattle.hmc_journal.specs.Piped.{forwarded_onto, pipe_onto}
 use Rattle.hmc_journal.specs.Setup.{Setup, directions_in}
 use Rattle.hmc_journal.specs.StepView.{state_of}
-use Rattle.hmc_net.specs.LinkList.{LinksStandFor}
-use Rattle.hmc_net.specs.Pipes.{forwarded_at, pipe_at}
+use Rattle.hmc_links.specs.LinkList.{LinksStandFor}
+use Rattle.hmc_kept.specs.Pipes.{forwarded_at, pipe_at}
 use Rattle.hmc_net.specs.NetState.{NetState, host_in, inside, machine_in}
-use Rattle.hmc_net.specs.Ready.{IsStepFor}
+use Rattle.hmc_wiring.specs.Ready.{IsStepFor}
 use Rattle.hmc_net.specs.Sees.{IsCubeQueue, IsSized}
-use Rattle.hmc_net.specs.Tally.{IsWithin, tally_of}
+use Rattle.hmc_tally.specs.Tally.{IsWithin, tally_of}
 
 -- The parts of the network are as this journal says, which is a lawful journal of the case, and the
 -- steps of the case are steps of its parts. Each link stands for the entries that the journal has

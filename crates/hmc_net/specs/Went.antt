@@ -1,8 +1,8 @@
 -- How a step went.
 use Rattle.std.specs.Prelude.{if◌then◌else◌, Option, Some, None}
-use Rattle.hmc_journal.specs.declared.outcome.Cause.{Cause}
-use Rattle.hmc_journal.specs.declared.entry.Entry.{Entry}
-use Rattle.hmc_journal.specs.Event.{cause_of, is_passed}
+use Rattle.hmc_entries.specs.declared.outcome.Cause.{Cause}
+use Rattle.hmc_entries.specs.declared.entry.Entry.{Entry}
+use Rattle.hmc_entries.specs.Event.{cause_of, is_passed}
 use Rattle.hmc_net.specs.declared.went.Went.{Went}
 use Rattle.hmc_net.specs.declared.went.Went.TheVariants.{Done, Idle, Passed}
 

@@ -26,23 +26,18 @@
 //!
 //! In `specs/`, `Stands` has that relation, over the parts in `NetState`, `Journaled` has the
 //! network with its journal, and `Opening` has the network of a case. The others are steps of the
-//! proof: the links by the numbers of directions (`LinkList`), where directions start (`Wiring`),
-//! what a step sees (`Sees`), which steps there are (`Ready`), what a step does (`Apply`), what a
-//! give hands to a link (`Gives`), which entry an answer of a link is (`Links`), where a packet
-//! goes from a port (`Ports`), which packets are forwarded before they have come whole (`Pipes`),
-//! which one the step through forwards (`Throughs`), when no packet is on its way (`Quiescent`),
-//! what is counted (`Tally`), what is shown at the end (`Finished`), and `Went`.
+//! proof: what a step sees (`Sees`) and does (`Apply`), what a give hands to a link (`Gives`), what
+//! a landing rests on (`Links`), where a packet goes from a port (`Ports`), which packet the step
+//! through forwards (`Throughs`), when no packet is on its way (`Quiescent`), what is shown at the
+//! end (`Finished`), and `Went`. The parts are in crates of their own: where directions start
+//! (hmc_wiring), the links by the numbers of directions (hmc_links), which packets are forwarded
+//! before they have come whole (hmc_kept), and what is counted (hmc_tally).
 #![tactic(auto)]
 
-mod link_list;
 mod net;
 mod network;
-mod pipes;
 mod shown;
-mod starts;
-mod tally;
 mod went;
-mod wiring;
 
 pub use net::Net;
 pub use network::Network;

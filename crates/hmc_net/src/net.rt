@@ -15,7 +15,7 @@ use crate::{Network, Went};
 use hmc_case::Case;
 use hmc_codes::{Memory, TokenRow};
 use hmc_cube::Cube;
-use hmc_journal::{Cause, Entry, Journal};
+use hmc_entries::{Cause, Entry, Journal};
 use hmc_schedule::Step;
 use hmc_units::Workbench;
 use std::alloc::Global;

@@ -3,7 +3,7 @@
 ghost use Rattle.std.specs.Prelude.{◌≡◌};
 ghost use Rattle.hmc_net.specs.Went.{went_of};
 
-use hmc_journal::{Cause, LastEntry};
+use hmc_entries::{Cause, LastEntry};
 
 /// How a step went.
 #[derive(Clone, Copy, Debug, PartialEq, Eq)]

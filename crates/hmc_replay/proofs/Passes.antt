@@ -1,8 +1,8 @@
 -- A landing that passes is the last entry of its journal.
 use Rattle.std.proofs.Common.{◌≡◌, ◌∙◌, ◌||◌, Bool, true, false, List, [], ◌∷◌, refl, ap}
 use Rattle.std.specs.List.{list_any}
-use Rattle.hmc_journal.specs.declared.entry.Entry.{Entry}
-use Rattle.hmc_journal.specs.Event.{is_passed}
+use Rattle.hmc_entries.specs.declared.entry.Entry.{Entry}
+use Rattle.hmc_entries.specs.Event.{is_passed}
 use Rattle.hmc_journal.specs.Lawful.{has_passed, Lawful, journal_of}
 use Rattle.hmc_journal.specs.Setup.{Setup}
 use Rattle.hmc_journal.proofs.Whole.{journal_is_whole}

@@ -1,13 +1,13 @@
 -- The report of a case, from the network after the case's steps.
 use Rattle.std.proofs.Common.{◌≡◌, ◌∙◌, ℕ, Bool, true, false, List, [], ◌∷◌, ◌++◌, Result, Ok, Err, IsErrAnd, if◌then◌else◌, arith, refl, sym, ap, subst, append-nil, append_assoc}
-use Rattle.hmc_journal.specs.declared.entry.Entry.{Entry}
-use Rattle.hmc_journal.specs.declared.entry.Entry.TheVariants.{Passed}
+use Rattle.hmc_entries.specs.declared.entry.Entry.{Entry}
+use Rattle.hmc_entries.specs.declared.entry.Entry.TheVariants.{Passed}
 use Rattle.hmc_journal.specs.Final.{final_lines_of}
 use Rattle.hmc_journal.specs.Guarantees.{Guarantees}
 use Rattle.hmc_journal.specs.Lawful.{has_passed, journal_of}
-use Rattle.hmc_journal.specs.Lines.{line_of}
+use Rattle.hmc_entries.specs.Lines.{line_of}
 use Rattle.hmc_journal.specs.Setup.{Setup}
-use Rattle.hmc_journal.specs.Text.{lines_of}
+use Rattle.hmc_entries.specs.Text.{lines_of}
 use Rattle.hmc_net.specs.Finished.{net_values}
 use Rattle.hmc_net.specs.NetState.{NetState}
 use Rattle.hmc_net.proofs.FinalStands.{final_lines-stands, ending_lines-stands}

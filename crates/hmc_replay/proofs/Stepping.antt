@@ -1,13 +1,13 @@
 -- Taking the steps of a case one after another, and writing the line of each.
 use Rattle.std.proofs.Common.{◌≡◌, ◌∙◌, ◌+◌, ◌⊎◌, inl, inr, Result, Ok, Err, IsErrAnd, ℕ, suc, Bool, true, false, List, [], ◌∷◌, ◌++◌, length, drop, slice_get, Some, refl, sym, ap, subst, add-one, append-nil, append_assoc}
 use Rattle.hmc_schedule.specs.declared.step.Step.{Step}
-use Rattle.hmc_journal.specs.declared.entry.Entry.{Entry}
-use Rattle.hmc_journal.specs.Event.{is_passed}
+use Rattle.hmc_entries.specs.declared.entry.Entry.{Entry}
+use Rattle.hmc_entries.specs.Event.{is_passed}
 use Rattle.hmc_journal.specs.Lawful.{has_passed, Lawful, journal_behind, journal_of}
-use Rattle.hmc_journal.specs.Lines.{line_of}
+use Rattle.hmc_entries.specs.Lines.{line_of}
 use Rattle.hmc_journal.specs.Next.{next}
 use Rattle.hmc_journal.specs.Setup.{Setup}
-use Rattle.hmc_journal.specs.Text.{lines_of}
+use Rattle.hmc_entries.specs.Text.{lines_of}
 use Rattle.hmc_journal.proofs.OneJournal.{goes_on, ends_there, behind, journal_of-whole}
 use Rattle.hmc_net.specs.NetState.{NetState}
 use Rattle.hmc_net.specs.Stands.{StandsFor, IsNext}

@@ -1,10 +1,10 @@
 -- The slots of a bench after a replay.
 use Rattle.std.specs.Prelude.{◌≡◌, ◌⊎◌, Bool, List, [], Option, Result, Ok, Err}
-use Rattle.hmc_journal.specs.declared.entry.Entry.{Entry}
+use Rattle.hmc_entries.specs.declared.entry.Entry.{Entry}
 use Rattle.hmc_journal.specs.Lawful.{Lawful, journal_of}
 use Rattle.hmc_journal.specs.Setup.{Setup}
 use Rattle.hmc_journal.specs.StepView.{state_of}
-use Rattle.hmc_journal.specs.Text.{lines_of}
+use Rattle.hmc_entries.specs.Text.{lines_of}
 use Rattle.hmc_outside.specs.Lines.{BreaksOff}
 use Rattle.hmc_outside.specs.Views.{SinkView}
 use Rattle.hmc_outside.specs.declared.counts.Failed.{Failed}

@@ -1,13 +1,13 @@
 -- The lines that are written for a case and its logic units.
 use Rattle.std.specs.Prelude.{ℕ, if◌then◌else◌, Bool, true, false, List, [], ◌∷◌, ◌++◌}
 use Rattle.std.specs.List.{list_any}
-use Rattle.hmc_journal.specs.declared.entry.Entry.{Entry}
-use Rattle.hmc_journal.specs.Event.{is_passed}
+use Rattle.hmc_entries.specs.declared.entry.Entry.{Entry}
+use Rattle.hmc_entries.specs.Event.{is_passed}
 use Rattle.hmc_journal.specs.Final.{values_of, final_lines_of}
 use Rattle.hmc_journal.specs.Lawful.{journal_of}
-use Rattle.hmc_journal.specs.Lines.{line_of}
+use Rattle.hmc_entries.specs.Lines.{line_of}
 use Rattle.hmc_journal.specs.Setup.{Setup}
-use Rattle.hmc_journal.specs.Text.{lines_of}
+use Rattle.hmc_entries.specs.Text.{lines_of}
 use Rattle.hmc_report.specs.Final.{ending_lines}
 use Rattle.hmc_replay.specs.declared.extent.Extent.{Extent}
 use Rattle.hmc_replay.specs.declared.extent.Extent.TheVariants.{Whole, Short}

@@ -1,7 +1,7 @@
 -- What is due for a case that is replayed.
 use Rattle.std.specs.Prelude.{◌≡◌, ℕ, List, ◌∷◌}
-use Rattle.hmc_journal.specs.declared.entry.Entry.{Entry}
-use Rattle.hmc_journal.specs.declared.entry.Entry.TheVariants.{Passed}
+use Rattle.hmc_entries.specs.declared.entry.Entry.{Entry}
+use Rattle.hmc_entries.specs.declared.entry.Entry.TheVariants.{Passed}
 use Rattle.hmc_journal.specs.Guarantees.{Guarantees}
 use Rattle.hmc_journal.specs.Lawful.{journal_of}
 use Rattle.hmc_journal.specs.Setup.{Setup}

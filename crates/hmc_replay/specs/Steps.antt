@@ -1,11 +1,11 @@
 -- Taking the steps of a case, one after another.
 use Rattle.std.specs.Prelude.{◌≡◌, ◌⊎◌, ℕ, Bool, true, false, List, [], ◌∷◌, length, Result, Ok, Err}
 use Rattle.hmc_schedule.specs.declared.step.Step.{Step}
-use Rattle.hmc_journal.specs.declared.entry.Entry.{Entry}
-use Rattle.hmc_journal.specs.Event.{is_passed}
+use Rattle.hmc_entries.specs.declared.entry.Entry.{Entry}
+use Rattle.hmc_entries.specs.Event.{is_passed}
 use Rattle.hmc_journal.specs.Lawful.{has_passed, journal_of}
 use Rattle.hmc_journal.specs.Setup.{Setup}
-use Rattle.hmc_journal.specs.Text.{lines_of}
+use Rattle.hmc_entries.specs.Text.{lines_of}
 use Rattle.hmc_net.specs.NetState.{NetState}
 use Rattle.hmc_net.specs.Stands.{StandsFor}
 use Rattle.hmc_outside.specs.Lines.{WritesLines, BreaksOff}

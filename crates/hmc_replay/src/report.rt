@@ -16,7 +16,7 @@ use crate::extent::Extent;
 use crate::output::{finish, write_line};
 use crate::steps::{take_steps, write_entry, write_steps};
 use hmc_codes::LineText;
-use hmc_journal::journal_guarantees;
+use hmc_delivery::journal_guarantees;
 use hmc_net::Network;
 use hmc_outside::{Failed, Sink};
 use hmc_report::{Finished, Lines, Part};

@@ -4,8 +4,8 @@
 //! passed.
 
 ghost use Rattle.std.specs.Prelude.{◌≡◌, ◌<◌, [], ◌∷◌, List, length};
-ghost use Rattle.hmc_journal.specs.declared.entry.Entry.{Entry};
-ghost use Rattle.hmc_journal.specs.Lines.{line_of};
+ghost use Rattle.hmc_entries.specs.declared.entry.Entry.{Entry};
+ghost use Rattle.hmc_entries.specs.Lines.{line_of};
 ghost use Rattle.hmc_journal.specs.Setup.{Setup};
 ghost use Rattle.hmc_net.specs.NetState.{net_of};
 ghost use Rattle.hmc_replay.specs.Output.{Writes};
@@ -13,7 +13,7 @@ ghost use Rattle.hmc_replay.specs.Steps.{IsAt, IsAfter, TookAll, WroteAll};
 
 use crate::output::write_line;
 use hmc_codes::LineText;
-use hmc_journal::LastEntry;
+use hmc_entries::LastEntry;
 use hmc_net::Network;
 use hmc_outside::{Failed, Sink};
 use hmc_schedule::Schedule;

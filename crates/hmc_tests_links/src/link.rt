@@ -4,7 +4,7 @@
 ghost use Rattle.std.specs.Prelude.{◌≡◌, true, Some, IfOk, IsSome, length};
 ghost use Rattle.hmc_codes.specs.declared.profile.Profile.{Profile};
 ghost use Rattle.hmc_send.specs.Given.{IsFrontFit};
-ghost use Rattle.hmc_link.specs.Landings.{has_passed};
+ghost use Rattle.hmc_ends.specs.Landings.{has_passed};
 
 use hmc_codes::{Command, Flit, LinkSetup, Memory, Payload, Profile, Request, TokenRow, ZERO_FLIT};
 use hmc_link::{Link, LinkLanded, LinkSent, Toward};

@@ -52,8 +52,8 @@ use Rattle.hmc_send.specs.Entries as senders
 use Rattle.hmc_send.specs.LinkEntries.{receiver_entries, handed_packets, takes}
 use Rattle.hmc_send.specs.LinkSenders.{given_after, sender_entries, tokens}
 use Rattle.hmc_hops.specs.Delivered.{IsPrefix, IsChain}
-use Rattle.hmc_journal.specs.declared.entry.Entry.{Entry}
-use Rattle.hmc_journal.specs.declared.entry.Entry.TheVariants.{Gave, Sent, Landed, Executed, Lifted, Took, Through, Unlocked}
+use Rattle.hmc_entries.specs.declared.entry.Entry.{Entry}
+use Rattle.hmc_entries.specs.declared.entry.Entry.TheVariants.{Gave, Sent, Landed, Executed, Lifted, Took, Through, Unlocked}
 use Rattle.hmc_journal.specs.Carried.{tagged_requests, tagged_answers, answers_to, answers_lifted, answers_taken, begun_here, waiting_along, marked}
 use Rattle.hmc_journal.specs.Counts.{token_counts}
 use Rattle.hmc_journal.specs.Delivered.{IsScripted, LinksInOrder, DeliveredInOrder, AllServed, unnumbered}

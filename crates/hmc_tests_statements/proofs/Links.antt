@@ -35,7 +35,7 @@ use Rattle.hmc_send.specs.LinkEntries.{LinkEntry, receiver_entries, accepted_pac
 use Rattle.hmc_send.specs.LinkLines.{line, landings, sent_flits}
 use Rattle.hmc_send.specs.LinkSenders.{given_after, sender_entries, tokens}
 use Rattle.hmc_send.specs.Places.{Place}
-use Rattle.hmc_link.specs.List.{listed_place, leaves}
+use Rattle.hmc_ends.specs.List.{listed_place, leaves}
 use Rattle.hmc_wire.specs.LinkLaws.{IsKept, DirectionLaws, TokenLaws, WasAccepted, HasNumbers, Put, IsBegunOf, AreBegunOf, begun_puts, puts, begun_of}
 use Rattle.hmc_wire.proofs.LawsHold.{direction-laws}
 

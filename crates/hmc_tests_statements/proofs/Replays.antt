@@ -13,7 +13,7 @@ use Rattle.hmc_report.specs.Final.{AppendsSome}
 use Rattle.hmc_case.specs.Case.{CaseFields, case_of}
 use Rattle.hmc_case.specs.Reading.{Fault}
 use Rattle.hmc_journal.specs.Final.{final_lines_of}
-use Rattle.hmc_journal.specs.Text.{lines_of}
+use Rattle.hmc_entries.specs.Text.{lines_of}
 use Rattle.hmc_replay.specs.MakeAnswer.{made_setup}
 use Rattle.hmc_replay.specs.Report.{passes, lines_unless, report_of, short_report_of}
 use Rattle.hmc_replay.specs.Reported.{EndsAtPass}

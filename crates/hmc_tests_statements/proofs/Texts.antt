@@ -10,16 +10,16 @@ use Rattle.hmc_script.specs.Laws.{PrintedIsRead}
 use Rattle.hmc_script.specs.Script.{script_of}
 use Rattle.hmc_script.specs.Text.{script_text}
 use Rattle.hmc_schedule.specs.declared.step.Step.TheVariants as steps
-use Rattle.hmc_journal.specs.declared.entry.Entry.{Entry}
-use Rattle.hmc_journal.specs.declared.entry.Entry.TheVariants.{Gave, Idle, Unlocked}
-use Rattle.hmc_journal.specs.declared.outcome.Cause.TheVariants.{Empty}
+use Rattle.hmc_entries.specs.declared.entry.Entry.{Entry}
+use Rattle.hmc_entries.specs.declared.entry.Entry.TheVariants.{Gave, Idle, Unlocked}
+use Rattle.hmc_entries.specs.declared.outcome.Cause.TheVariants.{Empty}
 use Rattle.hmc_journal.specs.Lawful.{Lawful}
-use Rattle.hmc_journal.specs.Lines.{line_of}
+use Rattle.hmc_entries.specs.Lines.{line_of}
 use Rattle.hmc_journal.specs.Network.{IsNetwork}
-use Rattle.hmc_journal.specs.Parse.{FitsTypes, IsShown, IsPrintable, LineTells, TextTells, text_of}
+use Rattle.hmc_entries.specs.Parse.{FitsTypes, IsShown, IsPrintable, LineTells, TextTells, text_of}
 use Rattle.hmc_journal.specs.ParseJournals.{LawfulIsShown, JournalTells}
 use Rattle.hmc_journal.specs.Setup.{Setup}
-use Rattle.hmc_journal.specs.Text.{lines_of}
+use Rattle.hmc_entries.specs.Text.{lines_of}
 
 -- ---- equal lines and texts are of equal entries, and printed scripts are read again
 

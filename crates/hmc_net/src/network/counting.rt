@@ -2,17 +2,17 @@
 
 ghost use Rattle.std.specs.Prelude.{◌≡◌, ◌<◌, ◌+◌, ◌^◌, ℕ};
 ghost use Rattle.hmc_journal.specs.Counts.{is_good};
-ghost use Rattle.hmc_journal.specs.Event.{event_of, IsLongFlit};
+ghost use Rattle.hmc_entries.specs.Event.{event_of, IsLongFlit};
 ghost use Rattle.hmc_journal.specs.StepView.{StepView};
 ghost use Rattle.hmc_net.specs.NetState.{net_of};
-ghost use Rattle.hmc_net.specs.Ready.{IsStepFor};
+ghost use Rattle.hmc_wiring.specs.Ready.{IsStepFor};
 ghost use Rattle.hmc_net.specs.Sees.{Sees, IsReady};
-ghost use Rattle.hmc_net.specs.Tally.{tallied, step_changes, unlocks_good, IsWithin};
+ghost use Rattle.hmc_tally.specs.Tally.{tallied, step_changes, unlocks_good, IsWithin};
 
 use crate::Network;
-use crate::tally::step_changes;
 use hmc_packet::Mode;
 use hmc_schedule::Step;
+use hmc_tally::step_changes;
 use hmc_units::Workbench;
 
 impl<B: Workbench> Network<B> {

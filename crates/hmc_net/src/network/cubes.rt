@@ -6,13 +6,13 @@ ghost use Rattle.hmc_journal.specs.Answers.{spread_entry, tag_of, ran_entry};
 ghost use Rattle.hmc_journal.specs.Setup.{cubes_in};
 ghost use Rattle.hmc_net.specs.Apply.{DoesStep};
 ghost use Rattle.hmc_net.specs.NetState.{net_of};
-ghost use Rattle.hmc_net.specs.Ready.{IsVaultIn, IsBankIn};
+ghost use Rattle.hmc_wiring.specs.Ready.{IsVaultIn, IsBankIn};
 ghost use Rattle.hmc_net.specs.Sees.{IsReady};
 
 use crate::Network;
 use hmc_codes::{Command, Unit};
 use hmc_cube::{Executed, Spread};
-use hmc_journal::{Cause, LastEntry};
+use hmc_entries::{Cause, LastEntry};
 use hmc_schedule::Step;
 use hmc_units::Workbench;
 

@@ -1,7 +1,7 @@
 //! What a network shows at its end.
 
 ghost use Rattle.std.specs.Prelude.{◌≡◌, List, false};
-ghost use Rattle.hmc_journal.specs.declared.entry.Entry.{Entry};
+ghost use Rattle.hmc_entries.specs.declared.entry.Entry.{Entry};
 ghost use Rattle.hmc_journal.specs.Final.{values_of, final_lines_of};
 ghost use Rattle.hmc_journal.specs.Lawful.{has_passed};
 ghost use Rattle.hmc_journal.specs.Setup.{Setup};

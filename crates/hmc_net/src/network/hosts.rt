@@ -4,19 +4,19 @@ ghost use Rattle.std.specs.Prelude.{◌≡◌, ◌<◌, ◌/◌, ℕ, List, Some
 ghost use Rattle.hmc_case.specs.declared.setup.LinkRow.{LinkRow};
 ghost use Rattle.hmc_codes.specs.declared.place.Place.TheVariants as places;
 ghost use Rattle.hmc_journal.specs.Answers.{gave_entry, took_entry};
-ghost use Rattle.hmc_journal.specs.Event.{cause_of};
+ghost use Rattle.hmc_entries.specs.Event.{cause_of};
 ghost use Rattle.hmc_journal.specs.Setup.{hosts_in, direction_from};
 ghost use Rattle.hmc_send.specs.LinkEntries.{LinkEntry};
 ghost use Rattle.hmc_net.specs.Apply.{DoesStep};
 ghost use Rattle.hmc_net.specs.Gives.{IsGiven, IsRequested, given_to, cause_by};
-ghost use Rattle.hmc_net.specs.LinkList.{LinksStandFor, IsDirection, IsRoom};
+ghost use Rattle.hmc_links.specs.LinkList.{LinksStandFor, IsDirection, IsRoom};
 ghost use Rattle.hmc_net.specs.NetState.{net_of};
 ghost use Rattle.hmc_net.specs.Sees.{IsReady};
 
 use crate::Network;
-use crate::link_list::LinkList;
+use hmc_entries::{Cause, LastEntry};
 use hmc_host::{Given, Hindrance, Settled};
-use hmc_journal::{Cause, LastEntry};
+use hmc_links::LinkList;
 use hmc_schedule::Step;
 use hmc_units::Workbench;
 

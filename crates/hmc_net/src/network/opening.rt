@@ -3,14 +3,14 @@
 ghost use Rattle.std.specs.Prelude.{◌≡◌, ◌≤◌, ◌<◌, ◌*◌, IfOk, length, replicate};
 ghost use Rattle.hmc_codes.specs.Limits.{most_cubes, most_hosts, most_links};
 ghost use Rattle.hmc_net.specs.Opening.{AreNewCubes, AreNewHosts};
-ghost use Rattle.hmc_net.specs.Tally.{no_counters, no_host_steps, no_cube_counts};
+ghost use Rattle.hmc_tally.specs.Tally.{no_counters, no_host_steps, no_cube_counts};
 
-use crate::tally::Tally;
 use hmc_case::{CubeSetup, LinkRow};
 use hmc_codes::Memory;
 use hmc_cube::Cube;
 use hmc_host::Host;
 use hmc_script::Script;
+use hmc_tally::Tally;
 use std::alloc::Global;
 
 /// Empty cubes with these setups, numbered from 0.

@@ -5,13 +5,13 @@ ghost use Rattle.hmc_journal.specs.Setup.{cubes_in};
 ghost use Rattle.hmc_net.specs.Apply.{DoesStep, to_of};
 ghost use Rattle.hmc_net.specs.Ports.{IsShifting, IsInner, IsWayOut};
 ghost use Rattle.hmc_net.specs.NetState.{net_of};
-ghost use Rattle.hmc_net.specs.Ready.{IsPortIn, IsLiftIn};
+ghost use Rattle.hmc_wiring.specs.Ready.{IsPortIn, IsLiftIn};
 ghost use Rattle.hmc_net.specs.Sees.{IsReady};
 
 use crate::Network;
 use hmc_codes::Lift;
 use hmc_crossbar::To;
-use hmc_journal::{Cause, Goal};
+use hmc_entries::{Cause, Goal};
 use hmc_packet::Packet;
 use hmc_schedule::Step;
 use hmc_units::Workbench;

@@ -5,13 +5,13 @@ ghost use Rattle.hmc_packet.specs.Head.{head_in};
 ghost use Rattle.hmc_packet.specs.Parts.{lng_of};
 ghost use Rattle.hmc_net.specs.Apply.{DoesStep};
 ghost use Rattle.hmc_net.specs.NetState.{net_of};
-ghost use Rattle.hmc_net.specs.Ready.{IsPortIn};
+ghost use Rattle.hmc_wiring.specs.Ready.{IsPortIn};
 ghost use Rattle.hmc_net.specs.Sees.{IsReady};
 ghost use Rattle.hmc_net.specs.Throughs.{IsHeadAt, IsOnto, IsFree, IsComing, pipe_fields};
 
 use crate::Network;
 use hmc_codes::{Flit, Profile};
-use hmc_journal::Cause;
+use hmc_entries::Cause;
 use hmc_packet::{Head, head_of, lng_of};
 use hmc_schedule::Step;
 use hmc_through::Pipe;

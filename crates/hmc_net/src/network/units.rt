@@ -7,7 +7,7 @@ ghost use Rattle.hmc_net.specs.NetState.{net_of};
 ghost use Rattle.hmc_net.specs.Sees.{IsReady};
 
 use crate::Network;
-use hmc_journal::{Cause, LastEntry};
+use hmc_entries::{Cause, LastEntry};
 use hmc_schedule::Step;
 use hmc_units::Workbench;
 

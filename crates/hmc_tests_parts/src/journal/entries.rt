@@ -1,7 +1,7 @@
 //! The entries of a journal, in their order.
 
 use hmc_codes::Memory;
-use hmc_journal::{Entry, Journal};
+use hmc_entries::{Entry, Journal};
 use std::alloc::Global;
 use std::test::Fail;
 

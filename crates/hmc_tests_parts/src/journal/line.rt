@@ -1,7 +1,7 @@
 //! The line of each entry.
 
 use hmc_codes::{Answer, Command, Flit, Lift, Memory, Payload, Request, Unit};
-use hmc_journal::{Cause, Entry, Goal};
+use hmc_entries::{Cause, Entry, Goal};
 use hmc_packet::{Bad, Kind, Outcome, What};
 use hmc_schedule::Step;
 use std::alloc::Global;

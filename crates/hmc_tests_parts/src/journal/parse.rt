@@ -1,7 +1,7 @@
 //! Lines that are read back as entries.
 
 use hmc_codes::LineText;
-use hmc_journal::Entry;
+use hmc_entries::Entry;
 use std::str;
 use std::test::Fail;
 

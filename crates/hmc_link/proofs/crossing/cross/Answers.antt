@@ -2,9 +2,9 @@
 use Rattle.std.proofs.Common.{◌≤◌, sym, subst}
 use Rattle.hmc_packet.specs.Landings.{flits_in}
 use Rattle.hmc_send.specs.LinkEntries.{other}
-use Rattle.hmc_link.specs.Held.{EndFields}
-use Rattle.hmc_link.specs.Landings.{stored}
-use Rattle.hmc_link.proofs.CrossLemmas.{empty-answer, empty-stands, lands-of, transit-few, passed-answer, came-answer, came-stands}
+use Rattle.hmc_ends.specs.End.{EndFields}
+use Rattle.hmc_ends.specs.Landings.{stored}
+use Rattle.hmc_ends.proofs.CrossLemmas.{empty-answer, empty-stands, lands-of, transit-few, passed-answer, came-answer, came-stands}
 use Rattle.hmc_link.proofs.Idle.{line-kept}
 use Rattle.hmc_link.proofs.crossing.cross.Goals as goal
 

@@ -1,6 +1,6 @@
 -- The step is the next one, and the network's last entry is that of it.
 use Rattle.std.proofs.Common.{◌∙◌, ap}
-use Rattle.hmc_journal.specs.Event.{is_passed}
+use Rattle.hmc_entries.specs.Event.{is_passed}
 use Rattle.hmc_replay.proofs.Stepping.{is_next, after_step}
 use Rattle.hmc_replay.proofs.steps.take_step.Goals as goal
 

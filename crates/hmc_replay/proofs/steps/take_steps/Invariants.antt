@@ -1,5 +1,5 @@
 use Rattle.std.proofs.Common.{[], List}
-use Rattle.hmc_journal.specs.declared.entry.Entry.{Entry}
+use Rattle.hmc_entries.specs.declared.entry.Entry.{Entry}
 use Rattle.hmc_journal.specs.Setup.{Setup}
 use Rattle.hmc_net.specs.NetState.{net_of}
 use Rattle.hmc_replay.specs.Steps.{IsAt}

@@ -1,6 +1,6 @@
 -- One step more, and its line; or no further one is taken; or the line broke off.
 use Rattle.std.proofs.Common.{[], ◌∷◌, ◌≡◌, length, arith, subst}
-use Rattle.hmc_journal.specs.Lines.{line_of}
+use Rattle.hmc_entries.specs.Lines.{line_of}
 use Rattle.hmc_outside.specs.Lines.{WritesLines, BreaksOff}
 use Rattle.hmc_replay.proofs.Stepping.{at_more, took_all, took_passed, lines_more, wrote_all, wrote_passed, broken_at, lines-none}
 use Rattle.hmc_replay.proofs.steps.write_steps.Goals as goal

@@ -1,9 +1,9 @@
 use Rattle.std.proofs.Common.{◌+◌, ℕ, Fits, w32, subst, sym}
-use Rattle.hmc_link.specs.Held.{EndFields}
-use Rattle.hmc_link.specs.Parts.{parts_of}
-use Rattle.hmc_link.specs.StandsFor.{EndStandsFor, CanPassOn}
-use Rattle.hmc_link.proofs.PartLaws.{part_laws}
-use Rattle.hmc_link.proofs.Throughs.{may-begin, stands-through, sum-fits}
+use Rattle.hmc_ends.specs.End.{EndFields}
+use Rattle.hmc_ends.specs.Parts.{parts_of}
+use Rattle.hmc_ends.specs.StandsFor.{EndStandsFor, CanPassOn}
+use Rattle.hmc_ends.proofs.PartLaws.{part_laws}
+use Rattle.hmc_ends.proofs.Throughs.{may-begin, stands-through, sum-fits}
 use Rattle.hmc_link.proofs.end.End.begin_through.Goals as goal
 
 pub begin_through-requires-clause-free : goal.begin_through-requires-clause-free

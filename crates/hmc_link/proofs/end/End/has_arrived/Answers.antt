@@ -1,4 +1,4 @@
-use Rattle.hmc_link.proofs.Quiet.{used-where}
+use Rattle.hmc_ends.proofs.Quiet.{used-where}
 use Rattle.hmc_link.proofs.end.End.has_arrived.Goals as goal
 
 pub returns : goal.returns

@@ -1,7 +1,7 @@
 -- The queue, the transit and the buffer of the end.
 use Rattle.std.proofs.Common.{refl, ap}
-use Rattle.hmc_link.specs.Held.{EndFields}
-use Rattle.hmc_link.proofs.Quiet.{quiet-by}
+use Rattle.hmc_ends.specs.End.{EndFields}
+use Rattle.hmc_ends.proofs.Quiet.{quiet-by}
 use Rattle.hmc_link.proofs.end.End.is_quiet.Goals as goal
 
 pub returns : goal.returns

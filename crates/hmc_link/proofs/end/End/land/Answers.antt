@@ -4,9 +4,9 @@ use Rattle.hmc_packet.specs.Landings.ReceiverEntry.{Land}
 use Rattle.hmc_packet.specs.Receptions.{reception_of}
 use Rattle.hmc_send.specs.LinkEntries.{other, receiver_entries}
 use Rattle.hmc_send.specs.LinkSenders.{sender_entries}
-use Rattle.hmc_link.specs.Held.{EndFields}
-use Rattle.hmc_link.specs.Landings.{Lands, landed_in}
-use Rattle.hmc_link.proofs.Landing.{passes-is, is-passed, not-passed, both-ways, can-take, landed-is, land-stands}
+use Rattle.hmc_ends.specs.End.{EndFields}
+use Rattle.hmc_ends.specs.Landings.{Lands, landed_in}
+use Rattle.hmc_ends.proofs.Landing.{passes-is, is-passed, not-passed, both-ways, can-take, landed-is, land-stands}
 use Rattle.hmc_link.proofs.end.End.land.Goals as goal
 
 pub returns-then-passes-clause-answer : goal.returns-then-passes-clause-answer

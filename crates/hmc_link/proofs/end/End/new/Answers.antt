@@ -5,7 +5,7 @@ use Rattle.hmc_codes.specs.Link.{LinkFields}
 use Rattle.hmc_receive.specs.StandsFor.{ReceiverStandsFor}
 use Rattle.hmc_send.specs.Sender.{opening_sender}
 use Rattle.hmc_tokens.specs.Account.{opening_account}
-use Rattle.hmc_link.proofs.Opening.{stands-new}
+use Rattle.hmc_ends.proofs.Opening.{stands-new}
 use Rattle.hmc_link.proofs.end.End.new.Goals as goal
 
 pub returns : goal.returns

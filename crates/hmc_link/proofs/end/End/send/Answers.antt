@@ -1,8 +1,8 @@
 use Rattle.std.proofs.Common.{◌∙◌, Bool, ap, sym}
 use Rattle.hmc_send.specs.Choice.{choice}
-use Rattle.hmc_link.specs.Answers.{link_sent}
-use Rattle.hmc_link.specs.Parts.{view_by}
-use Rattle.hmc_link.proofs.SendNext.{full-is}
+use Rattle.hmc_ends.specs.Answers.{link_sent}
+use Rattle.hmc_ends.specs.Parts.{view_by}
+use Rattle.hmc_ends.proofs.SendNext.{full-is}
 use Rattle.hmc_link.proofs.end.End.send.Goals as goal
 
 pub returns-clause-answer : goal.returns-clause-answer

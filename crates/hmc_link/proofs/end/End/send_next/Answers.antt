@@ -6,11 +6,11 @@ use Rattle.hmc_codes.specs.declared.profile.Profile.{Profile}
 use Rattle.hmc_send.specs.Given.{IsTaken, IsFrontFit}
 use Rattle.hmc_send.specs.IsSender.{IsFed}
 use Rattle.hmc_tokens.specs.Queue.{packets_of}
-use Rattle.hmc_link.specs.Held.{EndFields}
-use Rattle.hmc_link.specs.Parts.{parts_of}
-use Rattle.hmc_link.specs.StandsFor.{EndStandsFor, CanSend}
-use Rattle.hmc_link.proofs.SendNext.{all-drop, line-more, transit-fits, few-of, send-next}
-use Rattle.hmc_link.proofs.SendStands.{front-fit}
+use Rattle.hmc_ends.specs.End.{EndFields}
+use Rattle.hmc_ends.specs.Parts.{parts_of}
+use Rattle.hmc_ends.specs.StandsFor.{EndStandsFor, CanSend}
+use Rattle.hmc_ends.proofs.SendNext.{all-drop, line-more, transit-fits, few-of, send-next}
+use Rattle.hmc_ends.proofs.SendStands.{front-fit}
 use Rattle.hmc_link.proofs.end.End.send_next.Goals as goal
 
 pub send-requires-clause-front : goal.send-requires-clause-front

@@ -1,9 +1,9 @@
 use Rattle.std.proofs.Common.{◌∙◌, ℕ, Option, subst, sym, ap}
 use Rattle.std.specs.Prelude.{nat_le, is_none}
 use Rattle.hmc_packet.specs.Packet.{PacketFields}
-use Rattle.hmc_link.specs.Held.{EndFields}
-use Rattle.hmc_link.specs.StandsFor.{EndStandsFor}
-use Rattle.hmc_link.proofs.Throughs.{ready-is, none-by}
+use Rattle.hmc_ends.specs.End.{EndFields}
+use Rattle.hmc_ends.specs.StandsFor.{EndStandsFor}
+use Rattle.hmc_ends.proofs.Throughs.{ready-is, none-by}
 use Rattle.hmc_link.proofs.end.End.through_ready.Goals as goal
 
 pub returns : goal.returns

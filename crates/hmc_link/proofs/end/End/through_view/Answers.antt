@@ -1,6 +1,6 @@
 use Rattle.std.proofs.Common.{◌∙◌, subst, sym}
-use Rattle.hmc_link.specs.Held.{EndFields, flits_seen}
-use Rattle.hmc_link.specs.StandsFor.{EndStandsFor}
+use Rattle.hmc_ends.specs.End.{EndFields, flits_seen}
+use Rattle.hmc_ends.specs.StandsFor.{EndStandsFor}
 use Rattle.hmc_link.proofs.end.End.through_view.Goals as goal
 
 pub returns : goal.returns

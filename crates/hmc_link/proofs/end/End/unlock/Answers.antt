@@ -1,8 +1,8 @@
 -- For all that it stands for.
 use Rattle.std.proofs.Common.{subst, sym}
-use Rattle.hmc_link.specs.Held.{EndFields}
-use Rattle.hmc_link.specs.StandsFor.{EndStandsFor}
-use Rattle.hmc_link.proofs.Simple.{stands-unlocked}
+use Rattle.hmc_ends.specs.End.{EndFields}
+use Rattle.hmc_ends.specs.StandsFor.{EndStandsFor}
+use Rattle.hmc_ends.proofs.Simple.{stands-unlocked}
 use Rattle.hmc_link.proofs.end.End.unlock.Goals as goal
 
 pub returns : goal.returns

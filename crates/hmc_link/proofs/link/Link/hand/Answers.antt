@@ -1,7 +1,7 @@
 use Rattle.std.proofs.Common.{◌≡◌, [], ◌∷◌, ◌++◌, refl, subst, sym}
-use Rattle.hmc_link.specs.Answers.{after_call}
+use Rattle.hmc_ends.specs.Answers.{after_call}
 use Rattle.hmc_link.specs.Held.{LinkHeld}
-use Rattle.hmc_link.specs.List.{handed_list, listed_packet}
+use Rattle.hmc_ends.specs.List.{handed_list, listed_packet}
 use Rattle.hmc_link.specs.StandsFor.{LinkStandsFor}
 use Rattle.hmc_link.proofs.ListCalls.{hand-list}
 use Rattle.hmc_link.proofs.Numbers.{hand-numbers-forth, hand-numbers-back, hand-fits-forth, hand-fits-back}

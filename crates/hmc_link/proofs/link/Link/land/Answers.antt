@@ -1,7 +1,7 @@
 -- What the two ends answer and leave is what the definition says of the entries.
 use Rattle.std.proofs.Common.{◌≡◌, ◌∙◌, refl, ap, sym, subst, ◌++◌, map}
-use Rattle.hmc_link.specs.Answers.{after_call}
-use Rattle.hmc_link.specs.List.{handed_list, listed_packet}
+use Rattle.hmc_ends.specs.Answers.{after_call}
+use Rattle.hmc_ends.specs.List.{handed_list, listed_packet}
 use Rattle.hmc_link.proofs.ListCalls.{land-list}
 use Rattle.hmc_link.proofs.Numbers.{numbers-landed}
 use Rattle.std.specs.Prelude.{slice_get}
@@ -10,7 +10,7 @@ use Rattle.hmc_send.specs.LinkLines.{line}
 use Rattle.hmc_send.specs.declared.toward.Toward.{Toward}
 use Rattle.hmc_send.specs.declared.toward.Toward.TheVariants.{Forth, Back}
 use Rattle.hmc_link.specs.Held.{LinkHeld}
-use Rattle.hmc_link.specs.Landings.{link_landed, removed}
+use Rattle.hmc_ends.specs.Landings.{link_landed, removed}
 use Rattle.hmc_link.specs.StandsFor.{LinkStandsFor}
 use Rattle.hmc_link.proofs.Joins.{forth-both, back-both, step-forth, step-back, keep-forth, keep-back}
 use Rattle.hmc_link.proofs.LinkLandings.{ordered, land-steps, went}

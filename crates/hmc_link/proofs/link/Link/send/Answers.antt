@@ -1,17 +1,17 @@
-use Rattle.std.proofs.Common.{refl}
+use Rattle.std.proofs.Common.{refl, ◌≡◌, ◌∙◌, sym, ap, subst}
 use Rattle.hmc_link.proofs.Numbers.{numbers-kept}
-use Rattle.std.proofs.Common.{◌≡◌, ◌∙◌, sym, ap, subst}
 use Rattle.hmc_send.specs.IsSender.{IsFed}
 use Rattle.hmc_send.specs.Choice.{choice}
 use Rattle.hmc_send.specs.LinkCalls.{LinkCall, is_full, view_in}
 use Rattle.hmc_send.specs.declared.toward.Toward.{Toward}
 use Rattle.hmc_send.specs.declared.toward.Toward.TheVariants.{Forth, Back}
-use Rattle.hmc_link.specs.Held.{EndFields, LinkHeld}
+use Rattle.hmc_ends.specs.End.{EndFields}
+use Rattle.hmc_link.specs.Held.{LinkHeld}
 use Rattle.hmc_link.proofs.Joins.{step-forth, step-back, keep-forth, keep-back, sends-forth, sends-back}
-use Rattle.hmc_link.specs.Answers.{link_sent}
-use Rattle.hmc_link.specs.Parts.{parts_of}
+use Rattle.hmc_ends.specs.Answers.{link_sent}
+use Rattle.hmc_ends.specs.Parts.{parts_of}
 use Rattle.hmc_link.specs.StandsFor.{LinkStandsFor}
-use Rattle.hmc_link.proofs.SendNext.{send-steps, answer-is}
+use Rattle.hmc_ends.proofs.SendNext.{send-steps, answer-is}
 use Rattle.hmc_link.proofs.link.Link.send.Goals as goal
 
 pub invariant_of-self : goal.invariant_of-self

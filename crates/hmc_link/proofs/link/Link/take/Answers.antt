@@ -1,11 +1,10 @@
-use Rattle.std.proofs.Common.{refl}
+use Rattle.std.proofs.Common.{refl, ◌∙◌, ap}
 use Rattle.hmc_link.proofs.Numbers.{numbers-kept}
-use Rattle.std.proofs.Common.{◌∙◌, ap}
 use Rattle.hmc_send.specs.LinkCalls.{LinkCall}
 use Rattle.hmc_send.specs.declared.toward.Toward.{Toward}
 use Rattle.hmc_send.specs.declared.toward.Toward.TheVariants.{Forth, Back}
 use Rattle.hmc_link.specs.Held.{LinkHeld}
-use Rattle.hmc_link.proofs.Calls.{take-from, due-few}
+use Rattle.hmc_ends.proofs.Calls.{take-from, due-few}
 use Rattle.hmc_link.proofs.Joins.{forth-both, back-both, step-forth, step-back, keep-forth, keep-back}
 use Rattle.hmc_link.proofs.link.Link.take.Goals as goal
 

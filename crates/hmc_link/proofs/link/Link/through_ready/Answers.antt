@@ -4,7 +4,7 @@ use Rattle.hmc_send.specs.LinkCalls.{may_pass_on, view_in}
 use Rattle.hmc_send.specs.declared.toward.Toward.{Toward}
 use Rattle.hmc_send.specs.declared.toward.Toward.TheVariants.{Forth, Back}
 use Rattle.hmc_link.specs.Held.{LinkHeld}
-use Rattle.hmc_link.specs.Parts.{parts_of}
+use Rattle.hmc_ends.specs.Parts.{parts_of}
 use Rattle.hmc_link.specs.StandsFor.{LinkStandsFor}
 use Rattle.hmc_link.proofs.Joins.{sends-forth, sends-back}
 use Rattle.hmc_link.proofs.LinkThroughs.{may-in, ready-forth, ready-back}

@@ -3,8 +3,9 @@ use Rattle.hmc_packet.specs.Landings.{mode, pending}
 use Rattle.hmc_send.specs.LinkEntries.{receiver_entries}
 use Rattle.hmc_send.specs.declared.toward.Toward.{Toward}
 use Rattle.hmc_send.specs.declared.toward.Toward.TheVariants.{Forth, Back}
-use Rattle.hmc_link.specs.Held.{LinkHeld, flits_seen}
-use Rattle.hmc_link.specs.Parts.{parts_of}
+use Rattle.hmc_link.specs.Held.{LinkHeld}
+use Rattle.hmc_ends.specs.End.{flits_seen}
+use Rattle.hmc_ends.specs.Parts.{parts_of}
 use Rattle.hmc_link.specs.StandsFor.{LinkStandsFor}
 use Rattle.hmc_link.proofs.link.Link.through_view.Goals as goal
 

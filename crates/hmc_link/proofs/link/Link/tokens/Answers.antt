@@ -5,7 +5,7 @@ use Rattle.hmc_send.specs.declared.toward.Toward.TheVariants.{Forth, Back}
 use Rattle.hmc_link.specs.Held.{LinkHeld}
 use Rattle.hmc_link.specs.StandsFor.{LinkStandsFor}
 use Rattle.hmc_link.proofs.Joins.{forth-both, back-both}
-use Rattle.hmc_link.proofs.TokenRows.{row-is, sum-is}
+use Rattle.hmc_ends.proofs.TokenRows.{row-is, sum-is}
 use Rattle.hmc_link.proofs.link.Link.tokens.Goals as goal
 
 pub returns-in-Forth-clause-by_list : goal.returns-in-Forth-clause-by_list

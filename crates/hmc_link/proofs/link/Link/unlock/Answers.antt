@@ -3,7 +3,7 @@ use Rattle.hmc_link.proofs.Numbers.{numbers-kept}
 use Rattle.hmc_send.specs.LinkCalls.{LinkCall}
 use Rattle.hmc_send.specs.declared.toward.Toward.{Toward}
 use Rattle.hmc_send.specs.declared.toward.Toward.TheVariants.{Forth, Back}
-use Rattle.hmc_link.proofs.Calls.{unlock-steps}
+use Rattle.hmc_ends.proofs.Calls.{unlock-steps}
 use Rattle.hmc_link.proofs.Joins.{step-forth, step-back, keep-forth, keep-back}
 use Rattle.hmc_link.proofs.link.Link.unlock.Goals as goal
 

@@ -1,7 +1,7 @@
 -- The network of a case stands for it, and its journal has room for an entry of each step.
 use Rattle.std.proofs.Common.{◌≡◌, ◌≤◌, ◌∙◌, ℕ, ap, sym, subst, length, arith}
 use Rattle.std.proofs.lemmas.Grind.{common_steps}
-use Rattle.hmc_journal.specs.Journal.{JournalFields}
+use Rattle.hmc_entries.specs.Journal.{JournalFields}
 use Rattle.hmc_journal.specs.Setup.{setup_of}
 use Rattle.hmc_net.specs.NetState.{net_of}
 use Rattle.hmc_net.specs.Stands.{StandsFor}

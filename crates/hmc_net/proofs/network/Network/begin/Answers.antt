@@ -4,9 +4,9 @@ use Rattle.std.specs.Prelude.{slice_index_or}
 use Rattle.hmc_codes.specs.declared.place.Place.TheVariants as places
 use Rattle.hmc_packet.specs.Head.{head_in}
 use Rattle.hmc_send.specs.LinkCalls.{names_flits}
-use Rattle.hmc_net.specs.LinkList.{IsDirection, IsGathered, MayBegin}
+use Rattle.hmc_links.specs.LinkList.{IsDirection, IsGathered, MayBegin}
 use Rattle.hmc_net.specs.NetState.{net_of, NetState}
-use Rattle.hmc_net.proofs.Doing.{ends_at}
+use Rattle.hmc_journal.proofs.DirectionEnds.{ends_at}
 use Rattle.hmc_net.proofs.ThroughFacts.{going_on, some_going_on, may_begin}
 use Rattle.hmc_net.proofs.ThroughDoes.{begin_for, onto_there}
 use Rattle.hmc_net.proofs.network.Network.begin.Goals as goal

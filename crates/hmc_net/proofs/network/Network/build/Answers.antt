@@ -6,7 +6,7 @@ use Rattle.hmc_journal.proofs.Networks.{network_of}
 use Rattle.hmc_net.specs.NetState.{net_of}
 use Rattle.hmc_net.specs.Opening.{IsOpening}
 use Rattle.hmc_net.specs.Stands.{StandsFor}
-use Rattle.hmc_net.specs.Wiring.{IsLaidOut}
+use Rattle.hmc_wiring.specs.Wiring.{IsLaidOut}
 use Rattle.hmc_net.proofs.Cases.{steps_fit}
 use Rattle.hmc_net.proofs.Opening.{laid_out, opening_stands, ok_then, topology_is}
 use Rattle.hmc_net.proofs.network.Network.build.Goals as goal

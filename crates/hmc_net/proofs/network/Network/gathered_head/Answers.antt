@@ -2,7 +2,7 @@
 use Rattle.std.proofs.Common.{◌∙◌, ℕ, List, Option, Some, None, ap, sym, subst, arith}
 use Rattle.std.specs.Prelude.{option_and_then}
 use Rattle.hmc_packet.specs.Head.{head_in}
-use Rattle.hmc_net.specs.LinkList.{IsDirection, IsGathered}
+use Rattle.hmc_links.specs.LinkList.{IsDirection, IsGathered}
 use Rattle.hmc_net.specs.NetState.{net_of, NetState}
 use Rattle.hmc_net.proofs.ThroughFacts.{head_found}
 use Rattle.hmc_net.proofs.network.Network.gathered_head.Goals as goal

@@ -4,7 +4,7 @@ use Rattle.hmc_codes.specs.declared.place.Place.TheVariants as places
 use Rattle.hmc_journal.specs.Setup.{direction_from}
 use Rattle.hmc_host.specs.Give.{give_says, hindrance_of}
 use Rattle.hmc_host.specs.Host.{HostFields}
-use Rattle.hmc_net.specs.LinkList.{IsRoom}
+use Rattle.hmc_links.specs.LinkList.{IsRoom}
 use Rattle.hmc_net.specs.NetState.{net_of, NetState}
 use Rattle.hmc_net.proofs.HostSteps.{hindered_does}
 use Rattle.hmc_net.proofs.Indexed.{host_found, entry_changed}

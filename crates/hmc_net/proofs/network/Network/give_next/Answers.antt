@@ -4,7 +4,7 @@ use Rattle.hmc_codes.specs.declared.place.Place.TheVariants as places
 use Rattle.hmc_host.specs.Give.{give_says, after_give}
 use Rattle.hmc_host.specs.Host.{HostFields}
 use Rattle.hmc_net.specs.Gives.{IsGiven}
-use Rattle.hmc_net.specs.LinkList.{LinksStandFor, IsDirection}
+use Rattle.hmc_links.specs.LinkList.{LinksStandFor, IsDirection}
 use Rattle.hmc_net.specs.NetState.{net_of, NetState}
 use Rattle.hmc_net.proofs.Doing.{starts_in}
 use Rattle.hmc_net.proofs.HostSteps.{given_fits, give_does}

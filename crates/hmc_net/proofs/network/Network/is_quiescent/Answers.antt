@@ -3,7 +3,7 @@ use Rattle.std.proofs.Common.{◌↔◌, ap, subst}
 use Rattle.std.specs.Prelude.{IsTrue}
 use Rattle.std.specs.List.{All}
 use Rattle.hmc_net.specs.NetState.{net_of, NetState}
-use Rattle.hmc_net.specs.Quiescent.{IsQuietLink}
+use Rattle.hmc_links.specs.Quiet.{IsQuietLink}
 use Rattle.hmc_net.proofs.Quiet.{links_hold}
 use Rattle.hmc_net.proofs.network.Network.is_quiescent.Goals as goal
 

@@ -1,6 +1,6 @@
 -- What lands is the entry of the definition.
 use Rattle.std.proofs.Common.{◌<◌, length, ap, sym, subst, arith}
-use Rattle.hmc_net.specs.LinkList.{LinksStandFor}
+use Rattle.hmc_links.specs.LinkList.{LinksStandFor}
 use Rattle.hmc_net.specs.Links.{MayForward}
 use Rattle.hmc_net.specs.NetState.{net_of, NetState}
 use Rattle.hmc_net.proofs.LinkDoes.{land_for}

@@ -9,7 +9,7 @@ use Rattle.hmc_cube.specs.Parts.{AreParts}
 use Rattle.hmc_cube.specs.Places.{IsLift, answers_at}
 use Rattle.hmc_journal.specs.Routes.{port_towards}
 use Rattle.hmc_journal.specs.Setup.{hosts_in}
-use Rattle.hmc_net.specs.LinkList.{IsDirection, MayHand, LinksStandFor}
+use Rattle.hmc_links.specs.LinkList.{IsDirection, MayHand, LinksStandFor}
 use Rattle.hmc_net.specs.NetState.{net_of, NetState, cube_in}
 use Rattle.hmc_net.specs.Ports.{IsWayOut}
 use Rattle.hmc_net.proofs.Doing.{starts_in}

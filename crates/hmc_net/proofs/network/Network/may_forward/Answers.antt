@@ -1,9 +1,9 @@
 -- A packet can go on if it isn't forwarded yet, no packet waits there, and the other direction is ready.
 use Rattle.std.proofs.Common.{◌<◌, ◌∙◌, Option, length, ℕ, ap, sym, subst, arith}
 use Rattle.std.specs.Prelude.{is_some}
-use Rattle.hmc_net.specs.LinkList.{AreGoing, IsDirection, IsArrival, IsTaking}
+use Rattle.hmc_links.specs.LinkList.{AreGoing, IsDirection, IsArrival, IsTaking}
 use Rattle.hmc_net.specs.NetState.{net_of, NetState}
-use Rattle.hmc_net.specs.Pipes.{forwarded_at}
+use Rattle.hmc_kept.specs.Pipes.{forwarded_at}
 use Rattle.hmc_net.proofs.ThroughFacts.{free_found}
 use Rattle.hmc_net.proofs.network.Network.may_forward.Goals as goal
 

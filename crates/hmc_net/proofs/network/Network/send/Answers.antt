@@ -1,9 +1,9 @@
 -- What is sent is the entry of the definition.
 use Rattle.std.proofs.Common.{◌<◌, ◌∙◌, length, ap, sym, subst, arith}
 use Rattle.hmc_journal.specs.Piped.{fed}
-use Rattle.hmc_net.specs.LinkList.{MaySend, IsThroughAt}
+use Rattle.hmc_links.specs.LinkList.{MaySend, IsThroughAt}
 use Rattle.hmc_net.specs.NetState.{net_of, NetState}
-use Rattle.hmc_net.specs.Pipes.{IsPlace, pipe_at}
+use Rattle.hmc_kept.specs.Pipes.{IsPlace, pipe_at}
 use Rattle.hmc_net.proofs.LinkDoes.{send_for}
 use Rattle.hmc_net.proofs.LinkSteps.{place_seen, feed_seen, may_send}
 use Rattle.hmc_net.proofs.network.Network.send.Goals as goal

@@ -4,7 +4,7 @@ use Rattle.hmc_codes.specs.declared.place.Place.TheVariants as places
 use Rattle.hmc_crossbar.specs.To.{HasWay, where_to}
 use Rattle.hmc_journal.specs.Links.{direction_to}
 use Rattle.hmc_journal.specs.Setup.{graph_of, shape_of}
-use Rattle.hmc_net.specs.LinkList.{AreGoing, IsFrontAt, LinksStandFor}
+use Rattle.hmc_links.specs.LinkList.{AreGoing, IsFrontAt, LinksStandFor}
 use Rattle.hmc_net.specs.NetState.{net_of, NetState}
 use Rattle.hmc_net.proofs.Indexed.{links_changed, entry_changed}
 use Rattle.hmc_net.proofs.PortSteps.{shift_none, front_way, dropped_does}

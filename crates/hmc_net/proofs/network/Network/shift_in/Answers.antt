@@ -7,7 +7,7 @@ use Rattle.hmc_cube.specs.After.{after_enter}
 use Rattle.hmc_cube.specs.Parts.{AreParts}
 use Rattle.hmc_cube.specs.Places.{IsHere, IsFor, entrance}
 use Rattle.hmc_net.specs.Apply.{to_of}
-use Rattle.hmc_net.specs.LinkList.{AreGoing, IsDirection, LinksStandFor}
+use Rattle.hmc_links.specs.LinkList.{AreGoing, IsDirection, LinksStandFor}
 use Rattle.hmc_net.specs.NetState.{net_of, NetState}
 use Rattle.hmc_net.proofs.Doing.{ends_in}
 use Rattle.hmc_net.proofs.Indexed.{cube_found, cube_changed, entry_changed}

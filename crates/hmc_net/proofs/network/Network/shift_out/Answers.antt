@@ -1,7 +1,7 @@
 -- A front that goes on through another port is an entry.
 use Rattle.std.proofs.Common.{ap, sym, subst}
 use Rattle.hmc_codes.specs.declared.place.Place.TheVariants as places
-use Rattle.hmc_net.specs.LinkList.{AreGoing, IsDirection, LinksStandFor}
+use Rattle.hmc_links.specs.LinkList.{AreGoing, IsDirection, LinksStandFor}
 use Rattle.hmc_net.specs.NetState.{net_of, NetState}
 use Rattle.hmc_net.specs.Ports.{IsWayOut}
 use Rattle.hmc_net.proofs.Doing.{ends_in}

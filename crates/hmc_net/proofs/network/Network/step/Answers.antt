@@ -3,9 +3,9 @@ use Rattle.std.proofs.Common.{◌∙◌, ◌∷◌, sym, ap, subst}
 use Rattle.hmc_journal.specs.Next.{next}
 use Rattle.hmc_net.specs.NetState.{net_of, NetState}
 use Rattle.hmc_net.specs.Stands.{StandsFor}
-use Rattle.hmc_net.specs.Tally.{step_changes}
+use Rattle.hmc_tally.specs.Tally.{step_changes}
 use Rattle.hmc_net.specs.Went.{went_of}
-use Rattle.hmc_net.proofs.Laws.{law_bound}
+use Rattle.hmc_kept.proofs.Laws.{law_bound}
 use Rattle.hmc_net.proofs.Seeing.{ready_of, step_there}
 use Rattle.hmc_net.proofs.Standing.{chosen_next, stands_stepped, countable, idle_stays, went_cause}
 use Rattle.hmc_net.proofs.network.Network.step.Goals as goal

@@ -2,7 +2,7 @@
 use Rattle.std.proofs.Common.{◌≡◌, Some, ap, subst}
 use Rattle.hmc_codes.specs.declared.place.Place.TheVariants as places
 use Rattle.hmc_journal.specs.Links.{direction_to}
-use Rattle.hmc_net.specs.LinkList.{IsArrival}
+use Rattle.hmc_links.specs.LinkList.{IsArrival}
 use Rattle.hmc_net.specs.NetState.{net_of, NetState}
 use Rattle.hmc_net.proofs.Doing.{none_arrived}
 use Rattle.hmc_net.proofs.HostSteps.{nothing_taken}

@@ -4,7 +4,7 @@ use Rattle.hmc_codes.specs.declared.place.Place.TheVariants as places
 use Rattle.hmc_journal.specs.Links.{direction_to}
 use Rattle.hmc_host.specs.Settle.{IsAwaited, after_settle}
 use Rattle.hmc_host.specs.Host.{HostFields}
-use Rattle.hmc_net.specs.LinkList.{AreGoing, IsFrontAt, LinksStandFor}
+use Rattle.hmc_links.specs.LinkList.{AreGoing, IsFrontAt, LinksStandFor}
 use Rattle.hmc_net.specs.NetState.{net_of, NetState}
 use Rattle.hmc_net.proofs.HostSteps.{awaited_front, nothing_taken, take_does}
 use Rattle.hmc_net.proofs.Indexed.{host_found, host_changed, entry_changed}

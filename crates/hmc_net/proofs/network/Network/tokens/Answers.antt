@@ -1,9 +1,9 @@
 -- The tokens are those of the journal.
 use Rattle.std.proofs.Common.{◌∙◌, sym, subst, ap}
 use Rattle.hmc_journal.specs.Links.{link_entries}
-use Rattle.hmc_net.specs.LinkList.{LinksStandFor}
+use Rattle.hmc_links.specs.LinkList.{LinksStandFor}
 use Rattle.hmc_net.specs.NetState.{net_of, NetState}
-use Rattle.hmc_net.proofs.TokensTold.{tokens_told}
+use Rattle.hmc_links.proofs.TokensTold.{tokens_told}
 use Rattle.hmc_net.proofs.network.Network.tokens.Goals as goal
 
 pub returns : goal.returns

@@ -1,7 +1,7 @@
 -- The framing that is lost is the entry of the definition.
 use Rattle.std.proofs.Common.{◌<◌, length, ap, sym, subst, arith}
 use Rattle.hmc_net.specs.NetState.{net_of, NetState}
-use Rattle.hmc_net.specs.Pipes.{AreGathering}
+use Rattle.hmc_kept.specs.Pipes.{AreGathering}
 use Rattle.hmc_net.proofs.LinkDoes.{unlock_for}
 use Rattle.hmc_net.proofs.Forwarding.{are_gathering}
 use Rattle.hmc_net.proofs.network.Network.unlock.Goals as goal

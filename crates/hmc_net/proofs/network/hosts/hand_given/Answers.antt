@@ -1,7 +1,7 @@
 -- A request may be sent, and is handed to the link.
 use Rattle.std.proofs.Common.{sym, subst}
 use Rattle.hmc_net.specs.Gives.{given_to, IsRequested}
-use Rattle.hmc_net.specs.LinkList.{LinksStandFor}
+use Rattle.hmc_links.specs.LinkList.{LinksStandFor}
 use Rattle.hmc_net.proofs.HostSteps.{may_hand}
 use Rattle.hmc_net.proofs.network.hosts.hand_given.Goals as goal
 

@@ -1,8 +1,9 @@
 -- A packet that is accepted while it is forwarded leaves its buffer.
 use Rattle.std.proofs.Common.{◌∙◌, Bool, ap, subst}
 use Rattle.hmc_journal.specs.Piped.{goes_on}
-use Rattle.hmc_net.specs.LinkList.{LinksStandFor}
-use Rattle.hmc_net.specs.Links.{outcome_of, taken_where}
+use Rattle.hmc_links.specs.LinkList.{LinksStandFor}
+use Rattle.hmc_kept.specs.LinkAnswers.{outcome_of}
+use Rattle.hmc_net.specs.Links.{taken_where}
 use Rattle.hmc_net.proofs.network.links.forward_came.Goals as goal
 
 pub returns-clause-stands : goal.returns-clause-stands

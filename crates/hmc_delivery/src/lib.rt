@@ -1,0 +1,11 @@
+//! Lawful journals deliver requests and answers in order, over every hop.
+//!
+//! The functions have no code: their clauses are the laws. The moves of packets that the entries of
+//! a lawful journal are may come (hmc_hops), so what hmc_hops proves of moves holds of journals.
+//! [`journal_guarantees`] has all that is promised of the journal of a case (`Guarantees` of
+//! hmc_journal).
+#![tactic(auto)]
+
+mod laws;
+
+pub use laws::{journal_guarantees, lawful_awaits_answers, lawful_delivers};

@@ -1,0 +1,7 @@
+pub mod InOrder
+mod ZeroDigits
+mod WorkedLines
+pub mod ParseLines
+pub mod ParseText
+pub mod ParseTells
+pub mod ParseSame

@@ -1,0 +1,10 @@
+pub mod Lines
+pub mod Text
+pub mod Journal
+pub mod Event
+pub mod LastEntry
+pub mod ParseWords
+pub mod Parse
+pub mod ParseParts
+pub mod ParseHead
+pub mod ParseEntry

@@ -1,0 +1,407 @@
+//! The entry of the latest step, in one place.
+//!
+//! A step writes over the entry of the one before, so that nothing large is moved. The short parts
+//! are one enum. A step, a flit, a request and an answer each have a field of their own: where the
+//! entry has no such part, the field keeps old content, which no contract sees.
+
+ghost use Rattle.std.specs.Prelude.{◌≡◌, ◌<◌, [], length};
+ghost use Rattle.hmc_codes.specs.Flit.{zero_flit};
+ghost use Rattle.hmc_entries.specs.declared.entry.Entry.{Entry};
+ghost use Rattle.hmc_entries.specs.Event.{event_of, cause_of, is_passed, IsLongFlit};
+ghost use Rattle.hmc_entries.specs.Lines.{line_of};
+ghost use Rattle.hmc_schedule.specs.declared.step.Step.{Step};
+
+use crate::line::{
+    discarded_line, dropped_line, executed_line, gave_line, idle_line, landed_line, lifted_line,
+    passed_line, retired_line, sent_line, shifted_line, spread_line, through_line, took_line,
+    unlocked_line,
+};
+use crate::{Cause, Entry, Event, Goal};
+use hmc_codes::{Answer, Command, Flit, Lift, LineText, Payload, Request, Unit, ZERO_FLIT};
+use hmc_packet::{Outcome, What};
+use hmc_schedule::Step;
+use std::marker::Model;
+
+// The variant of an entry, with its short parts.
+#[derive(Clone, Copy)]
+pub(crate) enum Short {
+    Gave {
+        host: u8,
+        tag: Option<u16>,
+        poisoned: bool,
+    },
+    Sent {
+        direction: u8,
+        what: What,
+    },
+    Landed {
+        direction: u8,
+        outcome: Outcome,
+    },
+    Shifted {
+        cube: u8,
+        port: u8,
+        goal: Goal,
+    },
+    Dropped {
+        cube: u8,
+        port: u8,
+    },
+    Spread {
+        cube: u8,
+        vault: u8,
+        bank: u8,
+    },
+    Executed {
+        unit: Unit,
+        host: u8,
+        tag: Option<u16>,
+    },
+    Lifted {
+        cube: u8,
+        from: Lift,
+        port: u8,
+    },
+    Took {
+        host: u8,
+        tag: u16,
+    },
+    Discarded {
+        host: u8,
+    },
+    Through {
+        cube: u8,
+        port: u8,
+        direction: u8,
+    },
+    Unlocked {
+        direction: u8,
+    },
+    Retired {
+        slot: u8,
+    },
+    Passed {
+        direction: u8,
+    },
+    Idle {
+        cause: Cause,
+    },
+}
+
+/// The entry of the latest step. Contracts see it as an `Entry`.
+#[derive(Drop)]
+pub struct LastEntry {
+    short: Short,
+    step: Step,
+    flit: Flit,
+    request: Request,
+    answer: Answer,
+}
+
+impl Model for LastEntry {
+    ghost use Rattle.hmc_entries.specs.declared.entry.Entry.{Entry};
+    ghost use Rattle.hmc_entries.specs.LastEntry.{entry_of};
+
+    ghost Value = { Entry };
+
+    ghost view = { λ e. entry_of e.short e.step e.flit e.request e.answer };
+}
+
+impl LastEntry {
+    /// The entry before the first step: an idle one.
+    pub fn new() -> Self
+        ensures { result ≡ Entry.Idle (Step.Give 0) Cause.Empty }
+    {
+        LastEntry {
+            short: Short::Idle {
+                cause: Cause::Empty,
+            },
+            step: Step::Give(0),
+            flit: ZERO_FLIT,
+            request: Request {
+                command: Command::Rd16,
+                cube: 0,
+                address: 0,
+                payload: Payload::empty(),
+            },
+            answer: Answer::Silent,
+        }
+    }
+
+    /// A host gave a request to its link.
+    pub fn gave(&mut self, host: u8, tag: Option<u16>, poisoned: bool, request: &Request)
+        ensures { self.new ≡ Entry.Gave host tag poisoned request.now }
+    {
+        self.short = Short::Gave {
+            host,
+            tag,
+            poisoned,
+        };
+        self.request = *request;
+    }
+
+    /// An end of a link put a flit on the line of a direction.
+    pub fn sent(&mut self, direction: u8, what: What, flit: &Flit)
+        ensures { self.new ≡ Entry.Sent direction what flit.now }
+    {
+        self.short = Short::Sent { direction, what };
+        self.flit = *flit;
+    }
+
+    /// A flit landed at the other end.
+    pub fn landed(&mut self, direction: u8, flit: &Flit, outcome: Outcome)
+        ensures { self.new ≡ Entry.Landed direction flit.now outcome }
+    {
+        self.short = Short::Landed { direction, outcome };
+        self.flit = *flit;
+    }
+
+    /// The front of a port's buffer moved on.
+    pub fn shifted(&mut self, cube: u8, port: u8, goal: Goal)
+        ensures { self.new ≡ Entry.Shifted cube port goal }
+    {
+        self.short = Short::Shifted { cube, port, goal };
+    }
+
+    /// The front of a port's buffer was poisoned, and was dropped.
+    pub fn dropped(&mut self, cube: u8, port: u8)
+        ensures { self.new ≡ Entry.Dropped cube port }
+    {
+        self.short = Short::Dropped { cube, port };
+    }
+
+    /// The front of a vault's queue moved to the queue of its bank.
+    pub fn spread(&mut self, cube: u8, vault: u8, bank: u8)
+        ensures { self.new ≡ Entry.Spread cube vault bank }
+    {
+        self.short = Short::Spread { cube, vault, bank };
+    }
+
+    /// A unit executed a request.
+    pub fn executed(
+        &mut self,
+        unit: Unit,
+        host: u8,
+        tag: Option<u16>,
+        request: &Request,
+        answer: &Answer,
+    )
+        ensures { self.new ≡ Entry.Executed unit host tag request.now answer.now }
+    {
+        self.short = Short::Executed { unit, host, tag };
+        self.request = *request;
+        self.answer = *answer;
+    }
+
+    /// An answer moved to the output queue of a port.
+    pub fn lifted(&mut self, cube: u8, from: Lift, port: u8)
+        ensures { self.new ≡ Entry.Lifted cube from port }
+    {
+        self.short = Short::Lifted { cube, from, port };
+    }
+
+    /// A host took an answer.
+    pub fn took(&mut self, host: u8, tag: u16, answer: &Answer)
+        ensures { self.new ≡ Entry.Took host tag answer.now }
+    {
+        self.short = Short::Took { host, tag };
+        self.answer = *answer;
+    }
+
+    /// The front of a host's buffer was poisoned, and was dropped.
+    pub fn discarded(&mut self, host: u8)
+        ensures { self.new ≡ Entry.Discarded host }
+    {
+        self.short = Short::Discarded { host };
+    }
+
+    /// A packet that was still arriving at a port went on, onto a direction.
+    pub fn through(&mut self, cube: u8, port: u8, direction: u8)
+        ensures { self.new ≡ Entry.Through cube port direction }
+    {
+        self.short = Short::Through {
+            cube,
+            port,
+            direction,
+        };
+    }
+
+    /// The receiver of a direction lost its framing.
+    pub fn unlocked(&mut self, direction: u8)
+        ensures { self.new ≡ Entry.Unlocked direction }
+    {
+        self.short = Short::Unlocked { direction };
+    }
+
+    /// The logic unit of a slot was retired.
+    pub fn retired(&mut self, slot: u8)
+        ensures { self.new ≡ Entry.Retired slot }
+    {
+        self.short = Short::Retired { slot };
+    }
+
+    /// A flit landed, and a check succeeded over flits that a mask changed.
+    pub fn passed(&mut self, direction: u8, flit: &Flit)
+        ensures { self.new ≡ Entry.Passed direction flit.now }
+    {
+        self.short = Short::Passed { direction };
+        self.flit = *flit;
+    }
+
+    /// The step did nothing.
+    pub fn idle(&mut self, step: &Step, cause: Cause)
+        ensures { self.new ≡ Entry.Idle step.now cause }
+    {
+        self.short = Short::Idle { cause };
+        self.step = *step;
+    }
+
+    /// What the step is counted as.
+    pub fn event(&self) -> Event
+        ensures { result ≡ event_of self.now }
+    {
+        match self.short {
+            Short::Gave { host, .. } => Event::Gave { host },
+            Short::Sent { direction, .. } => Event::Sent { direction },
+            Short::Landed { direction, outcome } => Event::Landed { direction, outcome },
+            Short::Unlocked { direction } => Event::Unlocked { direction },
+            Short::Took { host, .. } => Event::Took { host },
+            Short::Executed { unit, .. } => Event::Executed { unit },
+            Short::Dropped { cube, .. } => Event::Dropped { cube },
+            _ => Event::Other,
+        }
+    }
+
+    /// A flit that landed has 16 bytes.
+    pub fn flit_is_long(&self)
+        ensures { IsLongFlit self.now }
+    {
+        is_long(&self.flit);
+    }
+
+    /// Why the step did nothing, if it did nothing.
+    pub fn cause(&self) -> Option<Cause>
+        ensures { result ≡ cause_of self.now }
+    {
+        match self.short {
+            Short::Idle { cause } => Some(cause),
+            _ => None,
+        }
+    }
+
+    /// Whether it is a landing that passed.
+    pub fn has_passed(&self) -> bool
+        ensures { result ≡ is_passed self.now }
+    {
+        matches!(self.short, Short::Passed { .. })
+    }
+
+    /// Writes the line of the entry into an empty text, with a line feed at its end.
+    #[tactic(auto, unfolding(crate::specs::Lines::line_of))]
+    pub fn line(&self, into: &mut LineText)
+        requires empty { into.old.bytes ≡ [] }
+        ensures text { into.new.bytes ≡ line_of self.now }
+        ensures short { length (line_of self.now) < 2048 }
+    {
+        match self.short {
+            Short::Gave {
+                host,
+                tag,
+                poisoned,
+            } => gave_line(into, host, tag, poisoned, &self.request),
+            Short::Sent { direction, what } => sent_line(into, direction, what, &self.flit),
+            Short::Landed { direction, outcome } => {
+                landed_line(into, direction, &self.flit, outcome)
+            }
+            Short::Shifted { cube, port, goal } => shifted_line(into, cube, port, goal),
+            Short::Dropped { cube, port } => dropped_line(into, cube, port),
+            Short::Spread { cube, vault, bank } => spread_line(into, cube, vault, bank),
+            Short::Executed { unit, host, tag } => {
+                executed_line(into, unit, host, tag, &self.request, &self.answer)
+            }
+            Short::Lifted { cube, from, port } => lifted_line(into, cube, from, port),
+            Short::Took { host, tag } => took_line(into, host, tag, &self.answer),
+            Short::Discarded { host } => discarded_line(into, host),
+            Short::Through {
+                cube,
+                port,
+                direction,
+            } => through_line(into, cube, port, direction),
+            Short::Unlocked { direction } => unlocked_line(into, direction),
+            Short::Retired { slot } => retired_line(into, slot),
+            Short::Passed { direction } => passed_line(into, direction, &self.flit),
+            Short::Idle { cause } => idle_line(into, &self.step, cause),
+        }
+    }
+
+    /// A copy of the entry.
+    pub fn entry(&self) -> Entry
+        ensures { result ≡ self.now }
+    {
+        match self.short {
+            Short::Gave {
+                host,
+                tag,
+                poisoned,
+            } => Entry::Gave {
+                host,
+                tag,
+                poisoned,
+                request: self.request,
+            },
+            Short::Sent { direction, what } => Entry::Sent {
+                direction,
+                what,
+                flit: self.flit,
+            },
+            Short::Landed { direction, outcome } => Entry::Landed {
+                direction,
+                flit: self.flit,
+                outcome,
+            },
+            Short::Shifted { cube, port, goal } => Entry::Shifted { cube, port, goal },
+            Short::Dropped { cube, port } => Entry::Dropped { cube, port },
+            Short::Spread { cube, vault, bank } => Entry::Spread { cube, vault, bank },
+            Short::Executed { unit, host, tag } => Entry::Executed {
+                unit,
+                host,
+                tag,
+                request: self.request,
+                answer: self.answer,
+            },
+            Short::Lifted { cube, from, port } => Entry::Lifted { cube, from, port },
+            Short::Took { host, tag } => Entry::Took {
+                host,
+                tag,
+                answer: self.answer,
+            },
+            Short::Discarded { host } => Entry::Discarded { host },
+            Short::Through {
+                cube,
+                port,
+                direction,
+            } => Entry::Through {
+                cube,
+                port,
+                direction,
+            },
+            Short::Unlocked { direction } => Entry::Unlocked { direction },
+            Short::Retired { slot } => Entry::Retired { slot },
+            Short::Passed { direction } => Entry::Passed {
+                direction,
+                flit: self.flit,
+            },
+            Short::Idle { cause } => Entry::Idle {
+                step: self.step,
+                cause,
+            },
+        }
+    }
+}
+
+// A flit is 16 bytes.
+fn is_long(flit: &Flit)
+    ensures { length flit.now ≡ 16 }
+{
+    let _ = flit.len();
+}

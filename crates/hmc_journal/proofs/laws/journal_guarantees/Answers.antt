@@ -1,6 +1,0 @@
--- From the laws of lawful journals.
-use Rattle.hmc_journal.proofs.Guaranteeing.{guarantees}
-use Rattle.hmc_journal.proofs.laws.journal_guarantees.Goals as goal
-
-pub returns : goal.returns
-returns c = guarantees

@@ -1,6 +1,0 @@
--- By the law of tags.
-use Rattle.hmc_journal.proofs.Awaited.{awaits_answers}
-use Rattle.hmc_journal.proofs.laws.lawful_awaits_answers.Goals as goal
-
-pub returns : goal.returns
-returns c = awaits_answers

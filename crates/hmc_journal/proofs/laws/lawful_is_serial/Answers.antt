@@ -1,6 +1,0 @@
--- By induction on the journal.
-use Rattle.hmc_journal.proofs.Serial.{is_serial}
-use Rattle.hmc_journal.proofs.laws.lawful_is_serial.Goals as goal
-
-pub returns : goal.returns
-returns c = is_serial

@@ -1,6 +1,0 @@
--- By the law of one wire.
-use Rattle.hmc_journal.proofs.LinksKept.{links_in_order}
-use Rattle.hmc_journal.proofs.laws.lawful_keeps_links_in_order.Goals as goal
-
-pub returns : goal.returns
-returns c = links_in_order

@@ -1,9 +1,0 @@
--- The text of a journal, as a list of lines.
-use Rattle.std.specs.Prelude.{ℕ, List, [], ◌∷◌, ◌++◌}
-use Rattle.hmc_journal.specs.declared.entry.Entry.{Entry}
-use Rattle.hmc_journal.specs.Lines.{line_of}
-
--- the lines of the entries, the oldest first
-unfoldable pub lines_of : List Entry → List (List ℕ)
-lines_of [] = []
-lines_of (entry ∷ past) = lines_of past ++ line_of entry ∷ []

@@ -1,0 +1,11 @@
+pub mod Elements
+pub mod Gathering
+pub mod LawsShown
+pub mod Laws
+pub mod ForwardedLaw
+pub mod Linking
+pub mod Masks
+pub mod PipeLemmas
+pub mod PipedThen
+pub mod Pushed
+pub mod NoUnlocks

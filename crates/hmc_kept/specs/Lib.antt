@@ -1,0 +1,4 @@
+pub mod Pipes
+pub mod Shown
+pub mod After
+pub mod LinkAnswers

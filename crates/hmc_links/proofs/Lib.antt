@@ -1,0 +1,3 @@
+pub mod LinkCalls
+pub mod TokensTold
+pub mod NewLinks

@@ -1,0 +1,106 @@
+-- The links after a call of one of them.
+use Rattle.std.proofs.Common.{◌≡◌, ◌<◌, ◌*◌, ◌/◌, ◌==◌, ◌∙◌, ℕ, Bool, true, false, if◌then◌else◌, List, [], ◌∷◌, length, refl, sym, ap, subst, arith, eq-eqb}
+use Rattle.std.specs.Prelude.{slice_set, slice_index_or}
+use Rattle.std.proofs.lemmas.List.{length-set, set-get_or}
+use Rattle.hmc_codes.specs.Link.{LinkFields}
+use Rattle.hmc_case.specs.declared.setup.LinkRow.{LinkRow}
+use Rattle.hmc_ends.specs.Answers.{after_call}
+use Rattle.hmc_link.specs.Held.{LinkHeld, sending_end}
+use Rattle.hmc_ends.specs.End.{is_ready}
+use Rattle.hmc_ends.specs.Parts.{parts_of}
+use Rattle.hmc_link.specs.StandsFor.{LinkStandsFor}
+use Rattle.hmc_packet.specs.declared.feed.Feed.TheVariants.{Waiting}
+use Rattle.hmc_send.specs.LinkCalls.{LinkCall, view_in, may_pass_on}
+use Rattle.hmc_send.specs.LinkEntries.{LinkEntry}
+use Rattle.hmc_send.specs.declared.toward.Toward.{Toward}
+use Rattle.hmc_send.specs.declared.toward.Toward.TheVariants.{Forth, Back}
+use Rattle.hmc_ends.proofs.Throughs.{ready-held}
+use Rattle.hmc_link.proofs.LinkThroughs.{may-in}
+use Rattle.hmc_wire.specs.LinkLaws.{IsKept}
+use Rattle.hmc_journal.specs.Links.{toward}
+use Rattle.hmc_links.specs.LinkList.{sizes_at, sizes_by, AreGoing, LinksStandFor, called, IsDirection}
+use Rattle.hmc_kept.proofs.Elements.{each_set}
+
+-- the link of a direction that is there
+pub link_there : (links : List LinkHeld) (direction : ℕ) → IsDirection links direction → direction / 2 < length links
+link_there links direction there = omega arith
+
+pub called_here : (rows : List LinkRow) (direction : ℕ) (call : Toward → LinkCall) (entries : ℕ → List LinkEntry)
+    → called rows direction call entries (direction / 2) ≡ after_call (sizes_by rows direction) (entries (direction / 2)) (call (toward direction))
+called_here rows direction call entries =
+    ap (λ (t : Bool). if t then after_call (sizes_by rows direction) (entries (direction / 2)) (call (toward direction)) else entries (direction / 2)) (eq-eqb (direction / 2) (direction / 2) refl)
+
+pub called_other : (rows : List LinkRow) (direction link : ℕ) (call : Toward → LinkCall) (entries : ℕ → List LinkEntry) → (direction / 2 == link) ≡ false → called rows direction call entries link ≡ entries link
+called_other rows direction link call entries is =
+    ap (λ (t : Bool). if t then after_call (sizes_at rows link) (entries link) (call (toward direction)) else entries link) is
+
+-- the link of a direction, as it is in the list
+pub stands_at : (rows : List LinkRow) (links : List LinkHeld) (entries : ℕ → List LinkEntry) (direction : ℕ) (held : LinkHeld) → LinksStandFor rows links entries → IsDirection links direction → held ≡ slice_index_or links (direction / 2) held
+    → LinkStandsFor (sizes_by rows direction) held (entries (direction / 2))
+stands_at rows links entries direction held stand there is =
+    subst (λ (h : LinkHeld). LinkStandsFor (sizes_by rows direction) h (entries (direction / 2))) (sym is) (stand.stand (direction / 2) held (link_there links direction there))
+
+pub going_at : (links : List LinkHeld) (direction : ℕ) (held : LinkHeld) → AreGoing links → IsDirection links direction → held ≡ slice_index_or links (direction / 2) held → held.going ≡ true
+going_at links direction held going there is = ap (λ (h : LinkHeld). h.going) is ∙ going (direction / 2) held (link_there links direction there)
+
+-- after a call of one link all stand for their entries
+pub one_called : (rows : List LinkRow) (links : List LinkHeld) (direction : ℕ) (call : Toward → LinkCall) (entries : ℕ → List LinkEntry) (now : LinkHeld) → LinksStandFor rows links entries → IsDirection links direction → now.going ≡ true
+    → LinkStandsFor (sizes_by rows direction) now (after_call (sizes_by rows direction) (entries (direction / 2)) (call (toward direction)))
+    → LinksStandFor rows (slice_set links (direction / 2) now) (called rows direction call entries)
+one_called rows links direction call entries now stand there going stands =
+    let less = link_there links direction there in record {
+      count = length-set links (direction / 2) now ∙ stand.count;
+      going = each_set (λ link (held : LinkHeld). held.going ≡ true) links (direction / 2) now less going (λ link d other inside. stand.going link d inside);
+      stand = each_set (λ link (held : LinkHeld). LinkStandsFor (sizes_at rows link) held (called rows direction call entries link)) links (direction / 2) now less
+          (subst (LinkStandsFor (sizes_by rows direction) now) (sym (called_here rows direction call entries)) stands)
+          (λ link d other inside. subst (LinkStandsFor (sizes_at rows link) (slice_index_or links link d)) (sym (called_other rows direction link call entries other)) (stand.stand link d inside));
+    }
+
+-- links whose entries are the same
+pub same_entries : (rows : List LinkRow) (links : List LinkHeld) (entries now : ℕ → List LinkEntry) → LinksStandFor rows links entries → ((link : ℕ) → entries link ≡ now link) → LinksStandFor rows links now
+same_entries rows links entries now stand same = record {
+  count = stand.count;
+  going = stand.going;
+  stand = λ link d inside. subst (LinkStandsFor (sizes_at rows link) (slice_index_or links link d)) (same link) (stand.stand link d inside);
+}
+
+-- the call of the link of a direction, of which this is known
+pub called_at : (rows : List LinkRow) (links own : List LinkHeld) (direction at : ℕ) (way : Toward) (call : Toward → LinkCall) (entries : ℕ → List LinkEntry) (held now : LinkHeld) → links ≡ own → at ≡ direction / 2 → held ≡ slice_index_or links at held → way ≡ toward direction
+    → LinksStandFor rows own entries → IsDirection own direction → now.going ≡ true
+    → ((sizes : LinkFields) (past : List LinkEntry) → LinkStandsFor sizes held past → LinkStandsFor sizes now (after_call sizes past (call way)))
+    → LinksStandFor rows (slice_set links at now) (called rows direction call entries)
+called_at rows links own direction at way call entries held now view_is at_is held_is way_is stand there going stands =
+    let here : held ≡ slice_index_or own (direction / 2) held = held_is ∙ ap (λ (l : List LinkHeld). slice_index_or l at held) view_is ∙ ap (λ (n : ℕ). slice_index_or own n held) at_is in
+    subst (λ (n : ℕ). LinksStandFor rows (slice_set links n now) (called rows direction call entries)) (sym at_is)
+    (subst (λ (l : List LinkHeld). LinksStandFor rows (slice_set l (direction / 2) now) (called rows direction call entries)) (sym view_is)
+    (one_called rows own direction call entries now stand there going
+    (subst (λ (w : Toward). LinkStandsFor (sizes_by rows direction) now (after_call (sizes_by rows direction) (entries (direction / 2)) (call w))) way_is
+    (stands (sizes_by rows direction) (entries (direction / 2)) (stands_at rows own entries direction held stand there here)))))
+
+-- what the link of a direction stands for
+pub stood_at : (rows : List LinkRow) (links own : List LinkHeld) (direction at : ℕ) (entries : ℕ → List LinkEntry) (held : LinkHeld) → links ≡ own → at ≡ direction / 2 → held ≡ slice_index_or links at held → LinksStandFor rows own entries → IsDirection own direction
+    → LinkStandsFor (sizes_by rows direction) held (entries (direction / 2))
+stood_at rows links own direction at entries held view_is at_is held_is stand there =
+    stands_at rows own entries direction held stand there (held_is ∙ ap (λ (l : List LinkHeld). slice_index_or l at held) view_is ∙ ap (λ (n : ℕ). slice_index_or own n held) at_is)
+
+-- a link that stays is put back
+pub put_back : (links own : List LinkHeld) (at : ℕ) (held now : LinkHeld) → links ≡ own → held ≡ slice_index_or links at held → now ≡ held → slice_set links at now ≡ own
+put_back links own at held now view_is held_is same = ap (slice_set links at) (same ∙ held_is) ∙ set-get_or links at held ∙ view_is
+
+pub record KeptBy (rows : List LinkRow) (entries : ℕ → List LinkEntry) (direction : ℕ) : Type 0 where
+  pub kept : IsKept (sizes_by rows direction) (entries (direction / 2))
+
+-- the entries of a direction's link are such as a link may have
+first_held : (rows : List LinkRow) (links : List LinkHeld) (entries : ℕ → List LinkEntry) (link : ℕ) → LinksStandFor rows links entries → link < length links → LinkHeld
+first_held rows [] entries link stand there = absurd (omega arith)
+first_held rows (held ∷ rest) entries link stand there = held
+
+pub one_there : (rows : List LinkRow) (links : List LinkHeld) (entries : ℕ → List LinkEntry) (direction : ℕ) → LinksStandFor rows links entries → direction < 2 * length rows → KeptBy rows entries direction
+one_there rows links entries direction stand there =
+    let less : direction / 2 < length links = omega (arith, stand.count) in
+    record { kept = (stand.stand (direction / 2) (first_held rows links entries (direction / 2) stand less) less).kept }
+
+-- whether a link can take a packet that is forwarded, by its entries
+pub ready_by : (link : LinkFields) (held : LinkHeld) (past : List LinkEntry) (d : Toward) (flits : ℕ) → LinkStandsFor link held past → is_ready (sending_end d held) flits ≡ may_pass_on (view_in link d past Waiting) flits
+ready_by link held past Forth flits stands = ready-held link held.a (parts_of link Forth past) flits stands.a ∙ may-in link Forth past flits
+ready_by link held past Back flits stands = ready-held link held.b (parts_of link Back past) flits stands.b ∙ may-in link Back past flits

@@ -1,0 +1,3 @@
+pub mod LinkList
+pub mod Quiet
+pub mod Tokens

@@ -1,9 +1,0 @@
-use Rattle.std.proofs.Common.{◌≡◌, length}
-use Rattle.hmc_net.proofs.NewLinks.{AreNewLinks}
-use Rattle.hmc_net.proofs.link_list.LinkList.build.Given as goal
-
-abbrev pub invariant-loop-row : goal.invariant-loop-row
-invariant-loop-row l = record {
-  count : length l.links.items ≡ l.row-index;
-  new : AreNewLinks l.rows l.links.items;
-}

@@ -1,9 +1,0 @@
--- One link is handed a packet.
-use Rattle.hmc_send.specs.LinkCalls.{LinkCall}
-use Rattle.hmc_net.proofs.LinkCalls.{called_at}
-use Rattle.hmc_net.proofs.link_list.LinkList.hand.Goals as goal
-
-pub returns : goal.returns
-returns c = λ rows entries stand.
-    called_at rows c.self.inside.links.items c.args.self.now c.args.direction c.from.result c.toward_of.result (λ d. LinkCall.hand d c.args.packet) entries c.index_mut-link.result.now c.hand.new.self c.self.view_is c.from.ensures c.index_mut-link.ensures.value c.toward_of.ensures
-    stand c.requires.there c.hand.ensures.going c.hand.ensures.stands

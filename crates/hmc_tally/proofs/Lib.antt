@@ -1,0 +1,4 @@
+pub mod Rows
+pub mod Accepting
+pub mod TallyLaw
+mod WorkedCounts

@@ -1,0 +1,278 @@
+//! What is counted of the steps, as they are taken.
+
+ghost use Rattle.std.specs.Prelude.{◌≡◌, ◌<◌, ◌+◌, ◌^◌, ℕ, IfOk, length, replicate};
+ghost use Rattle.std.specs.List.{All};
+ghost use Rattle.hmc_journal.specs.Hosts.{count_if};
+ghost use Rattle.hmc_journal.specs.Setup.{unit_cube};
+ghost use Rattle.hmc_send.specs.LinkLines.{changes};
+ghost use Rattle.hmc_tally.specs.Tally.{no_counters, no_host_steps, no_cube_counts, direction_row, host_row, cube_row, counts_as_accepted, is_repeat, is_abort, one_landed, directions_after, host_steps_after, cube_counts_after, tallied, step_changes, CountersWithin, HostWithin, CubeWithin, IsWithin, with_row, one_executed};
+
+use hmc_codes::{Counters, CubeCounts, Flit, Memory, Unit, ZERO_FLIT};
+use hmc_entries::Event;
+use hmc_packet::Outcome;
+use hmc_schedule::Step;
+use std::alloc::Global;
+use std::marker::Model;
+
+/// What is counted of a host.
+#[derive(Clone, Copy)]
+pub struct HostSteps {
+    /// Requests given.
+    pub given: u32,
+    /// Answers taken.
+    pub taken: u32,
+}
+
+const NO_COUNTERS: Counters = Counters {
+    sent: 0,
+    landed: 0,
+    changed: 0,
+    accepted: 0,
+    repeats: 0,
+    aborts: 0,
+};
+
+const NO_HOST_STEPS: HostSteps = HostSteps { given: 0, taken: 0 };
+
+const NO_CUBE_COUNTS: CubeCounts = CubeCounts {
+    executed: 0,
+    dropped: 0,
+};
+
+// Whether a mask changes a flit.
+#[tactic(auto, unfolding(hmc_codes::specs::Flit::zero_flit))]
+fn changes(mask: &Flit) -> bool
+    ensures { result ≡ changes mask.now }
+{
+    *mask != ZERO_FLIT
+}
+
+/// Whether a step lands a flit under a mask that changes it.
+pub fn step_changes(step: &Step) -> bool
+    ensures { result ≡ step_changes step.now }
+{
+    match step {
+        Step::Land(_, mask) => changes(mask),
+        _ => false,
+    }
+}
+
+// The cube of a unit.
+fn unit_cube(unit: Unit) -> u8
+    ensures { result ≡ unit_cube unit }
+{
+    match unit {
+        Unit::Bank { cube, .. } => cube,
+        Unit::Registers { cube } => cube,
+    }
+}
+
+// Whether a packet is accepted.
+fn counts_as_accepted(outcome: Outcome) -> bool
+    ensures { result ≡ counts_as_accepted outcome }
+{
+    matches!(outcome, Outcome::Accepted | Outcome::Poisoned)
+}
+
+// Whether a packet was accepted before.
+fn is_repeat(outcome: Outcome) -> bool
+    ensures { result ≡ is_repeat outcome }
+{
+    matches!(outcome, Outcome::Repeat)
+}
+
+// Whether a landing is an abort.
+fn is_abort(outcome: Outcome) -> bool
+    ensures { result ≡ is_abort outcome }
+{
+    matches!(outcome, Outcome::AbortedBad(_) | Outcome::AbortedOrder)
+}
+
+// One more where a test holds.
+fn count_if(test: bool, count: u32) -> u32
+    requires { count + 1 < 2 ^ 32 }
+    ensures { result ≡ count_if test count }
+{
+    if test { count + 1 } else { count }
+}
+
+// A landing more in a direction.
+fn add_landing(row: &mut Counters, changed: bool, outcome: Outcome)
+    requires { (most : ℕ) × (most + 1 < 2 ^ 32) × CountersWithin most row.old }
+    ensures { row.new ≡ one_landed changed outcome row.old }
+{
+    row.landed += 1;
+    row.changed = count_if(changed, row.changed);
+    row.accepted = count_if(counts_as_accepted(outcome), row.accepted);
+    row.repeats = count_if(is_repeat(outcome), row.repeats);
+    row.aborts = count_if(is_abort(outcome), row.aborts);
+}
+
+// A step more: of its direction, if it has one.
+fn add_to_directions(rows: &mut [Counters], event: Event, changed: bool, was_good: bool)
+    requires { (most : ℕ) × (most + 1 < 2 ^ 32) × All (CountersWithin most) rows.old }
+    ensures counted { rows.new ≡ directions_after changed was_good event rows.old }
+    ensures within { (most : ℕ) → All (CountersWithin most) rows.old →
+        All (CountersWithin (most + 1)) rows.new }
+{
+    match event {
+        Event::Sent { direction } if usize::from(direction) < rows.len() => {
+            rows[usize::from(direction)].sent += 1;
+        }
+        Event::Landed { direction, outcome } if usize::from(direction) < rows.len() => {
+            add_landing(&mut rows[usize::from(direction)], changed, outcome);
+        }
+        Event::Unlocked { direction } if usize::from(direction) < rows.len() => {
+            let row = &mut rows[usize::from(direction)];
+            row.aborts = count_if(was_good, row.aborts);
+        }
+        _ => {}
+    }
+}
+
+// A step more: of its host, if it has one.
+fn add_to_hosts(rows: &mut [HostSteps], event: Event)
+    requires { (most : ℕ) × (most + 1 < 2 ^ 32) × All (HostWithin most) rows.old }
+    ensures counted { rows.new ≡ host_steps_after event rows.old }
+    ensures within { (most : ℕ) → All (HostWithin most) rows.old →
+        All (HostWithin (most + 1)) rows.new }
+{
+    match event {
+        Event::Gave { host } if usize::from(host) < rows.len() => {
+            rows[usize::from(host)].given += 1;
+        }
+        Event::Took { host } if usize::from(host) < rows.len() => {
+            rows[usize::from(host)].taken += 1;
+        }
+        _ => {}
+    }
+}
+
+// A cube executed one more request.
+fn add_executed(rows: &mut [CubeCounts], cube: u8)
+    requires { (most : ℕ) × (most + 1 < 2 ^ 32) × All (CubeWithin most) rows.old }
+    ensures counted { rows.new ≡ with_row no_cube_counts cube one_executed rows.old }
+    ensures within { (most : ℕ) → All (CubeWithin most) rows.old →
+        All (CubeWithin (most + 1)) rows.new }
+{
+    if usize::from(cube) < rows.len() {
+        rows[usize::from(cube)].executed += 1;
+    }
+}
+
+// A step more: of its cube, if it has one.
+fn add_to_cubes(rows: &mut [CubeCounts], event: Event)
+    requires { (most : ℕ) × (most + 1 < 2 ^ 32) × All (CubeWithin most) rows.old }
+    ensures counted { rows.new ≡ cube_counts_after event rows.old }
+    ensures within { (most : ℕ) → All (CubeWithin most) rows.old →
+        All (CubeWithin (most + 1)) rows.new }
+{
+    match event {
+        Event::Executed { unit } => add_executed(rows, unit_cube(unit)),
+        Event::Dropped { cube } if usize::from(cube) < rows.len() => {
+            rows[usize::from(cube)].dropped += 1;
+        }
+        _ => {}
+    }
+}
+
+/// The counts of all directions, hosts and cubes, by their numbers. A step adds to one row.
+#[derive(Drop)]
+pub struct Tally {
+    directions: Vec<Counters>,
+    hosts: Vec<HostSteps>,
+    cubes: Vec<CubeCounts>,
+}
+
+impl Model for Tally {
+    ghost use Rattle.hmc_tally.specs.Tally.{TallyFields, IsTally};
+
+    ghost Value = { TallyFields };
+
+    ghost view = { λ t. record {
+      directions = t.directions.items;
+      hosts = t.hosts.items;
+      cubes = t.cubes.items;
+    } };
+
+    ghost invariant = { λ t. IsTally (record {
+      directions = t.directions.items;
+      hosts = t.hosts.items;
+      cubes = t.cubes.items;
+    }) };
+}
+
+impl Tally {
+    /// Counts of so many directions, hosts and cubes, before the first step. No other call takes
+    /// memory.
+    pub fn build(alloc: Global, directions: u8, hosts: u8, cubes: u8) -> Result<Self, Memory>
+        ensures { IfOk result (λ tally. tally ≡ record {
+          directions = replicate directions no_counters;
+          hosts = replicate hosts no_host_steps;
+          cubes = replicate cubes no_cube_counts;
+        }) }
+    {
+        Ok(Tally {
+            directions: vec![in alloc; NO_COUNTERS; usize::from(directions)]?,
+            hosts: vec![in alloc; NO_HOST_STEPS; usize::from(hosts)]?,
+            cubes: vec![in alloc; NO_CUBE_COUNTS; usize::from(cubes)]?,
+        })
+    }
+
+    /// Counts one more step: its event, whether its mask changes, and whether the receiver that it
+    /// unlocks was good.
+    pub fn add(&mut self, event: Event, changed: bool, was_good: bool)
+        requires { (most : ℕ) × (most + 1 < 2 ^ 32) × IsWithin most self.old }
+        ensures counted { self.new ≡ tallied changed was_good event self.old }
+        ensures within { (most : ℕ) → IsWithin most self.old → IsWithin (most + 1) self.new }
+    {
+        add_to_directions(&mut self.directions, event, changed, was_good);
+        add_to_hosts(&mut self.hosts, event);
+        add_to_cubes(&mut self.cubes, event);
+    }
+
+    /// The number of directions.
+    pub fn directions(&self) -> u8
+        ensures { result ≡ length self.now.directions }
+    {
+        self.directions.len() as u8
+    }
+
+    /// The number of hosts.
+    pub fn hosts(&self) -> u8
+        ensures { result ≡ length self.now.hosts }
+    {
+        self.hosts.len() as u8
+    }
+
+    /// The number of cubes.
+    pub fn cubes(&self) -> u8
+        ensures { result ≡ length self.now.cubes }
+    {
+        self.cubes.len() as u8
+    }
+
+    /// The counts of the direction with this number.
+    pub fn direction(&self, number: u8) -> Counters
+        requires { number < length self.now.directions }
+        ensures { result ≡ direction_row self.now number }
+    {
+        self.directions[usize::from(number)]
+    }
+
+    /// The counts of the host with this number.
+    pub fn host(&self, number: u8) -> HostSteps
+        requires { number < length self.now.hosts }
+        ensures { result ≡ host_row self.now number }
+    {
+        self.hosts[usize::from(number)]
+    }
+
+    /// The counts of the cube with this number.
+    pub fn cube(&self, number: u8) -> CubeCounts
+        requires { number < length self.now.cubes }
+        ensures { result ≡ cube_row self.now number }
+    {
+        self.cubes[usize::from(number)]
+    }
+}

@@ -1,0 +1,10 @@
+//! The topology of a network in memory: where directions start, and where packets go.
+//!
+//! [`Wiring`] finds the direction of a place, and the way of a packet from a cube, by index.
+//! `specs/Ready.antt` says which steps are of parts that are there.
+#![tactic(auto)]
+
+mod starts;
+mod wiring;
+
+pub use wiring::Wiring;
