@@ -27,8 +27,8 @@ Ends source_view sink_view words source source' sink sink' status =
     Replayed source_view sink_view words shipped_slots source source' sink sink' status
     ⊎ IsWithoutUnits words source source' sink sink' status
 
--- So it is where there are words, of which `text_of` tells the bytes; else there is a status in
--- their place.
+-- So it ends where the words could be had (`text_of` has their bytes). Else there is a status in
+-- their place, and it ends with that one.
 abbrev pub EndsBy : {W S O : Type 0} → (text_of : W → List (List ℕ)) → Result W ℕ →
     (S → SourceView) → (O → SinkView) → (source source' : S) → (sink sink' : O) →
     (status : ℕ) → Type 0

@@ -5,6 +5,7 @@ use Rattle.std.proofs.KnownBytes.{Consumes-whole}
 use Rattle.hmc_outside.specs.Views.{SourceView, SinkView}
 use Rattle.hmc_units.specs.Unit.{UnitFields}
 use Rattle.hmc_replay.specs.Answer.{limit_of, IsAnswer}
+use Rattle.hmc_replay.specs.Complete.{IsComplete}
 use Rattle.hmc_replay.specs.Top.{OneOf, NoneOf, IsRead, ReadsNothing, Reads, Writes, Replays}
 use Rattle.hmc_replay.specs.declared.form.Form.{Form}
 use Rattle.hmc_replay.proofs.OneAnswer.{answer_is_one}
@@ -122,3 +123,11 @@ module _ {S O : Type 0} (form : Form) (source_view : S → SourceView) (sink_vie
   pub made_complete : limit_of form ≡ None → Replays form source_view sink_view slots source source' sink sink' status → (due : ℕ) (lines : List (List ℕ)) → IsAnswer form slots [] due lines → OneOf (due ∷ 1 ∷ 4 ∷ []) status
   made_complete is r due lines answer =
       let read = read_none (limit_of form) r.input is r.read in made_by r.input due lines read.none read r.written answer (one_or_none (1 ∷ 3 ∷ 4 ∷ 5 ∷ []) status)
+
+  -- all of it
+  pub completes : Replays form source_view sink_view slots source source' sink sink' status → IsComplete form slots (source_view source).left status
+  completes r = record {
+    answered = λ most is. complete most is r;
+    too_long = λ most is. excess most is r;
+    made = λ is due lines answer. made_complete is r due lines answer;
+  }

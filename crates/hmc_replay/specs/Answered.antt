@@ -5,7 +5,7 @@ use Rattle.hmc_outside.specs.Views.{SinkView}
 use Rattle.hmc_replay.specs.declared.run.RunError.{RunError}
 use Rattle.hmc_replay.specs.declared.run.RunError.TheVariants.{Memory, ReadFault, WriteFault, TooLong, BadCase, Passed}
 
--- In what follows `Due` tells of a status and lines whether they are due.
+-- In what follows `Due status lines` says that this status and these lines are due.
 
 -- lines that are due with this status were written, each by one write, and handed on
 pub record IsAnswered (Due : ℕ → List (List ℕ) → Type 0) (status : ℕ)

@@ -13,3 +13,4 @@ pub mod Steps
 pub mod Top
 pub mod Units
 pub mod Words
+pub mod Complete

@@ -7,7 +7,7 @@ use Rattle.hmc_replay.specs.Input.{ReadsWhole, ReadsPart}
 use Rattle.hmc_replay.specs.declared.input.InputError.{InputError}
 use Rattle.hmc_replay.specs.declared.run.RunError.{RunError}
 
--- In what follows `Due` tells of an input, a status and lines whether they are due to the input.
+-- In what follows `Due input status lines` says that they are due for this input.
 
 -- the input was read whole, and answered
 pub record IsWholeRun {O : Type 0} (most : ℕ) (Due : List ℕ → ℕ → List (List ℕ) → Type 0)

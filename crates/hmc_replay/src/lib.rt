@@ -10,6 +10,7 @@
 mod extent;
 mod form;
 mod input;
+mod laws;
 mod on;
 mod output;
 mod report;
@@ -19,5 +20,6 @@ mod top;
 
 pub use extent::Extent;
 pub use form::is_form;
+pub use laws::{answer_exists, answer_is_one};
 pub use on::replay_on;
 pub use top::replay;

@@ -1,11 +1,8 @@
 //! From input, or from a number, to output.
 
-ghost use Rattle.std.specs.Prelude.{◌≡◌, ◌≤◌, ◌<◌, ◌∷◌, [], length, IfOk, vec_len, Err};
+ghost use Rattle.std.specs.Prelude.{◌≡◌, ◌≤◌, ◌<◌, ◌∷◌, [], length, vec_len, Err};
 ghost use Rattle.hmc_journal.specs.Setup.{setup_of};
-ghost use Rattle.hmc_net.specs.NetState.{net_of};
-ghost use Rattle.hmc_net.specs.Stands.{StandsFor};
 ghost use Rattle.hmc_units.specs.Bench.{most_units};
-ghost use Rattle.hmc_units.specs.Slots.{units_in};
 ghost use Rattle.hmc_codes.specs.Limits.{most_input};
 ghost use Rattle.hmc_replay.specs.Answer.{IsAnswer};
 ghost use Rattle.hmc_replay.specs.Answered.{Answers};
@@ -21,12 +18,11 @@ ghost use Rattle.hmc_replay.specs.declared.run.RunError.TheVariants.{Memory, Wri
 
 use crate::extent::Extent;
 use crate::input::{InputError, read_input};
+use crate::on::replay_on;
 use crate::output::{finish, write_line};
-use crate::report::write_report;
 use hmc_case::{Case, CaseFault, CaseKind, Section, bad_line};
 use hmc_codes::{LineText, MOST_INPUT, Memory};
 use hmc_make::make;
-use hmc_net::Network;
 use hmc_outside::{Failed, Sink, Source};
 use hmc_units::{LogicUnit, Slots};
 use std::alloc::Global;
@@ -68,14 +64,6 @@ impl From<Memory> for RunError {
     }
 }
 
-impl From<Failed> for RunError {
-    ghost from_gives = { λ _ r. r ≡ WriteFault };
-
-    fn from(_: Failed) -> Self {
-        RunError::WriteFault
-    }
-}
-
 // Writes a line, and hands it on.
 fn write_only<O: Sink>(sink: &mut O, line: &str) -> Result<(), Failed>
     requires { 0 < length line.now }
@@ -98,22 +86,8 @@ fn refuse<O: Sink>(sink: &mut O, section: Section, line: u32, kind: CaseKind) ->
     }
 }
 
-// The network of a case and of units, in which nothing happened yet.
-fn network_of<U: LogicUnit>(
-    alloc: Global,
-    case: &Case,
-    units: Vec<U>,
-) -> Result<Network<Slots<U>>, Memory>
-    requires { vec_len units ≤ most_units }
-    ensures { IfOk result (λ network. StandsFor (net_of (units_in U.meaning) network)
-        (setup_of case.now (slots_of U.meaning units.items)) []) }
-{
-    let bench = Slots::new(alloc, units)?;
-    Network::build(alloc, case, bench)
-}
-
-// Steps the network of a case and of units, and writes the report. Out of memory it writes nothing.
-// `Passed` where a landing passed; the report then ends with its line.
+// Replays a case with units, and writes its report. Out of memory it writes nothing. `Passed` where
+// a landing passed; the report then ends with its line.
 fn report<O: Sink, U: LogicUnit>(
     alloc: Global,
     sink: &mut O,
@@ -126,12 +100,13 @@ fn report<O: Sink, U: LogicUnit>(
         (lines_in extent (setup_of case.now (slots_of U.meaning units.items))))
         result O.shows sink.old sink.new }
 {
-    let mut network = network_of(alloc, case, units)?;
-    let passed = write_report(sink, extent, &mut network, case.schedule())?;
-    if passed {
-        return Err(RunError::Passed);
+    let bench = Slots::new(alloc, units)?;
+    let (ended, _) = replay_on(alloc, sink, extent, case, bench)?;
+    match ended {
+        Ok(true) => Err(RunError::Passed),
+        Ok(false) => Ok(()),
+        Err(_) => Err(RunError::WriteFault),
     }
-    Ok(())
 }
 
 // Writes what is to be written for an input.

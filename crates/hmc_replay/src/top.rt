@@ -1,10 +1,13 @@
 //! The top call.
 
-ghost use Rattle.std.specs.Prelude.{◌≡◌, ◌≤◌, map, string_bytes, vec_len};
+ghost use Rattle.std.specs.Prelude.{◌≡◌, ◌≤◌, Some, map, string_bytes, vec_len};
 ghost use Rattle.hmc_units.specs.Bench.{most_units};
 ghost use Rattle.hmc_replay.specs.Causes.{status_of};
+ghost use Rattle.hmc_replay.specs.Complete.{IsComplete};
 ghost use Rattle.hmc_replay.specs.Top.{Replayed};
 ghost use Rattle.hmc_replay.specs.Units.{slots_of};
+ghost use Rattle.hmc_replay.specs.Words.{form_of};
+ghost use Rattle.hmc_replay.specs.declared.form.Form.{Form};
 
 use crate::form::{Form, form_of};
 use crate::run::{RunError, run, run_made};
@@ -73,8 +76,9 @@ fn replay_with<S: Source, O: Sink, U: LogicUnit>(
 /// | 6 | the input is not a valid case | a line with its first fault |
 /// | 7 | a check succeeded over flits that masks changed | the lines up to there, or the last |
 ///
-/// specs/Top has the contract, `Replayed`, with a comment for each promise. docs/case.md has the
-/// form of a case, and docs/report.md that of a report.
+/// specs/Top has the contract, `Replayed`, with a comment for each promise: what is read, and what is
+/// written. specs/Complete says when that comes. docs/case.md has the form of a case, and
+/// docs/report.md that of a report.
 pub fn replay<S: Source, O: Sink>(
     alloc: Global,
     words: &[String],
@@ -83,9 +87,12 @@ pub fn replay<S: Source, O: Sink>(
     units: Vec<Box<dyn LogicUnit>>,
 ) -> u8
     requires { vec_len units ≤ most_units }
-    ensures { Replayed S.shows O.shows (map string_bytes words.now)
+    ensures replayed { Replayed S.shows O.shows (map string_bytes words.now)
         (slots_of ⟦<Box<dyn LogicUnit> as LogicUnit>⟧.meaning units.items)
         source.old source.new sink.old sink.new result }
+    ensures complete { (form : Form) → form_of (map string_bytes words.now) ≡ Some form →
+        IsComplete form (slots_of ⟦<Box<dyn LogicUnit> as LogicUnit>⟧.meaning units.items)
+        (S.shows source.old).left result }
 {
     replay_with(alloc, words, source, sink, units)
 }

@@ -21,7 +21,10 @@ ghost use Rattle.hmc_report.specs.Lines.{is_zero, memory_line, register_line, ad
 
 pub use finished::Finished;
 pub use finishing::finish;
-use hmc_codes::{Counters, CubeCounts, HostCounts, LineText, TokenRow, append_bytes, append_hex_number, append_sixteen, append_spaced};
+use hmc_codes::{
+    Counters, CubeCounts, HostCounts, LineText, TokenRow, append_bytes, append_hex_number,
+    append_sixteen, append_spaced,
+};
 pub use lines::Lines;
 pub use part::Part;
 

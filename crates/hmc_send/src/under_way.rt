@@ -14,7 +14,10 @@ use crate::Numbers;
 use crate::copy::{copies_fit, copy_of};
 use arrayvec::ArrayVec;
 use hmc_codes::{Flit, Profile};
-use hmc_packet::{Draft, Feed, Packet, What, first_flit_names_length_and_command, spelling_is_as_long_as_its_packet};
+use hmc_packet::{
+    Draft, Feed, Packet, What, first_flit_names_length_and_command,
+    spelling_is_as_long_as_its_packet,
+};
 use std::marker::Model;
 
 /// What is known of the packet of a place.

@@ -38,7 +38,8 @@ cube 0 0 0
 state drained
 ";
 
-fn case_on(alloc: Global, script: &str, schedule: &str) -> Result<String, Fail> {
+/// A case of that cube with this script and this schedule.
+pub(crate) fn case_on(alloc: Global, script: &str, schedule: &str) -> Result<String, Fail> {
     let texts = format!(in alloc; "script = '''\n{script}'''\nschedule = '''\n{schedule}'''\n")?;
     Ok(format!(in alloc; "profile = 1\n{texts}\n{NET}")?)
 }

@@ -5,3 +5,5 @@ mod Links
 mod Numbers
 mod Hops
 mod Texts
+mod Benches
+mod ByStatus

@@ -1,0 +1,11 @@
+pub mod Reading
+pub mod Digits
+pub mod Requests
+pub mod Scripts
+pub mod Schedules
+pub mod Keys
+pub mod Cubes
+pub mod Links
+pub mod Nets
+pub mod Cases
+pub mod Made
