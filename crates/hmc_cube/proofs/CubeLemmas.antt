@@ -61,10 +61,6 @@ few_vaults shape vaults register_queue answers kept =
     let powers : 2 ^ shape.vault_bits ≤ 2 ^ 5 = pow-le-pow_right {n = 2} (omega arith) kept.is_shape.vault_bits in
     omega (arith, kept.count)
 
--- a queue of a small size holds few
-pub few_used : (queue : Queue) (used : ℕ) → used ≡ sum_by one (packets_of queue) → size_of queue < 2 ^ 8 → used ≤ 255
-few_used queue used cost small = omega (arith, within_size queue)
-
 powers : (bits : ℕ) → bits ≤ 5 → 1 * 2 ^ bits % 2 ^ 64 ≡ 2 ^ bits
 powers bits few =
     let most : 2 ^ bits ≤ 2 ^ 5 = pow-le-pow_right {n = 2} (omega arith) few in

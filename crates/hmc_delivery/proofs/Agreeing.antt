@@ -1,6 +1,8 @@
 -- The queues of a journal hold what they hold after its moves.
 use Rattle.std.proofs.Common.{◌≡◌, ◌≤◌, ◌<◌, ◌+◌, ◌∙◌, ◌==◌, ◌&&◌, ℕ, zero, suc, Bool, true, false, if◌then◌else◌, Option, Some, None, List, [], ◌∷◌, ◌++◌, map, drop, length, refl, sym, ap, arith, zero-add, eqb-true, eq-eqb}
 use Rattle.std.specs.Prelude.{option_and_then, nat_lt}
+use Rattle.std.proofs.lemmas.Bool.{false_from_ne_true}
+use mathlib.Core.Bool.{and-false, and-true}
 use Rattle.hmc_codes.specs.declared.place.Place.{Place}
 use Rattle.hmc_codes.specs.declared.place.Place.TheVariants as places
 use Rattle.hmc_packet.specs.Packet.{PacketFields}
@@ -14,11 +16,11 @@ use Rattle.hmc_journal.specs.Queues.{QueueId, same_queue, is_at, buffer_at, one_
 use Rattle.hmc_journal.specs.Setup.{Topology, Setup, graph_of, cubes_in, hosts_in, directions_in, start_of, end_of, direction_from}
 use Rattle.hmc_journal.proofs.EntryRule.{EntryRule}
 use Rattle.hmc_journal.proofs.Moves.{HasBegun, has_leaving, leaving_inside, same_queue_refl, entering}
-use Rattle.hmc_journal.proofs.Joins.{same_place_is}
 use Rattle.hmc_laws.proofs.Wired.{Wired, ends_there, same_buffers}
 use Rattle.hmc_delivery.proofs.Seen.{seen, hop_queue, arriving, or_zero}
 use Rattle.hmc_delivery.proofs.Underway.{line_on}
 use Rattle.std.proofs.lemmas.List.{drop-append-le}
+use Rattle.hmc_routes.proofs.Joined.{same_place-true}
 
 -- ---- the map of a topology
 
@@ -59,12 +61,8 @@ IsReal topology _ = Unit {0}
 pub arriving_is : (topology : Topology) (place : Place) → Wired topology → (at : EndsAt topology place) → arriving topology place ≡ at.direction
 arriving_is topology place wires at = ap (arriving topology) (sym at.ends) ∙ ap or_zero (ends_there topology wires at.direction at.inside)
 
-no_more : (b : Bool) → (b ≡ true → ⊥) → b ≡ false
-no_more true never = absurd (never refl)
-no_more false never = refl
-
 same_place_of : (p q : Place) → same_queue (buffer_at p) (buffer_at q) ≡ true → p ≡ q
-same_place_of p q is = same_place_is p q (sym (same_buffers p q) ∙ is)
+same_place_of p q is = same_place-true p q (sym (same_buffers p q) ∙ is)
 
 buffers : (topology : Topology) (p q : Place) → Wired topology → EndsAt topology p → EndsAt topology q → same_queue (buffer_at p) (buffer_at q) ≡ (arriving topology p == arriving topology q)
 buffers topology p q wires at_p at_q = by_test (arriving topology p == arriving topology q) refl
@@ -75,17 +73,9 @@ buffers topology p q wires at_p at_q = by_test (arriving topology p == arriving 
         let d : at_p.direction ≡ at_q.direction = sym (arriving_is topology p wires at_p) ∙ one ∙ arriving_is topology q wires at_q in
         let same : p ≡ q = sym at_p.ends ∙ ap (end_of topology) d ∙ at_q.ends in
         ap (λ (x : Place). same_queue (buffer_at x) (buffer_at q)) same ∙ same_queue_refl (buffer_at q)
-    by_test false is = no_more (same_queue (buffer_at p) (buffer_at q)) (λ at.
+    by_test false is = false_from_ne_true (same_queue (buffer_at p) (buffer_at q)) (λ at.
         let same : p ≡ q = same_place_of p q at in
         let clash : true ≡ false = sym (eq-eqb (arriving topology p) (arriving topology q) (ap (arriving topology) same)) ∙ is in cc)
-
-and_no : (b : Bool) → false ≡ (b && false)
-and_no true = refl
-and_no false = refl
-
-and_yes : (b : Bool) → b ≡ (b && true)
-and_yes true = refl
-and_yes false = refl
 
 -- the same queue, either way
 pub same_hops : (topology : Topology) (p q : QueueId) → Wired topology → IsReal topology p → IsReal topology q → same_queue p q ≡ same_hop (hop_queue topology p) (hop_queue topology q)
@@ -122,14 +112,14 @@ same_hops topology (queues.Bank c v b) (queues.Port e q) wires p_is q_is = refl
 same_hops topology (queues.Bank c v b) (queues.Host k) wires p_is q_is = refl
 same_hops topology (queues.Bank c v b) (queues.Vault d w) wires p_is q_is = refl
 same_hops topology (queues.Bank c v b) (queues.Bank d w a) wires p_is q_is = refl
-same_hops topology (queues.Bank c v b) (queues.Registers d) wires p_is q_is = and_no (c == d)
+same_hops topology (queues.Bank c v b) (queues.Registers d) wires p_is q_is = sym (and-false (c == d))
 same_hops topology (queues.Bank c v b) (queues.Answers d to) wires p_is q_is = refl
 same_hops topology (queues.Registers c) (queues.Output e) wires p_is q_is = refl
 same_hops topology (queues.Registers c) (queues.Port e q) wires p_is q_is = refl
 same_hops topology (queues.Registers c) (queues.Host k) wires p_is q_is = refl
 same_hops topology (queues.Registers c) (queues.Vault d w) wires p_is q_is = refl
-same_hops topology (queues.Registers c) (queues.Bank d w a) wires p_is q_is = and_no (c == d)
-same_hops topology (queues.Registers c) (queues.Registers d) wires p_is q_is = and_yes (c == d)
+same_hops topology (queues.Registers c) (queues.Bank d w a) wires p_is q_is = sym (and-false (c == d))
+same_hops topology (queues.Registers c) (queues.Registers d) wires p_is q_is = sym (and-true (c == d))
 same_hops topology (queues.Registers c) (queues.Answers d to) wires p_is q_is = refl
 same_hops topology (queues.Answers c from) (queues.Output e) wires p_is q_is = refl
 same_hops topology (queues.Answers c from) (queues.Port e q) wires p_is q_is = refl

@@ -3,7 +3,7 @@
 use Rattle.std.proofs.Common.{◌≡◌, ◌<◌, ◌∙◌, ◌==◌, ◌&&◌, ℕ, zero, suc, Bool, true, false, not, Option, Some, None, List, [], ◌∷◌, ◌++◌, map, length, slice_index_or, refl, sym, ap, ap₂, subst, arith, eqb-true, eq-eqb, not-suc-le-zero, nat_lt}
 use Rattle.std.proofs.lemmas.List.{length-map}
 use Rattle.std.proofs.lemmas.List.Quantifiers.{position-Some}
-use Rattle.std.proofs.lemmas.Bool.{and_parts}
+use Rattle.std.proofs.lemmas.Bool.{and_parts, not-true}
 use Rattle.std.proofs.lemmas.Option.{slice_get-get_or}
 use Rattle.hmc_codes.specs.Commands.{is_posted}
 use Rattle.hmc_codes.specs.Request.{RequestFields}
@@ -57,16 +57,12 @@ asks_not : (m : Map) (moved : List Move) (move : Move) (rest : List Move) → ((
 asks_not m moved move [] never is = λ h t asks. absurd (never h t asks)
 asks_not m moved move (next ∷ rest) never is = (λ h t asks. absurd (never h t asks), is)
 
-not_true : (b : Bool) → not b ≡ true → b ≡ false
-not_true true is = cc
-not_true false is = refl
-
 free_tag : (awaited : Bool) (tags : List Bool) (tag : Option ℕ) (t : ℕ) → awaited ≡ true → IsTagged awaited (lowest_free tags) tag → tag_number tag ≡ t → slice_index_or tags t false ≡ false
 free_tag false tags tag t wants is number = absurd (cc)
 free_tag true tags tag t wants is number =
     let found = position-Some not tags is.0 false is.1 in
     let same : is.0 ≡ t = sym (ap tag_number is.2) ∙ number in
-    ap (λ (n : ℕ). slice_index_or tags n false) (sym same) ∙ not_true (slice_index_or tags is.0 false) found.1
+    ap (λ (n : ℕ). slice_index_or tags n false) (sym same) ∙ not-true (slice_index_or tags is.0 false) found.1
 
 given_keeps : (setup : Setup) (m : Map) (past : List Entry) (host : ℕ) (tag : Option ℕ) (poisoned : Bool) (request : RequestFields) (h t : ℕ) → ((a b : ℕ) → hop_out m a b (moves setup.topology past) ≡ out_of past a b) → (has : HasGiven setup past host tag poisoned request)
     → (wants_tag has.item && ((host == h) && (tag_number tag == t))) ≡ true → hop_out m h t (moves setup.topology past) ≡ false

@@ -16,9 +16,10 @@ use Rattle.hmc_journal.specs.Piped.{forwarded_onto}
 use Rattle.hmc_journal.specs.Lawful.{Lawful}
 use Rattle.hmc_journal.specs.Queues.{tag_number}
 use Rattle.hmc_journal.specs.Setup.{Topology, Setup, direction_from}
-use Rattle.hmc_laws.proofs.Buffers.{IsNoLanding, accepted-same, few_landed, accepted_more, accepted_off}
+use Rattle.hmc_laws.proofs.Buffers.{accepted-same, few_landed, accepted_more, accepted_off}
 use Rattle.hmc_delivery.proofs.Collecting.{piece_of, collected, quiet, begins_nothing, forward_nothing, unlocks_nothing, onto_there, comes_nothing}
 use Rattle.hmc_delivery.proofs.Seen.{seen, comes_from, begins_move, lands, moves_of, moves}
+use Rattle.hmc_journal.proofs.Projections.{IsNoLanding}
 
 -- what is read off packets, and off those that are seen
 pub record IsRead {X : Type 0} (topology : Topology) (f : Flow X) (said : List PacketFields → List X) : Type 0 where

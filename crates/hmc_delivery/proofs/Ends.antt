@@ -38,7 +38,8 @@ use Rattle.hmc_journal.proofs.Moves.{append_if-append, arrives, arrived_first, a
 use Rattle.hmc_laws.proofs.Standing.{IsAtEnd, clean_reply, replied_tag}
 use Rattle.hmc_laws.proofs.Entering.{Kept, front_stands, sends}
 use Rattle.hmc_journal.proofs.Joins.{other_inside, start_is_end}
-use Rattle.hmc_laws.proofs.Sound.{kept, has_begun}
+use Rattle.hmc_laws.proofs.Sound.{kept}
+use Rattle.hmc_laws.proofs.SoundSends.{has_begun}
 use Rattle.hmc_delivery.proofs.TagsOut.{discards_poison}
 use Rattle.hmc_delivery.proofs.Views.{takings_none, takings_append, takings_of_tokens}
 use Rattle.hmc_laws.proofs.Wired.{Wired, wired, ends_there}

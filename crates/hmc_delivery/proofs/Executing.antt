@@ -28,18 +28,10 @@ use Rattle.hmc_laws.proofs.Standing.{request_of_packet}
 use Rattle.hmc_laws.proofs.Entering.{Kept, runs_request}
 use Rattle.hmc_laws.proofs.Sound.{kept}
 use Rattle.hmc_delivery.proofs.Seen.{seen, kind_by, kind_of, spot_of, request_or, moves_of, moves}
-use Rattle.hmc_delivery.proofs.Flowing.{unit_parts}
+use Rattle.hmc_delivery.proofs.Flowing.{unit_parts, posted_tag, item_when}
 use Rattle.hmc_delivery.proofs.Collecting.{piece_of, collected, append_when, quiet, begins_nothing, landing_nothing, unlocks_nothing, onto_there, comes_nothing}
 
 -- ---- executed
-
-tag_when : (posted : Bool) (tag : ℕ) → tag_by (kind_by families.Ask posted) tag ≡ tag_of posted tag
-tag_when true tag = refl
-tag_when false tag = refl
-
-item_of : (b : Bool) (x : TaggedRequest) → (item_if b x) ≡ (if b then x ∷ [] else [])
-item_of true x = refl
-item_of false x = refl
 
 -- the value of a request that is executed
 executed_said : (setup : Setup) (past : List Entry) (host : ℕ) (unit here : RequestUnit) (giver : ℕ) (tag : Option ℕ) (request : RequestFields) (answer : Answer) → Kept setup past → (has : HasExecuted setup past here giver tag request answer)
@@ -51,10 +43,10 @@ executed_said setup past host unit here giver tag request answer keeps has =
     let front = has.at.front in
     let run = runs_request setup past here giver tag request answer has keeps in
     let parts = request_of_packet front request has.is_request in
-    item_of ((front.slid == host) && ((unit_cube here == unit_cube unit) && same_spot (spot_of here) (spot_of unit))) (record { tag = tag_by (kind_of front) front.tag; request = request_or (request_in front) })
+    item_when ((front.slid == host) && ((unit_cube here == unit_cube unit) && same_spot (spot_of here) (spot_of unit))) (record { tag = tag_by (kind_of front) front.tag; request = request_or (request_in front) })
     ∙ ap₂ (λ (b : Bool) (o : Option ℕ). if b then record { tag = o; request = request_or (request_in front) } ∷ [] else [])
     (ap₂ (λ (n : ℕ) (b : Bool). (n == host) && b) (sym has.is_host) (sym (unit_parts here unit)))
-    (ap (λ f. tag_by (kind_by f (is_posted front.command)) front.tag) run.asking.asks ∙ tag_when (is_posted front.command) front.tag ∙ ap (λ c. tag_of (is_posted c) front.tag) (sym parts.command) ∙ sym has.is_tag)
+    (ap (λ f. tag_by (kind_by f (is_posted front.command)) front.tag) run.asking.asks ∙ posted_tag (is_posted front.command) front.tag ∙ ap (λ c. tag_of (is_posted c) front.tag) (sym parts.command) ∙ sym has.is_tag)
     ∙ ap (λ (r : RequestFields). if (giver == host) && same_unit here unit then record { tag = tag; request = r } ∷ [] else []) (ap request_or has.is_request)
 
 executed_more : (setup : Setup) (host : ℕ) (unit : RequestUnit) → IsNetwork setup → (entry : Entry) (past : List Entry) → Lawful setup (entry ∷ past)

@@ -1,5 +1,7 @@
 -- What of a flow packets carry, as the journal and as its moves say it.
 use Rattle.std.proofs.Common.{◌≡◌, ◌∙◌, ◌==◌, ◌&&◌, ℕ, Bool, true, false, not, if◌then◌else◌, Option, Some, None, is_some, List, [], ◌∷◌, ◌++◌, map, refl, sym, ap, ap₂}
+use Rattle.std.proofs.lemmas.Bool.{false_from_ne_true}
+use mathlib.Core.Bool.{and-false, and-true}
 use Rattle.hmc_codes.specs.Commands.{layout_of, family_of_layout, is_ask, is_posted}
 use Rattle.hmc_codes.specs.Request.{RequestFields}
 use Rattle.hmc_codes.specs.declared.answer.Answer.{Answer}
@@ -40,20 +42,12 @@ asks_some packet = by_ask (is_ask (layout_of packet.command)) _
     by_ask true request = refl
     by_ask false request = refl
 
-no_and : (b : Bool) → false ≡ (b && false)
-no_and true = refl
-no_and false = refl
-
-yes_and : (b : Bool) → b ≡ (b && true)
-yes_and true = refl
-yes_and false = refl
-
 -- a unit is its cube and its spot
 pub unit_parts : (u v : RequestUnit) → same_unit u v ≡ ((unit_cube u == unit_cube v) && same_spot (spot_of u) (spot_of v))
 unit_parts (units.Bank c v b) (units.Bank d w a) = refl
-unit_parts (units.Bank c v b) (units.Registers d) = no_and (c == d)
-unit_parts (units.Registers c) (units.Bank d w a) = no_and (c == d)
-unit_parts (units.Registers c) (units.Registers d) = yes_and (c == d)
+unit_parts (units.Bank c v b) (units.Registers d) = sym (and-false (c == d))
+unit_parts (units.Registers c) (units.Bank d w a) = sym (and-false (c == d))
+unit_parts (units.Registers c) (units.Registers d) = sym (and-true (c == d))
 
 unit_in_cube : (topology : Topology) (request : RequestFields) → unit_cube (unit_in topology request) ≡ request.cube
 unfolding unit_of
@@ -73,11 +67,11 @@ same_test false true true spot = refl
 same_test false true false spot = refl
 same_test false false cube spot = refl
 
-item_when : (b : Bool) (x : TaggedRequest) → (item_if b x) ≡ (if b then x ∷ [] else [])
+pub item_when : (b : Bool) (x : TaggedRequest) → (item_if b x) ≡ (if b then x ∷ [] else [])
 item_when true x = refl
 item_when false x = refl
 
-posted_tag : (posted : Bool) (tag : ℕ) → tag_by (kind_by families.Ask posted) tag ≡ tag_of posted tag
+pub posted_tag : (posted : Bool) (tag : ℕ) → tag_by (kind_by families.Ask posted) tag ≡ tag_of posted tag
 posted_tag true tag = refl
 posted_tag false tag = refl
 
@@ -155,16 +149,12 @@ no_answer_item false other false x = refl
 reply_when : (layout : Layout) (posted : Bool) → family_of_layout layout ≡ families.Reply → is_reply (kind_by (family_of_layout layout) posted) ≡ true
 reply_when layout posted is = ap (λ f. is_reply (kind_by f posted)) is
 
-not_reply : (b : Bool) → (b ≡ true → ⊥) → b ≡ false
-not_reply true never = absurd (never refl)
-not_reply false never = refl
-
 one_answer : (topology : Topology) (cube host : ℕ) (packet : PacketFields) (found : Option Answer) → answer_in packet ≡ found
     → (item_if ((hop_answers_to cube host).mine (seen topology packet)) (hop_answer (seen topology packet))) ≡ (if (packet.cube == cube) && (packet.slid == host) then tagged_answer packet found else [])
 unfolding seen
 one_answer topology cube host packet None is =
     let reply = is_reply (kind_of packet) in
-    let none : reply ≡ false = not_reply reply (λ yes. let some : is_some (answer_in packet) ≡ true = (answer_in-replies packet).1 (kind_reply (layout_of packet.command) (is_posted packet.command) yes) in let clash : false ≡ true = sym (ap is_some is) ∙ some in cc) in
+    let none : reply ≡ false = false_from_ne_true reply (λ yes. let some : is_some (answer_in packet) ≡ true = (answer_in-replies packet).1 (kind_reply (layout_of packet.command) (is_posted packet.command) yes) in let clash : false ≡ true = sym (ap is_some is) ∙ some in cc) in
     ap (λ (b : Bool). item_if ((not packet.poisoned && b) && ((packet.slid == host) && (packet.cube == cube))) (hop_answer (seen topology packet))) none
     ∙ no_answer_item packet.poisoned ((packet.slid == host) && (packet.cube == cube)) ((packet.cube == cube) && (packet.slid == host)) (hop_answer (seen topology packet))
 one_answer topology cube host packet (Some answer) is =

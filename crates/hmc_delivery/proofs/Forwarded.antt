@@ -1,4 +1,5 @@
--- A packet that is forwarded while it is gathered: its pipe, its place on the next direction, and its way there.
+-- A packet that is forwarded while it is gathered: its pipe, its place on the next direction, and its
+-- way there.
 use Rattle.std.proofs.Common.{◌≡◌, ◌≤◌, ◌<◌, ◌/◌, ◌∙◌, ◌==◌, inl, inr, ℕ, Bool, true, false, not, if◌then◌else◌, Option, Some, None, List, [], ◌∷◌, ◌++◌, length, get_or, refl, sym, ap, ap₂, subst, arith, eq-eqb, ne_eqb, nat_lt}
 use Rattle.std.specs.Prelude.{option_and_then}
 use Rattle.hmc_codes.specs.Commands.{layout_of, family_of, is_flow}
@@ -35,7 +36,7 @@ use Rattle.hmc_journal.specs.ThroughSteps.{if_below, port_by}
 use Rattle.hmc_laws.proofs.CopyWhole.{renumbered, copy-whole, same-unnumbered}
 use Rattle.hmc_laws.proofs.Entering.{Kept}
 use Rattle.hmc_journal.proofs.LinkKept.{opened}
-use Rattle.hmc_laws.proofs.Forwarding.{PipeKept, Way, OnPipe, known_waits}
+use Rattle.hmc_laws.proofs.ForwardingPipes.{PipeKept, Way, OnPipe, known_waits}
 use Rattle.hmc_laws.proofs.Piping.{IsPiped, UpPiped, sender_on}
 use Rattle.hmc_laws.proofs.PipeSteps.{IsUp}
 use Rattle.hmc_laws.proofs.Standing.{IsCounted, IsMoving, IsCounted-moving}

@@ -1,5 +1,6 @@
 -- What a lawful journal promises of packets that are forwarded.
 use Rattle.std.proofs.Common.{◌≡◌, ◌≤◌, ◌<◌, ◌/◌, ◌∙◌, ◌⊎◌, inl, inr, ℕ, true, Option, Some, None, List, [], ◌∷◌, length, get_or, refl, sym, ap, subst, arith}
+use Rattle.std.proofs.lemmas.Bool.{false_from_ne_true}
 use Rattle.hmc_codes.specs.Flit.{zero_flit}
 use Rattle.hmc_codes.specs.declared.place.Place.TheVariants as ends
 use Rattle.hmc_packet.specs.declared.feed.Feed.TheVariants.{Waiting}
@@ -25,11 +26,11 @@ use Rattle.hmc_laws.proofs.GoodLandings.{IsShort, get-any}
 use Rattle.hmc_laws.proofs.LinkHanded.{parts-fit}
 use Rattle.hmc_journal.proofs.LinkKept.{opened}
 use Rattle.hmc_delivery.proofs.Forwarded.{forwarded_packet}
-use Rattle.hmc_laws.proofs.Forwarding.{Waits, OnPipe, PipeKept, known_waits}
+use Rattle.hmc_laws.proofs.ForwardingPipes.{Waits, OnPipe, PipeKept, known_waits}
 use Rattle.hmc_laws.proofs.Piping.{UpPiped, feed_fits, sender_on, up_on}
-use Rattle.hmc_laws.proofs.Sound.{kept, holds_accepted}
+use Rattle.hmc_laws.proofs.Sound.{kept}
+use Rattle.hmc_laws.proofs.SoundAtOnce.{holds_accepted}
 use Rattle.hmc_laws.proofs.Wired.{Wired, wired}
-use Rattle.hmc_journal.proofs.Projections.{never}
 
 short_first : (l : List (List ℕ)) → 1 ≤ length l → IsShort l → length l < lng_of (get_or l 0 [])
 short_first [] some short = absurd (omega arith)
@@ -97,7 +98,7 @@ by_kept : (setup : Setup) (past : List Entry) → Wired setup.topology → Kept 
 by_kept setup past wires keeps = record {
   forwarded = λ d onto less is. forwarded_is setup past d onto wires keeps less is;
   gathering = λ onto p is none. (let k : PipeKept setup.topology past onto p = subst (OnPipe setup.topology past onto) is (keeps.piped onto) in (k.way.inside, (k.gathering none).forwarded));
-  free = λ d onto flits less is. never (may_pass_on (view_in (sizes_on setup.topology onto) (toward onto) (entries_on setup.topology onto past) Waiting) flits) (free_not setup past d onto flits keeps less is);
+  free = λ d onto flits less is. false_from_ne_true (may_pass_on (view_in (sizes_on setup.topology onto) (toward onto) (entries_on setup.topology onto past) Waiting) flits) (free_not setup past d onto flits keeps less is);
   fed = λ d. (feed_fits (pipe_onto setup.topology d past) (up_on setup.topology d past) (keeps.up d)).fits;
   at = λ d at is. placed setup past d at keeps is;
 }

@@ -46,7 +46,9 @@ use Rattle.hmc_journal.proofs.EntryRule.{EntryRule, HasFront, HasExecuted, entry
 use Rattle.hmc_journal.proofs.Moves.{HasBegun, arrives, arrived_is, entering, front_is}
 use Rattle.hmc_laws.proofs.Standing.{IsAtEnd, request_of_packet, clean_reply, replied_slid, replied_cube, replied_tag}
 use Rattle.hmc_laws.proofs.Entering.{Kept, front_stands, has_direction, runs_request, sends, reply_tag, executed_reply}
-use Rattle.hmc_laws.proofs.Sound.{kept, has_begun, through_of}
+use Rattle.hmc_laws.proofs.Sound.{kept}
+use Rattle.hmc_laws.proofs.SoundSends.{has_begun}
+use Rattle.hmc_laws.proofs.SoundTakes.{through_of}
 use Rattle.hmc_packet.specs.Landings.{pending}
 use Rattle.hmc_journal.specs.Piped.{forwarded_onto, pipe_onto}
 use Rattle.hmc_laws.proofs.PipeSteps.{IsUp}

@@ -28,7 +28,7 @@ use Rattle.hmc_journal.proofs.EntryRule.{EntryRule, HasShifted, HasDropped, HasS
 use Rattle.hmc_journal.proofs.Moves.{HasBegun, arrives, arrived_is, entering}
 use Rattle.hmc_laws.proofs.Standing.{IsAsking, IsReplying, IsSpoiled, IsMoving, IsBound, request_of_packet}
 use Rattle.hmc_laws.proofs.Standing.IsMoving.{ToCube, ToHost, Spoiled}
-use Rattle.hmc_laws.proofs.Entering.{has_direction, asking_goal, replying_goal, out_port, inside_goal, no_vault, no_registers, no_port, is_here}
+use Rattle.hmc_laws.proofs.Entering.{has_direction, asking_goal, replying_goal, out_port, no_vault, no_registers, no_port, is_here}
 use Rattle.hmc_crossbar.specs.To.{into_cube, out_of_cube, request_to, unpoisoned_to}
 use Rattle.hmc_codes.specs.declared.lift.Lift.{Lift}
 use Rattle.hmc_journal.specs.Next.{goal_at}
@@ -37,7 +37,8 @@ use Rattle.hmc_laws.proofs.Wired.{Wired}
 use Rattle.hmc_delivery.proofs.Seen.{seen, kind_by, spot_of, spot_by, hop_queue, arriving}
 use Rattle.hmc_delivery.proofs.Underway.{line_on}
 use Rattle.hmc_delivery.proofs.Agreeing.{IsMapOf, EndsAt, IsReal, Agrees, end_at, out_by, arriving_is, same_hops, not_line, pop, contents-more, pop_seen, if_seen}
-use Rattle.hmc_laws.proofs.Forwarding.{back_false}
+use Rattle.hmc_laws.proofs.ForwardingLandings.{back_false}
+use Rattle.hmc_journal.proofs.Packets.{inside_goal}
 
 -- ---- a queue after one more entry
 

@@ -1,7 +1,9 @@
--- What a landing moves: a packet that is accepted leaves the line, and one that is forwarded goes on at once, or its poisoned copy comes.
+-- What a landing moves: a packet that is accepted leaves the line, and one that is forwarded leaves
+-- its buffer at once, or its poisoned copy comes.
 use Rattle.std.proofs.Common.{◌≡◌, ◌≤◌, ◌<◌, ◌/◌, ◌∙◌, ◌==◌, ◌&&◌, ℕ, Bool, true, false, not, if◌then◌else◌, Option, Some, None, List, [], ◌∷◌, ◌++◌, map, length, drop, refl, sym, ap, ap₂, subst, arith, append-nil, eqb-true, eq-eqb, nat_lt, lt-ltb, ltb-true}
 use Rattle.std.specs.Prelude.{option_map, filter}
 use Rattle.std.proofs.lemmas.List.{map-append, length-map, drop-append-le}
+use mathlib.Core.Bool.{and-false, and-true}
 use Rattle.hmc_codes.specs.Commands.{family_of_layout, layout_of, is_posted, is_flow}
 use Rattle.hmc_codes.specs.declared.layout.Layout.{Layout}
 use Rattle.hmc_codes.specs.declared.layout.Layout.TheVariants as layouts
@@ -38,7 +40,8 @@ use Rattle.hmc_journal.proofs.Moves.{entering}
 use Rattle.hmc_laws.proofs.Buffers.{accepted-same, few_landed, accepted_off}
 use Rattle.hmc_laws.proofs.Standing.{IsCounted, IsCounted-moving}
 use Rattle.hmc_laws.proofs.Entering.{Kept, landed-real}
-use Rattle.hmc_laws.proofs.Forwarding.{PipeKept, OnPipe, back_false}
+use Rattle.hmc_laws.proofs.ForwardingPipes.{PipeKept, OnPipe}
+use Rattle.hmc_laws.proofs.ForwardingLandings.{back_false}
 use Rattle.hmc_laws.proofs.PipeSteps.{pipe_landed, pipe_unlocked}
 use Rattle.hmc_laws.proofs.Wired.{Wired, some_is}
 use Rattle.hmc_delivery.proofs.Seen.{seen, kind_by, hop_queue, arriving, lands, goes_past, copy_comes, forward_moves, if_there, unlocks, last_packet}
@@ -144,14 +147,6 @@ line_left topology d e flit outcome past true landed is keeps known landed_is =
     let here = line_by topology (line_on topology d past) (left_on topology (Landed d flit outcome) past d) landed parts few in
     subst (λ (k : ℕ). map (seen topology) (left_on topology (Landed d flit outcome) past k) ≡ without_if (some_in landed) 0 (map (seen topology) (line_on topology k past))) (eqb-true d e is) here
 
-same_line : (b : Bool) → (b && true) ≡ b
-same_line true = refl
-same_line false = refl
-
-no_line : (b : Bool) → (b && false) ≡ false
-no_line true = refl
-no_line false = refl
-
 landed_held : (setup : Setup) (m : Map) (past : List Entry) (moved : List Move) (d : ℕ) (flit : List ℕ) (outcome : Outcome) (landed : List PacketFields) → Wired setup.topology → Kept setup past → Kept setup (Landed d flit outcome ∷ past) → Agrees setup.topology m past moved
     → EntryRule setup past (Landed d flit outcome) → goes_on outcome (forwarded_onto setup.topology d past) ≡ false → known_on setup.topology d (Landed d flit outcome ∷ past) ≡ known_on setup.topology d past → landed_packets setup.topology d flit outcome past ≡ landed → length landed ≤ 1
     → Held setup.topology m (contents setup.topology (Landed d flit outcome ∷ past)) (left_on setup.topology (Landed d flit outcome) past) (lands setup.topology d landed ++ moved)
@@ -162,7 +157,7 @@ landed_held setup m past moved d flit outcome [] wires keeps now agrees right st
           queue-more setup (Landed d flit outcome) past q false [] (hop_contents m moved (hop_queue t q)) right tt keeps.within refl
           (ap₂ (λ (b : Bool) (l : List PacketFields). map (seen t) (arrived q (arrival_of (landing_buffer t d) (unless_gone b (filter is_token l))))) stays is) (agrees.queues q real)
           ∙ append-nil (hop_contents m moved (hop_queue t q));
-      lines = λ e. line_left t d e flit outcome past (d == e) [] refl (now.links (d / 2)) known is ∙ ap (λ (b : Bool). without_if b 0 (map (seen t) (line_on t e past))) (no_line (d == e)) ∙ agrees.lines e;
+      lines = λ e. line_left t d e flit outcome past (d == e) [] refl (now.links (d / 2)) known is ∙ ap (λ (b : Bool). without_if b 0 (map (seen t) (line_on t e past))) (and-false (d == e)) ∙ agrees.lines e;
     }
 landed_held setup m past moved d flit outcome (p ∷ []) wires keeps now agrees right stays known is few =
     let t = setup.topology in
@@ -175,7 +170,7 @@ landed_held setup m past moved d flit outcome (p ∷ []) wires keeps now agrees 
           ∙ ap (λ o. hop_if (is_at_hop o (hop_queue t q)) (seen t p)) (sym next_is)) (agrees.queues q real);
       lines = λ e.
           line_left t d e flit outcome past (d == e) (p ∷ []) refl (now.links (d / 2)) known is
-          ∙ ap₂ (λ (b : Bool) (l : List Packet). without_if b 0 l) (same_line (d == e)) (agrees.lines e)
+          ∙ ap₂ (λ (b : Bool) (l : List Packet). without_if b 0 l) (and-true (d == e)) (agrees.lines e)
           ∙ sym (ap (λ (b : Bool). without_if (d == e) 0 (hop_contents m moved (hops.Line e)) ++ hop_if b (seen t p)) (ap (λ o. is_at_hop o (hops.Line e)) next_is ∙ no_line_after (is_token p) d e)
           ∙ append-nil (without_if (d == e) 0 (hop_contents m moved (hops.Line e))));
     }
@@ -366,7 +361,7 @@ goes_held setup m past moved d onto flit x copy wires keeps now agrees right for
           ap (map (seen t)) (copy_lines t entry past onto copy e (onto == e) refl known others within)
           ∙ map-append (seen t) (left_on t entry past e) (copy_if (onto == e) copy)
           ∙ ap₂ (λ (l k : List Packet). l ++ k)
-          (line_left t d e flit outcomes.Accepted past (d == e) (x ∷ []) refl (now.links (d / 2)) (others d (back_false d onto is.apart)) landed ∙ ap₂ (λ (b : Bool) (l : List Packet). without_if b 0 l) (same_line (d == e)) (agrees.lines e))
+          (line_left t d e flit outcomes.Accepted past (d == e) (x ∷ []) refl (now.links (d / 2)) (others d (back_false d onto is.apart)) landed ∙ ap₂ (λ (b : Bool) (l : List Packet). without_if b 0 l) (and-true (d == e)) (agrees.lines e))
           (seen_if t (onto == e) copy ∙ ap (hop_if (onto == e)) same)
           ∙ sym (ap₂ (λ (a b : Option HopQueue). ((rest ++ hop_if (is_at_hop a (hops.Line e)) y) ++ hop_if (is_at_hop b (hops.Line e)) y) ++ hop_if (onto == e) y) line_next goes
           ∙ ap (λ (l : List Packet). l ++ hop_if (onto == e) y) (append-nil (rest ++ []) ∙ append-nil rest));

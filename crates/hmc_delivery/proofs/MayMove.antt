@@ -46,9 +46,9 @@ use Rattle.hmc_journal.proofs.EntryRule.{EntryRule, HasFront, HasThrough, entry_
 use Rattle.hmc_journal.proofs.Moves.{HasLeaving, front_is}
 use Rattle.hmc_laws.proofs.Standing.{IsAsking, IsCounted, IsCounted-moving}
 use Rattle.hmc_laws.proofs.Entering.{Kept, front_stands, has_direction, given_asks, landed-real}
-use Rattle.hmc_journal.proofs.Joins.{same_place_is}
 use Rattle.hmc_laws.proofs.PipeSteps.{IsNoPipe}
-use Rattle.hmc_laws.proofs.Sound.{kept, has_begun, output_is}
+use Rattle.hmc_laws.proofs.Sound.{kept}
+use Rattle.hmc_laws.proofs.SoundSends.{has_begun, output_is}
 use Rattle.hmc_delivery.proofs.Underway.{line_on, underway-landed}
 use Rattle.hmc_laws.proofs.Wired.{Wired, wired}
 use Rattle.hmc_delivery.proofs.Seen.{seen, kind_by, spot_of, hop_queue, front_goes, comes_from, begins_move, lands, goes_past, last_packet, copy_comes, forward_moves, if_there, unlocks, moves_of, moves}
@@ -56,7 +56,12 @@ use Rattle.hmc_delivery.proofs.Agreeing.{IsMapOf, IsReal, Agrees, not_line}
 use Rattle.hmc_delivery.proofs.Forwarded.{ForwardedPacket, forwarded_packet, forwarded_next, come_head}
 use Rattle.hmc_delivery.proofs.LandingMoves.{buffer_hop, buffer_real, token_seen, Spoils, come_of, landing_spoils, unlock_spoils, known_here}
 use Rattle.hmc_delivery.proofs.Hopped.{unit_hop, unit_real, at_end, agrees}
-use Rattle.hmc_laws.proofs.Forwarding.{forwarded_landed, forwarded_unlocked, forwarded_through, forwarded_same, still_gathered}
+use Rattle.hmc_laws.proofs.ForwardingLandings.{forwarded_landed, still_gathered}
+use Rattle.hmc_laws.proofs.ForwardingUnlocks.{forwarded_unlocked}
+use Rattle.hmc_laws.proofs.ForwardingThroughs.{forwarded_through}
+use Rattle.hmc_laws.proofs.ForwardingQuiet.{forwarded_same}
+use Rattle.hmc_journal.proofs.Packets.{no_front_is_empty}
+use Rattle.hmc_routes.proofs.Joined.{same_place-true}
 
 -- ---- a front has the first place
 
@@ -274,10 +279,6 @@ free_unlocked topology m past moved d map may free e onto less is = by_here (d =
     by_here false was = stays_all m e onto (unlocks topology (Unlocked d ∷ past) gone) moved map (unlocks_off topology (Unlocked d ∷ past) gone e) may (free e onto less was)
 
 -- it is free at first: nothing waits in the buffer and in the output queue
-empty_front : (packets : List PacketFields) → is_none (slice_get packets 0) ≡ true → packets ≡ []
-empty_front [] is = refl
-empty_front (p ∷ packets) is = absurd (cc)
-
 first_three : (a b c : Bool) → (a && b && c) ≡ true → a ≡ true
 first_three true b c is = refl
 first_three false true c is = absurd (let clash : false ≡ true = is in cc)
@@ -293,7 +294,7 @@ none_waits setup past direction flits keeps may =
     let sizes = sizes_on setup.topology direction in
     let view = view_in sizes (toward direction) (entries_on setup.topology direction past) Waiting in
     output_is setup.topology direction past keeps.gathered (keeps.links (direction / 2))
-    ∙ empty_front (queue_in sizes (toward direction) (entries_on setup.topology direction past)) (ap is_none (sym (front_viewed setup.topology direction past)) ∙ first_three (is_none view.given.front) (is_free view) (may_begin view flits) may)
+    ∙ no_front_is_empty (queue_in sizes (toward direction) (entries_on setup.topology direction past)) (ap is_none (sym (front_viewed setup.topology direction past)) ∙ first_three (is_none view.given.front) (is_free view) (may_begin view flits) may)
 
 free_through : (setup : Setup) (m : Map) (past : List Entry) (moved : List Move) (cube port direction : ℕ) → Wired setup.topology → Kept setup past → Agrees setup.topology m past moved → HasThrough setup past cube port direction → AreFree setup.topology m past moved
     → AreFree setup.topology m (Through cube port direction ∷ past) moved
@@ -308,7 +309,7 @@ free_through setup m past moved cube port direction wires keeps agreed has free 
     by_here : (here : Bool) → lands_at t e cube port ≡ here → choose here (Some direction) (forwarded_onto t e past) ≡ Some onto → HasFreeWay m moved e onto
     by_here false at was = free e onto less was
     by_here true at was =
-        let ends : end_of t e ≡ places.Port cube port = same_place_is (end_of t e) (places.Port cube port) at in
+        let ends : end_of t e ≡ places.Port cube port = same_place-true (end_of t e) (places.Port cube port) at in
         let buffer : hop_contents m moved (hops.Buffer e) ≡ [] =
         ap (hop_contents m moved) (sym (buffer_hop t e wires less)) ∙ sym (agreed.queues (landing_buffer t e) (buffer_real t (end_of t e) e less refl)) ∙ ap (λ (p : Place). map (seen t) (contents t past (buffer_at p))) ends ∙ ap (map (seen t)) has.empty in
         let output : hop_contents m moved (hops.Output direction) ≡ [] = sym (agreed.queues (queues.Output direction) tt) ∙ ap (map (seen t)) (none_waits setup past direction has.head.flits keeps has.may) in

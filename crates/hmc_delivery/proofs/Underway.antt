@@ -4,6 +4,7 @@
 use Rattle.std.proofs.Common.{◌≡◌, ◌≤◌, ◌/◌, ◌∙◌, ◌==◌, ◌&&◌, ◌⊎◌, inl, inr, ℕ, zero, suc, Bool, true, false, if◌then◌else◌, Option, Some, None, List, [], ◌∷◌, ◌++◌, length, map, drop, slice_get, refl, sym, ap, ap₂, subst, arith, append-nil, append_assoc, length-append, eq-eqb, eqb-true}
 use Rattle.std.specs.Prelude.{is_none, option_map, take}
 use Rattle.std.proofs.lemmas.List.{drop-map, drop_at, length-map, map-append, drop-append-le}
+use Rattle.std.proofs.lemmas.Option.{same_Some}
 use Rattle.hmc_codes.specs.declared.place.Place.TheVariants as ports
 use Rattle.hmc_codes.specs.declared.profile.Profile.{Profile}
 use Rattle.hmc_packet.specs.Packet.{PacketFields, null_packet}
@@ -36,21 +37,22 @@ use Rattle.hmc_journal.specs.Queues.{front_of, contents}
 use Rattle.hmc_journal.specs.Queues.QueueId.{Output}
 use Rattle.hmc_journal.specs.Setup.{Topology}
 use Rattle.hmc_through.specs.Pipe.{PipeFields}
-use Rattle.hmc_laws.proofs.Buffers.{IsNoLanding, accepted-same, accepted_more}
+use Rattle.hmc_laws.proofs.Buffers.{accepted-same, accepted_more}
 use Rattle.hmc_laws.proofs.CopyWhole.{copy_from, place-waits, place-known}
 use Rattle.hmc_laws.proofs.KeptPast.{kept_past}
 use Rattle.hmc_laws.proofs.KnownCopies.{known_of, open_of, known_in, shown_in, known_in-append, known_in-push, known_in-same, shown-known, shown-open, accepted-known, known-fed}
 use Rattle.hmc_laws.proofs.LinkHanded.{IsSentAs, new_left}
 use Rattle.hmc_journal.proofs.LinkKept.{opened}
 use Rattle.hmc_laws.proofs.NoSends.{IsOfSends, IsNoSend, no-send, sent-elsewhere, through-elsewhere, through-here}
-use Rattle.hmc_laws.proofs.OpenParts.{through_free, same_part}
+use Rattle.hmc_laws.proofs.OpenParts.{through_free}
 use Rattle.hmc_laws.proofs.Piping.{UpPiped}
 use Rattle.hmc_laws.proofs.PipeSteps.{IsUp, IsThrough, IsNoPipe, came_is, pipe_same, pipe_through}
-use Rattle.hmc_journal.proofs.Projections.{feed_in}
+use Rattle.hmc_journal.proofs.Projections.{feed_in, IsNoLanding}
 use Rattle.hmc_delivery.proofs.Seen.{last_packet}
 use Rattle.hmc_laws.proofs.UnsentFlits.{waits, left_begun, SendFacts, AreGathered, new_left-some, is_sending, unsent_is}
 use Rattle.hmc_laws.proofs.Entering.{accepted_are}
-use Rattle.hmc_laws.proofs.Sound.{output_is}
+use Rattle.hmc_laws.proofs.SoundSends.{output_is}
+use Rattle.hmc_journal.proofs.Packets.{front_is_first}
 
 -- ---- what is known
 
@@ -131,10 +133,6 @@ abbrev pub begins_with : What → (forwarded : Bool) → (unsent : ℕ) → Pack
 begins_with what.New forwarded left front = new_begun forwarded left front
 begins_with what.Tret forwarded left front = tret_packet ∷ []
 begins_with _ forwarded left front = []
-
-front_by : (packets : List PacketFields) (front : PacketFields) → slice_get packets 0 ≡ Some front → front_of packets ≡ front
-front_by [] front is = absurd (cc)
-front_by (p ∷ packets) front is = cc
 
 -- it does exactly where no packet is under way
 new_begins : (waiting : Bool) (n : ℕ) (u : Option Part) (given : Given) (flit : List ℕ) (front : PacketFields) → n ≡ left_begun u → waiting ≡ waits u → IsSentAs what.New u given → SendFacts what.New flit u → new_begun waiting n front ≡ (if is_none u then front ∷ [] else [])
@@ -217,7 +215,7 @@ fed_keeps topology d past given feed_is kept up part at =
     elim (opened (sizes_on topology d) (toward d) (entries_on topology d past) kept) [
       | inl known ↦ ap (known_in q pipe) (last-fed_known q part.sent given.feed (places_on topology d past) known)
       | inr o ↦
-          let same : part ≡ o.part = same_part part o.part (sym at ∙ o.under) in
+          let same : part ≡ o.part = same_Some part o.part (sym at ∙ o.under) in
           (λ i. known_in q pipe (with_last (place_fed q (same i).sent (feed_is i)) (places_on topology d past))) ∙ open_fed topology d past o up
     ]
 
@@ -237,7 +235,7 @@ known-sent topology d as_what flit past kept gathered up =
     let unsent_now = unsent_is topology d past gathered was in
     (λ i. map unnumbered (known_in q (pipe_same topology d (Sent d as_what flit) past tt i) (places q (sending.after i))))
     ∙ known_by q pipe as_what T sending.given flit (awaits_first d past) (unsent d past) (front_of (contents topology past (Output d))) sending.sent sending.facts unsent_now.left unsent_now.awaits (fed_keeps topology d past sending.given feed was up)
-    (λ x is. front_by (contents topology past (Output d)) x (ap (λ l. slice_get l 0) (output_is topology d past gathered was) ∙ sym at_front ∙ is))
+    (λ x is. front_is_first (contents topology past (Output d)) x (ap (λ l. slice_get l 0) (output_is topology d past gathered was) ∙ sym at_front ∙ is))
 
 pub accepted_within : (topology : Topology) (d : ℕ) (past : List Entry) → IsKept (sizes_on topology d) (entries_on topology d past) → length (accepted topology d past) ≤ length (known_on topology d past)
 accepted_within topology d past kept =

@@ -1,7 +1,7 @@
 //! Lawful journals deliver requests and answers in order, over every hop.
 //!
-//! The functions have no code: their clauses are the laws. The moves of packets that the entries of
-//! a lawful journal are may come (hmc_hops), so what hmc_hops proves of moves holds of journals.
+//! The functions have no code: their clauses are the laws. Each entry of a lawful journal moves
+//! packets as a map allows it (hmc_hops), so what hmc_hops proves of moves holds of journals.
 //! [`journal_guarantees`] has all that is promised of the journal of a case (`Guarantees` of
 //! hmc_journal).
 #![tactic(auto)]

@@ -1,5 +1,5 @@
 -- A return pointer that is counted acknowledges the packets up to the one that it names.
-use Rattle.std.proofs.Common.{◌≡◌, ◌∙◌, ◌≤◌, ◌<◌, ◌+◌, ◌-◌, ℕ, zero, suc, Bool, true, false, List, [], ◌∷◌, length, take, drop, get_or, Some, None, refl, sym, ap, subst, arith}
+use Rattle.std.proofs.Common.{◌≡◌, ◌∙◌, ◌≤◌, ◌<◌, ◌+◌, ◌-◌, ℕ, zero, suc, Bool, true, false, List, [], ◌∷◌, length, take, drop, get_or, Some, None, refl, sym, ap, subst, arith, eq-eqb, one-add}
 use Rattle.std.specs.Prelude.{◌==◌, not, nat_lt, position, slice_get, if◌then◌else◌}
 use Rattle.std.specs.List.{position_or_len}
 use Rattle.std.proofs.lemmas.Bool.{eqb-true}
@@ -21,17 +21,14 @@ use Rattle.hmc_wire.specs.LinkLaws.{IsKept, NamesOne, DirectionLaws}
 use Rattle.hmc_wire.proofs.NumberedPlaces.{first-numbered}
 use Rattle.hmc_wire.proofs.Places.{AreNumbered}
 use Rattle.hmc_ends.proofs.Fed.{sender-is}
-use Rattle.hmc_ends.proofs.WireLaws.{direction_laws}
-
-one-more : (n : ℕ) → 1 + n ≡ suc n
-one-more n = omega arith
+use Rattle.hmc_wire.proofs.LawsHold.{direction-laws}
 
 first-index : (p : Place → Bool) (l : List Place) (k : ℕ) (d : Place) → k < length l → p (get_or l k d) ≡ true → ((j : ℕ) → j < k → p (get_or l j d) ≡ false) → position_or_len p l ≡ k
 first-index p [] k d lt is before = absurd (omega arith)
 first-index p (x ∷ l) zero d lt is before = ap (λ (b : Bool). if not b then 1 + position_or_len p l else 0) is
 first-index p (x ∷ l) (suc k) d lt is before =
     ap (λ (b : Bool). if not b then 1 + position_or_len p l else 0) (before 0 (omega arith))
-    ∙ ap (λ (n : ℕ). 1 + n) (first-index p l k d (omega arith) is (λ j le. before (suc j) (omega arith))) ∙ one-more k
+    ∙ ap (λ (n : ℕ). 1 + n) (first-index p l k d (omega arith) is (λ j le. before (suc j) (omega arith))) ∙ one-add k
 
 first-at : (p : Place → Bool) (l : List Place) (k : ℕ) (d : Place) → k < length l → p (get_or l k d) ≡ true → ((j : ℕ) → j < k → p (get_or l j d) ≡ false) → position p l ≡ Some k
 first-at p l k d lt is before =
@@ -53,9 +50,6 @@ pub record Named (q : Profile) (l : List Place) (a rrp stamp : ℕ) : Type 0 whe
 ends-known : (rrp : ℕ) (x : Place) (p : PacketFields) → x ≡ Place.known p → ends_at rrp x ≡ ((numbers_at x).frp == rrp)
 ends-known rrp x p is = ap (ends_at rrp) is ∙ ap (λ (y : Place). (numbers_at y).frp == rrp) (sym is)
 
-same-true : (a b : ℕ) → a ≡ b → (a == b) ≡ true
-same-true a b is = grind (arith, common_steps)
-
 ends-at : (q : Profile) (l : List Place) (a rrp stamp n : ℕ) → Named q l a rrp stamp → AreNumbered q l → n < stamp → ends_at rrp (get_or l n (Place.known null_packet)) ≡ (pointer_of q (take (suc n) l) == rrp)
 ends-at q l a rrp stamp n is numbered lt =
     let most = is.most in
@@ -76,7 +70,7 @@ among-other q l a rrp stamp is numbered lt =
     let last : suc (stamp - 1) ≡ stamp = omega arith in
     let e : ends_at rrp (get_or l (stamp - 1) d) ≡ (pointer_of q (take (suc (stamp - 1)) l) == rrp) = ends-at q l a rrp stamp (stamp - 1) is numbered (omega arith) in
     let ends : ends_at rrp (get_or (drop a l) k d) ≡ true =
-    ap (ends_at rrp) (get_or-drop a l k d ∙ ap (λ (n : ℕ). get_or l n d) at) ∙ e ∙ ap (λ (n : ℕ). pointer_of q (take n l) == rrp) last ∙ same-true (pointer_of q (take stamp l)) rrp (sym is.is) in
+    ap (ends_at rrp) (get_or-drop a l k d ∙ ap (λ (n : ℕ). get_or l n d) at) ∙ e ∙ ap (λ (n : ℕ). pointer_of q (take n l) == rrp) last ∙ eq-eqb (pointer_of q (take stamp l)) rrp (sym is.is) in
     first-at (ends_at rrp) (drop a l) k d (omega arith) ends (λ j le.
     let f : ends_at rrp (get_or l (a + j) d) ≡ (pointer_of q (take (suc (a + j)) l) == rrp) = ends-at q l a rrp stamp (a + j) is numbered (omega arith) in
     ap (ends_at rrp) (get_or-drop a l j d) ∙ f
@@ -91,7 +85,7 @@ by-base q l a rrp stamp true test is numbered =
     ap (λ (n : ℕ). Some n) (let z : 0 ≡ stamp - a = omega arith in z)
 by-base q l a rrp stamp false test is numbered =
     let least = is.least in
-    let lt : a < stamp = by_order a stamp least (λ same. let clash : true ≡ false = sym (same-true rrp (pointer_of q (take a l)) (is.is ∙ ap (λ (n : ℕ). pointer_of q (take n l)) (sym same))) ∙ test in cc) in
+    let lt : a < stamp = by_order a stamp least (λ same. let clash : true ≡ false = sym (eq-eqb rrp (pointer_of q (take a l)) (is.is ∙ ap (λ (n : ℕ). pointer_of q (take n l)) (sym same))) ∙ test in cc) in
     ap place_after (among-other q l a rrp stamp is numbered lt) ∙ ap (λ (n : ℕ). Some n) (let z : suc (stamp - a - 1) ≡ stamp - a = omega arith in z)
   where
     by_order : (a stamp : ℕ) → a ≤ stamp → (a ≡ stamp → ⊥) → a < stamp
@@ -116,7 +110,7 @@ some-front a b is = cc
 pub named-is : (link : LinkFields) (d : Toward) (past : List LinkEntry) (rrp : ℕ) (front : StampedFlit) → IsKept link past → NamesOne link d past rrp → slice_get (line link.profile (other d) past) 0 ≡ Some front →
     acknowledged_after link.profile rrp (sender_entries link d past) ≡ Some (front.stamp - acked (sender_entries link d past))
 named-is link d past rrp front kept names is =
-    let laws = direction_laws link d past kept in
+    let laws = direction-laws link d past kept in
     let t = sender_entries link d past in
     let same : names.front ≡ front = some-front names.front front (sym names.is_front ∙ is) in
     let stamp = names.front.stamp in

@@ -1,8 +1,8 @@
 -- The calls that hand a packet, take one, and unlock.
-use Rattle.std.proofs.Common.{◌≡◌, ◌∙◌, ◌≤◌, ◌<◌, ◌+◌, ◌-◌, ℕ, Bool, true, false, not, ◌&&◌, List, [], ◌∷◌, ◌++◌, length, drop, Option, Some, None, refl, sym, ap, subst, arith}
-use Rattle.std.specs.Prelude.{slice_get, nat_lt}
-use Rattle.std.proofs.lemmas.Grind.{common_steps}
+use Rattle.std.proofs.Common.{◌≡◌, ◌∙◌, ◌≤◌, ◌<◌, ◌+◌, ◌-◌, ℕ, Bool, true, false, not, ◌&&◌, List, [], ◌∷◌, ◌++◌, length, drop, Option, Some, None, refl, sym, ap, subst, arith, lt-ltb, le-ltb}
+use Rattle.std.specs.Prelude.{slice_get}
 use Rattle.std.proofs.lemmas.List.{length-drop}
+use Rattle.std.proofs.lemmas.Bool.{and_from}
 use Rattle.hmc_codes.specs.Link.{LinkFields}
 use Rattle.hmc_codes.specs.Limits.{most_tokens}
 use Rattle.hmc_codes.specs.declared.profile.Profile.{Profile}
@@ -26,12 +26,6 @@ use Rattle.hmc_ends.proofs.Projections.{handed-here, handed-there, taken-here, t
 use Rattle.hmc_ends.proofs.Simple.{stands-handed, stands-taken, stands-lost}
 use Rattle.hmc_ends.proofs.Steps.{Steps, kept-more, both-more, both-same}
 
-lt-true : (a b : ℕ) → a < b → nat_lt a b ≡ true
-lt-true a b lt = grind (arith, common_steps)
-
-le-false : (a b : ℕ) → b ≤ a → nat_lt a b ≡ false
-le-false a b le = grind (arith, common_steps)
-
 pub entry-if : (b : Bool) (entry : LinkEntry) → b ≡ true → entry_if b entry ≡ Some entry
 entry-if true entry is = refl
 entry-if false entry is = absurd cc
@@ -39,11 +33,6 @@ entry-if false entry is = absurd cc
 pub no-entry-if : (b : Bool) (entry : LinkEntry) → b ≡ false → entry_if b entry ≡ None
 no-entry-if true entry is = absurd cc
 no-entry-if false entry is = refl
-
-pub both-true : (a b : Bool) → a ≡ true → b ≡ true → (a && b) ≡ true
-both-true true true x y = refl
-both-true true false x y = y
-both-true false b x y = x
 
 -- ---- hand
 
@@ -60,8 +49,8 @@ pub next-handed : (link : LinkFields) (d : Toward) (past : List LinkEntry) (s : 
 unfolding next_entry
 next-handed link d past s packet is room fit =
     let size : length s.queue < link.output = subst (λ (x : LinkFields). length s.queue < x.output) is.setup room in
-    let has : has_room link d past ≡ true = lt-true _ _ (subst (λ (q : List PacketFields). length q < link.output) is.queue size) in
-    entry-if (has_room link d past && is_token packet) (LinkEntry.handed d packet) (both-true _ _ has (ap not fit.token))
+    let has : has_room link d past ≡ true = lt-ltb _ _ (subst (λ (q : List PacketFields). length q < link.output) is.queue size) in
+    entry-if (has_room link d past && is_token packet) (LinkEntry.handed d packet) (and_from _ _ has (ap not fit.token))
 
 pub hand-steps : (d : Toward) (s l : EndFields) (packet : PacketFields) → length s.queue < s.setup.output → IsTaken s.setup.profile packet → IsPacket packet → Steps d (LinkCall.hand d packet) s l (record s { queue = s.queue ++ packet ∷ [] }) l
 unfolding next_entry
@@ -86,11 +75,11 @@ met-taken link d past met = record { handed = met.handed; forth = met.forth; bac
 
 -- the buffer has a packet exactly where the definition says so
 holds-forth : (link : LinkFields) (past : List LinkEntry) (packet : PacketFields) → slice_get (buffer_of link (parts_of link Back past)) 0 ≡ Some packet → holds_packet link Forth past ≡ true
-holds-forth link past packet is = lt-true _ _ (front-longer _ (tokens_accepted link (parts_of link Back past)) packet is)
+holds-forth link past packet is = lt-ltb _ _ (front-longer _ (tokens_accepted link (parts_of link Back past)) packet is)
 
 holds : (link : LinkFields) (d : Toward) (past : List LinkEntry) (packet : PacketFields) → slice_get (buffer_of link (parts_of link (other d) past)) 0 ≡ Some packet → holds_packet link d past ≡ true
-holds link Forth past packet is = lt-true _ _ (front-longer _ (tokens_accepted link (parts_of link Back past)) packet is)
-holds link Back past packet is = lt-true _ _ (front-longer _ (tokens_accepted link (parts_of link Forth past)) packet is)
+holds link Forth past packet is = lt-ltb _ _ (front-longer _ (tokens_accepted link (parts_of link Back past)) packet is)
+holds link Back past packet is = lt-ltb _ _ (front-longer _ (tokens_accepted link (parts_of link Forth past)) packet is)
 
 no-more : (n : ℕ) (l : List PacketFields) → slice_get (drop n l) 0 ≡ None → length l ≤ n
 no-more n l none = by_rest (drop n l) none (length-drop n l)
@@ -100,8 +89,8 @@ no-more n l none = by_rest (drop n l) none (length-drop n l)
     by_rest (x ∷ r) none size = absurd cc
 
 holds-none : (link : LinkFields) (d : Toward) (past : List LinkEntry) → slice_get (buffer_of link (parts_of link (other d) past)) 0 ≡ None → holds_packet link d past ≡ false
-holds-none link Forth past is = le-false _ _ (no-more _ (tokens_accepted link (parts_of link Back past)) is)
-holds-none link Back past is = le-false _ _ (no-more _ (tokens_accepted link (parts_of link Forth past)) is)
+holds-none link Forth past is = le-ltb _ _ (no-more _ (tokens_accepted link (parts_of link Back past)) is)
+holds-none link Back past is = le-ltb _ _ (no-more _ (tokens_accepted link (parts_of link Forth past)) is)
 
 take-some : (d : Toward) (s l : EndFields) (packet : PacketFields) → slice_get l.buffer 0 ≡ Some packet → (link : LinkFields) (past : List LinkEntry) → EndsStandFor link d s l past → EndsStandFor link d s (after_taken (Some packet) l) (LinkEntry.taken d ∷ past)
 unfolding next_entry

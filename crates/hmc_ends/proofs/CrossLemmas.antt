@@ -2,6 +2,7 @@
 use Rattle.std.proofs.Common.{◌≡◌, ◌∙◌, ◌≤◌, ◌+◌, ◌-◌, ℕ, Bool, true, false, List, [], ◌∷◌, drop, Option, Some, None, refl, sym, ap, subst, arith}
 use Rattle.std.specs.Prelude.{slice_get, filter}
 use Rattle.std.proofs.lemmas.List.Sums.{sum_by-append}
+use Rattle.std.proofs.Math.Nat.{sub-add-eq}
 use Rattle.hmc_codes.specs.Link.{LinkFields}
 use Rattle.hmc_packet.specs.declared.landed.Landed.{Landed}
 use Rattle.hmc_packet.specs.Landings.{accepted}
@@ -21,7 +22,7 @@ use Rattle.hmc_ends.specs.declared.link_landed.LinkLanded.TheVariants as links
 use Rattle.hmc_ends.specs.Answers.{after_call}
 use Rattle.hmc_ends.specs.End.{EndFields}
 use Rattle.hmc_ends.specs.Landings.{Lands, arrived, stored, landed_in, entry_landed, unless_passed, link_landed, came}
-use Rattle.hmc_ends.specs.Parts.{parts_of, parts_crossed, line_of}
+use Rattle.hmc_ends.specs.Parts.{parts_of, parts_crossed, flits_under_way}
 use Rattle.hmc_ends.specs.StandsFor.{EndStandsFor, EndsStandFor, flits_on}
 use Rattle.hmc_ends.proofs.Arrivals.{accepted-more}
 use Rattle.hmc_ends.proofs.Steps.{both-more, both-same}
@@ -54,12 +55,12 @@ no-front (y ∷ l) is = absurd cc
 pub front-of : (link : LinkFields) (d : Toward) (past : List LinkEntry) (e : EndFields) (x : List ℕ) → EndStandsFor link e (parts_of link d past) → slice_get e.line 0 ≡ Some x → Front link d past x
 unfolding line
 front-of link d past e x is front =
-    let f = front-flit (line_of (parts_of link d past)) x (ap (λ (l : List (List ℕ)). slice_get l 0) (sym is.line) ∙ front) in
+    let f = front-flit (flits_under_way (parts_of link d past)) x (ap (λ (l : List (List ℕ)). slice_get l 0) (sym is.line) ∙ front) in
     record { front = f.front; is = f.is; flit_is = f.flit_is }
 
 pub none-of : (link : LinkFields) (d : Toward) (past : List LinkEntry) (e : EndFields) → EndStandsFor link e (parts_of link d past) → slice_get e.line 0 ≡ None → slice_get (line link.profile d past) 0 ≡ None
 unfolding line
-none-of link d past e is none = no-front (line_of (parts_of link d past)) (ap (λ (l : List (List ℕ)). slice_get l 0) (sym is.line) ∙ none)
+none-of link d past e is none = no-front (flits_under_way (parts_of link d past)) (ap (λ (l : List (List ℕ)). slice_get l 0) (sym is.line) ∙ none)
 
 -- ---- no flit
 
@@ -149,9 +150,6 @@ arrived-more link d past flit =
 transit-room : (b a x : ℕ) → a + x ≤ b → x ≤ b - a
 transit-room b a x le = omega arith
 
-less-more : (b a x : ℕ) → (b - a) - x ≡ b - (a + x)
-less-more b a x = omega arith
-
 pub transit-few : (link : LinkFields) (d : Toward) (past : List LinkEntry) (mask sent flit : List ℕ) (changed : Bool) (s l : EndFields) (landed : Landed) → EndsStandFor link d s l past → Some sent ≡ slice_get s.line 0 → flit ≡ under_mask mask sent → changed ≡ changes mask → Answers flit changed l (Some landed) →
     packets.flits_in (stored landed) ≤ s.transit
 transit-few link d past mask sent flit changed s l landed both front flit_is changed_is answers =
@@ -167,7 +165,7 @@ transit-few link d past mask sent flit changed s l landed both front flit_is cha
     let room = transit-room begun (flits_accepted (accepted link.profile (receiver_entries d past))) (packets.flits_in (stored L)) some in
     subst (λ (x : Landed). packets.flits_in (stored x) ≤ s.transit) (sym caught.1) (subst (λ (n : ℕ). packets.flits_in (stored L) ≤ n) (sym both.sending.transit) room)
 
-stands-crossed : (link : LinkFields) (d : Toward) (past : List LinkEntry) (flit : List ℕ) (s : EndFields) (front : StampedFlit) → EndStandsFor link s (parts_of link d past) → slice_get (line_of (parts_of link d past)) 0 ≡ Some front →
+stands-crossed : (link : LinkFields) (d : Toward) (past : List LinkEntry) (flit : List ℕ) (s : EndFields) (front : StampedFlit) → EndStandsFor link s (parts_of link d past) → slice_get (flits_under_way (parts_of link d past)) 0 ≡ Some front →
     EndStandsFor link (record s { line = drop 1 s.line; transit = s.transit - packets.flits_in (stored (landed_in link d past flit)) }) (parts_crossed flit (reception_of link.profile (receiver_entries d past) flit).outcome (parts_of link d past))
 stands-crossed link d past flit s front is some =
     let p = parts_of link d past in
@@ -181,8 +179,8 @@ stands-crossed link d past flit s front is some =
       retry = is.retry;
       sender = is.sender;
       queue = is.queue;
-      line = ap (drop 1) is.line ∙ sym (map-drop (λ (x : StampedFlit). x.flit) 1 (line_of p)) ∙ ap flits_on (sym (drop-one_more p.landings p.flits));
-      transit = ap (λ (n : ℕ). n - packets.flits_in (stored L)) is.transit ∙ less-more begun old (packets.flits_in (stored L)) ∙ ap (λ (n : ℕ). begun - n) (sym (arrived-more link d past flit));
+      line = ap (drop 1) is.line ∙ sym (map-drop (λ (x : StampedFlit). x.flit) 1 (flits_under_way p)) ∙ ap flits_on (sym (drop-one_more p.landings p.flits));
+      transit = ap (λ (n : ℕ). n - packets.flits_in (stored L)) is.transit ∙ sym (sub-add-eq begun old (packets.flits_in (stored L))) ∙ ap (λ (n : ℕ). begun - n) (sym (arrived-more link d past flit));
       receiver = is.receiver;
       changed = is.changed;
       buffer = is.buffer;
@@ -193,7 +191,7 @@ stands-crossed link d past flit s front is some =
       taken = is.taken;
     }
 
-line-front : (link : LinkFields) (d : Toward) (past : List LinkEntry) (front : StampedFlit) → slice_get (line link.profile d past) 0 ≡ Some front → slice_get (line_of (parts_of link d past)) 0 ≡ Some front
+line-front : (link : LinkFields) (d : Toward) (past : List LinkEntry) (front : StampedFlit) → slice_get (line link.profile d past) 0 ≡ Some front → slice_get (flits_under_way (parts_of link d past)) 0 ≡ Some front
 unfolding line
 line-front link d past front is = is
 

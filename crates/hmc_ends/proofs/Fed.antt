@@ -2,6 +2,7 @@
 use Rattle.std.proofs.Common.{◌≡◌, ◌∙◌, ◌+◌, ◌⊎◌, inl, inr, ℕ, Bool, true, false, List, [], ◌∷◌, ◌++◌, Option, Some, refl, sym, ap, subst, arith}
 use Rattle.std.specs.Prelude.{filter, if◌then◌else◌}
 use Rattle.std.proofs.lemmas.List.Sums.{sum_by_push}
+use Rattle.std.proofs.lemmas.Option.{same_Some}
 use Rattle.hmc_codes.specs.Link.{LinkFields}
 use Rattle.hmc_codes.specs.declared.profile.Profile.{Profile}
 use Rattle.hmc_packet.specs.declared.feed.Feed.{Feed}
@@ -32,15 +33,11 @@ use Rattle.hmc_wire.proofs.Places.{AllFit}
 use Rattle.hmc_wire.proofs.SenderLists.{Chosen}
 use Rattle.hmc_wire.specs.EntryTurns.{weight}
 use Rattle.hmc_ends.proofs.Lists.{filter-append}
+use Rattle.hmc_numbers.specs.Tokens.{if_token}
 
 -- ---- the tokens of places
 
--- what a place costs
-abbrev pub cost_of : Bool → ℕ → ℕ
-cost_of true flits = flits
-cost_of false flits = 0
-
-filter-one : (b : Bool) (x : Place) (l : List Place) → places.flits_in (filter takes_tokens l ++ (if b then x ∷ [] else [])) ≡ flits_begun l + cost_of b (flits_at x)
+filter-one : (b : Bool) (x : Place) (l : List Place) → places.flits_in (filter takes_tokens l ++ (if b then x ∷ [] else [])) ≡ flits_begun l + if_token b (flits_at x)
 filter-one true x l = sum_by_push flits_at (filter takes_tokens l) x
 filter-one false x l = ap places.flits_in (append-none (filter takes_tokens l)) ∙ (let e : flits_begun l ≡ flits_begun l + 0 = omega arith in e)
   where
@@ -48,7 +45,7 @@ filter-one false x l = ap places.flits_in (append-none (filter takes_tokens l)) 
     append-none [] = refl
     append-none (y ∷ m) = ap (λ (t : List Place). y ∷ t) (append-none m)
 
-pub begun-push : (l : List Place) (x : Place) → flits_begun (l ++ x ∷ []) ≡ flits_begun l + cost_of (takes_tokens x) (flits_at x)
+pub begun-push : (l : List Place) (x : Place) → flits_begun (l ++ x ∷ []) ≡ flits_begun l + if_token (takes_tokens x) (flits_at x)
 begun-push l x = ap places.flits_in (filter-append takes_tokens l (x ∷ [])) ∙ filter-one (takes_tokens x) x l
 
 pub returned-push : (l : List Place) (x : Place) → tokens_returned (l ++ x ∷ []) ≡ tokens_returned l + tokens_of_code (numbers_at x).rtc
@@ -66,7 +63,7 @@ same-places l m is = record { begun = ap flits_begun is; returned = ap tokens_re
 
 same-last : (before : List Place) (x y : Place) → weight y ≡ weight x → SameTokens (before ++ x ∷ []) (before ++ y ∷ [])
 same-last before x y is = record {
-  begun = begun-push before y ∙ ap (λ (w : Weight). flits_begun before + cost_of w.token w.flits) is ∙ sym (begun-push before x);
+  begun = begun-push before y ∙ ap (λ (w : Weight). flits_begun before + if_token w.token w.flits) is ∙ sym (begun-push before x);
   returned = returned-push before y ∙ ap (λ (w : Weight). tokens_returned before + w.returns) is ∙ sym (returned-push before x);
 }
 
@@ -85,14 +82,11 @@ fed-open q t o (Last half slid errstat good) all fits is =
       returned = ap tokens_returned filled ∙ same.returned ∙ ap tokens_returned (sym o.places);
     }
 
-some-part : (p r : Part) → Some p ≡ Some r → p ≡ r
-some-part p r e = cc
-
 fed-by : (q : Profile) (t : List SenderEntry) (feed : Feed) (part : Part) → AreKnown (entries.places q t) ⊎ IsOpen q t → AllFit q (entries.places q t) → IsFed (under_way q t) feed → IsFeed feed → entries.unfinished t ≡ Some part →
     SameTokens (entries.places q t) (with_last (place_fed q part.sent feed) (entries.places q t))
 fed-by q t feed part (inl known) all fed is some = same-places _ _ (last-fed_known q part.sent feed (entries.places q t) known)
 fed-by q t feed part (inr o) all fed is some =
-    let e : o.part ≡ part = some-part o.part part (sym o.under ∙ some) in
+    let e : o.part ≡ part = same_Some o.part part (sym o.under ∙ some) in
     let fits : IsFedNext o.part o.head feed = subst (λ (u : Option UnderWay). IsFed u feed) (under-open q t o) fed in
     subst (λ (p : Part). SameTokens (entries.places q t) (with_last (place_fed q p.sent feed) (entries.places q t))) e (fed-open q t o feed all fits is)
 

@@ -38,9 +38,9 @@ use Rattle.hmc_ends.specs.StandsFor.{EndStandsFor}
 use Rattle.hmc_ends.proofs.Acknowledges.{named-is, stamp-least}
 use Rattle.hmc_ends.proofs.Arrivals.{accepted-more}
 use Rattle.hmc_ends.proofs.Steps.{kept-more}
-use Rattle.hmc_ends.proofs.Lists.{drop-append, take-append, filter-append}
+use Rattle.hmc_ends.proofs.Lists.{drop-append, take-append, filter-append, taken-then-added}
 use Rattle.hmc_ends.proofs.PartLaws.{PartLaws, part_laws}
-use Rattle.hmc_ends.proofs.WireLaws.{direction_laws}
+use Rattle.hmc_wire.proofs.LawsHold.{direction-laws}
 
 -- ---- the entries that a landing brings to the sender
 
@@ -118,9 +118,6 @@ landed-back link Back mask flit o past = refl
 
 -- ---- an end stands for it
 
-credited-more : (c b x : ℕ) → b ≤ c → (c - b) + x ≡ (c + x) - b
-credited-more c b x le = omega arith
-
 pub stands-landed : (link : LinkFields) (e : EndFields) (p : EndParts) (mask flit : List ℕ) (o : Outcome) (rrp : Option ℕ) (front : Option StampedFlit) (landed : Landed) (r : ReceiverFields) (s : State) (a : Account) (b : List PacketFields) (changed : Bool) →
     EndStandsFor link e p → PartLaws link p → ReceiverStandsFor link.profile r (Land flit o ∷ p.received) → StandsFor s ((run_entries o ++ acknowledgement rrp front) ++ p.sender) → KeepsSizes e.sender s →
     accepted link.profile (Land flit o ∷ p.received) ≡ accepted link.profile p.received ++ arrived landed → a ≡ record e.account { held = e.account.held + tokens_credited (arrived landed) } → b ≡ e.buffer ++ stored landed → changed ≡ changed_after mask o p.changed →
@@ -150,7 +147,7 @@ stands-landed link e p mask flit o rrp front landed r s a b changed is laws rece
       receiver = receiver;
       changed = change;
       buffer = buffer ∙ ap (λ (l : List PacketFields). l ++ stored landed) is.buffer ∙ sym (drop-append p.takes (filter is_token old) (stored landed) is.taken) ∙ ap (drop p.takes) (sym filtered);
-      held = ap (λ (x : Account). x.held) account ∙ ap (λ (n : ℕ). n + tokens_credited new) is.held ∙ credited-more (tokens_credited old) (flits_begun (places q t)) (tokens_credited new) held
+      held = ap (λ (x : Account). x.held) account ∙ ap (λ (n : ℕ). n + tokens_credited new) is.held ∙ taken-then-added (tokens_credited old) (flits_begun (places q t)) (tokens_credited new) held
           ∙ (λ i. sym credited i - flits_begun (sym placed i));
       due = ap (λ (x : Account). x.due) account ∙ is.due ∙ (λ i. (link.tokens + sym took i) - tokens_returned (sym placed i));
       begun = subst (λ (n : ℕ). n ≤ length p.handed) (sym fronts) is.begun;
@@ -211,7 +208,7 @@ noted-is : (link : LinkFields) (d : Toward) (past : List LinkEntry) (mask flit :
 noted-is link d past mask flit o None front kept is at after = refl
 noted-is link d past mask flit o (Some rrp) front kept is at after =
     let t = sender_entries link d past in
-    let names = (direction_laws link d past kept).counted mask flit o rrp after.lawful at in
+    let names = (direction-laws link d past kept).counted mask flit o rrp after.lawful at in
     let least = stamp-least link d past rrp front names is in
     let count : acked t + (front.stamp - acked t) ≡ front.stamp = omega arith in
     ap (λ (x : Option ℕ). entries_acknowledged x t) (named-is link d past rrp front kept names is) ∙ ap (λ (n : ℕ). SenderEntry.acknowledged n ∷ t) count

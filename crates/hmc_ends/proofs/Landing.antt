@@ -41,10 +41,6 @@ pub not-passed : (b : Bool) (landed x : Landed) → b ≡ false → x ≡ landed
 not-passed true landed x is same = absurd cc
 not-passed false landed x is same = ap (λ (y : Landed). Some y) same
 
-pub both-ways : (b : Bool) → b ≡ true → b ≡ false → ⊥
-both-ways true is other_is = absurd cc
-both-ways false is other_is = absurd cc
-
 pub can-take : (link : LinkFields) (d : Toward) (past : List LinkEntry) (mask flit : List ℕ) (changed any : Bool) (e : EndFields) (r : ReceiverFields) (rec : Reception) → Lands link d past mask flit changed e → passes link.profile (other d) past mask flit ≡ false →
     rec ≡ reception_of link.profile (receiver_entries (other d) past) flit → ReceiverStandsFor link.profile r (Land flit (reception_of link.profile (receiver_entries (other d) past) flit).outcome ∷ receiver_entries (other d) past) → CanTake rec any (record e { receiver = r })
 can-take link d past mask flit changed any e r rec lands caught rec_is receiver =

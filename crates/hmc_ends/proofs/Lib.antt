@@ -1,4 +1,3 @@
-pub mod WireLaws
 pub mod Projections
 pub mod Lists
 pub mod Simple

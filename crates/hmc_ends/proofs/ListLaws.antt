@@ -2,12 +2,11 @@
 use Rattle.std.proofs.Common.{◌≡◌, ◌∙◌, ℕ, true, List, [], ◌∷◌, ◌++◌, length, drop, map, refl, sym, ap, subst}
 use Rattle.std.specs.Prelude.{filter, slice_get}
 use Rattle.hmc_codes.specs.Link.{LinkFields}
-use Rattle.hmc_codes.specs.declared.profile.Profile.{Profile}
 use Rattle.hmc_packet.specs.declared.feed.Feed.{Feed}
 use Rattle.hmc_packet.specs.declared.outcome.Outcome.{Outcome}
 use Rattle.hmc_packet.specs.declared.what.What.{What}
-use Rattle.hmc_packet.specs.Landings.{ReceiverEntry, pending, accepted, accepted_by}
-use Rattle.hmc_packet.specs.Landings.ReceiverEntry.{Land, Unlock}
+use Rattle.hmc_packet.specs.Landings.{pending, accepted, accepted_by}
+use Rattle.hmc_packet.specs.Landings.ReceiverEntry.{Land}
 use Rattle.hmc_packet.specs.Packet.{PacketFields}
 use Rattle.hmc_packet.specs.Receptions.{reception_of}
 use Rattle.hmc_send.specs.Entries.{places, taken_fronts}
@@ -30,9 +29,10 @@ use Rattle.hmc_ends.proofs.Acknowledges.{accepted-known}
 use Rattle.hmc_ends.proofs.Arrivals.{accepted-same}
 use Rattle.hmc_ends.proofs.Fed.{sender-is}
 use Rattle.hmc_ends.proofs.LandStands.{places-landed, fronts-landed}
-use Rattle.hmc_ends.proofs.Lists.{append-none}
 use Rattle.hmc_ends.proofs.ListSteps.{queue-by, list-waits, list-step, list-begun, list-accepted}
-use Rattle.hmc_ends.proofs.WireLaws.{direction_laws}
+use Rattle.hmc_wire.proofs.EntryTurns.{kept-before}
+use Rattle.hmc_wire.proofs.LawsHold.{direction-laws}
+use Rattle.hmc_ends.proofs.Simple.{accepted-unlock}
 
 -- ---- the entries before the last one
 
@@ -47,10 +47,6 @@ met-before link (LinkEntry.landed Forth mask flit o) past met = record { handed 
 met-before link (LinkEntry.landed Back mask flit o) past met = record { handed = met.handed; forth = landed-fed link.profile o (reception_of link.profile (receiver_entries Back past) flit).rrp (slice_get (line link.profile Back past) 0) (sender_entries link Forth past) met.forth; back = met.back }
 met-before link (LinkEntry.through Forth head flits) past met = record { handed = met.handed; forth = met.forth.1; back = met.back }
 met-before link (LinkEntry.through Back head flits) past met = record { handed = met.handed; forth = met.forth; back = met.back.1 }
-
-kept-before : (link : LinkFields) (entry : LinkEntry) (past : List LinkEntry) → IsKept link (entry ∷ past) → IsKept link past
-unfolding IsLawful
-kept-before link entry past kept = record { retry = kept.retry; lawful = kept.lawful.1; met = met-before link entry past kept.met }
 
 -- ---- what is handed takes tokens
 
@@ -92,7 +88,7 @@ put-tokens link d (LinkEntry.landed way mask flit o ∷ past) lawful = put-token
 
 waiting-token : (link : LinkFields) (d : Toward) (past : List LinkEntry) → IsKept link past → (packet : PacketFields) (rest : List PacketFields) → queue_in link d past ≡ packet ∷ rest → is_token packet ≡ true
 waiting-token link d past kept packet rest is =
-    let all = subst AreTokens (sym (direction_laws link d past kept).queued) (put-tokens link d past kept.lawful) in
+    let all = subst AreTokens (sym (direction-laws link d past kept).queued) (put-tokens link d past kept.lawful) in
     let waits = tokens-last (begun_puts (sender_entries link d past)) (map put_packet (queue_in link d past)) all in
     (subst (λ (l : List PacketFields). AreTokens (map put_packet l)) is waits).0
 
@@ -101,15 +97,15 @@ waiting-token link d past kept packet rest is =
 pub list-handed : (link : LinkFields) (d : Toward) (packet : PacketFields) (past : List LinkEntry) → IsKept link (LinkEntry.handed d packet ∷ past) → handed_list link d (LinkEntry.handed d packet ∷ past) ≡ handed_list link d past ++ listed_packet packet ∷ []
 unfolding sender_entries receiver_entries puts
 list-handed link Forth packet past kept =
-    let laws = direction_laws link Forth past (kept-before link (LinkEntry.handed Forth packet) past kept) in
-    let more = direction_laws link Forth (LinkEntry.handed Forth packet ∷ past) kept in
+    let laws = direction-laws link Forth past (kept-before link (LinkEntry.handed Forth packet) past kept) in
+    let more = direction-laws link Forth (LinkEntry.handed Forth packet ∷ past) kept in
     let n = length (accepted_packets link.profile Forth past) in
     let l = places_in link Forth past in
     let queue = queue-by (begun_puts (sender_entries link Forth past)) (queue_in link Forth past) (queue_in link Forth (LinkEntry.handed Forth packet ∷ past)) packet (more.queued ∙ ap (λ (t : List Put). t ++ put_packet packet ∷ []) (sym laws.queued)) in
     ap (list_by n l) queue ∙ list-waits n l (queue_in link Forth past) packet
 list-handed link Back packet past kept =
-    let laws = direction_laws link Back past (kept-before link (LinkEntry.handed Back packet) past kept) in
-    let more = direction_laws link Back (LinkEntry.handed Back packet ∷ past) kept in
+    let laws = direction-laws link Back past (kept-before link (LinkEntry.handed Back packet) past kept) in
+    let more = direction-laws link Back (LinkEntry.handed Back packet ∷ past) kept in
     let n = length (accepted_packets link.profile Back past) in
     let l = places_in link Back past in
     let queue = queue-by (begun_puts (sender_entries link Back past)) (queue_in link Back past) (queue_in link Back (LinkEntry.handed Back packet ∷ past)) packet (more.queued ∙ ap (λ (t : List Put). t ++ put_packet packet ∷ []) (sym laws.queued)) in
@@ -121,8 +117,8 @@ pub list-sent : (link : LinkFields) (d : Toward) (feed : Feed) (w : What) (flit 
 unfolding sender_entries receiver_entries puts handed_packets given_after AreFed
 list-sent link Forth feed w flit past kept =
     let before = kept-before link (LinkEntry.sent Forth feed w flit) past kept in
-    let laws = direction_laws link Forth past before in
-    let more = direction_laws link Forth (LinkEntry.sent Forth feed w flit ∷ past) kept in
+    let laws = direction-laws link Forth past before in
+    let more = direction-laws link Forth (LinkEntry.sent Forth feed w flit ∷ past) kept in
     list-step link.profile link.retry (length (accepted_packets link.profile Forth past)) (sender_entries link Forth past) (given_in link Forth past feed) w flit (queue_in link Forth past) (queue_in link Forth (LinkEntry.sent Forth feed w flit ∷ past)) (record {
       sender = sender-is link Forth past before;
       few = laws.begun;
@@ -134,8 +130,8 @@ list-sent link Forth feed w flit past kept =
     })
 list-sent link Back feed w flit past kept =
     let before = kept-before link (LinkEntry.sent Back feed w flit) past kept in
-    let laws = direction_laws link Back past before in
-    let more = direction_laws link Back (LinkEntry.sent Back feed w flit ∷ past) kept in
+    let laws = direction-laws link Back past before in
+    let more = direction-laws link Back (LinkEntry.sent Back feed w flit ∷ past) kept in
     list-step link.profile link.retry (length (accepted_packets link.profile Back past)) (sender_entries link Back past) (given_in link Back past feed) w flit (queue_in link Back past) (queue_in link Back (LinkEntry.sent Back feed w flit ∷ past)) (record {
       sender = sender-is link Back past before;
       few = laws.begun;
@@ -151,14 +147,14 @@ list-sent link Back feed w flit past kept =
 pub list-through : (link : LinkFields) (d : Toward) (head : List ℕ) (flits : ℕ) (past : List LinkEntry) → IsKept link (LinkEntry.through d head flits ∷ past) → handed_list link d (LinkEntry.through d head flits ∷ past) ≡ handed_list link d past ++ listed_open head flits ∷ []
 unfolding sender_entries receiver_entries handed_packets puts begun_puts places taken_fronts
 list-through link Forth head flits past kept =
-    let laws = direction_laws link Forth past (kept-before link (LinkEntry.through Forth head flits) past kept) in
-    let more = direction_laws link Forth (LinkEntry.through Forth head flits ∷ past) kept in
+    let laws = direction-laws link Forth past (kept-before link (LinkEntry.through Forth head flits) past kept) in
+    let more = direction-laws link Forth (LinkEntry.through Forth head flits ∷ past) kept in
     let l = places_in link Forth past in
     list-begun (begun_puts (sender_entries link Forth past)) (length (accepted_packets link.profile Forth past)) l (Place.awaited head flits (numbers_after link.profile (pointer_of link.profile l) (number_of l) flits (code_for (due_after link Back past (sender_entries link Forth past))))) head flits (queue_in link Forth past) laws.begun refl
     (more.queued ∙ ap (λ (t : List Put). t ++ put_through head flits ∷ []) (sym laws.queued))
 list-through link Back head flits past kept =
-    let laws = direction_laws link Back past (kept-before link (LinkEntry.through Back head flits) past kept) in
-    let more = direction_laws link Back (LinkEntry.through Back head flits ∷ past) kept in
+    let laws = direction-laws link Back past (kept-before link (LinkEntry.through Back head flits) past kept) in
+    let more = direction-laws link Back (LinkEntry.through Back head flits ∷ past) kept in
     let l = places_in link Back past in
     list-begun (begun_puts (sender_entries link Back past)) (length (accepted_packets link.profile Back past)) l (Place.awaited head flits (numbers_after link.profile (pointer_of link.profile l) (number_of l) flits (code_for (due_after link Forth past (sender_entries link Back past))))) head flits (queue_in link Back past) laws.begun refl
     (more.queued ∙ ap (λ (t : List Put). t ++ put_through head flits ∷ []) (sym laws.queued))
@@ -170,12 +166,12 @@ pub list-landed : (link : LinkFields) (d : Toward) (mask flit : List ℕ) (o : O
     handed_list link d past ≡ map listed_packet (filter is_token (accepted_by link.profile (pending (receiver_entries d past)) (Land flit o))) ++ handed_list link d (LinkEntry.landed d mask flit o ∷ past)
 unfolding sender_entries receiver_entries handed_packets accepted
 list-landed link Forth mask flit o past kept =
-    let laws = direction_laws link Forth past (kept-before link (LinkEntry.landed Forth mask flit o) past kept) in
-    let more = direction_laws link Forth (LinkEntry.landed Forth mask flit o ∷ past) kept in
+    let laws = direction-laws link Forth past (kept-before link (LinkEntry.landed Forth mask flit o) past kept) in
+    let more = direction-laws link Forth (LinkEntry.landed Forth mask flit o ∷ past) kept in
     list-accepted (accepted_packets link.profile Forth past) (accepted_by link.profile (pending (receiver_entries Forth past)) (Land flit o)) (accepted_packets link.profile Forth (LinkEntry.landed Forth mask flit o ∷ past)) (places_in link Forth past) (queue_in link Forth past) refl laws.accepted more.accepted
 list-landed link Back mask flit o past kept =
-    let laws = direction_laws link Back past (kept-before link (LinkEntry.landed Back mask flit o) past kept) in
-    let more = direction_laws link Back (LinkEntry.landed Back mask flit o ∷ past) kept in
+    let laws = direction-laws link Back past (kept-before link (LinkEntry.landed Back mask flit o) past kept) in
+    let more = direction-laws link Back (LinkEntry.landed Back mask flit o ∷ past) kept in
     list-accepted (accepted_packets link.profile Back past) (accepted_by link.profile (pending (receiver_entries Back past)) (Land flit o)) (accepted_packets link.profile Back (LinkEntry.landed Back mask flit o ∷ past)) (places_in link Back past) (queue_in link Back past) refl laws.accepted more.accepted
 
 -- and these are what it gives
@@ -201,10 +197,6 @@ landed-over link Back mask flit o past =
     let front = slice_get (line link.profile Forth past) 0 in
     let t = sender_entries link Back past in
     λ i. list_by (length (accepted_packets link.profile Back past)) (places-landed link.profile o rrp front t i) (drop (fronts-landed o rrp front t i) (handed_packets Back past))
-
-accepted-unlock : (q : Profile) (l : List ReceiverEntry) → accepted q (Unlock ∷ l) ≡ accepted q l
-unfolding accepted
-accepted-unlock q l = append-none (accepted q l)
 
 unlocked-over : (link : LinkFields) (d way : Toward) (past : List LinkEntry) → handed_list link d (LinkEntry.unlocked way ∷ past) ≡ handed_list link d past
 unfolding sender_entries receiver_entries handed_packets

@@ -1,5 +1,5 @@
--- Lists.
-use Rattle.std.proofs.Common.{◌≡◌, ◌∙◌, ◌≤◌, ◌<◌, ◌+◌, ℕ, zero, suc, Bool, true, false, List, [], ◌∷◌, ◌++◌, length, take, drop, map, Some, None, refl, sym, ap, arith}
+-- Facts of lists and of numbers.
+use Rattle.std.proofs.Common.{◌≡◌, ◌∙◌, ◌≤◌, ◌<◌, ◌+◌, ◌-◌, ℕ, zero, suc, Bool, true, false, List, [], ◌∷◌, ◌++◌, length, take, drop, map, Some, None, refl, sym, ap, arith}
 use Rattle.std.specs.Prelude.{slice_get, filter, if◌then◌else◌}
 use Rattle.std.proofs.lemmas.List.{length-drop}
 
@@ -70,3 +70,7 @@ filter-append {X = X} p (x ∷ l) m = by_test (p x) (filter-append p l m)
     by_test : (b : Bool) → filter p (l ++ m) ≡ filter p l ++ filter p m → (if b then x ∷ filter p (l ++ m) else filter p (l ++ m)) ≡ (if b then x ∷ filter p l else filter p l) ++ filter p m
     by_test true e = ap (λ (t : List X). x ∷ t) e
     by_test false e = e
+
+-- what is taken before more is added may be taken after it
+pub taken-then-added : (all taken more : ℕ) → taken ≤ all → (all - taken) + more ≡ (all + more) - taken
+taken-then-added all taken more within = omega arith

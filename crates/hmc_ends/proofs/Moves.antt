@@ -1,7 +1,7 @@
 -- What a send moves: fronts of the queue, and tokens.
-use Rattle.std.proofs.Common.{◌≡◌, ◌∙◌, ◌≤◌, ◌+◌, ◌-◌, ℕ, Bool, true, false, not, List, ◌∷◌, Option, Some, None, refl, sym, ap, subst, arith}
+use Rattle.std.proofs.Common.{◌≡◌, ◌∙◌, ◌≤◌, ◌+◌, ◌-◌, ℕ, Bool, true, false, not, List, ◌∷◌, Option, Some, None, refl, sym, ap, subst, arith, leb-true}
 use Rattle.std.specs.Prelude.{nat_le, if◌then◌else◌, is_none}
-use Rattle.std.proofs.lemmas.Grind.{common_steps}
+use Rattle.std.proofs.Math.Nat.{sub-zero}
 use Rattle.hmc_codes.specs.Table.{table_line}
 use Rattle.hmc_codes.specs.declared.profile.Profile.{Profile}
 use Rattle.hmc_packet.specs.declared.kind.Kind.{Kind}
@@ -22,7 +22,9 @@ use Rattle.hmc_send.specs.declared.sent.Sent.{Sent}
 use Rattle.hmc_send.specs.declared.sent.Sent.TheVariants.{Out, Starved}
 use Rattle.hmc_send.proofs.Cases.{Case, case_of}
 use Rattle.hmc_wire.specs.Conditions.{IsFeed}
-use Rattle.hmc_ends.proofs.Fed.{SenderIs, cost_of, begun-push, returned-push, fed-same}
+use Rattle.hmc_ends.proofs.Fed.{SenderIs, begun-push, returned-push, fed-same}
+use Rattle.hmc_wire.proofs.SenderLists.{none-under}
+use Rattle.hmc_numbers.specs.Tokens.{if_token}
 
 -- what a send of a flit moves
 pub record Moves (q : Profile) (t : List SenderEntry) (given : Given) (account : Account) (as_what : What) (flit : List ℕ) : Type 0 where
@@ -93,9 +95,6 @@ taken-quiet t given what.New flit is = absurd cc
 more-none : (n : ℕ) → n ≡ n + 0
 more-none n = omega arith
 
-less-none : (n : ℕ) → n ≡ n - 0
-less-none n = omega arith
-
 none-more : (n : ℕ) → n ≡ 0 + n
 none-more n = omega arith
 
@@ -110,8 +109,8 @@ moves-quiet q t given account w flit is =
       returned = ap tokens_returned (places-quiet q t given w flit is) ∙ more-none (tokens_returned (entries.places q t));
       taken = taken-quiet t given w flit is ∙ none-more (taken_fronts t);
       drawn = drawn-quiet (under_way q t) w flit is;
-      held = ap (λ (a : Account). a.held) same ∙ less-none account.held;
-      due = ap (λ (a : Account). a.due) same ∙ less-none account.due;
+      held = ap (λ (a : Account). a.held) same ∙ sym (sub-zero account.held);
+      due = ap (λ (a : Account). a.due) same ∙ sym (sub-zero account.due);
       few = omega arith;
       some = λ none. refl;
       one = omega arith;
@@ -119,16 +118,9 @@ moves-quiet q t given account w flit is =
 
 -- ---- a front
 
-nothing-under : (place : Place) (u : Option Part) → with_place place u ≡ None → u ≡ None
-nothing-under place None is = refl
-nothing-under place (Some part) is = absurd cc
-
 some-under : (place : Place) (u : Option Part) (begun : UnderWay) → with_place place u ≡ Some begun → u ≡ Some begun.part
 some-under place None begun is = absurd cc
 some-under place (Some part) begun is = let e : record { part = part; place = place } ≡ begun = cc in ap (λ (x : UnderWay). Some x.part) e
-
-le-of : (a b : ℕ) → nat_le a b ≡ true → a ≤ b
-le-of a b is = grind (arith, common_steps)
 
 taken-new : (t : List SenderEntry) (given : Given) (flit : List ℕ) → unfinished t ≡ None → taken_fronts (SenderEntry.sent given what.New flit ∷ t) ≡ 1 + taken_fronts t
 unfolding taken_fronts
@@ -146,7 +138,7 @@ pub moves-front : (q : Profile) (t : List SenderEntry) (given : Given) (account 
     given.due ≡ account.due → Moves q t given account what.New flit
 moves-front q t given account flit packet nothing front fit held same =
     let l = entries.places q t in
-    let none = nothing-under (place_at l (entries.last_begun q t)) (unfinished t) nothing in
+    let none = none-under (place_at l (entries.last_begun q t)) (unfinished t) nothing in
     let places = place-new q t given flit none in
     let is : or_null given.front ≡ packet = ap or_null front in
     let taken : IsTaken q packet = subst (IsFrontFit q) front fit in
@@ -157,13 +149,13 @@ moves-front q t given account flit packet nothing front fit held same =
       spent = flits_of packet;
       back = tokens_of_code (code_for given.due);
       fronts = 1;
-      begun = ap flits_begun places ∙ begun-push l (Place.known next) ∙ ap (λ (p : PacketFields). flits_begun l + cost_of (is_token p) (flits_of p)) is ∙ ap (λ (b : Bool). flits_begun l + cost_of b (flits_of packet)) token;
+      begun = ap flits_begun places ∙ begun-push l (Place.known next) ∙ ap (λ (p : PacketFields). flits_begun l + if_token (is_token p) (flits_of p)) is ∙ ap (λ (b : Bool). flits_begun l + if_token b (flits_of packet)) token;
       returned = ap tokens_returned places ∙ returned-push l (Place.known next);
       taken = taken-new t given flit none;
       drawn = ap (λ (u : Option UnderWay). fronts_taken u (Out flit what.New)) nothing;
       held = ap (λ (a : Account). a.held) left ∙ ap (λ (p : PacketFields). account.held - flits_of p) is;
       due = ap (λ (a : Account). a.due) left ∙ ap (λ (n : ℕ). account.due - tokens_of_code (code_for n)) (sym same);
-      few = le-of (flits_of packet) given.held held;
+      few = leb-true (flits_of packet) given.held held;
       some = λ none. absurd (let clash : None ≡ Some packet = sym none ∙ front in cc);
       one = omega arith;
     }
@@ -192,11 +184,11 @@ moves-tret q t given account flit nothing same =
       spent = 0;
       back = tokens_of_code (code_for given.due);
       fronts = 0;
-      begun = ap flits_begun places ∙ begun-push l (Place.known next) ∙ ap (λ (b : Bool). flits_begun l + cost_of b (flits_of next)) (tret-flow q (pointer_of q l) (number_of l) (code_for given.due));
+      begun = ap flits_begun places ∙ begun-push l (Place.known next) ∙ ap (λ (b : Bool). flits_begun l + if_token b (flits_of next)) (tret-flow q (pointer_of q l) (number_of l) (code_for given.due));
       returned = ap tokens_returned places ∙ returned-push l (Place.known next);
       taken = taken-tret t given flit ∙ none-more (taken_fronts t);
       drawn = ap (λ (u : Option UnderWay). fronts_taken u (Out flit what.Tret)) nothing;
-      held = ap (λ (a : Account). a.held) left ∙ less-none account.held;
+      held = ap (λ (a : Account). a.held) left ∙ sym (sub-zero account.held);
       due = ap (λ (a : Account). a.due) left ∙ ap (λ (n : ℕ). account.due - tokens_of_code (code_for n)) (sym same);
       few = omega arith;
       some = λ none. refl;
@@ -218,8 +210,8 @@ moves-on q retry t given account flit begun is fed feed some =
       returned = same.returned ∙ more-none (tokens_returned l);
       taken = taken-on t given flit begun.part part;
       drawn = ap (λ (u : Option UnderWay). fronts_taken u (Out flit what.New)) some;
-      held = ap (λ (u : Option UnderWay). (account_after u given.front (Out flit what.New) account).held) some ∙ less-none account.held;
-      due = ap (λ (u : Option UnderWay). (account_after u given.front (Out flit what.New) account).due) some ∙ less-none account.due;
+      held = ap (λ (u : Option UnderWay). (account_after u given.front (Out flit what.New) account).held) some ∙ sym (sub-zero account.held);
+      due = ap (λ (u : Option UnderWay). (account_after u given.front (Out flit what.New) account).due) some ∙ sym (sub-zero account.due);
       few = omega arith;
       some = λ none. refl;
       one = omega arith;

@@ -10,7 +10,7 @@ use Rattle.hmc_send.specs.declared.toward.Toward.{Toward}
 use Rattle.hmc_send.specs.declared.toward.Toward.TheVariants.{Forth, Back}
 use Rattle.hmc_wire.specs.LinkLaws.{IsKept}
 use Rattle.hmc_ends.specs.Parts.{EndParts, parts_of, held_of, due_of}
-use Rattle.hmc_ends.proofs.WireLaws.{token_laws}
+use Rattle.hmc_wire.proofs.TokenFacts.{token-laws}
 
 -- its tokens: of those that it sends with and of those of its buffer, no number falls below 0 or
 -- exceeds what is advertised
@@ -29,8 +29,8 @@ few a b c d e sum is = (omega arith, omega arith, omega arith)
 pub part_laws : (link : LinkFields) (d : Toward) (past : List LinkEntry) → IsKept link past → PartLaws link (parts_of link d past)
 unfolding tokens
 part_laws link Forth past kept =
-    let own = token_laws link Forth past kept in
-    let back = token_laws link Back past kept in
+    let own = token-laws link Forth past kept in
+    let back = token-laws link Back past kept in
     let row = few _ _ _ _ _ link.tokens own.sum in
     let row_back = few _ _ _ _ _ link.tokens back.sum in
     record {
@@ -43,8 +43,8 @@ part_laws link Forth past kept =
       few_due = row_back.2;
     }
 part_laws link Back past kept =
-    let own = token_laws link Back past kept in
-    let back = token_laws link Forth past kept in
+    let own = token-laws link Back past kept in
+    let back = token-laws link Forth past kept in
     let row = few _ _ _ _ _ link.tokens own.sum in
     let row_back = few _ _ _ _ _ link.tokens back.sum in
     record {

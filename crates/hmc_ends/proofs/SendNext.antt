@@ -31,7 +31,7 @@ use Rattle.hmc_wire.specs.LinkLaws.{IsKept}
 use Rattle.hmc_ends.specs.declared.link_sent.LinkSent.{LinkSent}
 use Rattle.hmc_ends.specs.Answers.{link_sent, after_call}
 use Rattle.hmc_ends.specs.End.{EndFields}
-use Rattle.hmc_ends.specs.Parts.{EndParts, parts_of, line_of, given_by, view_by, parts_sent, parts_after_send}
+use Rattle.hmc_ends.specs.Parts.{EndParts, parts_of, flits_under_way, given_by, view_by, parts_sent, parts_after_send}
 use Rattle.hmc_ends.specs.StandsFor.{EndStandsFor, EndsStandFor, CanSend}
 use Rattle.hmc_ends.proofs.Fed.{sender-is}
 use Rattle.hmc_ends.proofs.Lists.{length-map}
@@ -67,8 +67,8 @@ few-of e feed can =
     record { transit = omega arith; held = omega arith }
 
 -- the line is full exactly where the definition says so
-pub full-is : (link : LinkFields) (e : EndFields) (p : EndParts) → EndStandsFor link e p → nat_le e.setup.line (length e.line) ≡ nat_le link.line (length (line_of p))
-full-is link e p s = (λ i. nat_le (s.setup i).line (length (s.line i))) ∙ ap (nat_le link.line) (length-map (λ (x : StampedFlit). x.flit) (line_of p))
+pub full-is : (link : LinkFields) (e : EndFields) (p : EndParts) → EndStandsFor link e p → nat_le e.setup.line (length e.line) ≡ nat_le link.line (length (flits_under_way p))
+full-is link e p s = (λ i. nat_le (s.setup i).line (length (s.line i))) ∙ ap (nat_le link.line) (length-map (λ (x : StampedFlit). x.flit) (flits_under_way p))
 
 -- what is chosen is what the definition says
 pub choice-is : (link : LinkFields) (e : EndFields) (p : EndParts) (own : View) (feed : Feed) → EndStandsFor link e p → own ≡ receiver_view link.profile p.received →
@@ -117,16 +117,16 @@ send-by d s l s' feed link past false (Out flit w) next fits is both stands =
     })
 
 -- the definition, of the parts of the end
-next-is : (link : LinkFields) (d : Toward) (past : List LinkEntry) (feed : Feed) → next_entry link past (LinkCall.send d feed) ≡ sent_entry d feed (nat_le link.line (length (line_of (parts_of link d past)))) (choice link.profile (view_by link (parts_of link d past) feed))
+next-is : (link : LinkFields) (d : Toward) (past : List LinkEntry) (feed : Feed) → next_entry link past (LinkCall.send d feed) ≡ sent_entry d feed (nat_le link.line (length (flits_under_way (parts_of link d past)))) (choice link.profile (view_by link (parts_of link d past) feed))
 unfolding next_entry line given_after
 next-is link d past feed = refl
 
-pub answer-is : (link : LinkFields) (d : Toward) (past : List LinkEntry) (feed : Feed) → link_sent (nat_le link.line (length (line_of (parts_of link d past)))) (choice link.profile (view_by link (parts_of link d past) feed)) ≡ link_sent (is_full link d past) (choice link.profile (view_in link d past feed))
+pub answer-is : (link : LinkFields) (d : Toward) (past : List LinkEntry) (feed : Feed) → link_sent (nat_le link.line (length (flits_under_way (parts_of link d past)))) (choice link.profile (view_by link (parts_of link d past) feed)) ≡ link_sent (is_full link d past) (choice link.profile (view_in link d past feed))
 unfolding line given_after
 answer-is link d past feed = refl
 
 pub send-steps : (d : Toward) (s l s' : EndFields) (feed : Feed) (x : LinkSent) → IsFed s.sender.under_way feed → IsFeed feed →
-    ((link : LinkFields) (p : EndParts) → EndStandsFor link s p → x ≡ link_sent (nat_le link.line (length (line_of p))) (choice link.profile (view_by link p feed))) →
+    ((link : LinkFields) (p : EndParts) → EndStandsFor link s p → x ≡ link_sent (nat_le link.line (length (flits_under_way p))) (choice link.profile (view_by link p feed))) →
     ((link : LinkFields) (d : Toward) (past : List LinkEntry) → IsKept link past → EndStandsFor link s (parts_of link d past) → EndStandsFor link s' (parts_after_send link feed x (parts_of link d past))) →
     Steps d (LinkCall.send d feed) s l s' l
 send-steps d s l s' feed x fed is answer stands = record {
@@ -134,7 +134,7 @@ send-steps d s l s' feed x fed is answer stands = record {
       let p = parts_of link d past in
       let sending = both.sending in
       let under : s.sender.under_way ≡ under_way link.profile p.sender = sending.sender.begun ∙ ap (λ (r : Profile). under_way r p.sender) sending.profile in
-      send-by d s l s' feed link past (nat_le link.line (length (line_of p))) (choice link.profile (view_by link p feed)) (next-is link d past feed) (subst (λ (u : Option UnderWay). IsFed u feed) under fed) is both
+      send-by d s l s' feed link past (nat_le link.line (length (flits_under_way p))) (choice link.profile (view_by link p feed)) (next-is link d past feed) (subst (λ (u : Option UnderWay). IsFed u feed) under fed) is both
       (subst (λ (y : LinkSent). EndStandsFor link s' (parts_after_send link feed y p)) (answer link p sending) (stands link d past both.kept sending));
 }
 

@@ -1,6 +1,7 @@
 -- An end after a send.
 use Rattle.std.proofs.Common.{◌≡◌, ◌∙◌, ◌≤◌, ◌+◌, ◌-◌, ℕ, List, [], ◌∷◌, ◌++◌, length, drop, map, Option, Some, None, refl, sym, ap, subst, arith, length-append}
 use Rattle.std.specs.Prelude.{All, slice_get}
+use Rattle.std.proofs.Math.Nat.{sub-add-eq}
 use Rattle.hmc_codes.specs.Link.{LinkFields}
 use Rattle.hmc_codes.specs.declared.profile.Profile.{Profile}
 use Rattle.hmc_packet.specs.declared.feed.Feed.{Feed}
@@ -23,7 +24,7 @@ use Rattle.hmc_send.specs.declared.sent.Sent.TheVariants.{Out, Starved}
 use Rattle.hmc_send.specs.declared.state.State.{State}
 use Rattle.hmc_tokens.specs.declared.account.Account.{Account}
 use Rattle.hmc_ends.specs.End.{EndFields}
-use Rattle.hmc_ends.specs.Parts.{EndParts, line_of, given_by, parts_sent}
+use Rattle.hmc_ends.specs.Parts.{EndParts, flits_under_way, given_by, parts_sent}
 use Rattle.hmc_ends.specs.StandsFor.{EndStandsFor}
 use Rattle.hmc_ends.proofs.Lists.{drop-push, drop-add, map-push, front-longer}
 use Rattle.hmc_ends.proofs.Moves.{Moves}
@@ -95,9 +96,6 @@ given-is link e p own feed s is = λ i. record {
 transit-more : (b a held spent : ℕ) → a ≤ b → spent ≤ held → (b - a) + (held - (held - spent)) ≡ (b + spent) - a
 transit-more b a held spent le few = omega arith
 
-less-more : (c b spent : ℕ) → (c - b) - spent ≡ c - (b + spent)
-less-more c b spent = omega arith
-
 begun-more : (front : Option PacketFields) (l : List PacketFields) (n fronts : ℕ) → slice_get (drop n l) 0 ≡ front → n ≤ length l → (front ≡ None → fronts ≡ 0) → fronts ≤ 1 → fronts + n ≤ length l
 begun-more None l n fronts is le some one = let z = some refl in omega arith
 begun-more (Some x) l n fronts is le some one = let lt = front-longer n l x is in omega arith
@@ -139,15 +137,15 @@ stands-sent link e p feed s flit as_what is laws moves left stands =
       retry = ap (λ (x : State). x.retry.flits) left ∙ same.flits ∙ is.retry;
       sender = stands;
       queue = (λ i. drop (drawn i) (is.queue i)) ∙ drop-add moves.fronts (taken_fronts t) p.handed ∙ ap (λ (n : ℕ). drop n p.handed) (sym moves.taken);
-      line = ap (λ (l : List (List ℕ)). l ++ flit ∷ []) is.line ∙ sym (map-push (λ (x : StampedFlit). x.flit) (line_of p) _)
+      line = ap (λ (l : List (List ℕ)). l ++ flit ∷ []) is.line ∙ sym (map-push (λ (x : StampedFlit). x.flit) (flits_under_way p) _)
           ∙ ap (map (λ (x : StampedFlit). x.flit)) (sym (drop-push p.landings p.flits _ is.crossed));
       transit = (λ i. is.transit i + (e.account.held - held i)) ∙ transit-more begun (flits_accepted (accepted q p.landed)) e.account.held spent laws.transit few
           ∙ ap (λ (n : ℕ). n - flits_accepted (accepted q p.landed)) (sym moves.begun);
       receiver = is.receiver;
       changed = is.changed;
       buffer = is.buffer;
-      held = held ∙ ap (λ (n : ℕ). n - spent) is.held ∙ less-more credited begun spent ∙ ap (λ (n : ℕ). credited - n) (sym moves.begun);
-      due = due ∙ ap (λ (n : ℕ). n - moves.back) is.due ∙ less-more all (tokens_returned (places q t)) moves.back ∙ ap (λ (n : ℕ). all - n) (sym moves.returned);
+      held = held ∙ ap (λ (n : ℕ). n - spent) is.held ∙ sym (sub-add-eq credited begun spent) ∙ ap (λ (n : ℕ). credited - n) (sym moves.begun);
+      due = due ∙ ap (λ (n : ℕ). n - moves.back) is.due ∙ sym (sub-add-eq all (tokens_returned (places q t)) moves.back) ∙ ap (λ (n : ℕ). all - n) (sym moves.returned);
       begun = subst (λ (n : ℕ). n ≤ length p.handed) (sym moves.taken) (begun-more given.front p.handed (taken_fronts t) moves.fronts refl is.begun moves.some moves.one);
       crossed = (let k = length-append p.flits (record { flit = flit; stamp = length (accepted q p.received) } ∷ []) in omega arith);
       taken = is.taken;

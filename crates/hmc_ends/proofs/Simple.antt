@@ -79,7 +79,7 @@ stands-taken link e p packet s front due =
 
 -- ---- an unlock
 
-accepted-unlock : (profile : Profile) (l : List ReceiverEntry) → accepted profile (Unlock ∷ l) ≡ accepted profile l
+pub accepted-unlock : (profile : Profile) (l : List ReceiverEntry) → accepted profile (Unlock ∷ l) ≡ accepted profile l
 unfolding accepted
 accepted-unlock profile l = append-none (accepted profile l)
 

@@ -1,8 +1,8 @@
--- An end that begins a cut-through.
-use Rattle.std.proofs.Common.{◌≡◌, ◌∙◌, ◌≤◌, ◌+◌, ◌-◌, ℕ, Bool, true, false, not, ◌&&◌, List, [], ◌∷◌, ◌++◌, length, drop, Option, Some, None, refl, sym, ap, subst, arith, Fits, w32}
+-- An end that begins to forward a packet.
+use Rattle.std.proofs.Common.{◌≡◌, ◌∙◌, ◌≤◌, ◌+◌, ◌-◌, ℕ, Bool, true, false, not, ◌&&◌, List, [], ◌∷◌, ◌++◌, length, drop, Option, Some, None, refl, sym, ap, subst, arith, Fits, w32, leb-true}
 use Rattle.std.specs.Prelude.{◌==◌, nat_le, slice_get, is_none, is_some}
-use Rattle.std.proofs.lemmas.Bool.{and_parts, eqb-true}
-use Rattle.std.proofs.lemmas.Grind.{common_steps}
+use Rattle.std.proofs.lemmas.Bool.{and_parts, eqb-true, and_from}
+use Rattle.std.proofs.Math.Nat.{sub-add-eq}
 use Rattle.hmc_codes.specs.Link.{LinkFields}
 use Rattle.hmc_codes.specs.declared.profile.Profile.{Profile}
 use Rattle.hmc_packet.specs.declared.feed.Feed.TheVariants.{Waiting}
@@ -30,9 +30,10 @@ use Rattle.hmc_tokens.specs.Account.{tokens_of_code, code_for}
 use Rattle.hmc_tokens.specs.declared.account.Account.{Account}
 use Rattle.hmc_ends.specs.End.{EndFields, own_view, is_ready}
 use Rattle.hmc_ends.specs.Parts.{EndParts, due_of, given_by, view_by, parts_through}
-use Rattle.hmc_ends.specs.StandsFor.{EndStandsFor, CanPassOn}
+use Rattle.hmc_ends.specs.StandsFor.{EndStandsFor, CanForward}
 use Rattle.hmc_ends.proofs.Fed.{begun-push, returned-push}
 use Rattle.hmc_ends.proofs.PartLaws.{PartLaws, part_laws}
+use Rattle.hmc_ends.proofs.Lists.{taken-then-added}
 
 -- ---- whether it may
 
@@ -65,23 +66,16 @@ ready-held link e p flits s =
 
 -- ---- what the sender asks
 
-le-of : (a b : ℕ) → nat_le a b ≡ true → a ≤ b
-le-of a b is = grind (arith, common_steps)
-
 pub named-head : (flits : ℕ) (head : List ℕ) (o : Option Head) → head_in head ≡ o → names_flits flits o ≡ true → (2 ≤ flits) × IsHead head flits
 named-head flits head None is named = absurd cc
 named-head flits head (Some h) is named =
     let both = and_parts (nat_le 2 flits) (h.flits == flits) named in
-    (le-of 2 flits both.0, record { head = h; reads = is; length = eqb-true h.flits flits both.1 })
+    (leb-true 2 flits both.0, record { head = h; reads = is; length = eqb-true h.flits flits both.1 })
 
 calm-good : (burst : Option Kind) (m : Mode) (go_back may_start : Bool) → is_none (irtry_due burst m go_back may_start) ≡ true → is_none (irtry_due burst mode.Good go_back may_start) ≡ true
 calm-good (Some kind) m go_back may_start is = absurd cc
 calm-good None m true may_start is = absurd cc
 calm-good None m false may_start is = refl
-
-and-true : (a b : Bool) → a ≡ true → b ≡ true → (a && b) ≡ true
-and-true true b x y = y
-and-true false b x y = absurd cc
 
 free-good : (held : State) (own : View) → is_free (view_held held (given_only own)) ≡ true → is_free (view_held held (given_only good_view)) ≡ true
 free-good held own free =
@@ -90,7 +84,7 @@ free-good held own free =
     let calm = and_parts (s.is_open && not (is_train own.mode) && is_none s.under_way) (is_none (irtry_due s.burst own.mode s.go_back s.may_start)) last.0 in
     let none = and_parts (s.is_open && not (is_train own.mode)) (is_none s.under_way) calm.0 in
     let opened = and_parts s.is_open (not (is_train own.mode)) none.0 in
-    and-true _ (is_none s.again) (and-true _ (is_none (irtry_due s.burst mode.Good s.go_back s.may_start)) (and-true _ (is_none s.under_way) (and-true s.is_open true opened.0 refl) none.1) (calm-good s.burst own.mode s.go_back s.may_start calm.1)) last.1
+    and_from _ (is_none s.again) (and_from _ (is_none (irtry_due s.burst mode.Good s.go_back s.may_start)) (and_from _ (is_none s.under_way) (and_from s.is_open true opened.0 refl) none.1) (calm-good s.burst own.mode s.go_back s.may_start calm.1)) last.1
 
 pub record MayBegin (e : EndFields) (head : List ℕ) (flits : ℕ) : Type 0 where
   pub free : is_free (view_held e.sender (given_only good_view)) ≡ true
@@ -100,14 +94,14 @@ pub record MayBegin (e : EndFields) (head : List ℕ) (flits : ℕ) : Type 0 whe
   pub is_head : IsHead head flits
   pub few : e.transit + flits ≤ 2048
 
-pub may-begin : (e : EndFields) (head : List ℕ) (flits : ℕ) → CanPassOn e head flits → MayBegin e head flits
+pub may-begin : (e : EndFields) (head : List ℕ) (flits : ℕ) → CanForward e head flits → MayBegin e head flits
 may-begin e head flits can =
     let free = is_free (view_held e.sender (given_only (own_view e))) in
     let parts = and_parts (is_none (slice_get e.queue 0) && free) (nat_le flits e.account.held && nat_le flits (room_held e.sender)) can.ready in
     let front = and_parts (is_none (slice_get e.queue 0)) free parts.0 in
     let tokens = and_parts (nat_le flits e.account.held) (nat_le flits (room_held e.sender)) parts.1 in
     let names = named-head flits head (head_in head) refl can.named in
-    let held = le-of flits e.account.held tokens.0 in
+    let held = leb-true flits e.account.held tokens.0 in
     let laws = part_laws can.link can.d can.past can.kept in
     let a = laws.few_transit in
     let b = laws.few_held in
@@ -117,7 +111,7 @@ may-begin e head flits can =
     record {
       free = free-good e.sender (own_view e) front.1;
       held = held;
-      room = le-of flits (room_held e.sender) tokens.1;
+      room = leb-true flits (room_held e.sender) tokens.1;
       some = names.0;
       is_head = names.1;
       few = omega arith;
@@ -132,12 +126,6 @@ place-through q t head flits due = refl
 fronts-through : (t : List SenderEntry) (head : List ℕ) (flits due : ℕ) → taken_fronts (SenderEntry.through head flits due ∷ t) ≡ taken_fronts t
 unfolding taken_fronts
 fronts-through t head flits due = refl
-
-transit-more : (b a flits : ℕ) → a ≤ b → (b - a) + flits ≡ (b + flits) - a
-transit-more b a flits le = omega arith
-
-less-more : (c b n : ℕ) → (c - b) - n ≡ c - (b + n)
-less-more c b n = omega arith
 
 pub stands-through : (link : LinkFields) (e : EndFields) (p : EndParts) (head : List ℕ) (flits n : ℕ) (s : State) (a : Account) → EndStandsFor link e p → PartLaws link p → n ≡ flits → s ≡ after_through head flits e.account.due e.sender → StandsFor s (SenderEntry.through head flits e.account.due ∷ p.sender) →
     a ≡ account_through flits e.account → EndStandsFor link (record e { sender = s; account = a; transit = e.transit + n }) (parts_through link head flits p)
@@ -159,12 +147,12 @@ stands-through link e p head flits n s a is laws n_is left stands account =
       sender = subst (λ (n : ℕ). StandsFor s (SenderEntry.through head flits n ∷ t)) is.due stands;
       queue = is.queue ∙ ap (λ (n : ℕ). drop n p.handed) (sym fronts);
       line = is.line;
-      transit = (λ i. is.transit i + n_is i) ∙ transit-more (flits_begun (places q t)) (flits_accepted (accepted q p.landed)) flits laws.transit ∙ ap (λ (n : ℕ). n - flits_accepted (accepted q p.landed)) (sym begun);
+      transit = (λ i. is.transit i + n_is i) ∙ taken-then-added (flits_begun (places q t)) (flits_accepted (accepted q p.landed)) flits laws.transit ∙ ap (λ (n : ℕ). n - flits_accepted (accepted q p.landed)) (sym begun);
       receiver = is.receiver;
       changed = is.changed;
       buffer = is.buffer;
-      held = ap (λ (y : Account). y.held) account ∙ ap (λ (n : ℕ). n - flits) is.held ∙ less-more credited (flits_begun (places q t)) flits ∙ ap (λ (n : ℕ). credited - n) (sym begun);
-      due = ap (λ (y : Account). y.due) account ∙ ap (λ (n : ℕ). n - tokens_of_code (code_for n)) is.due ∙ less-more all (tokens_returned (places q t)) (tokens_of_code (code_for (due_of link p))) ∙ ap (λ (n : ℕ). all - n) (sym returned);
+      held = ap (λ (y : Account). y.held) account ∙ ap (λ (n : ℕ). n - flits) is.held ∙ sym (sub-add-eq credited (flits_begun (places q t)) flits) ∙ ap (λ (n : ℕ). credited - n) (sym begun);
+      due = ap (λ (y : Account). y.due) account ∙ ap (λ (n : ℕ). n - tokens_of_code (code_for n)) is.due ∙ sym (sub-add-eq all (tokens_returned (places q t)) (tokens_of_code (code_for (due_of link p)))) ∙ ap (λ (n : ℕ). all - n) (sym returned);
       begun = subst (λ (n : ℕ). n ≤ length p.handed) (sym fronts) is.begun;
       crossed = is.crossed;
       taken = is.taken;

@@ -15,7 +15,7 @@ use Rattle.hmc_send.specs.declared.toward.Toward.TheVariants.{Forth, Back}
 use Rattle.hmc_wire.specs.LinkLaws.{IsKept}
 use Rattle.hmc_ends.specs.End.{EndFields, row_held}
 use Rattle.hmc_ends.specs.StandsFor.{EndsStandFor}
-use Rattle.hmc_ends.proofs.WireLaws.{token_laws}
+use Rattle.hmc_wire.proofs.TokenFacts.{token-laws}
 
 rest-of : (taken rest all : ℕ) → taken + rest ≡ all → rest ≡ all - taken
 rest-of taken rest all is = omega arith
@@ -30,7 +30,7 @@ last-of a b c d e sum is = omega arith
 pub row-is : (link : LinkFields) (d : Toward) (past : List LinkEntry) (s l : EndFields) → EndsStandFor link d s l past → row_held s l ≡ tokens link d past
 unfolding tokens
 row-is link Forth past s l both =
-    let laws = token_laws link Forth past both.kept in
+    let laws = token-laws link Forth past both.kept in
     let used = ap packets.flits_in both.landing.buffer ∙ used-is (takes Forth past) (accepted_packets link.profile Forth past) in
     let rest = last-of _ _ _ _ _ link.tokens laws.sum in
     λ i. record {
@@ -41,7 +41,7 @@ row-is link Forth past s l both =
       returning = ((λ j. (both.sending.setup j).tokens - (both.sending.held j + both.sending.transit j + used j + both.landing.due j)) ∙ rest) i;
     }
 row-is link Back past s l both =
-    let laws = token_laws link Back past both.kept in
+    let laws = token-laws link Back past both.kept in
     let used = ap packets.flits_in both.landing.buffer ∙ used-is (takes Back past) (accepted_packets link.profile Back past) in
     let rest = last-of _ _ _ _ _ link.tokens laws.sum in
     λ i. record {
@@ -53,4 +53,4 @@ row-is link Back past s l both =
     }
 
 pub sum-is : (link : LinkFields) (d : Toward) (past : List LinkEntry) (row : TokenRow) → IsKept link past → row ≡ tokens link d past → row.held + row.transit + row.used + row.due + row.returning ≡ link.tokens
-sum-is link d past row kept is = subst (λ (r : TokenRow). r.held + r.transit + r.used + r.due + r.returning ≡ link.tokens) (sym is) (token_laws link d past kept).sum
+sum-is link d past row kept is = subst (λ (r : TokenRow). r.held + r.transit + r.used + r.due + r.returning ≡ link.tokens) (sym is) (token-laws link d past kept).sum

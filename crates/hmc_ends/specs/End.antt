@@ -54,8 +54,8 @@ row_held from to = record {
 abbrev pub own_view : EndFields → View
 own_view e = record { mode = e.receiver.mode; rrp = e.receiver.frp }
 
--- an end may begin a cut-through of so many flits: nothing waits in its output queue, its sender is
--- free, and held tokens and retry room suffice
+-- an end may begin to forward a packet of so many flits: nothing waits in its output queue, its
+-- sender is free, and held tokens and retry room suffice
 abbrev pub is_ready : EndFields → (flits : ℕ) → Bool
 is_ready e flits =
     (is_none (slice_get e.queue 0) && is_free (view_held e.sender (given_only (own_view e))))

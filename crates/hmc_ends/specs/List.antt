@@ -1,6 +1,7 @@
 -- The list of a direction of a link: the requests and responses that were put into it and are not
 -- accepted at its end, in their order. RTC, SEQ and FRP are zero, since a packet has them only once
--- it is begun. A cut-through has an open place in the list until its last flit is sent.
+-- it is begun. A forwarded packet (a cut-through) has an open place in the list until its last flit
+-- is sent.
 use Rattle.std.specs.Prelude.{ℕ, Bool, true, not, List, ◌++◌, map, drop, filter, length, Option, Some}
 use Rattle.hmc_codes.specs.Link.{LinkFields}
 use Rattle.hmc_codes.specs.declared.profile.Profile.{Profile}
@@ -24,7 +25,7 @@ no_numbers = record { frp = 0; seq = 0; rtc = 0 }
 abbrev pub listed_packet : PacketFields → Place
 listed_packet packet = Place.known (with_numbers no_numbers packet)
 
--- a cut-through in the list, with its first flit and its length
+-- a forwarded packet in the list, with its first flit and its length
 abbrev pub listed_open : (head : List ℕ) → (flits : ℕ) → Place
 listed_open head flits = Place.awaited head flits no_numbers
 
@@ -44,8 +45,8 @@ handed_list link d past =
     list_by (length (accepted_packets link.profile d past)) (places_in link d past)
     (queue_in link d past)
 
--- a place of the list after a flit is sent: the last flit of a cut-through fills its open place
--- with the packet that was sent
+-- a place of the list after a flit is sent: the last flit of a forwarded packet fills its open
+-- place with the packet that was sent
 abbrev pub place_sent : What → Profile → Option Part → Feed → Place → Place
 place_sent New profile (Some part) feed place = place_fed profile part.sent feed place
 place_sent as_what profile part feed place = place

@@ -50,8 +50,8 @@ abbrev pub queue_of : EndParts → List PacketFields
 queue_of p = drop (taken_fronts p.sender) p.handed
 
 -- the flits that it sent and that have not landed
-abbrev pub line_of : EndParts → List StampedFlit
-line_of p = drop p.landings p.flits
+abbrev pub flits_under_way : EndParts → List StampedFlit
+flits_under_way p = drop p.landings p.flits
 
 -- the requests and responses that it accepted
 abbrev pub tokens_accepted : LinkFields → EndParts → List PacketFields
@@ -131,7 +131,7 @@ parts_unlocked p = record p { received = Unlock ∷ p.received; changed = false 
 abbrev pub parts_lost : EndParts → EndParts
 parts_lost p = record p { landed = Unlock ∷ p.landed }
 
--- a cut-through was begun
+-- a packet began to be forwarded
 abbrev pub parts_through : LinkFields → (head : List ℕ) → (flits : ℕ) → EndParts → EndParts
 parts_through link head flits p = record p {
   sender = SenderEntry.through head flits (due_of link p) ∷ p.sender;

@@ -17,7 +17,7 @@ use Rattle.hmc_send.specs.StandsFor.{StandsFor}
 use Rattle.hmc_send.specs.declared.toward.Toward.{Toward}
 use Rattle.hmc_wire.specs.LinkLaws.{IsKept}
 use Rattle.hmc_ends.specs.End.{EndFields, is_ready}
-use Rattle.hmc_ends.specs.Parts.{EndParts, parts_of, queue_of, line_of, tokens_accepted, buffer_of, held_of, due_of}
+use Rattle.hmc_ends.specs.Parts.{EndParts, parts_of, queue_of, flits_under_way, tokens_accepted, buffer_of, held_of, due_of}
 
 -- the flits of a line without their stamps
 abbrev pub flits_on : List StampedFlit → List (List ℕ)
@@ -33,7 +33,7 @@ pub record EndStandsFor (link : LinkFields) (e : EndFields) (p : EndParts) : Typ
   pub sender : StandsFor e.sender p.sender
   -- the output queue, and the line
   pub queue : e.queue ≡ queue_of p
-  pub line : e.line ≡ flits_on (line_of p)
+  pub line : e.line ≡ flits_on (flits_under_way p)
   -- the flits of packets that were begun and not accepted
   pub transit : e.transit
       ≡ flits_begun (places link.profile p.sender) - flits_accepted (accepted link.profile p.landed)
@@ -52,7 +52,7 @@ pub record EndStandsFor (link : LinkFields) (e : EndFields) (p : EndParts) : Typ
   pub taken : p.takes ≤ length (tokens_accepted link p)
 
 -- An end may send what is fed: it stands for the entries of some link, and the feed fits the packet
--- that is passed on.
+-- that is forwarded.
 pub record CanSend (e : EndFields) (feed : Feed) : Type 0 where
   pub link : LinkFields
   pub d : Toward
@@ -62,9 +62,9 @@ pub record CanSend (e : EndFields) (feed : Feed) : Type 0 where
   pub stands : EndStandsFor link e (parts_of link d past)
   pub fed : IsFed e.sender.under_way feed
 
--- An end may begin a cut-through of a packet with this head and so many flits: it stands for the
--- entries of some link, and is ready.
-pub record CanPassOn (e : EndFields) (head : List ℕ) (flits : ℕ) : Type 0 where
+-- An end may begin to forward a packet with this head and so many flits: it stands for the entries
+-- of some link, and is ready.
+pub record CanForward (e : EndFields) (head : List ℕ) (flits : ℕ) : Type 0 where
   pub link : LinkFields
   pub d : Toward
   pub past : List LinkEntry

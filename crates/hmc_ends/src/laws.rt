@@ -12,13 +12,13 @@ ghost use Rattle.hmc_ends.specs.Landings.{entry_landed, landed_in, stored};
 ghost use Rattle.hmc_ends.specs.List.{handed_list, list_sent, listed_open, listed_packet, leaves};
 
 /// What each entry does to the list of its direction: the packets that were handed and are not
-/// accepted, with cut-throughs in their places (`handed_list`).
+/// accepted, with forwarded packets in their places (`handed_list`).
 ///
-/// A packet that is handed comes to the end of the list, and so does the open place of a
-/// cut-through that is begun. A landing that accepts a request or a response removes the front of
-/// the list and gives it, and no other landing changes the list. The last flit of a cut-through
-/// fills its place; no other flit that is sent changes the list, and no entry of the other
-/// direction does.
+/// A packet that is handed comes to the end of the list, and so does the open place of a packet
+/// that begins to be forwarded (a cut-through). A landing that accepts a request or a response
+/// removes the front of the list and gives it, and no other landing changes the list. The last flit
+/// of a forwarded packet fills its place; no other flit that is sent changes the list, and no entry
+/// of the other direction does.
 pub fn directions_are_lists()
     ensures handed { (link : LinkFields) (d : Toward) (packet : PacketFields)
         (past : List LinkEntry) → IsKept link (LinkEntry.handed d packet ∷ past) →

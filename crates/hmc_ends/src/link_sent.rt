@@ -15,6 +15,6 @@ pub enum LinkSent {
     },
     /// Nothing: the line holds as many flits as it can.
     Full,
-    /// Nothing: the next flit of a packet that is passed on isn't there yet.
+    /// Nothing: the next flit of a packet that is forwarded isn't there yet.
     Starved,
 }

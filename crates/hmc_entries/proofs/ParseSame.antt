@@ -4,6 +4,7 @@ use Rattle.std.specs.Str.{bytes_eq}
 use Rattle.std.proofs.Math.Seq.{take-append_seam}
 use Rattle.std.proofs.lemmas.List.{append_cancel_right, length-append}
 use Rattle.std.proofs.lemmas.Slice.Eq.{bytes_eq-Decides}
+use Rattle.std.proofs.lemmas.Option.{same_Some}
 use Rattle.hmc_codes.specs.Text.{spaced_words}
 use Rattle.hmc_script.proofs.WordsText.{line-spaced}
 use Rattle.hmc_text.specs.Words.{words_of}
@@ -33,13 +34,10 @@ front_same entry bytes line other same is own test =
 pub nothing_read : (text : List ℕ) → entry_in (words_of text) ≡ None → (entry : Entry) → ◌≡◌ {A = Option Entry} None (Some entry) ↔ (IsPrintable entry × IsLineOf text entry)
 nothing_read text none entry = (λ same. absurd (cc same), λ is. cc (none, line_back text entry is.0 is.1))
 
-some_same : {A : Type 0} (x y : A) → Some x ≡ Some y → x ≡ y
-some_same x y same = cc
-
 -- the words are read as an entry that has this line: then no other has it
 pub found_read : (text : List ℕ) (found : Entry) → entry_in (words_of text) ≡ Some found → FitsTypes found → IsShown found → IsLineOf text found → (entry : Entry) → ◌≡◌ {A = Option Entry} (Some found) (Some entry) ↔ (IsPrintable entry × IsLineOf text entry)
 found_read text found reads fits shown line_is entry =
-    (λ same. subst (λ e. IsPrintable e × IsLineOf text e) (some_same found entry same) (record { fits = fits; shown = shown }, line_is), λ is. sym reads ∙ line_back text entry is.0 is.1)
+    (λ same. subst (λ e. IsPrintable e × IsLineOf text e) (same_Some found entry same) (record { fits = fits; shown = shown }, line_is), λ is. sym reads ∙ line_back text entry is.0 is.1)
 
 -- the words are read as an entry that has another line: then none has this one
 pub other_read : (text : List ℕ) (found : Entry) → entry_in (words_of text) ≡ Some found → (IsLineOf text found → ⊥) → (entry : Entry) → ◌≡◌ {A = Option Entry} None (Some entry) ↔ (IsPrintable entry × IsLineOf text entry)
@@ -47,5 +45,5 @@ other_read text found reads other entry = (λ same. absurd (cc same), λ is. dif
   differs : IsPrintable entry → IsLineOf text entry → ◌≡◌ {A = Option Entry} None (Some entry)
   differs is line_is =
       let back : entry_in (words_of text) ≡ Some entry = line_back text entry is line_is in
-      let same : found ≡ entry = some_same found entry (sym reads ∙ back) in
+      let same : found ≡ entry = same_Some found entry (sym reads ∙ back) in
       absurd (other (subst (IsLineOf text) (sym same) line_is))

@@ -1,4 +1,4 @@
--- Equal texts are of equal entries: the first line tells the first entry, and what is left the rest.
+-- Equal texts are of equal entries: the first line shows the first entry, and what is left the rest.
 use Rattle.std.proofs.Common.{◌≡◌, ◌∙◌, ℕ, Some, None, List, [], ◌∷◌, ◌++◌, map, reverse, refl, sym, ap, subst}
 use Rattle.std.specs.List.{All, concat}
 use Rattle.std.proofs.lemmas.List.{reverse-append, reverse-reverse}

@@ -1,4 +1,4 @@
-//! The entries of a journal: what happened at each step of a run, and the line that tells it.
+//! The entries of a journal: what happened at each step of a run, and the line that shows it.
 //!
 //! An [`Entry`] is what happened at one step. [`LastEntry`] has the one of the latest step in one
 //! place, and writes its line. [`Journal`] keeps all of them. `Entry::parse` reads a line back.

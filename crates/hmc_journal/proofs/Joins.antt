@@ -2,7 +2,7 @@
 use Rattle.std.proofs.Common.{◌≡◌, ◌∙◌, ◌<◌, ◌+◌, ◌-◌, ◌*◌, ◌/◌, ◌%◌, ◌==◌, ◌||◌, ◌⊎◌, inl, inr, ℕ, zero, suc, Bool, true, false, if◌then◌else◌, Option, Some, None, List, [], ◌∷◌, length, slice_index_or, refl, sym, ap, ap₂, arith, eqb-true, eq-eqb, ne_eqb}
 use Rattle.std.specs.Prelude.{not, option_map}
 use Rattle.std.specs.List.{find, list_any}
-use Rattle.std.proofs.lemmas.Bool.{and_parts}
+use Rattle.std.proofs.lemmas.Bool.{and_parts, not-true, or_parts}
 use mathlib.Core.Bool.{cond}
 use Rattle.hmc_codes.specs.Places.{same_place}
 use Rattle.hmc_codes.specs.declared.place.Join.{Join}
@@ -11,20 +11,9 @@ use Rattle.hmc_codes.specs.declared.place.Place.TheVariants.{Host, Port}
 use Rattle.hmc_routes.specs.Directions.{no_join, other, join_of, start_of, end_of, direction_among, direction_from}
 use Rattle.hmc_routes.specs.Neighbours.{ends_at, far_end, joined_to}
 use Rattle.hmc_routes.specs.WellFormed.{ends_of, are_distinct}
+use Rattle.hmc_routes.proofs.Joined.{same_place-true, same_place-refl}
 
 -- ---- places
-
-pub same_place_is : (p q : Place) → same_place p q ≡ true → p ≡ q
-same_place_is (Host h) (Host k) is = ap Host (eqb-true h k is)
-same_place_is (Port c a) (Port d b) is =
-    let both = and_parts (c == d) (a == b) is in
-    ap (λ (n : ℕ). Port n a) (eqb-true c d both.0) ∙ ap (λ (n : ℕ). Port d n) (eqb-true a b both.1)
-same_place_is (Host h) (Port d b) is = cc
-same_place_is (Port c a) (Host k) is = cc
-
-pub same_place_refl : (p : Place) → same_place p p ≡ true
-same_place_refl (Host h) = eq-eqb h h refl
-same_place_refl (Port c a) = rw (eq-eqb c c refl, eq-eqb a a refl) refl
 
 -- ---- the numbers of directions
 
@@ -133,7 +122,7 @@ from_step join joins first place d true b at_a at_b found later =
       k = 0;
       is = omega arith;
       inside = omega arith;
-      starts = same_place_is join.a place at_a;
+      starts = same_place-true join.a place at_a;
       joined = ap (λ (x : Bool). option_map (far_end place) (cond (x || same_place join.b place) (Some join) (find (ends_at place) joins))) at_a
           ∙ ap (λ (x : Bool). Some (if x then join.b else join.a)) at_a;
     }
@@ -142,7 +131,7 @@ from_step join joins first place d false true at_a at_b found later =
       k = 1;
       is = omega arith;
       inside = omega arith;
-      starts = same_place_is join.b place at_b;
+      starts = same_place-true join.b place at_b;
       joined = ap₂ (λ (x y : Bool). option_map (far_end place) (cond (x || y) (Some join) (find (ends_at place) joins))) at_a at_b
           ∙ ap (λ (x : Bool). Some (if x then join.b else join.a)) at_a;
     }
@@ -211,31 +200,23 @@ record Distinct (a b : Place) (rest : List Place) : Type 0 where
   b_off : list_any (same_place b) rest ≡ false
   rest_is : are_distinct rest ≡ true
 
-none_of : (b : Bool) → not b ≡ true → b ≡ false
-none_of true is = cc
-none_of false is = refl
-
-neither : (a b : Bool) → (a || b) ≡ false → (a ≡ false) × (b ≡ false)
-neither true b is = cc
-neither false b is = (refl, is)
-
 distinct_parts : (a b : Place) (rest : List Place) → are_distinct (a ∷ b ∷ rest) ≡ true → Distinct a b rest
 distinct_parts a b rest is =
     let first = and_parts (not (list_any (same_place a) (b ∷ rest))) (are_distinct (b ∷ rest)) is in
     let second = and_parts (not (list_any (same_place b) rest)) (are_distinct rest) first.1 in
-    let a_is = neither (same_place a b) (list_any (same_place a) rest) (none_of (list_any (same_place a) (b ∷ rest)) first.0) in
-    record { two = a_is.0; a_off = a_is.1; b_off = none_of (list_any (same_place b) rest) second.0; rest_is = second.1 }
+    let a_is = or_parts (same_place a b) (list_any (same_place a) rest) (not-true (list_any (same_place a) (b ∷ rest)) first.0) in
+    record { two = a_is.0; a_off = a_is.1; b_off = not-true (list_any (same_place b) rest) second.0; rest_is = second.1 }
 
 -- a place that is none of the ends is no start
 off_start : (place : Place) (joins : List Join) (k : ℕ) → list_any (same_place place) (ends_of joins) ≡ false → k < 2 * length joins → same_place place (start_of joins k) ≡ false
 off_start place [] k off less = absurd (omega arith)
-off_start place (join ∷ joins) zero off less = (neither (same_place place join.a) (same_place place join.b || list_any (same_place place) (ends_of joins)) off).0
+off_start place (join ∷ joins) zero off less = (or_parts (same_place place join.a) (same_place place join.b || list_any (same_place place) (ends_of joins)) off).0
 off_start place (join ∷ joins) (suc zero) off less =
-    let later = neither (same_place place join.a) (same_place place join.b || list_any (same_place place) (ends_of joins)) off in
-    (neither (same_place place join.b) (list_any (same_place place) (ends_of joins)) later.1).0
+    let later = or_parts (same_place place join.a) (same_place place join.b || list_any (same_place place) (ends_of joins)) off in
+    (or_parts (same_place place join.b) (list_any (same_place place) (ends_of joins)) later.1).0
 off_start place (join ∷ joins) (suc (suc k)) off less =
-    let later = neither (same_place place join.a) (same_place place join.b || list_any (same_place place) (ends_of joins)) off in
-    let rest = neither (same_place place join.b) (list_any (same_place place) (ends_of joins)) later.1 in
+    let later = or_parts (same_place place join.a) (same_place place join.b || list_any (same_place place) (ends_of joins)) off in
+    let rest = or_parts (same_place place join.b) (list_any (same_place place) (ends_of joins)) later.1 in
     ap (same_place place) (start_next join joins k) ∙ off_start place joins k rest.1 (omega arith)
 
 among_found : (joins : List Join) (first k : ℕ) → k < 2 * length joins → are_distinct (ends_of joins) ≡ true → direction_among first joins (start_of joins k) ≡ Some (first + k)
@@ -243,11 +224,11 @@ unfolding direction_among
 among_found [] first k less once = absurd (omega arith)
 among_found (join ∷ joins) first zero less once =
     let same : first ≡ first + 0 = omega arith in
-    ap (λ (x : Bool). if x then Some first else if same_place join.b join.a then Some (first + 1) else direction_among (first + 2) joins join.a) (same_place_refl join.a)
+    ap (λ (x : Bool). if x then Some first else if same_place join.b join.a then Some (first + 1) else direction_among (first + 2) joins join.a) (same_place-refl join.a)
     ∙ ap Some same
 among_found (join ∷ joins) first (suc zero) less once =
     let parts = distinct_parts join.a join.b (ends_of joins) once in
-    ap₂ (λ (x y : Bool). if x then Some first else if y then Some (first + 1) else direction_among (first + 2) joins join.b) parts.two (same_place_refl join.b)
+    ap₂ (λ (x y : Bool). if x then Some first else if y then Some (first + 1) else direction_among (first + 2) joins join.b) parts.two (same_place-refl join.b)
 among_found (join ∷ joins) first (suc (suc k)) less once =
     let parts = distinct_parts join.a join.b (ends_of joins) once in
     let inside : k < 2 * length joins = omega arith in

@@ -6,6 +6,7 @@ pub mod LinkKept
 pub mod Projections
 pub mod Moves
 pub mod Networks
+pub mod Packets
 mod WorkedUnits
 mod WorkedRow
 mod WorkedThrough

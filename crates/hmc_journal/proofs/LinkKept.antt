@@ -1,9 +1,10 @@
--- One more entry of a link, and it is still what its users keep to.
+-- A link that keeps its conditions keeps them after one more entry.
 use Rattle.std.proofs.Common.{◌≡◌, ◌≤◌, ◌∙◌, ◌-◌, ℕ, zero, suc, Bool, true, false, ◌&&◌, ◌||◌, ◌⊎◌, if◌then◌else◌, List, [], ◌∷◌, ◌++◌, Option, Some, None, get_or, length, refl, sym, ap, subst, arith}
 use Rattle.std.specs.Prelude.{slice_get, bit_xor, is_none}
 use Rattle.std.specs.Str.{bytes_eq}
 use Rattle.std.proofs.lemmas.Slice.Eq.{bytes_eq-Decides}
 use Rattle.std.proofs.lemmas.Nat.Bits.{bit_at_xor, bit_at-lt, same_from_bits}
+use Rattle.std.proofs.lemmas.Bool.{and_from}
 use Rattle.hmc_codes.specs.Bytes.{IsBytes}
 use Rattle.hmc_codes.specs.Flit.{zero_flit, IsFlit}
 use Rattle.hmc_codes.specs.Link.{LinkFields}
@@ -51,15 +52,19 @@ kept-none link few = record { retry = few; lawful = tt; met = record { handed = 
 if_true : (b : Bool) (entry : LinkEntry) → b ≡ true → entry_if b entry ≡ Some entry
 if_true b entry is = ap (λ (c : Bool). entry_if c entry) is
 
-pub both : (a b : Bool) → a ≡ true → b ≡ true → (a && b) ≡ true
-both a b x y = rw (x, y) refl
+-- what is taken leaves the room of an output queue
+pub room_taken : (sizes : LinkFields) (d way : Toward) (past : List LinkEntry) →
+    has_room sizes d (LinkEntry.taken way ∷ past) ≡ has_room sizes d past
+unfolding sender_entries handed_packets
+room_taken sizes Forth way past = refl
+room_taken sizes Back way past = refl
 
 -- a packet is handed where the queue has room
 pub kept-handed : (link : LinkFields) (past : List LinkEntry) (d : Toward) (packet : PacketFields) → IsKept link past → has_room link d past ≡ true → is_token packet ≡ true → IsHanded link.profile packet → IsKept link (LinkEntry.handed d packet ∷ past)
 unfolding IsLawful next_entry AreHanded sender_entries
 kept-handed link past d packet is room token fit = record {
   retry = is.retry;
-  lawful = (if_true (has_room link d past && is_token packet) (LinkEntry.handed d packet) (both (has_room link d past) (is_token packet) room token), is.lawful);
+  lawful = (if_true (has_room link d past && is_token packet) (LinkEntry.handed d packet) (and_from (has_room link d past) (is_token packet) room token), is.lawful);
   met = record { handed = (fit, is.met.handed); forth = is.met.forth; back = is.met.back };
 }
 
@@ -87,12 +92,12 @@ pub kept-through : (link : LinkFields) (past : List LinkEntry) (d : Toward) (hea
 unfolding IsLawful next_entry AreHanded sender_entries AreFed
 kept-through link past Forth head flits is may names flit = record {
   retry = is.retry;
-  lawful = (if_true (may_pass_on (view_in link Forth past Waiting) flits && names_flits flits (head_in head)) (LinkEntry.through Forth head flits) (both (may_pass_on (view_in link Forth past Waiting) flits) (names_flits flits (head_in head)) may names), is.lawful);
+  lawful = (if_true (may_pass_on (view_in link Forth past Waiting) flits && names_flits flits (head_in head)) (LinkEntry.through Forth head flits) (and_from (may_pass_on (view_in link Forth past Waiting) flits) (names_flits flits (head_in head)) may names), is.lawful);
   met = record { handed = is.met.handed; forth = (flit, is.met.forth); back = is.met.back };
 }
 kept-through link past Back head flits is may names flit = record {
   retry = is.retry;
-  lawful = (if_true (may_pass_on (view_in link Back past Waiting) flits && names_flits flits (head_in head)) (LinkEntry.through Back head flits) (both (may_pass_on (view_in link Back past Waiting) flits) (names_flits flits (head_in head)) may names), is.lawful);
+  lawful = (if_true (may_pass_on (view_in link Back past Waiting) flits && names_flits flits (head_in head)) (LinkEntry.through Back head flits) (and_from (may_pass_on (view_in link Back past Waiting) flits) (names_flits flits (head_in head)) may names), is.lawful);
   met = record { handed = is.met.handed; forth = is.met.forth; back = (flit, is.met.back) };
 }
 

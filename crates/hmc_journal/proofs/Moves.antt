@@ -1,5 +1,6 @@
--- How one entry changes what left a room and what entered it.
+-- How one entry changes what left a queue and what entered it.
 use Rattle.std.proofs.Common.{◌≡◌, ◌≤◌, ◌<◌, ◌+◌, ◌&&◌, ◌∙◌, ◌==◌, ℕ, zero, suc, Bool, true, false, Option, Some, None, List, [], ◌∷◌, ◌++◌, length, take, drop, get_or, slice_index_or, refl, sym, ap, ap₂, subst, arith, eqb-true, eq-eqb, append-nil, length-append, length-drop, zero-add, take-append-drop}
+use Rattle.std.proofs.lemmas.Bool.{and_parts}
 use Rattle.hmc_journal.specs.Choice.{append_if}
 use Rattle.std.specs.Prelude.{option_map}
 use Rattle.std.proofs.lemmas.List.{take-append-le, drop_more, take_more}
@@ -15,13 +16,9 @@ use Rattle.hmc_journal.specs.Queues.{QueueId, same_lift, same_queue, is_at, leav
 use Rattle.hmc_journal.specs.Queues.QueueId.{Output, Port, Host, Vault, Bank, Registers, Answers}
 use Rattle.hmc_journal.proofs.EntryRule.{EntryRule, HasFront}
 
--- two rooms with one name are one
-pub both_true : (a b : Bool) → (a && b) ≡ true → (a ≡ true) × (b ≡ true)
-both_true true b is = (refl, is)
-both_true false b is = cc
-
+-- two queues with one name are one
 two_equal : (a b c d : ℕ) → ((a == b) && (c == d)) ≡ true → (a ≡ b) × (c ≡ d)
-two_equal a b c d is = let both = both_true (a == b) (c == d) is in (eqb-true a b both.0, eqb-true c d both.1)
+two_equal a b c d is = let both = and_parts (a == b) (c == d) is in (eqb-true a b both.0, eqb-true c d both.1)
 
 lift_is : (from to : Lift) → same_lift from to ≡ true → from ≡ to
 lift_is (lifts.Vault v) (lifts.Vault w) is = ap lifts.Vault (eqb-true v w is)
@@ -35,14 +32,14 @@ same_queue_is (Port c p) (Port d q) is = let both = two_equal c d p q is in ap�
 same_queue_is (Host h) (Host k) is = ap Host (eqb-true h k is)
 same_queue_is (Vault c v) (Vault d w) is = let both = two_equal c d v w is in ap₂ Vault both.0 both.1
 same_queue_is (Bank c v b) (Bank d w a) is =
-    let both = both_true (c == d) ((v == w) && (b == a)) is in
+    let both = and_parts (c == d) ((v == w) && (b == a)) is in
     let cube : c ≡ d = eqb-true c d both.0 in
     let rest = two_equal v w b a both.1 in
     let vault : v ≡ w = rest.0 in
     let bank : b ≡ a = rest.1 in cc
 same_queue_is (Registers c) (Registers d) is = ap Registers (eqb-true c d is)
 same_queue_is (Answers c from) (Answers d to) is =
-    let both = both_true (c == d) (same_lift from to) is in ap₂ Answers (eqb-true c d both.0) (lift_is from to both.1)
+    let both = and_parts (c == d) (same_lift from to) is in ap₂ Answers (eqb-true c d both.0) (lift_is from to both.1)
 same_queue_is _ _ is = cc
 
 lift_same : (from : Lift) → same_lift from from ≡ true

@@ -1,6 +1,6 @@
 -- What a journal says of a direction is what the entries of its link say of it.
 use Rattle.std.proofs.Common.{◌≡◌, ◌≢◌, ◌∙◌, ◌/◌, ◌%◌, ◌==◌, ◌&&◌, ℕ, Bool, true, false, if◌then◌else◌, Option, Some, None, List, [], ◌∷◌, ◌++◌, map, refl, sym, ap, arith, eqb-true, eq-eqb, append-nil}
-use Rattle.std.proofs.lemmas.Bool.{and_parts}
+use Rattle.std.proofs.lemmas.Bool.{and_parts, false_from_ne_true}
 use Rattle.std.specs.Prelude.{option_map}
 use Rattle.std.proofs.lemmas.List.{map-append}
 use Rattle.hmc_codes.specs.declared.place.Place.{Place}
@@ -31,11 +31,12 @@ use Rattle.hmc_journal.specs.Directions.{sent_flits, receiver_of, profile_of}
 use Rattle.hmc_journal.specs.Links.{toward, put_on, taken_at, handed_on, landing_mask, fed_after, taken_if, forwarded_on, gathered_at, direction_to, link_sizes, link_entries, entries_on}
 use Rattle.hmc_journal.specs.Piped.{forwarded_onto, goes_on, pipe_onto}
 
--- two directions are one where they are of one link and of one way
-pub never : (b : Bool) → (b ≡ true → ⊥) → b ≡ false
-never true = λ no. absurd (no refl)
-never false = λ no. refl
+-- an entry that is no landing
+abbrev pub IsNoLanding : Entry → Type 0
+IsNoLanding (Landed direction flit outcome) = ⊥
+IsNoLanding _ = Unit {0}
 
+-- two directions are one where they are of one link and of one way
 way-self : (way : Toward) → same_way way way ≡ true
 way-self Forth = refl
 way-self Back = refl
@@ -56,7 +57,7 @@ same_by d e true is =
     let way : same_way (toward d) (toward e) ≡ true = ap (λ n. same_way (toward d) (toward n)) one ∙ way-self (toward d) in
     rw (link, way) refl
 same_by d e false is =
-    sym (never ((e / 2 == d / 2) && same_way (toward d) (toward e))
+    sym (false_from_ne_true ((e / 2 == d / 2) && same_way (toward d) (toward e))
     (λ both.
     let parts = and_parts (e / 2 == d / 2) (same_way (toward d) (toward e)) both in
     let half : e / 2 ≡ d / 2 = eqb-true (e / 2) (d / 2) parts.0 in

@@ -74,7 +74,7 @@ landing_mask sizes d past flit = mask_between (slice_get (line sizes.profile d p
 abbrev pub fed_after : LinkFields → Toward → List LinkEntry → Option PipeFrom → Feed
 fed_after sizes d past pipe = fed (through_at sizes.profile (sender_entries sizes d past)) pipe
 
--- what goes on at once is taken from the buffer at the end of its direction
+-- what is accepted while it is forwarded is taken at once from the buffer of its direction
 abbrev pub taken_if : Bool → (link direction : ℕ) → List LinkEntry → List LinkEntry
 taken_if false link direction past = past
 taken_if true link direction past = put_on link (Some direction) LinkEntry.taken past

@@ -21,7 +21,7 @@ abbrev pub lands_at : Topology → (direction cube port : ℕ) → Bool
 lands_at topology direction cube port =
     same_place (end_of topology direction) (places.Port cube port)
 
--- a gathering goes on only with the outcome `gathered`
+-- only the outcome `gathered` continues a gathering
 abbrev pub while_gathered : Outcome → Option ℕ → Option ℕ
 while_gathered outcomes.Gathered onto = onto
 while_gathered _ onto = None
@@ -39,7 +39,7 @@ forwarded_onto topology d (Unlocked direction ∷ past) =
     choose (direction == d) None (forwarded_onto topology d past)
 forwarded_onto topology d (_ ∷ past) = forwarded_onto topology d past
 
--- a packet goes on at once that is accepted while it is forwarded: it enters no buffer
+-- a packet that is accepted while it is forwarded enters no buffer
 abbrev pub goes_on : Outcome → (onto : Option ℕ) → Bool
 goes_on outcomes.Accepted (Some direction) = true
 goes_on _ onto = false

@@ -120,7 +120,7 @@ abbrev pub arrived : QueueId → Option Arrival → List PacketFields
 arrived here None = []
 arrived here (Some arrival) = packet_if (same_queue arrival.queue here) arrival.packet
 
--- the packets, unless they go on at once
+-- the packets, unless they are forwarded and so enter no buffer
 abbrev pub unless_gone : Bool → List PacketFields → List PacketFields
 unless_gone true packets = []
 unless_gone false packets = packets

@@ -41,8 +41,8 @@ setup_of case slots = record {
 }
 
 -- in place of a cube that isn't there: one without memory whose queues hold nothing
-abbrev pub no_cube : CubeSetupFields
-no_cube = record {
+abbrev pub no_setup : CubeSetupFields
+no_setup = record {
   shape = record { vault_bits = 0; bank_bits = 0; rows = 0; block = 256 };
   queue = 0;
 }
@@ -56,7 +56,7 @@ no_link = record {
 
 -- the cube with a number
 abbrev pub cube_setup : Topology → ℕ → CubeSetupFields
-cube_setup topology cube = slice_index_or topology.cubes cube no_cube
+cube_setup topology cube = slice_index_or topology.cubes cube no_setup
 
 -- the shape of a cube
 abbrev pub shape_of : Topology → ℕ → ShapeFields

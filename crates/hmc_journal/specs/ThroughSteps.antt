@@ -1,4 +1,4 @@
--- What the step through does: a packet goes on that is still being gathered at a port.
+-- What the step through does: a packet is forwarded that is still being gathered at a port.
 use Rattle.std.specs.Prelude.{ℕ, Bool, false, not, ◌==◌, ◌||◌, nat_lt, if◌then◌else◌, ◌/◌, Option, Some, None, is_some, is_none, slice_get, option_and_then}
 use Rattle.hmc_codes.specs.Commands.{family_of}
 use Rattle.hmc_codes.specs.declared.family.Family.{Family}
@@ -40,7 +40,7 @@ abbrev pub other_than : (port : ℕ) → Option ℕ → Option ℕ
 other_than port None = None
 other_than port (Some onward) = if onward == port then None else Some onward
 
--- the port by which a packet with this head goes on that arrives at a port, if it may go on there
+-- the port by which a packet with this head leaves that arrives at a port, if it may be forwarded
 abbrev pub onward_port : Topology → (cube port : ℕ) → Head → Option ℕ
 onward_port topology cube port head =
     other_than port (port_by topology cube head (family_of head.command))
@@ -65,7 +65,7 @@ takes_on topology view direction flits =
     (view_in (sizes_on topology direction) (toward direction) (view.entries (direction / 2))
     Waiting) flits
 
--- the packet goes onto a direction, unless it is forwarded already, the buffer of its port holds a
+-- the packet is forwarded onto a direction, unless it already is, the buffer of its port holds a
 -- packet, or the direction can't take it now
 abbrev pub forwarded_entry : Topology → StepView → (cube port : ℕ) → Head → (onto : Option ℕ) →
     Entry
@@ -77,7 +77,7 @@ forwarded_entry topology view cube port head (Some direction) =
     then Idle (steps.Through cube port) causes.Busy
     else Through cube port direction
 
--- through: the packet that is gathered at a port goes on, if there is one that may
+-- through: the packet that is gathered at a port is forwarded, if there is one that may be
 abbrev pub through_head : Topology → StepView → (cube port : ℕ) → Option Head → Entry
 through_head topology view cube port None = Idle (steps.Through cube port) causes.NoPacket
 through_head topology view cube port (Some head) =

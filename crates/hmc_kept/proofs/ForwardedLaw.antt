@@ -15,7 +15,7 @@ use Rattle.hmc_journal.specs.Piped.{PipeFrom, pipe_of, pipe_onto}
 use Rattle.hmc_journal.specs.Setup.{Setup}
 use Rattle.hmc_journal.specs.StepView.{view_of}
 use Rattle.hmc_kept.specs.Pipes.{IsPlace}
-use Rattle.hmc_kept.specs.Shown.{IsForwarded, IsOnward}
+use Rattle.hmc_kept.specs.Shown.{IsForwardedIn, IsOnward}
 use Rattle.hmc_kept.proofs.PipeLemmas.{same_pipe}
 
 placed : (pipe : Option PipeFrom) (place : Option ℕ) → ((at : ℕ) → place ≡ Some at → (p : PipeFrom) × (pipe ≡ Some p) × (at < p.pipe.flits)) → IsPlace pipe place
@@ -34,7 +34,7 @@ onward_seen setup past direction law =
     }
 
 pub forwarded_seen : (setup : Setup) (past : List Entry) (direction onto : ℕ) → receiver_of direction past ≡ receiver_entries (toward direction) (entries_on setup.topology direction past)
-    → IsPromised setup.topology past direction onto → IsForwarded setup.topology (view_of setup past) direction onto
+    → IsPromised setup.topology past direction onto → IsForwardedIn setup.topology (view_of setup past) direction onto
 unfolding view_of
 forwarded_seen setup past direction onto receiver law = record {
   there = law.there;

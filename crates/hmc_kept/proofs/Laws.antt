@@ -1,4 +1,4 @@
--- What lawful journals keep, by the laws of hmc_journal.
+-- What lawful journals keep, by hmc_laws and hmc_delivery.
 use Rattle.std.proofs.Common.{◌≡◌, List, true}
 use Rattle.hmc_entries.specs.declared.entry.Entry.{Entry}
 use Rattle.hmc_journal.specs.Drained.{IsDrained, is_drained}
@@ -24,5 +24,3 @@ law_bound setup past network lawful =
       forwarded = λ direction onto there is. forwarded_seen setup past direction onto (queues.links direction there).receiver (forwarded.forwarded direction onto there is);
     }
 
-pub drained_of : (setup : Setup) (past : List Entry) → IsNetwork setup → Lawful setup past → is_drained setup.topology past ≡ true → IsDrained setup.topology past
-drained_of setup past network lawful is = drained_by_test setup past network lawful is

@@ -16,7 +16,7 @@ use Rattle.hmc_journal.specs.Piped.{forwarded_onto, pipe_onto}
 use Rattle.hmc_journal.specs.QueueInvariant.{LinkInvariant, QueueInvariant, AnswersAwaited}
 use Rattle.hmc_journal.specs.Setup.{Topology, Setup, directions_in}
 use Rattle.hmc_journal.specs.StepView.{view_of}
-use Rattle.hmc_kept.specs.Shown.{ShowsDirection, IsForwarded, IsOnward, KeepsLaws}
+use Rattle.hmc_kept.specs.Shown.{ShowsDirection, IsForwardedIn, IsOnward, KeepsLaws}
 use Rattle.hmc_kept.proofs.Gathering.{are_good, are_short, all_seen}
 
 -- what a direction is fed fits the packet that is forwarded onto it
@@ -31,7 +31,7 @@ pub record IsLawBound (setup : Setup) (past : List Entry) : Type 0 where
   pub awaited : AnswersAwaited setup past
   pub fed : (direction : ℕ) → direction < directions_in setup.topology → IsWellFed setup.topology past direction
   pub onward : (direction : ℕ) → direction < directions_in setup.topology → IsOnward setup.topology (view_of setup past) direction
-  pub forwarded : (direction onto : ℕ) → direction < directions_in setup.topology → forwarded_onto setup.topology direction past ≡ Some onto → IsForwarded setup.topology (view_of setup past) direction onto
+  pub forwarded : (direction onto : ℕ) → direction < directions_in setup.topology → forwarded_onto setup.topology direction past ≡ Some onto → IsForwardedIn setup.topology (view_of setup past) direction onto
 
 pub direction_shown : (setup : Setup) (past : List Entry) (direction : ℕ) → LinkInvariant setup.topology past direction → IsWellFed setup.topology past direction → ShowsDirection setup.topology (view_of setup past) direction
 unfolding view_of accepted

@@ -20,13 +20,14 @@ use Rattle.hmc_journal.specs.Piped.{PipeFrom, lands_at, forwarded_onto, pipe_ont
 use Rattle.hmc_journal.specs.Setup.{Topology, Setup, joins_of, directions_in, direction_to, end_of}
 use Rattle.hmc_journal.specs.StepView.{view_of}
 use Rattle.hmc_journal.proofs.EntryRule.{EntryRule}
-use Rattle.hmc_journal.proofs.Joins.{same_place_is, same_place_refl, end_is_start, other_other, other_inside, from_start}
-use Rattle.hmc_kept.specs.After.{begun_from, piped_after}
+use Rattle.hmc_journal.proofs.Joins.{end_is_start, other_other, other_inside, from_start}
+use Rattle.hmc_kept.specs.After.{begun_from, pipes_after}
 use Rattle.hmc_kept.specs.Pipes.{PipesHeld, AreCounted, forwarded_at, pipe_at, changed_pipe, after_begin, after_change}
 use Rattle.hmc_journal.proofs.DirectionEnds.{ends_at, starts_there}
 use Rattle.hmc_kept.proofs.Elements.{changed_at}
 use Rattle.hmc_kept.proofs.PipeLemmas.{change_counted, begin_counted, none_gathered, while_here, while_apart, same_pipe}
 use Rattle.std.proofs.lemmas.List.{length-map}
+use Rattle.hmc_routes.proofs.Joined.{same_place-true, same_place-refl}
 
 -- what a network keeps of the packets that are forwarded, after a journal
 pub record ArePiped (topology : Topology) (past : List Entry) (held : PipesHeld) : Type 0 where
@@ -50,10 +51,10 @@ lands_by topology d from cube port once there to = by_test (from == d) refl (lan
     by_test : (same : Bool) → (from == d) ≡ same → (here : Bool) → lands_at topology d cube port ≡ here → lands_at topology d cube port ≡ (from == d)
     by_test true same here is =
         ap (λ (p : Place). same_place p (places.Port cube port)) (ap (end_of topology) (sym (eqb-true from d same)) ∙ (ends_at topology (places.Port cube port) from to).ends)
-        ∙ same_place_refl (places.Port cube port) ∙ sym same
+        ∙ same_place-refl (places.Port cube port) ∙ sym same
     by_test false same false is = is ∙ sym same
     by_test false same true is =
-        let at : direction_to topology (places.Port cube port) ≡ Some d = lands_there topology (places.Port cube port) d once there (same_place_is (end_of topology d) (places.Port cube port) is) in
+        let at : direction_to topology (places.Port cube port) ≡ Some d = lands_there topology (places.Port cube port) d once there (same_place-true (end_of topology d) (places.Port cube port) is) in
         let twice : Some from ≡ Some d = sym to ∙ at in
         let equal : from ≡ d = cc in
         absurd (let clash : true ≡ false = sym (eq-eqb from d equal) ∙ same in cc)
@@ -180,7 +181,7 @@ begun_then topology past held from onto cube port came once to from_there onto_t
 
 pub piped_then : (setup : Setup) (past : List Entry) (entry : Entry) (held : PipesHeld) → IsNetwork setup → EntryRule setup past entry → AreLawful setup.topology past
     → ((d : ℕ) → d < directions_in setup.topology → receiver_of d past ≡ receiver_entries (toward d) (entries_on setup.topology d past))
-    → ArePiped setup.topology past held → ArePiped setup.topology (entry ∷ past) (piped_after setup.topology (view_of setup past) entry held)
+    → ArePiped setup.topology past held → ArePiped setup.topology (entry ∷ past) (pipes_after setup.topology (view_of setup past) entry held)
 unfolding forwarded_onto pipe_onto view_of
 piped_then setup past (Landed direction flit outcome) held network rule law receivers is = record {
   counted = change_counted held (directions_in setup.topology) direction (forwarded_at held direction) (while_gathered outcome) (with_landing flit outcome) is.counted;

@@ -39,13 +39,13 @@ begun_from topology view (Some from) onto held =
     after_begin onto (pipe_of topology from (gathered view from)) held
 
 -- the packets that are forwarded
-abbrev pub piped_after : Topology → StepView → Entry → PipesHeld → PipesHeld
-piped_after topology view (Landed direction flit outcome) held =
+abbrev pub pipes_after : Topology → StepView → Entry → PipesHeld → PipesHeld
+pipes_after topology view (Landed direction flit outcome) held =
     after_flit direction flit outcome held
-piped_after topology view (Through cube port onto) held =
+pipes_after topology view (Through cube port onto) held =
     begun_from topology view (direction_to topology (places.Port cube port)) onto held
-piped_after topology view (Unlocked direction) held = after_loss direction held
-piped_after topology view _ held = held
+pipes_after topology view (Unlocked direction) held = after_loss direction held
+pipes_after topology view _ held = held
 
 -- the entries of a link
 abbrev pub entries_after : Topology → StepView → Entry → (link : ℕ) → List LinkEntry

@@ -45,7 +45,7 @@ abbrev pub IsCameFlit : LinkLanded → Type 0
 IsCameFlit (landings.Came flit landed) = IsFlit flit
 IsCameFlit _ = Unit {0}
 
--- a landing goes on at once: its packet was accepted while it was forwarded
+-- the packet of a landing was accepted while it was forwarded
 abbrev pub landing_goes_on : PipesHeld → (direction : ℕ) → LinkLanded → Bool
 landing_goes_on held direction (landings.Came flit landed) =
     goes_on (outcome_of landed) (forwarded_at held direction)

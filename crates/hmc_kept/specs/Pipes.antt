@@ -40,8 +40,8 @@ after_begin onto p held = record {
 abbrev pub changed_pipe : (PipeFields → PipeFields) → PipeFrom → PipeFrom
 changed_pipe changed p = record p { pipe = changed p.pipe }
 
--- the gathering at the end of a direction goes on, or ends; the pipe changes of the packet that is
--- forwarded
+-- the gathering at the end of a direction continues, or ends; the pipe changes of the packet that
+-- is forwarded
 abbrev pub after_change : (onto : Option ℕ) → (Option ℕ → Option ℕ) → (PipeFields → PipeFields) →
     (direction : ℕ) → PipesHeld → PipesHeld
 after_change None goes_on changed direction held = held

@@ -60,7 +60,7 @@ pub record ShowsDirection (topology : Topology) (view : StepView) (direction : �
 
 -- What a packet that is forwarded is: its pipe has the flits that were gathered, its gathering has
 -- not ended, and flits are still to come. Accepted, it is the front of its buffer, which is empty.
-pub record IsForwarded (topology : Topology) (view : StepView) (direction onto : ℕ) : Type 0 where
+pub record IsForwardedIn (topology : Topology) (view : StepView) (direction onto : ℕ) : Type 0 where
   pub there : onto < directions_in topology
   pub pipe : view.pipe onto ≡ Some (pipe_of topology direction (gathered view direction))
   pub some : 1 ≤ length (gathered view direction)
@@ -92,7 +92,7 @@ pub record KeepsLaws (topology : Topology) (view : StepView) : Type 0 where
   pub onward : (direction : ℕ) → direction < directions_in topology →
       IsOnward topology view direction
   pub forwarded : (direction onto : ℕ) → direction < directions_in topology →
-      view.forwarded direction ≡ Some onto → IsForwarded topology view direction onto
+      view.forwarded direction ≡ Some onto → IsForwardedIn topology view direction onto
   pub ports : (cube port : ℕ) → All (IsOnItsWay topology) (view.inside (Port cube port))
   pub banks : (cube vault bank : ℕ) →
       All (IsCubeRequest cube) (view.inside (Bank cube vault bank))

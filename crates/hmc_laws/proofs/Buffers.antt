@@ -25,6 +25,7 @@ use Rattle.hmc_journal.specs.Queues.{QueueId, same_queue, leaves, one_if, packet
 use Rattle.hmc_journal.specs.Queues.QueueId.{Output, Port, Host, Vault, Bank, Registers, Answers}
 use Rattle.hmc_journal.specs.Piped.{forwarded_onto, goes_on}
 use Rattle.hmc_journal.proofs.Moves.{begins_off}
+use Rattle.hmc_journal.proofs.Projections.{IsNoLanding}
 
 -- the buffer of a port or of a host
 abbrev pub IsBuffer : QueueId → Type 0
@@ -42,11 +43,6 @@ not-outputs (Registers cube) is d = absurd is
 not-outputs (Answers cube from) is d = absurd is
 
 -- ---- what enters
-
--- not a landing
-abbrev pub IsNoLanding : Entry → Type 0
-IsNoLanding (Landed direction flit outcome) = ⊥
-IsNoLanding _ = Unit {0}
 
 nothing-output : (queue : QueueId) → IsBuffer queue → (direction : Option ℕ) (packet : Unit {0} → PacketFields) → arrived queue (arrival_in (option_map Output direction) packet) ≡ []
 nothing-output queue is None packet = refl

@@ -52,7 +52,7 @@ use Rattle.hmc_journal.specs.Setup.{Topology, graph_of, cubes_in, hosts_in, end_
 use Rattle.hmc_journal.specs.ThroughSteps.{if_below, port_by}
 use Rattle.hmc_laws.proofs.CopyWhole.{copy_from, copy-poisoned, copy-whole, same-unnumbered, no_null}
 use Rattle.hmc_laws.proofs.Entering.{at_cube, answer_goes}
-use Rattle.hmc_laws.proofs.Forwarding.{IsGood, Way}
+use Rattle.hmc_laws.proofs.ForwardingPipes.{IsGood, Way}
 use Rattle.hmc_laws.proofs.Piping.{IsPiped}
 use Rattle.hmc_laws.proofs.Standing.{IsCounted-moving, IsMoving, IsSpoiled, GoesTo, Stands}
 use Rattle.hmc_laws.proofs.Standing.IsMoving.{ToCube, ToHost, Spoiled}

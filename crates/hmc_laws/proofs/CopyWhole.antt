@@ -3,7 +3,7 @@
 use Rattle.std.proofs.Common.{◌≡◌, ◌≢◌, ◌≤◌, ◌<◌, ◌∙◌, ◌-◌, ◌==◌, ℕ, zero, suc, Bool, true, false, not, if◌then◌else◌, List, [], ◌∷◌, ◌++◌, length, map, take, drop, get_or, Some, None, refl, sym, ap, arith, eq-eqb}
 use Rattle.std.specs.Prelude.{nat_lt}
 use Rattle.std.specs.List.{concat}
-use Rattle.std.proofs.lemmas.List.{take_at, drop_at, length-take, length-drop, get_or-take}
+use Rattle.std.proofs.lemmas.List.{take_at, drop_at, length-take, length-drop, get_or-take, get_or_default}
 use Rattle.std.proofs.lemmas.List.FromFn.{fill_by_all}
 use Rattle.hmc_codes.specs.Commands.{layout_of, is_flow}
 use Rattle.hmc_codes.specs.Flit.{zero_flit}
@@ -95,11 +95,6 @@ copy-poisoned r flits profile came good n = refl
 
 -- ---- of a packet that came whole
 
-get-any : {X : Type 0} (l : List X) (i : ℕ) (a b : X) → i < length l → get_or l i a ≡ get_or l i b
-get-any [] i a b lt = absurd (omega arith)
-get-any (x ∷ l) zero a b lt = refl
-get-any (x ∷ l) (suc i) a b lt = get-any l i a b (omega arith)
-
 front-taken : (l : List (List ℕ)) (k : ℕ) → k ≤ length l → map (λ i. get_or l i zero_flit) (upto k) ≡ take k l
 front-taken l k within =
     sym (fill_by_all (λ i. get_or l i zero_flit) (take k l) k zero_flit (omega (arith, length-take k l)) (λ i lt. get_or-take k l i zero_flit lt))
@@ -180,7 +175,7 @@ copy-whole q r p rrp good n came is fits no_flow small spelled =
     let k = flits_of p - 1 in
     let layout = layout_of p.command in
     let t = tail_fields p rrp in
-    let last : get_or came k zero_flit ≡ get_or (spelling q p rrp) k [] = get-any came k zero_flit [] (omega arith) ∙ ap (λ (l : List (List ℕ)). get_or l k []) spelled in
+    let last : get_or came k zero_flit ≡ get_or (spelling q p rrp) k [] = get_or_default came k zero_flit [] (omega arith) ∙ ap (λ (l : List (List ℕ)). get_or l k []) spelled in
     let named : layout_named (named_by (get_or came 0 zero_flit)) ≡ layout = ap layout_named (named-first q p rrp came is fits no_flow (sym spelled)) in
     let word : half_of (take 4 (drop 8 (get_or came k zero_flit))) ≡ tail_word q layout t = ap (λ (l : List ℕ). half_of (take 4 (drop 8 l))) last ∙ last-tail q p rrp is fits no_flow in
     let tail : tail_of q (layout_named (named_by (get_or came 0 zero_flit))) (half_of (take 4 (drop 8 (get_or came k zero_flit)))) ≡ tails.kept layout t =

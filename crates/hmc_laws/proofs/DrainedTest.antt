@@ -1,6 +1,6 @@
 -- Nothing is on its way where the test of all queues that there are says so: in the others there is
 -- nothing.
-use Rattle.std.proofs.Common.{◌≡◌, ◌≤◌, ◌<◌, ◌+◌, ◌/◌, ◌%◌, ◌^◌, ◌∙◌, ◌==◌, ◌&&◌, ℕ, Bool, true, false, if◌then◌else◌, Option, Some, None, List, [], ◌∷◌, ◌++◌, All, length, map, refl, sym, ap, subst, arith, eqb-true, nat_le, leb-true, leb-false}
+use Rattle.std.proofs.Common.{◌≡◌, ◌≤◌, ◌<◌, ◌+◌, ◌/◌, ◌%◌, ◌^◌, ◌∙◌, ◌==◌, ◌&&◌, ℕ, Bool, true, false, if◌then◌else◌, Option, Some, None, List, [], ◌∷◌, ◌++◌, All, length, map, refl, sym, ap, subst, arith, eqb-true, nat_le, leb-true, leb-false, eq-eqb}
 use Rattle.std.specs.Prelude.{option_map}
 use Rattle.std.specs.List.{list_all, flat_map}
 use Rattle.std.proofs.lemmas.List.Elements.{All-head, All-nil, All-cons, All-append, All-drop, All-get_or}
@@ -9,6 +9,8 @@ use Rattle.std.proofs.lemmas.List.Folds.{list_all-append, list_all-map}
 use Rattle.std.proofs.lemmas.List.FromFn.{length-range_with_len, get_or-range_with_len}
 use Rattle.std.proofs.lemmas.Nat.{pow_pos}
 use Rattle.std.proofs.lemmas.Bool.Decides.{nat_tests}
+use Rattle.std.proofs.lemmas.Bool.{and_parts}
+use Rattle.std.proofs.Math.Nat.{mod-lt}
 use Rattle.hmc_codes.specs.Commands.{is_posted}
 use Rattle.hmc_codes.specs.Shape.{vault_of, bank_of}
 use Rattle.hmc_codes.specs.declared.lift.Lift.TheVariants as lifts
@@ -36,14 +38,11 @@ use Rattle.hmc_laws.proofs.Standing.{Stands, IsBound, IsLeaving}
 use Rattle.hmc_laws.proofs.Entering.{Kept, contents_stand, front_stands}
 use Rattle.hmc_journal.specs.Network.{IsNetwork}
 use Rattle.hmc_laws.proofs.Buffers.{coming}
-use Rattle.hmc_laws.proofs.Sound.{kept, far_sizes}
+use Rattle.hmc_laws.proofs.Sound.{kept}
+use Rattle.hmc_laws.proofs.SoundPipes.{far_sizes}
 use Rattle.hmc_laws.proofs.LinkLaws.{tokens_hold}
 
 -- tests of lists
-both_hold : (a b : Bool) → (a && b) ≡ true → (a ≡ true) × (b ≡ true)
-both_hold true b is = (refl, is)
-both_hold false b is = cc
-
 upto_at : (p : ℕ → Bool) (n k : ℕ) → list_all p (upto n) ≡ true → k < n → p k ≡ true
 upto_at p n k all h =
     let within : k < length (upto n) = omega (arith, length-range_with_len 0 n) in
@@ -54,7 +53,7 @@ upto_at p n k all h =
 flat_list : {X : Type 0} (p : X → Bool) (f : ℕ → List X) (ns : List ℕ) → list_all p (flat_map f ns) ≡ true → list_all (λ n. list_all p (f n)) ns ≡ true
 flat_list p f [] all = refl
 flat_list p f (n ∷ ns) all =
-    let both = both_hold (list_all p (f n)) (list_all p (flat_map f ns)) (sym (list_all-append p (f n) (flat_map f ns)) ∙ all) in
+    let both = and_parts (list_all p (f n)) (list_all p (flat_map f ns)) (sym (list_all-append p (f n) (flat_map f ns)) ∙ all) in
     rw both.0 (flat_list p f ns both.1)
 
 flat_at : {X : Type 0} (p : X → Bool) (f : ℕ → List X) (n k : ℕ) → list_all p (flat_map f (upto n)) ≡ true → k < n → list_all p (f k) ≡ true
@@ -74,17 +73,14 @@ named_vault : (registers : Bool) (v vault : ℕ) → (if registers then goals.Re
 named_vault true v vault is = cc
 named_vault false v vault is = cc
 
-below_power : (n bits : ℕ) → n % 2 ^ bits < 2 ^ bits
-below_power n bits = let some : 0 < 2 ^ bits = pow_pos bits in omega arith
-
 vault_there : (topology : Topology) (cube vault : ℕ) (packet : PacketFields) → IsBound topology cube (goals.Vault vault) packet → vault < 2 ^ (shape_of topology cube).vault_bits
 vault_there topology cube vault packet is =
     let named : vault_of (shape_of topology cube) packet.address ≡ vault = named_vault (is_for_registers packet.command) (vault_of (shape_of topology cube) packet.address) vault is.is_goal in
-    subst (λ (n : ℕ). n < 2 ^ (shape_of topology cube).vault_bits) named (below_power (packet.address / (shape_of topology cube).block) (shape_of topology cube).vault_bits)
+    subst (λ (n : ℕ). n < 2 ^ (shape_of topology cube).vault_bits) named (mod-lt (packet.address / (shape_of topology cube).block) (pow_pos (shape_of topology cube)).vault_bits)
 
 bank_there : (topology : Topology) (cube bank : ℕ) (packet : PacketFields) → bank_of (shape_of topology cube) packet.address ≡ bank → bank < 2 ^ (shape_of topology cube).bank_bits
 bank_there topology cube bank packet is =
-    subst (λ (n : ℕ). n < 2 ^ (shape_of topology cube).bank_bits) is (below_power (packet.address / (shape_of topology cube).block / 2 ^ (shape_of topology cube).vault_bits) (shape_of topology cube).bank_bits)
+    subst (λ (n : ℕ). n < 2 ^ (shape_of topology cube).bank_bits) is (mod-lt (packet.address / (shape_of topology cube).block / 2 ^ (shape_of topology cube).vault_bits) (pow_pos (shape_of topology cube)).bank_bits)
 
 -- its cube is there
 bound_cube : (topology : Topology) (cube : ℕ) (goal : Goal) (packet : PacketFields) → IsBound topology cube goal packet → cube < cubes_in topology
@@ -173,16 +169,16 @@ record IsEmptied (topology : Topology) (past : List Entry) : Type 0 where
   transit : (direction : ℕ) → direction < directions_in topology → (token_counts topology past direction).transit ≡ 0
 
 -- whether a queue is empty
-abbrev empties : Topology → List Entry → QueueId → Bool
+abbrev pub empties : Topology → List Entry → QueueId → Bool
 empties topology past room = length (contents topology past room) == 0
 
 vault_part : (p : QueueId → Bool) (topology : Topology) (cube vault : ℕ) → list_all p (vault_queues topology cube vault) ≡ true
     → (p (Vault cube vault) ≡ true) × (list_all p (map (Bank cube vault) (upto (2 ^ (shape_of topology cube).bank_bits))) ≡ true) × (p (Answers cube (lifts.Vault vault)) ≡ true)
 vault_part p topology cube vault all =
     let banks = map (Bank cube vault) (upto (2 ^ (shape_of topology cube).bank_bits)) in
-    let first = both_hold (p (Vault cube vault)) (list_all p (banks ++ Answers cube (lifts.Vault vault) ∷ [])) all in
-    let second = both_hold (list_all p banks) (list_all p (Answers cube (lifts.Vault vault) ∷ [])) (sym (list_all-append p banks (Answers cube (lifts.Vault vault) ∷ [])) ∙ first.1) in
-    (first.0, second.0, (both_hold (p (Answers cube (lifts.Vault vault))) true second.1).0)
+    let first = and_parts (p (Vault cube vault)) (list_all p (banks ++ Answers cube (lifts.Vault vault) ∷ [])) all in
+    let second = and_parts (list_all p banks) (list_all p (Answers cube (lifts.Vault vault) ∷ [])) (sym (list_all-append p banks (Answers cube (lifts.Vault vault) ∷ [])) ∙ first.1) in
+    (first.0, second.0, (and_parts (p (Answers cube (lifts.Vault vault))) true second.1).0)
 
 bank_part : (p : QueueId → Bool) (cube vault n bank : ℕ) → list_all p (map (Bank cube vault) (upto n)) ≡ true → bank < n → p (Bank cube vault bank) ≡ true
 bank_part p cube vault n bank all h = upto_at (λ b. p (Bank cube vault b)) n bank (sym (list_all-map p (Bank cube vault) (upto n)) ∙ all) h
@@ -196,8 +192,8 @@ record CubeEmptied (p : QueueId → Bool) (topology : Topology) (cube : ℕ) : T
 
 cube_part : (p : QueueId → Bool) (topology : Topology) (cube : ℕ) → list_all p (cube_queues topology cube) ≡ true → CubeEmptied p topology cube
 cube_part p topology cube all =
-    let registers = both_hold (p (Registers cube)) _ all in
-    let register_answers = both_hold (p (Answers cube lifts.Registers)) _ registers.1 in record {
+    let registers = and_parts (p (Registers cube)) _ all in
+    let register_answers = and_parts (p (Answers cube lifts.Registers)) _ registers.1 in record {
       registers = registers.0;
       register_answers = register_answers.0;
       vaults = λ v h. vault_part p topology cube v (flat_at p (vault_queues topology cube) (2 ^ (shape_of topology cube).vault_bits) v register_answers.1 h);
@@ -210,12 +206,12 @@ emptied topology past all =
     let n = directions_in topology in
     let directions = flat_map (direction_queues topology) (upto n) in
     let cubes = flat_map (cube_queues topology) (upto (cubes_in topology)) in
-    let two = both_hold (list_all p (directions ++ cubes)) _ all in
-    let queues = both_hold (list_all p directions) (list_all p cubes) (sym (list_all-append p directions cubes) ∙ two.0) in
+    let two = and_parts (list_all p (directions ++ cubes)) _ all in
+    let queues = and_parts (list_all p directions) (list_all p cubes) (sym (list_all-append p directions cubes) ∙ two.0) in
     let cube = λ (c : ℕ) (h : c < cubes_in topology). cube_part p topology c (flat_at p (cube_queues topology) (cubes_in topology) c queues.1 h) in
     let direction_at = λ (d : ℕ) (h : d < n). flat_at p (direction_queues topology) n d queues.0 h in record {
-      output = λ d h. none_by _ (both_hold (p (Output d)) _ (direction_at d h)).0;
-      arrivals = λ d h. none_by _ (both_hold (p (landing_buffer topology d)) true (both_hold (p (Output d)) _ (direction_at d h)).1).0;
+      output = λ d h. none_by _ (and_parts (p (Output d)) _ (direction_at d h)).0;
+      arrivals = λ d h. none_by _ (and_parts (p (landing_buffer topology d)) true (and_parts (p (Output d)) _ (direction_at d h)).1).0;
       registers = λ c h. none_by _ (cube c h).registers;
       register_answers = λ c h. none_by _ (cube c h).register_answers;
       vaults = λ c v h k. none_by _ ((cube c h).vaults v k).0;
@@ -273,11 +269,8 @@ all_pass : {X : Type 0} (p : X → Bool) (xs : List X) → ((x : X) → p x ≡ 
 all_pass p [] all = refl
 all_pass p (x ∷ xs) all = rw (all x) (all_pass p xs all)
 
-same_count : (n m : ℕ) → n ≡ m → (n == m) ≡ true
-same_count n m is = grind (arith, nat_tests)
-
 pub test_by_drained : (topology : Topology) (past : List Entry) → IsDrained topology past → is_drained topology past ≡ true
 unfolding is_drained
 test_by_drained topology past drained =
-    rw (all_pass (λ room. length (contents topology past room) == 0) _ (λ room. same_count (length (contents topology past room)) 0 (ap length (drained.queues room))))
-    (all_pass (λ direction. (token_counts topology past direction).transit == 0) _ (λ direction. same_count _ 0 (drained.transit direction)))
+    rw (all_pass (λ room. length (contents topology past room) == 0) _ (λ room. eq-eqb (length (contents topology past room)) 0 (ap length (drained.queues room))))
+    (all_pass (λ direction. (token_counts topology past direction).transit == 0) _ (λ direction. eq-eqb _ 0 (drained.transit direction)))

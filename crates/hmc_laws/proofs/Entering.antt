@@ -1,4 +1,4 @@
--- What enters a room stands there.
+-- What enters a queue may wait there.
 use Rattle.std.proofs.Common.{◌/◌, ◌≡◌, ◌≤◌, ◌<◌, ◌^◌, ◌∙◌, ◌==◌, ◌⊎◌, inl, inr, ℕ, zero, suc, Bool, true, false, not, nat_le, if◌then◌else◌, Option, Some, None, List, [], ◌∷◌, ◌++◌, All, drop, length, refl, sym, ap, subst, arith, eqb-true, leb-true, leb-false}
 use Rattle.std.specs.Prelude.{option_map, filter, slice_get}
 use Rattle.std.proofs.lemmas.List.Elements.{All-drop, All-head, All-filter, filter_passes, filter-append, All-same}
@@ -65,10 +65,11 @@ use Rattle.hmc_laws.proofs.UnsentFlits.{AreGathered}
 use Rattle.hmc_laws.proofs.Piping.{sender_on}
 use Rattle.hmc_laws.proofs.PipeSteps.{IsUp, ArePending}
 use Rattle.hmc_laws.proofs.GoodLandings.{AreShort}
-use Rattle.hmc_laws.proofs.Forwarding.{ArePiped, AreForwarding}
+use Rattle.hmc_laws.proofs.ForwardingPipes.{ArePiped, AreForwarding}
 use Rattle.hmc_laws.proofs.Buffers.{coming}
 use Rattle.hmc_laws.proofs.AcceptedTokens.{OthersHold, tokens_alike}
 use Rattle.hmc_journal.proofs.Projections.{goes_at, flits_of_line, received, handed_are, sent_are}
+use Rattle.hmc_journal.proofs.Packets.{inside_goal}
 
 -- of each direction: the buffer at its end holds what was accepted and not taken; that of a host all
 -- that was accepted
@@ -284,10 +285,6 @@ no_registers (Some port) is = cc
 pub out_port : (out : Option ℕ) (port : ℕ) → goal_at (out_of_cube out) ≡ Some (goals.Port port) → out ≡ Some port
 out_port None port is = absurd (cc)
 out_port (Some p) port is = let same : p ≡ port = cc in ap Some same
-
-pub inside_goal : (registers : Bool) (vault : ℕ) (goal : Goal) → goal_at (into_cube registers vault) ≡ Some goal → (if registers then goals.Registers else goals.Vault vault) ≡ goal
-inside_goal true vault goal is = cc
-inside_goal false vault goal is = cc
 
 pub no_port : (registers : Bool) (vault port : ℕ) → (if registers then goals.Registers else goals.Vault vault) ≡ goals.Port port → ⊥
 no_port true vault port is = cc

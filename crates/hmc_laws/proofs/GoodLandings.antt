@@ -1,7 +1,7 @@
 -- What is accepted while it is forwarded: one packet, a request or an answer that is on its way. And
 -- what is gathered is shorter than its first flit says.
 use Rattle.std.proofs.Common.{◌≡◌, ◌≢◌, ◌≤◌, ◌<◌, ◌+◌, ◌∙◌, ◌==◌, ℕ, zero, suc, Bool, true, false, not, if◌then◌else◌, nat_le, nat_lt, Option, Some, None, Result, Ok, Err, List, [], ◌∷◌, ◌++◌, All, length, get_or, refl, sym, ap, subst, arith, eq-eqb, eqb-true, ltb-true}
-use Rattle.std.proofs.lemmas.Bool.{le-leb}
+use Rattle.std.proofs.lemmas.Bool.{le-leb, and_from}
 use Rattle.std.specs.Prelude.{◌&&◌, filter}
 use Rattle.std.specs.List.{concat}
 use Rattle.std.proofs.lemmas.List.Elements.{All-head, All-same}
@@ -48,12 +48,13 @@ use Rattle.hmc_journal.specs.Piped.{forwarded_onto}
 use Rattle.hmc_journal.specs.Queues.QueueId.{Output}
 use Rattle.hmc_journal.specs.Setup.{Setup, Topology, directions_in, end_of}
 use Rattle.hmc_journal.proofs.EntryRule.{EntryRule, HasLanded}
-use Rattle.hmc_laws.proofs.Forwarding.{OnPipe, PipeKept, ArePiped, AreForwarding, GoodLanding}
+use Rattle.hmc_laws.proofs.ForwardingPipes.{OnPipe, PipeKept, ArePiped, AreForwarding}
+use Rattle.hmc_laws.proofs.ForwardingLandings.{GoodLanding}
 use Rattle.hmc_laws.proofs.Piping.{each-push}
 use Rattle.hmc_laws.proofs.PipeSteps.{ArePending}
 use Rattle.hmc_journal.proofs.Projections.{received}
 use Rattle.hmc_laws.proofs.Standing.{GoesTo, Stands}
-use Rattle.hmc_journal.proofs.LinkKept.{both}
+use Rattle.hmc_journal.proofs.Packets.{head_lng}
 
 -- ---- an accepted packet was read
 
@@ -212,15 +213,11 @@ short_step setup (Passed d flit) past right short e = short e
 short_step setup (Idle step cause) past right short e = short e
 
 -- its first flit names more than one flit
-lng_is : (flit : List ℕ) (head : Head) → head_in flit ≡ Some head → head.flits ≡ lng_of flit
-unfolding head_in named_by lng_of
-lng_is flit head is = head-lng flit (command_in (header_in flit)) head is
-
 pub names_more : (e : ℕ) (past : List Entry) (flit : List ℕ) (rest : List (List ℕ)) (head : Head) → AreShort past → pending (receiver_of e past) ≡ flit ∷ rest → head_in flit ≡ Some head → (names_flits (lng_of flit) (head_in flit) ≡ true) × (head.flits ≡ lng_of flit)
 names_more e past flit rest head short came is =
     let less : suc (length rest) < lng_of flit = subst IsShort came (short e) in
-    let long = lng_is flit head is in (
-      ap (names_flits (lng_of flit)) is ∙ both (nat_le 2 (lng_of flit)) (head.flits == lng_of flit) (le-leb 2 (lng_of flit) (omega arith)) (eq-eqb head.flits (lng_of flit) long),
+    let long = head_lng flit head is in (
+      ap (names_flits (lng_of flit)) is ∙ and_from (nat_le 2 (lng_of flit)) (head.flits == lng_of flit) (le-leb 2 (lng_of flit) (omega arith)) (eq-eqb head.flits (lng_of flit) long),
       long,
     )
 

@@ -1,4 +1,4 @@
--- A link's entries were kept to at every moment of a journal.
+-- A link kept its conditions at every moment of a journal.
 use Rattle.std.proofs.Common.{◌/◌, ◌==◌, ℕ, Bool, true, false, List, [], ◌∷◌, Option, Some, None}
 use Rattle.hmc_codes.specs.Link.{LinkFields}
 use Rattle.hmc_codes.specs.declared.place.Place.TheVariants as places

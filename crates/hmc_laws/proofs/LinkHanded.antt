@@ -40,6 +40,7 @@ use Rattle.hmc_wire.proofs.Turns.{own-joins}
 use Rattle.hmc_journal.specs.Delivered.{unnumbered}
 use Rattle.hmc_journal.specs.Carried.{marked}
 use Rattle.hmc_wire.proofs.EntryTurns.{kept-before}
+use Rattle.hmc_journal.proofs.Packets.{front_inside}
 
 -- ---- a link's entries were kept to at every moment
 
@@ -242,12 +243,6 @@ pub record Fronts (q : Profile) (sender : List SenderEntry) (handed : List Packe
   pub are : own_tokens (own_marks sender) (places q sender) ≡ map unnumbered (take (taken_fronts sender) handed)
 
 -- the front of a queue, if it has one
-front-inside : (n : ℕ) (list : List PacketFields) (front : PacketFields) → slice_get (drop n list) 0 ≡ Some front → n < length list
-front-inside zero [] front is = absurd cc
-front-inside zero (x ∷ list) front is = omega arith
-front-inside (suc n) [] front is = absurd cc
-front-inside (suc n) (x ∷ list) front is = let less = front-inside n list front is in omega arith
-
 take-front : (n : ℕ) (list : List PacketFields) (front : PacketFields) → slice_get (drop n list) 0 ≡ Some front → take (1 + n) list ≡ take n list ++ front ∷ []
 take-front zero [] front is = absurd cc
 take-front zero (x ∷ list) front is = let same : x ≡ front = cc in ap (λ (p : PacketFields). p ∷ []) same
@@ -283,7 +278,7 @@ new-fronts : (q : Profile) (given : Given) (marks : List Bool) (begun : List Pla
     → AreOwn marks begun → n ≤ length handed → own_tokens marks begun ≡ map unnumbered (take n handed) → NewFronts q u given marks begun n handed
 new-fronts q given marks l n handed None has front tokens own within are =
     let at : slice_get (drop n handed) 0 ≡ Some has.front = sym front ∙ has.is in
-    let inside = front-inside n handed has.front at in
+    let inside = front_inside n handed has.front at in
     let x : PacketFields = next_packet q (pointer_of q l) (number_of l) (code_for given.due) (or_null given.front) in
     let same : or_null given.front ≡ has.front = ap or_null has.is in
     let token : is_token x ≡ true = ap is_token same ∙ tokens has.front at in

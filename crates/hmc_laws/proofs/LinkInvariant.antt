@@ -7,7 +7,8 @@ use Rattle.hmc_journal.specs.QueueInvariant.{LinkInvariant}
 use Rattle.hmc_journal.specs.Lawful.{Lawful}
 use Rattle.hmc_journal.proofs.Projections.{received}
 use Rattle.hmc_laws.proofs.Entering.{Kept}
-use Rattle.hmc_laws.proofs.Sound.{kept, output_is}
+use Rattle.hmc_laws.proofs.Sound.{kept}
+use Rattle.hmc_laws.proofs.SoundSends.{output_is}
 
 by_kept : (setup : Setup) (past : List Entry) (d : ℕ) → d < directions_in setup.topology → Kept setup past → LinkInvariant setup.topology past d
 by_kept setup past d less keeps =

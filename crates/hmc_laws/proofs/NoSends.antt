@@ -1,4 +1,4 @@
--- What no entry changes of a sender but a send on its direction.
+-- What only a send on its direction changes of a sender.
 use Rattle.std.proofs.Common.{◌≡◌, ◌∙◌, ◌/◌, ◌==◌, ◌&&◌, ℕ, Bool, true, false, List, [], ◌∷◌, Some, refl, sym, ap, eq-eqb}
 use Rattle.hmc_codes.specs.Link.{LinkFields}
 use Rattle.hmc_codes.specs.declared.place.Place.TheVariants as places
@@ -21,7 +21,7 @@ use Rattle.hmc_journal.specs.Queues.{front_of, contents}
 use Rattle.hmc_journal.specs.Queues.QueueId.{Port}
 use Rattle.hmc_journal.specs.Links.{toward, taken_at, handed_on, landing_mask, forwarded_on, link_sizes, link_entries, sizes_on, entries_on}
 use Rattle.hmc_laws.proofs.LinkHanded.{landing-same}
-use Rattle.hmc_journal.proofs.Projections.{feed_in, goes_at, came_at, same_direction, put_on-same, taken_if-same}
+use Rattle.hmc_journal.proofs.Projections.{feed_in, goes_at, came_at, same_direction, put_on-same, taken_if-same, handed_on-same}
 
 -- an acknowledgement and a run of Starts change nothing of it
 pub record IsOfSends {X : Type 0} (f : List SenderEntry → X) : Type 0 where
@@ -35,11 +35,6 @@ landed-same f is sizes Forth Forth mask flit outcome past = refl
 landed-same f is sizes Forth Back mask flit outcome past = landing-same f outcome _ _ _ is.acknowledged is.ran
 landed-same f is sizes Back Forth mask flit outcome past = landing-same f outcome _ _ _ is.acknowledged is.ran
 landed-same f is sizes Back Back mask flit outcome past = refl
-
-on-same : {X : Type 0} (g : List LinkEntry → X) (topology : Topology) (link cube : ℕ) (goal : Goal) (packet : PacketFields) (past : List LinkEntry) → ((d : Toward) → g (LinkEntry.handed d packet ∷ past) ≡ g past) → g (handed_on topology link cube goal packet past) ≡ g past
-on-same g topology link cube (goals.Port port) packet past same = put_on-same g link _ (λ d. LinkEntry.handed d packet) past same
-on-same g topology link cube (goals.Vault vault) packet past same = refl
-on-same g topology link cube goals.Registers packet past same = refl
 
 -- not a send, and no cut-through
 abbrev pub IsNoSend : Entry → Type 0
@@ -79,7 +74,7 @@ no-send f is topology d (Landed direction flit outcome) past quiet =
 no-send f is topology d (Gave host tag poisoned request) past quiet = put_on-same (of_sends f topology d) (d / 2) _ (λ way. LinkEntry.handed way _) (entries_on topology d past) (λ e. refl)
 no-send f is topology d (Lifted cube from port) past quiet = put_on-same (of_sends f topology d) (d / 2) _ (λ way. LinkEntry.handed way _) (entries_on topology d past) (λ e. refl)
 no-send f is topology d (Shifted cube port goal) past quiet =
-    on-same (of_sends f topology d) topology (d / 2) cube goal (front_of (contents topology past (Port cube port))) (taken_at topology (d / 2) (places.Port cube port) (entries_on topology d past)) (λ e. refl)
+    handed_on-same (of_sends f topology d) topology (d / 2) cube goal (front_of (contents topology past (Port cube port))) (taken_at topology (d / 2) (places.Port cube port) (entries_on topology d past)) (λ e. refl)
     ∙ put_on-same (of_sends f topology d) (d / 2) _ LinkEntry.taken (entries_on topology d past) (λ e. refl)
 no-send f is topology d (Unlocked direction) past quiet = put_on-same (of_sends f topology d) (d / 2) (Some direction) LinkEntry.unlocked (entries_on topology d past) (λ e. refl)
 no-send f is topology d (Dropped cube port) past quiet = put_on-same (of_sends f topology d) (d / 2) _ LinkEntry.taken (entries_on topology d past) (λ e. refl)

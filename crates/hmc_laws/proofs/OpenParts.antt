@@ -1,6 +1,7 @@
 -- What of a packet under way was sent: none of its flits only where it is forwarded.
 use Rattle.std.proofs.Common.{◌≡◌, ◌≤◌, ◌∙◌, inl, inr, ℕ, suc, Bool, true, false, List, [], ◌∷◌, ◌++◌, Option, Some, None, length, if◌then◌else◌, sym, ap, subst, arith, length-append, eqb-true}
 use Rattle.std.specs.Prelude.{is_none}
+use Rattle.std.proofs.lemmas.Option.{same_Some}
 use Rattle.hmc_codes.specs.Link.{LinkFields}
 use Rattle.hmc_codes.specs.declared.profile.Profile.{Profile}
 use Rattle.hmc_packet.specs.declared.feed.Feed.{Feed}
@@ -75,16 +76,13 @@ sent_some q (SenderEntry.through head flits due ∷ past) known part is =
 
 -- ---- a packet that is sent again had a flit sent
 
-pub same_part : (a b : Part) → Some a ≡ Some b → a ≡ b
-same_part a b is = cc
-
 pub again_some : (link : LinkFields) (d : Toward) (past : List LinkEntry) → IsKept link past → (part : Part) → unfinished (sender_entries link d past) ≡ Some part → part.again ≡ true → 1 ≤ length part.sent
 again_some link d past kept part is again =
     let T = sender_entries link d past in
     elim (opened link d past kept) [
       | inl known ↦ sent_some link.profile T known part is
       | inr o ↦
-          let same = same_part o.part part (sym o.under ∙ is) in
+          let same = same_Some o.part part (sym o.under ∙ is) in
           let clash : false ≡ true = sym o.new ∙ ap (λ (p : Part). p.again) same ∙ again in absurd cc
     ]
 
@@ -126,7 +124,7 @@ first_named link d feed flit past kept part is none =
     elim (opened link d past (kept-before link (LinkEntry.sent d feed what.New flit) past kept)) [
       | inl known ↦ (let some = sent_some link.profile T known part is in absurd (omega arith))
       | inr o ↦
-          let same = same_part o.part part (sym o.under ∙ is) in
+          let same = same_Some o.part part (sym o.under ∙ is) in
           named_open link d feed flit past kept o (ap (λ (p : Part). length p.sent) same ∙ none) ∙ ap (λ (p : Part). p.flits) same
     ]
 

@@ -5,6 +5,7 @@ use Rattle.std.specs.Prelude.{is_none, option_and_then}
 use Rattle.std.specs.List.{All}
 use Rattle.std.proofs.lemmas.Bool.Decides.{nat_tests}
 use Rattle.std.proofs.lemmas.List.Elements.{All-nil, All-cons}
+use Rattle.std.proofs.lemmas.Option.{same_Some}
 use Rattle.hmc_codes.specs.Answer.{is_returned, CanReply}
 use Rattle.hmc_codes.specs.Commands.{allows_of, is_posted}
 use Rattle.hmc_codes.specs.Link.{LinkFields}
@@ -205,17 +206,14 @@ allowed_returned : (n : ℕ) → n % 16 ≡ 0 → allows_of RdRs (1 + n / 16) �
 unfolding table_line
 allowed_returned n whole allowed = few_bytes n whole allowed
 
-same_some : {A : Type 0} (x y : A) → Some x ≡ Some y → x ≡ y
-same_some x y same = cc
-
 replied : (command : Command) (packet : PacketFields) (answer : Answer) → command ≡ packet.command → IsPacket packet → answer_by command packet ≡ Some answer → CanReply answer
 unfolding answer_by
-replied WrRs packet answer own is found = subst CanReply (same_some _ answer found) tt
+replied WrRs packet answer own is found = subst CanReply (same_Some _ answer found) tt
 replied RdRs packet answer own is found =
-    subst CanReply (same_some _ answer found) (allowed_returned (length packet.payload) is.payload.whole (ap (λ c. allows_of c (1 + length packet.payload / 16)) own ∙ is.payload.allowed))
-replied MdRdRs packet answer own is found = subst CanReply (same_some _ answer found) tt
-replied MdWrRs packet answer own is found = subst CanReply (same_some _ answer found) tt
-replied Error packet answer own is found = subst CanReply (same_some _ answer found) is.ranges.errstat
+    subst CanReply (same_Some _ answer found) (allowed_returned (length packet.payload) is.payload.whole (ap (λ c. allows_of c (1 + length packet.payload / 16)) own ∙ is.payload.allowed))
+replied MdRdRs packet answer own is found = subst CanReply (same_Some _ answer found) tt
+replied MdWrRs packet answer own is found = subst CanReply (same_Some _ answer found) tt
+replied Error packet answer own is found = subst CanReply (same_Some _ answer found) is.ranges.errstat
 replied _ packet answer own is found = absurd (cc found)
 
 taken_shown : (setup : Setup) (past : List Entry) (host tag : ℕ) (answer : Answer) → HasTaken setup past host tag answer → Kept setup past → CanBeShown answer

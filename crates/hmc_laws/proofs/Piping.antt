@@ -1,6 +1,7 @@
 -- The packet under way on a direction, where it is forwarded, and the pipe that feeds it.
 use Rattle.std.proofs.Common.{◌≡◌, ◌≤◌, ◌<◌, ◌-◌, ◌∙◌, ◌==◌, ◌&&◌, ℕ, zero, suc, Bool, true, false, if◌then◌else◌, Option, Some, None, List, [], ◌∷◌, ◌++◌, length, get_or, refl, sym, ap, subst, arith, length-append, nat_lt, ltb-true, ltb-false}
 use Rattle.std.specs.Prelude.{is_none, option_map, slice_index_or}
+use Rattle.std.proofs.lemmas.List.{get_or_push}
 use Rattle.hmc_codes.specs.Flit.{zero_flit, IsFlit}
 use Rattle.hmc_packet.specs.declared.feed.Feed.{Feed}
 use Rattle.hmc_packet.specs.declared.feed.Feed.TheVariants.{Waiting, Whole}
@@ -91,10 +92,6 @@ get-push [] x k less = absurd (omega arith)
 get-push (y ∷ l) x zero less = refl
 get-push (y ∷ l) x (suc k) less = get-push l x k (omega arith)
 
-get-pushed : (l : List (List ℕ)) (x : List ℕ) → get_or (l ++ x ∷ []) (length l) [] ≡ x
-get-pushed [] x = refl
-get-pushed (y ∷ l) x = get-pushed l x
-
 -- what the pipe gave is its flit at that place, which came
 pub record Gave (pipe : PipeFields) (at : ℕ) (flit : List ℕ) : Type 0 where
   pub flit_is : flit ≡ flit_at pipe at
@@ -117,7 +114,7 @@ piped_sent pipe part head count flit is gave =
         let past = ltb-false k (length part.sent) at in
         let long = length-append part.sent (flit ∷ []) in
         let last : k ≡ length part.sent = omega arith in
-        ap (λ (n : ℕ). get_or (part.sent ++ flit ∷ []) n []) last ∙ get-pushed part.sent flit ∙ gave.flit_is ∙ ap (flit_at pipe) (sym last)
+        ap (λ (n : ℕ). get_or (part.sent ++ flit ∷ []) n []) last ∙ get_or_push part.sent flit [] (length part.sent) refl ∙ gave.flit_is ∙ ap (flit_at pipe) (sym last)
 
 -- what is fed as a whole flit is such a flit
 fed_whole : (a b : List ℕ) → Whole a ≡ Whole b → a ≡ b

@@ -1,4 +1,4 @@
--- Which packets stand in which room.
+-- Which packets may wait in which queue.
 use Rattle.std.proofs.Common.{◌≡◌, ◌≤◌, ◌<◌, ◌^◌, ◌∙◌, ◌⊎◌, inl, inr, ℕ, Bool, true, false, if◌then◌else◌, Some, None, is_some, List, ◌++◌, All, length, slice_get, refl, sym, ap, subst, arith}
 use Rattle.hmc_journal.proofs.EntryRule.{goal_by}
 use Rattle.std.proofs.lemmas.List.{drop_at}
@@ -30,6 +30,7 @@ use Rattle.hmc_codes.specs.declared.place.Place.TheVariants as places
 use Rattle.hmc_journal.specs.Queues.{QueueId}
 use Rattle.hmc_journal.specs.Queues.QueueId.{Output, Port, Host, Vault, Bank, Registers, Answers}
 use Rattle.hmc_journal.specs.Delivered.{unnumbered}
+use Rattle.hmc_journal.proofs.Packets.{reply_layout}
 
 -- a packet of a transaction, with an error number that fits either profile
 pub record IsCounted (packet : PacketFields) : Type 0 where
@@ -235,14 +236,11 @@ unfolding request_in
 request_of_packet packet request is = request_by (is_ask (layout_of packet.command)) packet request is
 
 -- a request that is given
-flow_of : (layout : Layout) → layout ≡ layouts.Ask → is_flow layout ≡ false
-flow_of layout is = ap is_flow is
-
 pub IsAsking-request_packet : (topology : Topology) (request : RequestFields) (tag host : ℕ) (poisoned : Bool) → IsRequest request → request.cube < cubes_in topology → tag < 2 ^ 11 → host < hosts_in topology → hosts_in topology ≤ 8
     → IsAsking topology (request_packet request tag host poisoned)
 unfolding request_packet
 IsAsking-request_packet topology request tag host poisoned is cube few there most = record {
-  counted = record { is_packet = IsPacket-request_packet request tag host poisoned is few (omega arith); layout = flow_of (layout_of request.command) (asks-layout (layout_of request.command) is.asks); errstat = omega arith };
+  counted = record { is_packet = IsPacket-request_packet request tag host poisoned is few (omega arith); layout = ap is_flow (asks-layout (layout_of request.command) is.asks); errstat = omega arith };
   asks = is.asks;
   cube = cube;
   slid = there;
@@ -252,11 +250,6 @@ IsAsking-request_packet topology request tag host poisoned is cube few there mos
 }
 
 -- an answer that is sent
-reply_layout : (layout : Layout) → family_of_layout layout ≡ families.Reply → is_flow layout ≡ false
-reply_layout layouts.Reply is = refl
-reply_layout layouts.Ask is = refl
-reply_layout _ is = absurd (cc)
-
 pub clean_reply : (answer : Answer) (tag host cube : ℕ) → (reply_packet answer tag host cube).poisoned ≡ false
 unfolding reply_packet
 clean_reply Silent tag host cube = refl

@@ -23,7 +23,8 @@ use Rattle.hmc_journal.specs.Setup.{Topology, Setup, joins_of, graph_of, cubes_i
 use Rattle.hmc_journal.specs.Network.{IsNetwork}
 use Rattle.hmc_journal.specs.Links.{direction_to}
 use Rattle.hmc_journal.specs.Queues.{same_queue, buffer_at, landing_buffer}
-use Rattle.hmc_journal.proofs.Joins.{same_place_is, other_other, other_inside, end_is_start, start_is_end, start_next, from_place, joined_from, from_start}
+use Rattle.hmc_journal.proofs.Joins.{other_other, other_inside, end_is_start, start_is_end, start_next, from_place, joined_from, from_start}
+use Rattle.hmc_routes.proofs.Joined.{same_place-true}
 
 -- What holds of the directions of a network.
 pub record Wired (topology : Topology) : Type 0 where
@@ -136,7 +137,7 @@ some_is d e same = cc
 
 pub one_buffer : (topology : Topology) → Wired topology → (d e : ℕ) → d < directions_in topology → e < directions_in topology → same_queue (landing_buffer topology d) (landing_buffer topology e) ≡ true → d ≡ e
 one_buffer topology is d e d_less e_less same =
-    let ends : end_of topology d ≡ end_of topology e = same_place_is (end_of topology d) (end_of topology e) (sym (same_buffers (end_of topology d) (end_of topology e)) ∙ same) in
+    let ends : end_of topology d ≡ end_of topology e = same_place-true (end_of topology d) (end_of topology e) (sym (same_buffers (end_of topology d) (end_of topology e)) ∙ same) in
     some_is d e (sym (ends_there topology is d d_less) ∙ ap (direction_to topology) ends ∙ ends_there topology is e e_less)
 
 -- ---- ports that routes take

@@ -24,7 +24,7 @@ use Rattle.hmc_link.specs.StandsFor.{IsLink}
 use Rattle.hmc_ends.proofs.Steps.{Steps}
 use Rattle.hmc_link.proofs.Joins.{forth-both, back-both}
 use Rattle.hmc_ends.proofs.LandStands.{kept-landed}
-use Rattle.hmc_ends.proofs.WireLaws.{direction_laws}
+use Rattle.hmc_wire.proofs.LawsHold.{direction-laws}
 
 -- ---- in order
 
@@ -46,7 +46,7 @@ by-pass link d past mask front false kept is passed =
     let flit = under_mask mask front.flit in
     let o = (reception_of link.profile (receiver_entries d past) flit).outcome in
     by-outcome flit o (latest link.profile (landing_entry link.profile (receiver_entries d past) flit ∷ receiver_entries d past))
-    ((direction_laws link d past kept).ordered mask flit o (kept-landed link d past mask flit front kept is refl passed).lawful)
+    ((direction-laws link d past kept).ordered mask flit o (kept-landed link d past mask flit front kept is refl passed).lawful)
 
 by-front : (link : LinkFields) (d : Toward) (past : List LinkEntry) (mask : List ℕ) (front : Option StampedFlit) → IsKept link past → slice_get (line link.profile d past) 0 ≡ front → is_out_of_order (link_landed link d past mask front) ≡ false
 by-front link d past mask None kept is = refl
@@ -59,13 +59,6 @@ ordered link d past mask x kept is = ap is_out_of_order is ∙ by-front link d p
 
 pub land-steps : (d : Toward) (mask : List ℕ) (x : LinkLanded) (s l s' l' : EndFields) → ((link : LinkFields) (d : Toward) (past : List LinkEntry) → EndsStandFor link d s l past → has_passed x ≡ false → EndsStandFor link d s' l' (after_call link past (LinkCall.land d mask))) → has_passed x ≡ false → Steps d (LinkCall.land d mask) s l s' l'
 land-steps d mask x s l s' l' crosses caught = record { after = λ link past both. crosses link d past both caught }
-
-not-true : (b c : Bool) → c ≡ not b → c ≡ true → b ≡ false
-not-true true c is goes = absurd (let clash : false ≡ true = sym is ∙ goes in cc)
-not-true false c is goes = refl
-
-pub went : (b : Bool) → not b ≡ true → b ≡ false
-went b is = not-true b (not b) refl is
 
 pub ends-forth : (h : LinkHeld) → IsLink h → h.going ≡ true → AreEnds h.a h.b
 ends-forth h is going = let some = is going in record { link = some.link; d = Forth; past = some.past; stand = forth-both some.link h some.past some.stands }

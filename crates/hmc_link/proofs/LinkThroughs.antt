@@ -1,5 +1,6 @@
--- A link that begins a cut-through.
+-- A link that begins to forward a packet.
 use Rattle.std.proofs.Common.{◌≡◌, ◌∙◌, ℕ, Bool, true, ◌&&◌, List, ◌∷◌, Some, refl, sym, ap, subst}
+use Rattle.std.proofs.lemmas.Bool.{and_from}
 use Rattle.hmc_codes.specs.Link.{LinkFields}
 use Rattle.hmc_codes.specs.Flit.{IsFlit}
 use Rattle.hmc_packet.specs.declared.feed.Feed.TheVariants.{Waiting}
@@ -15,9 +16,9 @@ use Rattle.hmc_ends.specs.Answers.{after_call}
 use Rattle.hmc_ends.specs.End.{EndFields, is_ready}
 use Rattle.hmc_link.specs.Held.{LinkHeld, sending_end}
 use Rattle.hmc_ends.specs.Parts.{EndParts, parts_of, parts_through, view_by}
-use Rattle.hmc_ends.specs.StandsFor.{EndStandsFor, EndsStandFor, CanPassOn}
+use Rattle.hmc_ends.specs.StandsFor.{EndStandsFor, EndsStandFor, CanForward}
 use Rattle.hmc_link.specs.StandsFor.{IsLink}
-use Rattle.hmc_ends.proofs.Calls.{entry-if, both-true}
+use Rattle.hmc_ends.proofs.Calls.{entry-if}
 use Rattle.hmc_ends.proofs.Steps.{Steps, kept-more, both-more}
 use Rattle.hmc_ends.proofs.Projections.{through-here, through-there}
 use Rattle.hmc_ends.proofs.Throughs.{ready-held}
@@ -35,7 +36,7 @@ pub next-begun : (link : LinkFields) (d : Toward) (past : List LinkEntry) (s : E
 unfolding next_entry
 next-begun link d past s head flits is ready named =
     let may = sym (may-in link d past flits) ∙ sym (ready-held link s (parts_of link d past) flits is) ∙ ready in
-    entry-if (may_pass_on (view_in link d past Waiting) flits && names_flits flits (head_in head)) (LinkEntry.through d head flits) (both-true _ _ may named)
+    entry-if (may_pass_on (view_in link d past Waiting) flits && names_flits flits (head_in head)) (LinkEntry.through d head flits) (and_from _ _ may named)
 
 pub begin-both : (link : LinkFields) (d : Toward) (past : List LinkEntry) (s l s' : EndFields) (head : List ℕ) (flits : ℕ) → IsFlit head → names_flits flits (head_in head) ≡ true →
     ((link : LinkFields) (d : Toward) (past : List LinkEntry) → IsKept link past → EndStandsFor link s (parts_of link d past) → EndStandsFor link s' (parts_through link head flits (parts_of link d past))) →
@@ -43,7 +44,7 @@ pub begin-both : (link : LinkFields) (d : Toward) (past : List LinkEntry) (s l s
 unfolding next_entry
 begin-both link d past s l s' head flits is named leaves both ready =
     let entry = LinkEntry.through d head flits in
-    let next = entry-if (may_pass_on (view_in link d past Waiting) flits && names_flits flits (head_in head)) entry (both-true _ _ ready named) in
+    let next = entry-if (may_pass_on (view_in link d past Waiting) flits && names_flits flits (head_in head)) entry (and_from _ _ ready named) in
     both-more link d past (LinkCall.begin d head flits) entry s' l next (record {
       sizes = both.sizes;
       kept = kept-more link past (LinkCall.begin d head flits) entry next both.kept (met-through link d head flits past is both.kept.met);
@@ -63,7 +64,7 @@ begin-from d toward now s l s' head flits sends is ready named leaves =
           begin-both link d past s l s' head flits is named leaves both (sym (may-in link d past flits) ∙ sym (ready-held link s (parts_of link d past) flits both.sending) ∙ here);
     }
 
-pub can-forth : (toward : Toward) (now h : LinkHeld) (head : List ℕ) (flits : ℕ) → sending_end toward now ≡ h.a → h ≡ now → IsLink h → now.going ≡ true → is_ready (sending_end toward now) flits ≡ true → names_flits flits (head_in head) ≡ true → CanPassOn h.a head flits
+pub can-forth : (toward : Toward) (now h : LinkHeld) (head : List ℕ) (flits : ℕ) → sending_end toward now ≡ h.a → h ≡ now → IsLink h → now.going ≡ true → is_ready (sending_end toward now) flits ≡ true → names_flits flits (head_in head) ≡ true → CanForward h.a head flits
 can-forth toward now h head flits sends same is going ready named =
     let some = is (ap (λ (x : LinkHeld). x.going) same ∙ going) in
     record {
@@ -77,7 +78,7 @@ can-forth toward now h head flits sends same is going ready named =
       named = named;
     }
 
-pub can-back : (toward : Toward) (now h : LinkHeld) (head : List ℕ) (flits : ℕ) → sending_end toward now ≡ h.b → h ≡ now → IsLink h → now.going ≡ true → is_ready (sending_end toward now) flits ≡ true → names_flits flits (head_in head) ≡ true → CanPassOn h.b head flits
+pub can-back : (toward : Toward) (now h : LinkHeld) (head : List ℕ) (flits : ℕ) → sending_end toward now ≡ h.b → h ≡ now → IsLink h → now.going ≡ true → is_ready (sending_end toward now) flits ≡ true → names_flits flits (head_in head) ≡ true → CanForward h.b head flits
 can-back toward now h head flits sends same is going ready named =
     let some = is (ap (λ (x : LinkHeld). x.going) same ∙ going) in
     record {

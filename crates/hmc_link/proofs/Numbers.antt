@@ -4,6 +4,7 @@ use Rattle.std.specs.Prelude.{filter, ◌&&◌, nat_le, slice_get, is_none, if�
 use Rattle.std.proofs.lemmas.List.{length-drop}
 use Rattle.std.proofs.lemmas.List.Sums.{sum_by-cons}
 use Rattle.std.proofs.lemmas.Bool.{and_parts}
+use Rattle.std.proofs.Math.Nat.{sub-zero}
 use Rattle.hmc_codes.specs.Link.{LinkFields, IsLinkSetup}
 use Rattle.hmc_codes.specs.Profile.{most_retry}
 use Rattle.hmc_codes.specs.declared.profile.Profile.{Profile}
@@ -43,7 +44,8 @@ use Rattle.hmc_ends.proofs.LandStands.{next-landed}
 use Rattle.hmc_ends.proofs.Lists.{length-map}
 use Rattle.hmc_link.proofs.LinkThroughs.{next-begun}
 use Rattle.hmc_ends.proofs.ListLaws.{list-handed, list-through, list-sent, list-gives, list-over}
-use Rattle.hmc_ends.proofs.WireLaws.{direction_laws}
+use Rattle.hmc_wire.proofs.LawsHold.{direction-laws}
+use Rattle.hmc_retry.proofs.Kept.{most_small}
 
 abbrev number : LinkFields → Toward → List LinkEntry → ℕ
 number link d past = length (handed_list link d past)
@@ -158,9 +160,6 @@ record Fewer (link : LinkFields) (d : Toward) (past after : List LinkEntry) (x :
   here : number link d after ≡ number link d past - length (removed x)
   there : number link (other d) after ≡ number link (other d) past
 
-less-none : (n : ℕ) → n ≡ n - 0
-less-none n = omega arith
-
 by-pass : (link : LinkFields) (d : Toward) (past : List LinkEntry) (mask : List ℕ) (front : StampedFlit) (x : LinkLanded) (b : Bool) → slice_get (line link.profile d past) 0 ≡ Some front → passes link.profile d past mask (under_mask mask front.flit) ≡ b →
     x ≡ came b (under_mask mask front.flit) (landed_in link d past (under_mask mask front.flit)) → has_passed x ≡ false → IsKept link (after_call link past (LinkCall.land d mask)) → Fewer link d past (after_call link past (LinkCall.land d mask)) x
 by-pass link d past mask front x true is passed x_is caught kept = absurd (let clash : true ≡ false = sym (ap has_passed x_is) ∙ caught in cc)
@@ -178,7 +177,7 @@ by-front : (link : LinkFields) (d : Toward) (past : List LinkEntry) (mask : List
 by-front link d past mask None x is x_is caught kept =
     let e : after_call link past (LinkCall.land d mask) ≡ past = ap (with_entry past) (next-empty link d past mask is) in
     record {
-      here = ap (number link d) e ∙ less-none (number link d past) ∙ ap (λ (y : LinkLanded). number link d past - length (removed y)) (sym x_is);
+      here = ap (number link d) e ∙ sym (sub-zero (number link d past)) ∙ ap (λ (y : LinkLanded). number link d past - length (removed y)) (sym x_is);
       there = ap (number link (other d)) e;
     }
 by-front link d past mask (Some front) x is x_is caught kept = by-pass link d past mask front x _ is refl x_is caught kept
@@ -232,7 +231,7 @@ fit-drop q (suc n) (x ∷ l) all = fit-drop q n l all.1
 
 few-number : (link : LinkFields) (d : Toward) (past : List LinkEntry) → IsKept link past → number link d past ≤ link.retry + length (queue_in link d past)
 few-number link d past kept =
-    let laws = direction_laws link d past kept in
+    let laws = direction-laws link d past kept in
     let l = places_in link d past in
     let n = length (accepted_packets link.profile d past) in
     let a = acked (sender_entries link d past) in
@@ -247,15 +246,11 @@ few-number link d past kept =
     let room = laws.kept in
     omega arith
 
-retry-few : (q : Profile) → most_retry q ≤ 1024
-retry-few One = omega arith
-retry-few Two = omega arith
-
 pub number-fits : (link : LinkFields) (d : Toward) (past : List LinkEntry) (n : ℕ) → IsKept link past → length (queue_in link d past) ≤ 1024 → n ≡ number link d past → Fits w32 (n + 1)
 number-fits link d past n kept queue is =
     let few = few-number link d past kept in
     let retry = kept.retry in
-    let most = retry-few link.profile in
+    let most = most_small link.profile in
     omega arith
 
 -- ---- by what a link does

@@ -78,7 +78,7 @@ impl<I: Intake> End<I> {
     ghost use Rattle.hmc_send.specs.Given.{IsTaken};
     ghost use Rattle.hmc_ends.specs.End.{after_taken, flits_seen, IsQuiet};
     ghost use Rattle.hmc_ends.specs.Answers.{link_sent, sends_none};
-    ghost use Rattle.hmc_ends.specs.Parts.{EndParts, parts_of, parts_unlocked, parts_after_send, parts_through, line_of, view_by};
+    ghost use Rattle.hmc_ends.specs.Parts.{EndParts, parts_of, parts_unlocked, parts_after_send, parts_through, flits_under_way, view_by};
     ghost use Rattle.hmc_codes.specs.declared.profile.Profile.{Profile};
     ghost use Rattle.hmc_packet.specs.Receptions.{landed_with};
     ghost use Rattle.hmc_receive.specs.StandsFor.{ReceiverStandsFor, latest};
@@ -94,7 +94,7 @@ impl<I: Intake> End<I> {
     ghost use Rattle.hmc_send.specs.LinkEntries.{LinkEntry, other};
     ghost use Rattle.hmc_wire.specs.Conditions.{IsFeed};
     ghost use Rattle.hmc_wire.specs.LinkLaws.{IsKept};
-    ghost use Rattle.hmc_ends.specs.StandsFor.{EndStandsFor, CanSend, CanPassOn};
+    ghost use Rattle.hmc_ends.specs.StandsFor.{EndStandsFor, CanSend, CanForward};
 
     /// An end that did nothing, with this buffer.
     pub fn new(alloc: Global, setup: LinkSetup, intake: I) -> Result<Self, Memory>
@@ -236,7 +236,7 @@ impl<I: Intake> End<I> {
     pub fn send(&mut self, feed: Feed) -> LinkSent
         requires { CanSend self.old feed }
         ensures answer { (link : LinkFields) (p : EndParts) → EndStandsFor link self.old p →
-            result ≡ link_sent (nat_le link.line (length (line_of p)))
+            result ≡ link_sent (nat_le link.line (length (flits_under_way p)))
             (choice link.profile (view_by link p feed)) }
         ensures stands { (link : LinkFields) (d : Toward) (past : List LinkEntry) →
             IsKept link past → EndStandsFor link self.old (parts_of link d past) →
@@ -351,7 +351,7 @@ impl<I: Intake> End<I> {
         flits_seen(self.receiver.view().mode, self.receiver.gathered())
     }
 
-    /// The place of the next flit of a packet that is passed on.
+    /// The place of the next flit of a packet that is forwarded.
     pub fn through_at(&self) -> Option<u8>
         ensures value { result ≡ through_place self.now.sender.under_way }
         ensures by_list { (link : LinkFields) (p : EndParts) → EndStandsFor link self.now p →
@@ -395,8 +395,8 @@ impl<I: Intake> End<I> {
         self.account.due
     }
 
-    /// Whether a cut-through of so many flits may be begun: nothing waits, the sender is free, and
-    /// tokens and retry room suffice.
+    /// Whether the end may begin to forward a packet of so many flits: nothing waits, the sender is
+    /// free, and tokens and retry room suffice.
     pub fn through_ready(&self, flits: u8) -> bool
         ensures { (link : LinkFields) (p : EndParts) → EndStandsFor link self.now p →
             result ≡ may_pass_on (view_by link p Waiting) flits }
@@ -408,9 +408,9 @@ impl<I: Intake> End<I> {
         all_four(empty, free, held, room)
     }
 
-    /// Begins a cut-through.
+    /// Begins to forward a packet.
     pub fn begin_through(&mut self, head: Flit, flits: u8)
-        requires { CanPassOn self.old head flits }
+        requires { CanForward self.old head flits }
         ensures { (link : LinkFields) (d : Toward) (past : List LinkEntry) →
             IsKept link past → EndStandsFor link self.old (parts_of link d past) →
             EndStandsFor link self.new (parts_through link head flits (parts_of link d past)) }

@@ -5,14 +5,14 @@
 //! flit by flit at the other end (`land`), and is taken from the buffer there (`take`). A landing
 //! is under a mask, whose bits are inverted in the flit: a check finds that, the packets from the
 //! changed one on are sent again, and the receiver passes over those that it had before. A packet
-//! may leave while it is still coming in (`begin_through`, `send` with a feed): a cut-through.
+//! can be forwarded before it has come whole, a cut-through: `begin_through`, `send` with a feed.
 //!
-//! A link stands for lists of its entries, the newest first (`LinkStandsFor`): hands, takes,
-//! sends, landings, unlocks and begun cut-throughs. Each call answers what the definitions of
-//! hmc_send say of each list for which the link stands, and the link then stands for the list with
-//! the entry of the call (`after_call`). So the laws of hmc_wire hold of it. A link keeps that it
-//! stands for some list, unless a landing passed: a check succeeded over a changed flit. After that
-//! no call that changes it may be made, and nothing is claimed of what the others answer.
+//! A link stands for lists of its entries, the newest first (`LinkStandsFor`): hands, takes, sends,
+//! landings, unlocks and packets that begin to be forwarded. Each call answers what the definitions
+//! of hmc_send say of each list for which the link stands, and the link then stands for the list
+//! with the entry of the call (`after_call`). So the laws of hmc_wire hold of it. A link keeps that
+//! it stands for some list, unless a landing passed: a check succeeded over a changed flit. After
+//! that no call that changes it may be made, and nothing is claimed of what the others answer.
 //!
 //! An end sends in one direction, and the other lands at it. What the entries of a link are to an
 //! end, what an end holds, and when the one is the other is in hmc_ends.

@@ -208,7 +208,7 @@ impl<A: Intake, B: Intake> Link<A, B> {
 
     /// Sends the next flit of a direction. `Full` exactly where its line holds as many flits as it
     /// can; else `Starved` exactly where the receiver at the same end is trained, a packet that is
-    /// passed on is under way, and its next flit isn't there.
+    /// forwarded is under way, and its next flit isn't there.
     pub fn send(&mut self, toward: Toward, feed: Feed) -> LinkSent
         requires going { self.old.going ≡ true }
         requires feed { IsFed (sending_end toward self.old).sender.under_way feed }
@@ -281,8 +281,8 @@ impl<A: Intake, B: Intake> Link<A, B> {
         }
     }
 
-    /// The length of the list of a direction: the packets that were handed to it, and the
-    /// cut-throughs that were begun, that are not accepted.
+    /// The length of the list of a direction: the packets that were handed to it, or that began to
+    /// be forwarded in it, and that are not accepted.
     pub fn handed(&self, toward: Toward) -> u32
         ensures { (link : LinkFields) (past : List LinkEntry) →
             LinkStandsFor link self.now past → result ≡ length (handed_list link toward past) }
@@ -293,7 +293,7 @@ impl<A: Intake, B: Intake> Link<A, B> {
         }
     }
 
-    /// The place, from 0, of the next flit of a packet that is passed on and unfinished in a
+    /// The place, from 0, of the next flit of a packet that is forwarded and unfinished in a
     /// direction; `None` exactly where there is none.
     pub fn through_at(&self, toward: Toward) -> Option<u8>
         ensures value { result
@@ -325,8 +325,8 @@ impl<A: Intake, B: Intake> Link<A, B> {
         }
     }
 
-    /// Whether a cut-through of so many flits may be begun in a direction: its output queue is
-    /// empty, its sender is free, and held tokens and retry room are at least that many.
+    /// Whether a packet of so many flits may begin to be forwarded in a direction: its output queue
+    /// is empty, its sender is free, and held tokens and retry room are at least that many.
     pub fn through_ready(&self, toward: Toward, flits: u8) -> bool
         ensures value { self.now.going ≡ true →
             result ≡ is_ready (sending_end toward self.now) flits }
@@ -340,7 +340,7 @@ impl<A: Intake, B: Intake> Link<A, B> {
         }
     }
 
-    /// Begins a packet of so many flits, at least 2, that is passed on before it has come whole.
+    /// Begins to forward a packet of so many flits, at least 2, before it has come whole.
     /// The direction is ready for it (`through_ready`), and its head names that length.
     pub fn begin_through(&mut self, toward: Toward, head: Flit, flits: u8)
         requires going { self.old.going ≡ true }

@@ -22,20 +22,20 @@ use Rattle.hmc_case.specs.Setup.{CubeSetupFields}
 use Rattle.hmc_case.specs.declared.setup.LinkRow.{LinkRow}
 use Rattle.hmc_case.proofs.PlanLemmas.{length-plans_of}
 use Rattle.hmc_units.specs.Unit.{UnitFields}
-use Rattle.hmc_journal.specs.Setup.{Topology, setup_of, no_cube, hosts_in}
+use Rattle.hmc_journal.specs.Setup.{Topology, setup_of, no_setup, hosts_in}
 use Rattle.hmc_wiring.specs.Ready.{IsPortIn, IsVaultIn, IsBankIn, IsLiftIn, IsStepFor}
 
 -- the plan of a cube
-plan_at : (links : List LinkRow) (n : ℕ) (cubes : List CubeSetupFields) (k : ℕ) → k < length cubes → slice_get (plans_of links n cubes) k ≡ Some (ports_of links (n + k) (slice_index_or cubes k no_cube))
+plan_at : (links : List LinkRow) (n : ℕ) (cubes : List CubeSetupFields) (k : ℕ) → k < length cubes → slice_get (plans_of links n cubes) k ≡ Some (ports_of links (n + k) (slice_index_or cubes k no_setup))
 plan_at links n [] k less = absurd (omega arith)
 plan_at links n (cube ∷ cubes) zero less = let same : n ≡ n + 0 = omega arith in ap (λ (m : ℕ). Some (ports_of links m cube)) same
 plan_at links n (cube ∷ cubes) (suc k) less =
-    let same : n + 1 + k ≡ n + suc k = omega arith in plan_at links (n + 1) cubes k (omega arith) ∙ ap (λ (m : ℕ). Some (ports_of links m (slice_index_or cubes k no_cube))) same
+    let same : n + 1 + k ≡ n + suc k = omega arith in plan_at links (n + 1) cubes k (omega arith) ∙ ap (λ (m : ℕ). Some (ports_of links m (slice_index_or cubes k no_setup))) same
 
-planned : (net : NetFields) (cube : ℕ) → cube < length (plans_of net.links 0 net.cubes) → slice_get (plans_of net.links 0 net.cubes) cube ≡ Some (ports_of net.links cube (slice_index_or net.cubes cube no_cube))
+planned : (net : NetFields) (cube : ℕ) → cube < length (plans_of net.links 0 net.cubes) → slice_get (plans_of net.links 0 net.cubes) cube ≡ Some (ports_of net.links cube (slice_index_or net.cubes cube no_setup))
 planned net cube less =
     let same : 0 + cube ≡ cube = omega arith in
-    plan_at net.links 0 net.cubes cube (omega (arith, length-plans_of net.links 0 net.cubes)) ∙ ap (λ (m : ℕ). Some (ports_of net.links m (slice_index_or net.cubes cube no_cube))) same
+    plan_at net.links 0 net.cubes cube (omega (arith, length-plans_of net.links 0 net.cubes)) ∙ ap (λ (m : ℕ). Some (ports_of net.links m (slice_index_or net.cubes cube no_setup))) same
 
 -- where a link ends, a direction starts
 taken_from : (first : ℕ) (links : List LinkRow) (place : Place) → is_taken links place ≡ true → (d : ℕ) × (direction_among first (map (λ (link : LinkRow). link.join) links) place ≡ Some d)

@@ -2,10 +2,11 @@
 use Rattle.std.proofs.Common.{◌≡◌, ◌≤◌, ◌<◌, ◌==◌, ◌%◌, ◌^◌, ◌∙◌, ℕ, Bool, true, false, not, nat_le, nat_lt, if◌then◌else◌, Option, Some, None, List, [], ◌∷◌, ◌++◌, length, drop, refl, sym, ap, ap₂, subst, arith, eqb-true}
 use Rattle.std.specs.Prelude.{slice_set}
 use Rattle.std.specs.List.{All}
-use Rattle.std.proofs.Math.Nat.{pow-le-pow_right}
+use Rattle.std.proofs.Math.Nat.{pow-le-pow_right, mod-lt}
 use Rattle.std.proofs.lemmas.Bool.Decides.{nat_tests}
 use Rattle.std.proofs.lemmas.List.{length-set, set-get_or}
 use Rattle.std.proofs.lemmas.List.Elements.{All-head, All-get_or}
+use Rattle.std.proofs.lemmas.Nat.{pow_pos}
 use Rattle.hmc_codes.specs.Commands.{is_posted}
 use Rattle.hmc_codes.specs.Request.{RequestFields}
 use Rattle.hmc_codes.specs.Shape.{ShapeFields, bank_of}
@@ -46,13 +47,13 @@ use Rattle.hmc_journal.specs.Queues.QueueId.{Vault, Bank, Registers, Answers}
 use Rattle.hmc_journal.specs.Setup.{Topology, cube_setup, shape_of, cubes_in, unit_cube}
 use Rattle.hmc_journal.specs.StepView.{StepView}
 use Rattle.hmc_net.specs.Apply.{cubes_after, hosts_after, with_cube, IsEntryIn, IsHostIn, DoesStep}
-use Rattle.hmc_kept.specs.After.{slots_after, piped_after, entries_after}
+use Rattle.hmc_kept.specs.After.{slots_after, pipes_after, entries_after}
 use Rattle.hmc_kept.specs.Pipes.{PipesHeld}
 use Rattle.hmc_links.specs.LinkList.{LinksStandFor}
 use Rattle.hmc_net.specs.NetState.{NetState, cube_in, no_cube, IsQueueOf}
 use Rattle.hmc_wiring.specs.Ready.{IsVaultIn, IsBankIn}
 use Rattle.hmc_net.specs.Sees.{Sees, IsSized, CubeFits, IsReady}
-use Rattle.hmc_net.proofs.Doing.{with_all, with_parts, does_by, sized_units, units_seen, idle_does, front_none, no_front}
+use Rattle.hmc_net.proofs.Doing.{with_all, with_parts, does_by, sized_units, units_seen, idle_does, front_none, no_front, below_is_room}
 use Rattle.hmc_kept.proofs.Elements.{changed_at}
 use Rattle.hmc_net.proofs.Standing.{own_cube, state_at}
 
@@ -98,13 +99,6 @@ bank_shape net cube vault bank sized there =
 
 -- ---- spread
 
-below_power : (n bits : ℕ) → n % 2 ^ bits < 2 ^ bits
-below_power n bits =
-    let some : 2 ^ 0 ≤ 2 ^ bits = pow-le-pow_right {n = 2} (omega arith) {i = 0} {j = bits} (omega arith) in omega arith
-
-below_is_room : (used size : ℕ) → nat_lt used size ≡ not (nat_le size used)
-below_is_room used size = grind (arith, nat_tests)
-
 spread_if : (cube vault bank : ℕ) (full : Bool) → spread_entry cube vault (if not full then spreads.Moved bank else spreads.Full) ≡ unless_full (steps.Spread cube vault) full (entries.Spread cube vault bank)
 spread_if cube vault bank true = refl
 spread_if cube vault bank false = refl
@@ -122,7 +116,7 @@ spread_front topology view cube vault v shape (front ∷ rest) size shape_is ban
 
 -- the bank of a spread is one of the vault's
 bank_by : (room : Bool) (found bank bits address : ℕ) → found ≡ address % 2 ^ bits → (if room then spreads.Moved found else spreads.Full) ≡ spreads.Moved bank → bank < 2 ^ bits
-bank_by true found bank bits address is same = let here : found ≡ bank = cc in subst (λ (n : ℕ). n < 2 ^ bits) (sym is ∙ here) (below_power address bits)
+bank_by true found bank bits address is same = let here : found ≡ bank = cc in subst (λ (n : ℕ). n < 2 ^ bits) (sym is ∙ here) (mod-lt address (pow_pos bits))
 bank_by false found bank bits address is same = absurd (cc)
 
 front_bank : (v : VaultFields) (packets : List PacketFields) (shape : ShapeFields) (bank : ℕ) → front_goes v packets shape ≡ spreads.Moved bank → bank < 2 ^ shape.bank_bits
@@ -153,7 +147,7 @@ spread_slots view slots cube vault spreads.Empty = refl
 spread_slots view slots cube vault spreads.Full = refl
 spread_slots view slots cube vault (spreads.Moved bank) = refl
 
-spread_piped : (topology : Topology) (view : StepView) (piped : PipesHeld) (cube vault : ℕ) (spread : Spread) → piped ≡ piped_after topology view (spread_entry cube vault spread) piped
+spread_piped : (topology : Topology) (view : StepView) (piped : PipesHeld) (cube vault : ℕ) (spread : Spread) → piped ≡ pipes_after topology view (spread_entry cube vault spread) piped
 spread_piped topology view piped cube vault spreads.Empty = refl
 spread_piped topology view piped cube vault spreads.Full = refl
 spread_piped topology view piped cube vault (spreads.Moved bank) = refl
@@ -263,7 +257,7 @@ ran_slots view state slots unit step runs_as.Empty same = refl
 ran_slots view state slots unit step runs_as.Full same = refl
 ran_slots view state slots unit step (runs_as.Ran host tag request answer) same = ap (λ (s : CubeState). (perform_on s slots request).slots) same
 
-ran_piped : (topology : Topology) (view : StepView) (piped : PipesHeld) (unit : RequestUnit) (step : Step) (ran : Execution) → piped ≡ piped_after topology view (ran_entry unit step ran) piped
+ran_piped : (topology : Topology) (view : StepView) (piped : PipesHeld) (unit : RequestUnit) (step : Step) (ran : Execution) → piped ≡ pipes_after topology view (ran_entry unit step ran) piped
 ran_piped topology view piped unit step runs_as.Empty = refl
 ran_piped topology view piped unit step runs_as.Full = refl
 ran_piped topology view piped unit step (runs_as.Ran host tag request answer) = refl

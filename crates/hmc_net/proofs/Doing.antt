@@ -30,7 +30,7 @@ use Rattle.hmc_journal.specs.Queues.QueueId.{Output}
 use Rattle.hmc_journal.specs.Setup.{directions_in, direction_from}
 use Rattle.hmc_journal.specs.StepView.{StepView}
 use Rattle.hmc_net.specs.Apply.{cubes_after, hosts_after, DoesStep, IsEntryIn, IsHostIn}
-use Rattle.hmc_kept.specs.After.{slots_after, piped_after, entries_after}
+use Rattle.hmc_kept.specs.After.{slots_after, pipes_after, entries_after}
 use Rattle.hmc_kept.specs.Pipes.{PipesHeld, AreCounted}
 use Rattle.hmc_links.specs.LinkList.{sizes_by, LinksStandFor, called, IsDirection, IsRoom, IsArrival, IsFrontAt}
 use Rattle.hmc_net.specs.NetState.{NetState}
@@ -52,7 +52,7 @@ pub record IsDone (net : NetState) (cubes : List CubeFields) (hosts : List HostF
   pub cubes_are : (view : StepView) → Sees net view → cubes ≡ cubes_after view entry net.cubes
   pub hosts_are : hosts ≡ hosts_after entry net.hosts
   pub slots_are : (view : StepView) → Sees net view → slots ≡ slots_after view entry net.slots
-  pub piped_are : (view : StepView) → Sees net view → net.piped ≡ piped_after net.topology view entry net.piped
+  pub piped_are : (view : StepView) → Sees net view → net.piped ≡ pipes_after net.topology view entry net.piped
   pub links_are : (view : StepView) → Sees net view → is_passed entry ≡ false → LinksStandFor net.topology.links links (entries_after net.topology view entry)
   pub there : IsEntryIn net.cubes entry
   pub host : IsHostIn net.hosts entry
@@ -88,7 +88,7 @@ pub record IsLinkDone (net : NetState) (links : List LinkHeld) (piped : PipesHel
   pub cubes_are : (view : StepView) → net.cubes ≡ cubes_after view entry net.cubes
   pub hosts_are : net.hosts ≡ hosts_after entry net.hosts
   pub slots_are : (view : StepView) → net.slots ≡ slots_after view entry net.slots
-  pub piped_are : (view : StepView) → Sees net view → piped ≡ piped_after net.topology view entry net.piped
+  pub piped_are : (view : StepView) → Sees net view → piped ≡ pipes_after net.topology view entry net.piped
   pub links_are : (view : StepView) → Sees net view → is_passed entry ≡ false → LinksStandFor net.topology.links links (entries_after net.topology view entry)
   pub there : IsEntryIn net.cubes entry
   pub host : IsHostIn net.hosts entry
@@ -132,7 +132,7 @@ ends_in net place d ready is = omega (arith, (ends_at net.topology place d is).t
 
 -- ---- what is seen of a direction
 
-below_is_room : (used size : ℕ) → nat_lt used size ≡ not (nat_le size used)
+pub below_is_room : (used size : ℕ) → nat_lt used size ≡ not (nat_le size used)
 below_is_room used size = grind (arith, nat_tests)
 
 -- whether a direction has room
@@ -210,10 +210,6 @@ front_none step (packet ∷ rest) does is = absurd (cc)
 
 pub no_front : (packets : List PacketFields) → packets ≡ [] → slice_get packets 0 ≡ None
 no_front packets none = ap (λ (l : List PacketFields). slice_get l 0) none
-
-pub front_here : (packets : List PacketFields) (front : PacketFields) → slice_get packets 0 ≡ Some front → front_of packets ≡ front
-front_here [] front is = absurd (cc)
-front_here (packet ∷ rest) front is = cc
 
 pub front_all : (P : PacketFields → Type 0) (packets : List PacketFields) (front : PacketFields) → slice_get packets 0 ≡ Some front → All P packets → P front
 front_all P [] front is all = absurd (cc)

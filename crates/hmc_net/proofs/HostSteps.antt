@@ -43,8 +43,8 @@ use Rattle.hmc_journal.specs.Queues.QueueId.{Host}
 use Rattle.hmc_journal.specs.Setup.{hosts_in, direction_from, Topology}
 use Rattle.hmc_journal.specs.StepView.{StepView}
 use Rattle.hmc_net.specs.Apply.{cubes_after, hosts_after, with_host, DoesStep, IsEntryIn, IsHostIn}
-use Rattle.hmc_kept.specs.After.{slots_after, piped_after, entries_after}
-use Rattle.hmc_net.specs.Gives.{IsGiven, IsRequested, given_to, cause_by}
+use Rattle.hmc_kept.specs.After.{slots_after, pipes_after, entries_after}
+use Rattle.hmc_net.specs.Gives.{IsGiven, IsRequested, entries_given, cause_by}
 use Rattle.hmc_kept.specs.Pipes.{PipesHeld}
 use Rattle.hmc_links.specs.LinkList.{sizes_by, LinksStandFor, called, IsRoom, IsFrontAt, MayHand}
 use Rattle.hmc_net.specs.NetState.{NetState, host_in, no_host}
@@ -79,14 +79,11 @@ given_is : (host : HostFields) (room : Bool) (given : Given) → given ≡ give_
 unfolding give_says
 given_is host room given is = subst (λ g. IsGivenBy g room host.number) (sym is) (given_next host room (next_item host))
 
-ask_flow : (layout : Layout) → layout ≡ layouts.Ask → is_flow layout ≡ false
-ask_flow layout is = ap is_flow is
-
 -- a request takes tokens, and has no error number
 pub asked_taken : (profile : Profile) (request : RequestFields) (packet : PacketFields) (tag slid : ℕ) (poisoned : Bool) → IsRequest request → packet ≡ request_packet request tag slid poisoned → IsTaken profile packet
 unfolding request_packet table_line
 asked_taken profile request packet tag slid poisoned is packet_is = record {
-  token = ap (λ (p : PacketFields). is_flow (layout_of p.command)) packet_is ∙ ask_flow (layout_of request.command) (asks-layout (layout_of request.command) is.asks);
+  token = ap (λ (p : PacketFields). is_flow (layout_of p.command)) packet_is ∙ ap is_flow (asks-layout (layout_of request.command) is.asks);
   errstat = λ two. subst (λ (p : PacketFields). p.errstat < 8) (sym packet_is) (omega arith);
 }
 
@@ -146,7 +143,7 @@ gave_hosts hosts host givens.Full = set-get_or hosts host no_host
 gave_hosts hosts host (givens.Gave packet request tag poisoned) = refl
 
 gave_links : (net : NetState) (view : StepView) (host direction : ℕ) (room : Bool) (given : Given) (links : List LinkHeld) → Sees net view → direction_from net.topology (places.Host host) ≡ Some direction → IsRoom net.links direction room → IsGivenBy given room host → IsRequested given
-    → LinksStandFor net.topology.links links (given_to net.topology.links direction given view.entries) → LinksStandFor net.topology.links links (entries_after net.topology view (gave_entry host given))
+    → LinksStandFor net.topology.links links (entries_given net.topology.links direction given view.entries) → LinksStandFor net.topology.links links (entries_after net.topology view (gave_entry host given))
 gave_links net view host direction room givens.Ended links sees from is by asks stand = stand
 gave_links net view host direction room givens.Fence links sees from is by asks stand = stand
 gave_links net view host direction room givens.Tags links sees from is by asks stand = stand
@@ -194,7 +191,7 @@ gave_slots view slots host givens.Tags = refl
 gave_slots view slots host givens.Full = refl
 gave_slots view slots host (givens.Gave packet request tag poisoned) = refl
 
-gave_piped : (topology : Topology) (view : StepView) (piped : PipesHeld) (host : ℕ) (given : Given) → piped ≡ piped_after topology view (gave_entry host given) piped
+gave_piped : (topology : Topology) (view : StepView) (piped : PipesHeld) (host : ℕ) (given : Given) → piped ≡ pipes_after topology view (gave_entry host given) piped
 gave_piped topology view piped host givens.Ended = refl
 gave_piped topology view piped host givens.Fence = refl
 gave_piped topology view piped host givens.Tags = refl
@@ -213,7 +210,7 @@ sized_host net host changed links entry sized = record { cubes = sized.cubes; ho
 
 pub give_does : (net now : NetState) (host direction : ℕ) (room : Bool) (given : Given) (links : List LinkHeld) → IsReady net → host < hosts_in net.topology → direction_from net.topology (places.Host host) ≡ Some direction → IsRoom net.links direction room
     → given ≡ give_says (host_in net.hosts host) room → IsRequested given
-    → ((rows : List LinkRow) (entries : ℕ → List LinkEntry) → LinksStandFor rows net.links entries → LinksStandFor rows links (given_to rows direction given entries))
+    → ((rows : List LinkRow) (entries : ℕ → List LinkEntry) → LinksStandFor rows net.links entries → LinksStandFor rows links (entries_given rows direction given entries))
     → ((cause : Cause) → cause_of (gave_entry host given) ≡ Some cause → links ≡ net.links)
     → now ≡ with_parts net net.cubes (with_host host (after_give given) net.hosts) links (gave_entry host given) → DoesStep net now (steps.Give host)
 give_does net now host direction room given links ready there from is says asks hand same now_is =
@@ -259,7 +256,7 @@ took_slots : (view : StepView) (slots : List (Option UnitFields)) (host : ℕ) (
 took_slots view slots host settles.Discarded = refl
 took_slots view slots host (settles.Took tag answer) = refl
 
-took_piped : (topology : Topology) (view : StepView) (piped : PipesHeld) (host : ℕ) (settled : Settled) → piped ≡ piped_after topology view (took_entry host settled) piped
+took_piped : (topology : Topology) (view : StepView) (piped : PipesHeld) (host : ℕ) (settled : Settled) → piped ≡ pipes_after topology view (took_entry host settled) piped
 took_piped topology view piped host settles.Discarded = refl
 took_piped topology view piped host (settles.Took tag answer) = refl
 

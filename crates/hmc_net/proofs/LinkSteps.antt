@@ -39,7 +39,7 @@ use Rattle.hmc_journal.specs.Setup.{directions_in}
 use Rattle.hmc_journal.specs.StepView.{StepView}
 use Rattle.hmc_journal.proofs.LinkKept.{line-flit}
 use Rattle.hmc_net.specs.Apply.{cubes_after, hosts_after, IsEntryIn, IsHostIn, DoesStep}
-use Rattle.hmc_kept.specs.After.{slots_after, piped_after, entries_after}
+use Rattle.hmc_kept.specs.After.{slots_after, pipes_after, entries_after}
 use Rattle.hmc_links.specs.LinkList.{sizes_at, sizes_by, LinksStandFor, called, MaySend, IsThroughAt}
 use Rattle.hmc_kept.specs.LinkAnswers.{outcome_of, sent_by, landed_by, landing_goes_on, after_landing}
 use Rattle.hmc_net.specs.Links.{taken_where}
@@ -66,12 +66,12 @@ landed_leaves net view direction lands.Empty = (refl, refl, tt, tt, refl)
 landed_leaves net view direction (lands.Passed flit) = (refl, refl, tt, tt, refl)
 landed_leaves net view direction (lands.Came flit landed) = (refl, refl, tt, tt, refl)
 
-sent_piped : (net : NetState) (view : StepView) (direction : ℕ) (sent : LinkSent) → net.piped ≡ piped_after net.topology view (sent_by direction sent) net.piped
+sent_piped : (net : NetState) (view : StepView) (direction : ℕ) (sent : LinkSent) → net.piped ≡ pipes_after net.topology view (sent_by direction sent) net.piped
 sent_piped net view direction links.Full = refl
 sent_piped net view direction links.Starved = refl
 sent_piped net view direction (links.Out flit what) = refl
 
-landed_piped : (net : NetState) (view : StepView) (direction : ℕ) (landed : LinkLanded) → after_landing direction landed net.piped ≡ piped_after net.topology view (landed_by direction landed) net.piped
+landed_piped : (net : NetState) (view : StepView) (direction : ℕ) (landed : LinkLanded) → after_landing direction landed net.piped ≡ pipes_after net.topology view (landed_by direction landed) net.piped
 landed_piped net view direction lands.Empty = refl
 landed_piped net view direction (lands.Passed flit) = refl
 landed_piped net view direction (lands.Came flit landed) = refl

@@ -16,15 +16,11 @@ use Rattle.hmc_journal.specs.Queues.QueueId.{Vault, Bank, Registers, Answers}
 use Rattle.hmc_net.specs.NetState.{inside, IsQueueOf}
 use Rattle.hmc_net.specs.Sees.{IsCubeQueue}
 use Rattle.hmc_net.proofs.QueueChanges.{changed, change_if, inside_changed}
+use Rattle.hmc_ends.proofs.Lists.{drop-one_more}
 
 -- lists
-drop_suc : {X : Type 0} (n : ℕ) (xs : List X) → drop (suc n) xs ≡ drop 1 (drop n xs)
-drop_suc zero xs = refl
-drop_suc (suc n) [] = refl
-drop_suc (suc n) (x ∷ xs) = drop_suc n xs
-
 pub drop_one_more : {X : Type 0} (n : ℕ) (xs : List X) → drop (1 + n) xs ≡ drop 1 (drop n xs)
-drop_one_more n xs = let e : 1 + n ≡ suc n = omega arith in ap (λ k. drop k xs) e ∙ drop_suc n xs
+drop_one_more n xs = let e : 1 + n ≡ suc n = omega arith in ap (λ k. drop k xs) e ∙ drop-one_more n xs
 
 pub drop_step : (a : Bool) (n : ℕ) (xs more : List PacketFields) → one_if a + n ≤ length xs → drop (one_if a + n) (xs ++ more) ≡ change_if a (drop 1) (drop n xs) ++ more
 drop_step true n xs more within = drop-append-le (1 + n) xs more within ∙ ap (λ l. l ++ more) (drop_one_more n xs)

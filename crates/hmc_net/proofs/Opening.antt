@@ -23,7 +23,7 @@ use Rattle.hmc_journal.specs.Queues.{QueueId, left, entered, contents}
 use Rattle.hmc_journal.specs.Queues.QueueId.{Output, Port, Host, Vault, Bank, Registers, Answers}
 use Rattle.hmc_journal.specs.Piped.{forwarded_onto, pipe_onto}
 use Rattle.hmc_journal.specs.Serial.{state_after}
-use Rattle.hmc_journal.specs.Setup.{Topology, Setup, no_cube as no_setup, cube_setup, cubes_in, hosts_in, directions_in}
+use Rattle.hmc_journal.specs.Setup.{Topology, Setup, no_setup, cube_setup, cubes_in, hosts_in, directions_in}
 use Rattle.hmc_journal.specs.StepView.{state_of}
 use Rattle.hmc_kept.specs.Pipes.{AreCounted}
 use Rattle.hmc_net.specs.NetState.{NetState, cube_in, no_cube, no_host, packets_in, queue_cube, inside, machine_in}

@@ -1,8 +1,10 @@
 -- The steps at the ports of cubes: shift and lift.
 use Rattle.std.proofs.Common.{◌≡◌, ◌≤◌, ◌<◌, ◌/◌, ◌==◌, ◌%◌, ◌^◌, ◌∙◌, ℕ, Bool, true, false, not, nat_le, if◌then◌else◌, Option, Some, None, List, ◌∷◌, length, slice_get, refl, sym, ap, ap₂, subst, arith}
 use Rattle.std.specs.Prelude.{option_map}
-use Rattle.std.proofs.Math.Nat.{pow-le-pow_right}
+use Rattle.std.proofs.Math.Nat.{pow-le-pow_right, mod-lt}
 use Rattle.std.proofs.lemmas.Bool.Decides.{nat_tests}
+use Rattle.std.proofs.lemmas.Bool.{lt-leb}
+use Rattle.std.proofs.lemmas.Nat.{pow_pos}
 use Rattle.hmc_codes.specs.Commands.{is_flow, layout_of, family_of, family_of_layout}
 use Rattle.hmc_codes.specs.Graph.{GraphFields}
 use Rattle.hmc_codes.specs.Link.{LinkFields}
@@ -52,9 +54,11 @@ use Rattle.hmc_net.specs.Ports.{IsShifting, IsInner, IsWayOut}
 use Rattle.hmc_wiring.specs.Ready.{IsLiftIn}
 use Rattle.hmc_net.specs.Sees.{Sees, IsSized, IsReady}
 use Rattle.hmc_net.proofs.CubeSteps.{sized_cube, cube_inside}
-use Rattle.hmc_net.proofs.Doing.{with_parts, does_by, idle_does, starts_in, sized_links, place_room, place_has_room, front_seen, called_puts, front_some, front_none, front_all, front_here}
+use Rattle.hmc_net.proofs.Doing.{with_parts, does_by, idle_does, starts_in, sized_links, place_room, place_has_room, front_seen, called_puts, front_some, front_none, front_all}
 use Rattle.hmc_links.proofs.LinkCalls.{same_entries}
 use Rattle.hmc_kept.proofs.Linking.{handed_call, taken_call}
+use Rattle.hmc_journal.proofs.Packets.{front_is_first, reply_layout, inside_goal}
+use Rattle.hmc_journal.proofs.LinkKept.{room_taken}
 
 -- ---- packets at ports
 
@@ -92,14 +96,6 @@ goes_good topology cube packet goal is = by_poison packet.poisoned refl
     by_poison false at = at
     by_poison true at =
         let nowhere = sym (ap (λ (t : Bool). goal_at (if t then tos.Nowhere else unpoisoned_to (graph_of topology) (shape_of topology cube) cube packet (family_of packet.command))) at) ∙ is in absurd (cc)
-
-reply_layout : (layout : Layout) → family_of_layout layout ≡ families.Reply → is_flow layout ≡ false
-reply_layout layouts.Reply is = refl
-reply_layout layouts.Ask is = refl
-reply_layout layouts.Null is = absurd (cc)
-reply_layout layouts.Pret is = absurd (cc)
-reply_layout layouts.Tret is = absurd (cc)
-reply_layout layouts.Irtry is = absurd (cc)
 
 answer_taken : (profile : Profile) (topology : Topology) (packet : PacketFields) → IsHostAnswer topology packet → IsTaken profile packet
 answer_taken profile topology packet is = record { token = reply_layout (layout_of packet.command) is.replies; errstat = λ two. is.errstat }
@@ -181,12 +177,8 @@ out_inner : (found : Option ℕ) (goal : Goal) → IsInner goal → goal_at (out
 out_inner None goal inner is = let no : None ≡ Some goal = is in absurd (cc)
 out_inner (Some port) goal inner is = let same : goals.Port port ≡ goal = cc in absurd (subst IsInner (sym same) inner)
 
-into_goal : (registers : Bool) (vault : ℕ) (goal : Goal) → goal_at (into_cube registers vault) ≡ Some goal → (if registers then goals.Registers else goals.Vault vault) ≡ goal
-into_goal true vault goal is = cc
-into_goal false vault goal is = cc
-
 ask_in : (graph : GraphFields) (shape : ShapeFields) (cube : ℕ) (packet : PacketFields) (here : Bool) (goal : Goal) → IsInner goal → goal_at (request_to graph shape cube packet here) ≡ Some goal → (if is_for_registers packet.command then goals.Registers else goals.Vault (vault_of shape packet.address)) ≡ goal
-ask_in graph shape cube packet true goal inner is = into_goal (is_for_registers packet.command) (vault_of shape packet.address) goal is
+ask_in graph shape cube packet true goal inner is = inside_goal (is_for_registers packet.command) (vault_of shape packet.address) goal is
 ask_in graph shape cube packet false goal inner is = absurd (out_inner _ goal inner is)
 
 family_in : (graph : GraphFields) (shape : ShapeFields) (cube : ℕ) (packet : PacketFields) (family : Family) (goal : Goal) → IsInner goal → packet.poisoned ≡ false → family_of packet.command ≡ family → goal_at (unpoisoned_to graph shape cube packet family) ≡ Some goal → IsGoingIn shape packet goal
@@ -201,13 +193,9 @@ poisoned_in graph shape cube packet false goal inner is goes = family_in graph s
 going_in : (net : NetState) (cube port direction : ℕ) (front : PacketFields) (goal : Goal) → IsShifting net cube port direction front goal → IsInner goal → IsGoingIn (shape_of net.topology cube) front goal
 going_in net cube port direction front goal is inner = poisoned_in (graph_of net.topology) (shape_of net.topology cube) cube front front.poisoned goal inner refl is.goes
 
-below_power : (n bits : ℕ) → n % 2 ^ bits < 2 ^ bits
-below_power n bits =
-    let some : 2 ^ 0 ≤ 2 ^ bits = pow-le-pow_right {n = 2} (omega arith) {i = 0} {j = bits} (omega arith) in omega arith
-
 vault_below : (shape : ShapeFields) (packet : PacketFields) (registers : Bool) (vault : ℕ) → (if registers then goals.Registers else goals.Vault (vault_of shape packet.address)) ≡ goals.Vault vault → vault < 2 ^ shape.vault_bits
 vault_below shape packet true vault is = absurd (cc)
-vault_below shape packet false vault is = let same : vault_of shape packet.address ≡ vault = cc in subst (λ (n : ℕ). n < 2 ^ shape.vault_bits) same (below_power _ _)
+vault_below shape packet false vault is = let same : vault_of shape packet.address ≡ vault = cc in subst (λ (n : ℕ). n < 2 ^ shape.vault_bits) same (mod-lt _ (pow_pos _))
 
 here_by : (x : CubeFields) (shape : ShapeFields) (packet : PacketFields) (goal : Goal) → x.state.shape ≡ shape → IsInner goal → IsGoingIn shape packet goal → IsHere x (to_of goal)
 here_by x shape packet (goals.Vault vault) same inner is = subst (λ (s : ShapeFields). vault < 2 ^ s.vault_bits) (sym same) (vault_below shape packet (is_for_registers packet.command) vault is.goal_is)
@@ -237,9 +225,6 @@ shift_for net cube port direction front (goals.Port port') is inner = absurd inn
 
 at_most : (size used : ℕ) → (used < size → ⊥) → nat_le size used ≡ true
 at_most size used full = grind (arith, nat_tests)
-
-below : (size used : ℕ) → used < size → nat_le size used ≡ false
-below size used room = grind (arith, nat_tests)
 
 -- whether the goal is full, by its queue
 inner_lacks : (net : NetState) (view : StepView) (cube : ℕ) (goal : Goal) (test : Bool) → Sees net view → IsInner goal → (cube_in net.cubes cube).size ≡ (cube_setup net.topology cube).queue → nat_le (cube_in net.cubes cube).size (length (entrance (cube_in net.cubes cube) (to_of goal))) ≡ test
@@ -286,9 +271,9 @@ shift_in_does net now cube port direction front goal links ready there is inner 
     let kept = enter_kept (cube_in net.cubes cube) goal front in
     does_by net now (with_cube cube (after_enter (to_of goal) front) net.cubes) net.hosts net.slots links (entries.Shifted cube port goal) (steps.Shift cube port) now_is (record {
       chosen = λ view sees. ap (λ (t : Bool). unless_full (steps.Shift cube port) t (entries.Shifted cube port goal))
-          (sym (inner_lacks net view cube goal false sees inner (sized.fits cube less).queue (below (cube_in net.cubes cube).size _ room)))
+          (sym (inner_lacks net view cube goal false sees inner (sized.fits cube less).queue (lt-leb (cube_in net.cubes cube).size _ room)))
           ∙ shift_seen net view cube port direction front goal sees is;
-      cubes_are = λ view sees. shift_cubes view net.cubes cube port goal front inner (front_here (view.inside (Port cube port)) front (port_front net view cube port direction (Some front) sees is.ends is.is_front));
+      cubes_are = λ view sees. shift_cubes view net.cubes cube port goal front inner (front_is_first (view.inside (Port cube port)) front (port_front net view cube port direction (Some front) sees is.ends is.is_front));
       hosts_are = refl;
       slots_are = λ view sees. refl;
       piped_are = λ view sees. refl;
@@ -303,12 +288,8 @@ shift_in_does net now cube port direction front goal links ready there is inner 
 -- ---- on through another port
 
 -- a take leaves the room of all directions
-room_kept : (link : LinkFields) (way other : Toward) (past : List LinkEntry) → has_room link way (LinkEntry.taken other ∷ past) ≡ has_room link way past
-unfolding sender_entries handed_packets
-room_kept link way other past = refl
-
 room_put : (rows : List LinkRow) (direction onward : ℕ) (past : List LinkEntry) (test : Bool) → has_room (sizes_by rows onward) (toward onward) (put_if test (LinkEntry.taken (toward direction)) past) ≡ has_room (sizes_by rows onward) (toward onward) past
-room_put rows direction onward past true = room_kept (sizes_by rows onward) (toward onward) (toward direction) past
+room_put rows direction onward past true = room_taken (sizes_by rows onward) (toward onward) (toward direction) past
 room_put rows direction onward past false = refl
 
 -- the room of a direction after a take at a port
@@ -363,7 +344,7 @@ shift_out_does net now cube port direction out onward front taken links ready is
       (handed_call (sizes_by rows onward) (after (onward / 2)) (toward onward) front (room_after net view cube port direction onward front sees is.ends is.is_front ∙ way_room net view cube out onward sees way) (ap not fit.token))
       ∙ ap (λ (past : List LinkEntry). put_on link (Some onward) (λ d. LinkEntry.handed d front) past) (taken_entries net view cube port direction link front sees is.ends is.is_front)
       ∙ ap₂ (λ (d : Option ℕ) (p : PacketFields). put_on link d (λ w. LinkEntry.handed w p) (put_on link (direction_to net.topology (places.Port cube port)) LinkEntry.taken (view.entries link)))
-      (sym (way.from onward refl)) (sym (front_here (view.inside (Port cube port)) front (port_front net view cube port direction (Some front) sees is.ends is.is_front)))));
+      (sym (way.from onward refl)) (sym (front_is_first (view.inside (Port cube port)) front (port_front net view cube port direction (Some front) sees is.ends is.is_front)))));
   there = tt;
   host = tt;
   sized = sized_links net links (entries.Shifted cube port (goals.Port out)) ready.sized;
@@ -438,7 +419,7 @@ lift_does net now cube from front port onward links ready there parts some towar
           (λ link. called_puts net.topology.links onward link (λ d. LinkCall.hand d front) (λ _ d. LinkEntry.handed d front) view.entries
           (handed_call (sizes_by net.topology.links onward) (view.entries (onward / 2)) (toward onward) front (way_room net view cube port onward sees way) (ap not fit.token))
           ∙ ap₂ (λ (d : Option ℕ) (p : PacketFields). put_on link d (λ w. LinkEntry.handed w p) (view.entries link)) (sym (way.from onward refl))
-          (sym (front_here (view.inside (Answers cube from)) front (ap (λ (l : List PacketFields). slice_get l 0) (sym (answers_seen net view cube from sees)) ∙ some))));
+          (sym (front_is_first (view.inside (Answers cube from)) front (ap (λ (l : List PacketFields). slice_get l 0) (sym (answers_seen net view cube from sees)) ∙ some))));
       there = lift_entry_in net.cubes cube port from less parts (lift_here net cube from sized there);
       host = tt;
       sized = sized_cube net cube (after_lift from (cube_in net.cubes cube)) links (entries.Lifted cube from port) sized less kept.0 kept.1;

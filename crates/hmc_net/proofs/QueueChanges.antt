@@ -2,6 +2,7 @@
 use Rattle.std.proofs.Common.{◌≡◌, ◌<◌, ◌&&◌, ◌==◌, ◌∙◌, ℕ, Bool, true, false, List, [], length, refl, sym, ap, eqb-true}
 use Rattle.std.specs.Prelude.{slice_set, slice_index_or}
 use Rattle.std.proofs.lemmas.List.{get_or-set_same, get_or-set_other}
+use mathlib.Core.Bool.{and-false, and-true}
 use Rattle.hmc_codes.specs.declared.lift.Lift.TheVariants as lifts
 use Rattle.hmc_packet.specs.Packet.{PacketFields}
 use Rattle.hmc_vault.specs.Vault.{VaultFields, bank_at}
@@ -117,31 +118,23 @@ changed cubes (Port c p) f = cubes
 changed cubes (Host h) f = cubes
 changed cubes r f = slice_set cubes (queue_cube r) (changed_in (cube_in cubes (queue_cube r)) r f)
 
-and_none : (test : Bool) → (test && false) ≡ false
-and_none true = refl
-and_none false = refl
-
-and_all : (test : Bool) → (test && true) ≡ test
-and_all true = refl
-and_all false = refl
-
 same_split : (r q : QueueId) → IsCubeQueue r → IsCubeQueue q → same_queue r q ≡ ((queue_cube r == queue_cube q) && same_inner r q)
 same_split (Vault c v) (Vault d w) here there = refl
-same_split (Vault c v) (Bank d w a) here there = sym (and_none (c == d))
-same_split (Vault c v) (Answers d to) here there = sym (and_none (c == d))
-same_split (Vault c v) (Registers d) here there = sym (and_none (c == d))
-same_split (Bank c v b) (Vault d w) here there = sym (and_none (c == d))
+same_split (Vault c v) (Bank d w a) here there = sym (and-false (c == d))
+same_split (Vault c v) (Answers d to) here there = sym (and-false (c == d))
+same_split (Vault c v) (Registers d) here there = sym (and-false (c == d))
+same_split (Bank c v b) (Vault d w) here there = sym (and-false (c == d))
 same_split (Bank c v b) (Bank d w a) here there = refl
-same_split (Bank c v b) (Answers d to) here there = sym (and_none (c == d))
-same_split (Bank c v b) (Registers d) here there = sym (and_none (c == d))
-same_split (Registers c) (Vault d w) here there = sym (and_none (c == d))
-same_split (Registers c) (Bank d w a) here there = sym (and_none (c == d))
-same_split (Registers c) (Answers d to) here there = sym (and_none (c == d))
-same_split (Registers c) (Registers d) here there = sym (and_all (c == d))
-same_split (Answers c from) (Vault d w) here there = sym (and_none (c == d))
-same_split (Answers c from) (Bank d w a) here there = sym (and_none (c == d))
+same_split (Bank c v b) (Answers d to) here there = sym (and-false (c == d))
+same_split (Bank c v b) (Registers d) here there = sym (and-false (c == d))
+same_split (Registers c) (Vault d w) here there = sym (and-false (c == d))
+same_split (Registers c) (Bank d w a) here there = sym (and-false (c == d))
+same_split (Registers c) (Answers d to) here there = sym (and-false (c == d))
+same_split (Registers c) (Registers d) here there = sym (and-true (c == d))
+same_split (Answers c from) (Vault d w) here there = sym (and-false (c == d))
+same_split (Answers c from) (Bank d w a) here there = sym (and-false (c == d))
 same_split (Answers c from) (Answers d to) here there = refl
-same_split (Answers c from) (Registers d) here there = sym (and_none (c == d))
+same_split (Answers c from) (Registers d) here there = sym (and-false (c == d))
 same_split (Output e) q here there = absurd here
 same_split (Port d p) q here there = absurd here
 same_split (Host h) q here there = absurd here

@@ -55,7 +55,7 @@ use Rattle.hmc_journal.specs.Setup.{Topology, Setup, unit_cube, directions_in, d
 use Rattle.hmc_journal.specs.StepView.{StepView, state_of, view_of}
 use Rattle.hmc_journal.proofs.EntryRule.{EntryRule, next_rule}
 use Rattle.hmc_net.specs.Apply.{after_unit, cubes_after, hosts_after, IsAfter, DoesStep, IsEntryIn, IsHostIn, gave_one, with_cube, with_host}
-use Rattle.hmc_kept.specs.After.{slots_after, gathered_from, piped_after, entries_after}
+use Rattle.hmc_kept.specs.After.{slots_after, gathered_from, pipes_after, entries_after}
 use Rattle.hmc_links.specs.LinkList.{LinksStandFor}
 use Rattle.hmc_net.specs.NetState.{NetState, cube_in, no_cube, host_in, no_host, inside, machine_in}
 use Rattle.hmc_kept.specs.Pipes.{AreCounted}
@@ -251,7 +251,7 @@ stands_by net now tally changed was_good past setup step entry last is law next_
     let slots : now.slots ≡ slots_after view entry net.slots = after.slots ∙ ap (λ (e : Entry). slots_after view e net.slots) (sym last) in
     let moved = moves_of setup past entry net.cubes rule stands.queues there in
     let receivers : (d : ℕ) → d < directions_in setup.topology → receiver_of d past ≡ receiver_entries (toward d) (entries_on setup.topology d past) = λ d inside. (law.queues.links d inside).receiver in
-    let piped : now.piped ≡ piped_after setup.topology view entry net.piped = after.piped ∙ ap₂ (λ (t : Topology) (e : Entry). piped_after t view e net.piped) stands.topology (sym last) in
+    let piped : now.piped ≡ pipes_after setup.topology view entry net.piped = after.piped ∙ ap₂ (λ (t : Topology) (e : Entry). pipes_after t view e net.piped) stands.topology (sym last) in
     let are : ArePiped setup.topology past net.piped = record { counted = subst (λ (t : Topology). AreCounted (directions_in t) net.piped) stands.topology stands.sized.piped; forwarded = stands.forwarded; pipes = stands.pipes } in
     let next : ArePiped setup.topology (entry ∷ past) now.piped = subst (ArePiped setup.topology (entry ∷ past)) (sym piped) (piped_then setup past entry net.piped stands.network rule (lawful_pipes setup past law receivers) receivers are) in
     let left_is = left_by_rule setup past entry rule in

@@ -1,10 +1,11 @@
 -- A network holds no packet exactly where its journal is drained.
-use Rattle.std.proofs.Common.{◌≡◌, ◌<◌, ◌+◌, ◌*◌, ◌/◌, ◌%◌, ◌^◌, ◌↔◌, ◌∙◌, ◌==◌, ◌&&◌, ℕ, zero, suc, Bool, true, false, if◌then◌else◌, List, [], ◌∷◌, ◌++◌, length, map, drop, sum_by, refl, sym, ap, subst, arith}
+use Rattle.std.proofs.Common.{◌≡◌, ◌<◌, ◌+◌, ◌*◌, ◌/◌, ◌%◌, ◌^◌, ◌↔◌, ◌∙◌, ◌==◌, ◌&&◌, ℕ, zero, suc, Bool, true, false, if◌then◌else◌, List, [], ◌∷◌, ◌++◌, length, map, drop, sum_by, refl, sym, ap, subst, arith, eq-eqb}
 use Rattle.std.specs.Prelude.{slice_index_or, IsTrue, filter}
 use Rattle.std.specs.List.{All, list_all, flat_map, range_with_len}
 use Rattle.std.proofs.lemmas.Bool.Decides.{nat_tests}
 use Rattle.std.proofs.lemmas.List.Folds.{list_all-append, list_all-map}
 use Rattle.std.proofs.lemmas.List.Sums.{sum_by-cons}
+use Rattle.std.proofs.lemmas.Bool.{and_from}
 use Rattle.hmc_codes.specs.Link.{LinkFields}
 use Rattle.hmc_codes.specs.Numbers.{upto}
 use Rattle.hmc_codes.specs.declared.lift.Lift.TheVariants as lifts
@@ -34,8 +35,9 @@ use Rattle.hmc_net.specs.Sees.{IsCubeQueue}
 use Rattle.hmc_kept.specs.Shown.{ShowsDirection}
 use Rattle.hmc_net.specs.Stands.{StandsFor}
 use Rattle.hmc_kept.proofs.Elements.{default_same}
-use Rattle.hmc_kept.proofs.Laws.{law_bound, drained_of}
+use Rattle.hmc_kept.proofs.Laws.{law_bound}
 use Rattle.hmc_kept.proofs.LawsShown.{IsLawBound, direction_shown}
+use Rattle.hmc_laws.proofs.DrainedTest.{drained_by_test, empties}
 
 -- ---- sums that are nothing
 
@@ -97,18 +99,8 @@ quiet_of link held past stands forth back = record {
 
 -- ---- tests
 
-is_zero : (n : ℕ) → n ≡ 0 → (n == 0) ≡ true
-is_zero n is = grind (arith, nat_tests)
-
-abbrev empties : Topology → List Entry → QueueId → Bool
-empties topology past queue = length (contents topology past queue) == 0
-
 empty_test : (topology : Topology) (past : List Entry) (queue : QueueId) → contents topology past queue ≡ [] → empties topology past queue ≡ true
-empty_test topology past queue none = is_zero (length (contents topology past queue)) (ap length none)
-
-both_true : (a b : Bool) → a ≡ true → b ≡ true → (a && b) ≡ true
-both_true true b is same = same
-both_true false b is same = is
+empty_test topology past queue none = eq-eqb (length (contents topology past queue)) 0 (ap length none)
 
 all_range : (p : ℕ → Bool) (a n : ℕ) → ((k : ℕ) → k < a + n → p k ≡ true) → list_all p (range_with_len a n) ≡ true
 all_range p a zero all = refl
@@ -120,7 +112,7 @@ all_upto p n all = all_range p 0 n (λ k less. all k (omega arith))
 flat_range : {X : Type 0} (p : X → Bool) (f : ℕ → List X) (a n : ℕ) → ((k : ℕ) → k < a + n → list_all p (f k) ≡ true) → list_all p (flat_map f (range_with_len a n)) ≡ true
 flat_range p f a zero all = refl
 flat_range p f a (suc n) all =
-    list_all-append p (f a) (flat_map f (range_with_len (a + 1) n)) ∙ both_true (list_all p (f a)) (list_all p (flat_map f (range_with_len (a + 1) n))) (all a (omega arith)) (flat_range p f (a + 1) n (λ k less. all k (omega arith)))
+    list_all-append p (f a) (flat_map f (range_with_len (a + 1) n)) ∙ and_from (list_all p (f a)) (list_all p (flat_map f (range_with_len (a + 1) n))) (all a (omega arith)) (flat_range p f (a + 1) n (λ k less. all k (omega arith)))
 
 flat_upto : {X : Type 0} (p : X → Bool) (f : ℕ → List X) (n : ℕ) → ((k : ℕ) → k < n → list_all p (f k) ≡ true) → list_all p (flat_map f (upto n)) ≡ true
 flat_upto p f n all = flat_range p f 0 n (λ k less. all k (omega arith))
@@ -140,19 +132,19 @@ vault_test net setup past cube vault stands none =
     let p = empties setup.topology past in
     let count = 2 ^ (shape_of setup.topology cube).bank_bits in
     let banks = map (Bank cube vault) (upto count) in
-    both_true (p (Vault cube vault)) (list_all p (banks ++ Answers cube (lifts.Vault vault) ∷ [])) (cube_empty net setup past (Vault cube vault) stands tt still.0)
+    and_from (p (Vault cube vault)) (list_all p (banks ++ Answers cube (lifts.Vault vault) ∷ [])) (cube_empty net setup past (Vault cube vault) stands tt still.0)
     (list_all-append p banks (Answers cube (lifts.Vault vault) ∷ [])
-    ∙ both_true (list_all p banks) (list_all p (Answers cube (lifts.Vault vault) ∷ []))
+    ∙ and_from (list_all p banks) (list_all p (Answers cube (lifts.Vault vault) ∷ []))
     (list_all-map p (Bank cube vault) (upto count) ∙ all_upto (λ bank. p (Bank cube vault bank)) count (λ bank less. cube_empty net setup past (Bank cube vault bank) stands tt (still.1 bank)))
-    (both_true (p (Answers cube (lifts.Vault vault))) true (cube_empty net setup past (Answers cube (lifts.Vault vault)) stands tt still.2) refl))
+    (and_from (p (Answers cube (lifts.Vault vault))) true (cube_empty net setup past (Answers cube (lifts.Vault vault)) stands tt still.2) refl))
 
 cube_test : (net : NetState) (setup : Setup) (past : List Entry) (cube : ℕ) → StandsFor net setup past → held_in_cube (cube_in net.cubes cube) ≡ 0 → list_all (empties setup.topology past) (cube_queues setup.topology cube) ≡ true
 cube_test net setup past cube stands none =
     let p = empties setup.topology past in
     let count = 2 ^ (shape_of setup.topology cube).vault_bits in
     let vaults = flat_map (vault_queues setup.topology cube) (upto count) in
-    both_true (p (Registers cube)) (p (Answers cube lifts.Registers) && list_all p vaults) (cube_empty net setup past (Registers cube) stands tt (length_none (cube_in net.cubes cube).register_queue (omega arith)))
-    (both_true (p (Answers cube lifts.Registers)) (list_all p vaults) (cube_empty net setup past (Answers cube lifts.Registers) stands tt (length_none (cube_in net.cubes cube).answers (omega arith)))
+    and_from (p (Registers cube)) (p (Answers cube lifts.Registers) && list_all p vaults) (cube_empty net setup past (Registers cube) stands tt (length_none (cube_in net.cubes cube).register_queue (omega arith)))
+    (and_from (p (Answers cube lifts.Registers)) (list_all p vaults) (cube_empty net setup past (Answers cube lifts.Registers) stands tt (length_none (cube_in net.cubes cube).answers (omega arith)))
     (flat_upto p (vault_queues setup.topology cube) count (λ vault less. vault_test net setup past cube vault stands none)))
 
 -- the link of a direction
@@ -172,12 +164,12 @@ queues_test : (net : NetState) (setup : Setup) (past : List Entry) (direction : 
 unfolding view_of
 queues_test net setup past direction shows clear =
     let p = empties setup.topology past in
-    both_true (p (Output direction)) _ (empty_test setup.topology past (Output direction) (shows.output ∙ clear.queue))
-    (both_true (p (landing_buffer setup.topology direction)) true (empty_test setup.topology past (landing_buffer setup.topology direction) (shows.buffer ∙ clear.buffer)) refl)
+    and_from (p (Output direction)) _ (empty_test setup.topology past (Output direction) (shows.output ∙ clear.queue))
+    (and_from (p (landing_buffer setup.topology direction)) true (empty_test setup.topology past (landing_buffer setup.topology direction) (shows.buffer ∙ clear.buffer)) refl)
 
 transit_test : (setup : Setup) (past : List Entry) (direction : ℕ) → IsClear (sizes_on setup.topology direction) (toward direction) (entries_on setup.topology direction past) → ((token_counts setup.topology past direction).transit == 0) ≡ true
 unfolding token_counts
-transit_test setup past direction clear = is_zero _ clear.transit
+transit_test setup past direction clear = eq-eqb _ 0 clear.transit
 
 still_test : (net : NetState) (setup : Setup) (past : List Entry) → StandsFor net setup past → has_passed past ≡ false → IsLawBound setup past → IsQuiescent net → is_drained setup.topology past ≡ true
 unfolding is_drained
@@ -186,9 +178,9 @@ still_test net setup past stands on law still =
     let p = empties t past in
     let clear = λ (direction : ℕ) (there : direction < directions_in t). clear_direction net setup past direction stands on still.links there in
     let count : length net.cubes ≡ cubes_in t = stands.sized.cubes ∙ ap (λ (topology : Topology). cubes_in topology) stands.topology in
-    both_true _ _
+    and_from _ _
     (list_all-append p (flat_map (direction_queues t) (upto (directions_in t))) (flat_map (cube_queues t) (upto (cubes_in t)))
-    ∙ both_true _ _
+    ∙ and_from _ _
     (flat_upto p (direction_queues t) (directions_in t) (λ direction there. queues_test net setup past direction (direction_shown setup past direction (law.queues.links direction there) (law.fed direction there)) (clear direction there)))
     (flat_upto p (cube_queues t) (cubes_in t) (λ cube there. cube_test net setup past cube stands (element IsEmptyCube net.cubes cube no_cube still.cubes (omega arith)))))
     (all_upto (λ direction. (token_counts t past direction).transit == 0) (directions_in t) (λ direction there. transit_test setup past direction (clear direction there)))
@@ -249,7 +241,7 @@ drained_test net past setup result stands on is =
     let law = law_bound setup past stands.network stands.lawful in
     same_test result (is_drained setup.topology past)
     (λ yes. still_test net setup past stands on law (is.0 yes))
-    (λ yes. is.1 (let drained = drained_of setup past stands.network stands.lawful yes in record {
+    (λ yes. is.1 (let drained = drained_by_test setup past stands.network stands.lawful yes in record {
       links = λ link d there. drained_link net setup past link d stands on law drained there;
       cubes = λ cube d there. subst (λ (x : CubeFields). held_in_cube x ≡ 0) (default_same net.cubes cube no_cube d there) (drained_cube net setup past cube stands drained);
     }))

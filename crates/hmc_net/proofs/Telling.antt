@@ -1,4 +1,4 @@
--- What the step of an entry tells the counts.
+-- What the entry of a step adds to the counts.
 use Rattle.std.proofs.Common.{◌≡◌, ◌∙◌, ℕ, List, length, refl, sym, ap, subst}
 use Rattle.hmc_packet.specs.Landings.{ReceiverEntry, mode, pending}
 use Rattle.hmc_packet.specs.declared.outcome.Outcome.{Outcome}

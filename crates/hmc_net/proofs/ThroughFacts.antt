@@ -1,7 +1,8 @@
 -- What the step through finds.
-use Rattle.std.proofs.Common.{◌≡◌, ◌≤◌, ◌<◌, ◌/◌, ◌&&◌, ◌∙◌, ℕ, Bool, true, false, not, nat_le, if◌then◌else◌, Option, Some, None, List, [], ◌∷◌, length, refl, sym, ap, ap₂, subst, arith, eq-eqb}
+use Rattle.std.proofs.Common.{◌≡◌, ◌≤◌, ◌<◌, ◌/◌, ◌&&◌, ◌∙◌, ℕ, Bool, true, false, not, nat_le, if◌then◌else◌, Option, Some, None, List, [], ◌∷◌, length, refl, sym, ap, ap₂, subst, arith, eq-eqb, le-leb}
 use Rattle.std.proofs.lemmas.Bool.Decides.{nat_tests}
 use Rattle.std.specs.Prelude.{is_some, is_none, slice_get, slice_index_or, option_and_then}
+use Rattle.std.proofs.lemmas.Bool.{and_parts}
 use Rattle.hmc_codes.specs.Commands.{layout_of, is_flow}
 use Rattle.hmc_codes.specs.declared.command.Command.{Command}
 use Rattle.hmc_codes.specs.declared.layout.Layout.{Layout}
@@ -25,6 +26,7 @@ use Rattle.hmc_kept.specs.Pipes.{forwarded_at}
 use Rattle.hmc_net.specs.Sees.{Sees, IsReady}
 use Rattle.hmc_kept.specs.Shown.{gathered, some_flits, AreShort}
 use Rattle.hmc_net.specs.Throughs.{IsComing, is_free}
+use Rattle.hmc_journal.proofs.Packets.{head_lng}
 
 -- ---- the flits that are gathered
 
@@ -73,32 +75,10 @@ short_by (first ∷ rest) some short = record { more = short.0; few = short.1 }
 
 -- ---- the head names the length
 
-head_by : (layout : Layout) (command : Command) (header : ℕ) (head : Head) → head_with layout command header ≡ Some head → head.flits ≡ bits_from 7 5 header
-unfolding head_with
-head_by layout command header head is = by_test (not (is_flow layout) && header_is_clean layout header) is
-  where
-    by_test : (test : Bool) → (if test then Some (record { command = command; flits = bits_from 7 5 header; cube = (header_of layout header).cube; slid = (header_of layout header).slid }) else None) ≡ Some head → head.flits ≡ bits_from 7 5 header
-    by_test true same = sym (ap (λ (h : Head). h.flits) (head_same _ head same))
-      where
-        head_same : (a b : Head) → Some a ≡ Some b → a ≡ b
-        head_same a b same = cc
-    by_test false same = absurd (cc)
-
-named_head : (flit : List ℕ) (head : Head) (named : Option Command) → option_and_then (λ (command : Command). head_with (layout_of command) command (header_in flit)) named ≡ Some head → head.flits ≡ bits_from 7 5 (header_in flit)
-named_head flit head None is = absurd (cc)
-named_head flit head (Some command) is = head_by (layout_of command) command (header_in flit) head is
-
-pub head_lng : (flit : List ℕ) (head : Head) → head_in flit ≡ Some head → head.flits ≡ lng_of flit
-unfolding head_in lng_of
-head_lng flit head is = named_head flit head (named_by flit) is
-
-at_least : (a b : ℕ) → a ≤ b → nat_le a b ≡ true
-at_least a b less = grind (arith, nat_tests)
-
 pub names_lng : (flit : List ℕ) (head : Head) → head_in flit ≡ Some head → 2 ≤ lng_of flit → names_flits (lng_of flit) (head_in flit) ≡ true
 names_lng flit head is two =
     ap (names_flits (lng_of flit)) is
-    ∙ ap₂ (λ (a b : Bool). a && b) (at_least 2 (lng_of flit) two) (eq-eqb head.flits (lng_of flit) (head_lng flit head is))
+    ∙ ap₂ (λ (a b : Bool). a && b) (le-leb 2 (lng_of flit) two) (eq-eqb head.flits (lng_of flit) (head_lng flit head is))
 
 -- ---- whether it can go on
 
@@ -116,13 +96,9 @@ free_found net view from onto flits forwarded arrived ready sees there forwarded
     ∙ sym (ap (λ (l : List PacketFields). is_none (slice_get l 0)) (sees.laws.directions from there).buffer) in
     ap₂ (λ (a b : Bool). (not a && b) && ready) goes waits ∙ ap (λ (r : Bool). (not (is_forwarded view (Some from)) && is_none (slice_get (view.inside (landing_buffer net.topology from)) 0)) && r) (ready_is rows view.entries sees.shows.links)
 
-and_last : (a b : Bool) → (a && b) ≡ true → b ≡ true
-and_last true b is = is
-and_last false b is = absurd (cc)
-
 -- what can go on is taken by the direction onward
 pub free_takes : (net : NetState) (view : StepView) (from onto flits : ℕ) → true ≡ is_free net view from onto flits → may_pass_on (view_in (sizes_by net.topology.links onto) (toward onto) (view.entries (onto / 2)) Waiting) flits ≡ true
-free_takes net view from onto flits is = and_last _ (takes_on net.topology view onto flits) (sym is)
+free_takes net view from onto flits is = (and_parts _ (takes_on net.topology view onto flits) (sym is)).1
 
 -- ---- what goes on
 

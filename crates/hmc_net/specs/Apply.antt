@@ -27,7 +27,7 @@ use Rattle.hmc_journal.specs.StepView.{StepView}
 use Rattle.hmc_links.specs.LinkList.{LinksStandFor}
 use Rattle.hmc_net.specs.NetState.{NetState, cube_in, host_in, IsQueueOf}
 use Rattle.hmc_net.specs.Sees.{Sees, IsSized}
-use Rattle.hmc_kept.specs.After.{slots_after, piped_after, entries_after}
+use Rattle.hmc_kept.specs.After.{slots_after, pipes_after, entries_after}
 
 -- the place in a cube that a goal is
 abbrev pub to_of : Goal → To
@@ -96,7 +96,7 @@ pub record IsAfter (view : StepView) (old new : NetState) : Type 0 where
   pub cubes : new.cubes ≡ cubes_after view new.last old.cubes
   pub hosts : new.hosts ≡ hosts_after new.last old.hosts
   pub slots : new.slots ≡ slots_after view new.last old.slots
-  pub piped : new.piped ≡ piped_after old.topology view new.last old.piped
+  pub piped : new.piped ≡ pipes_after old.topology view new.last old.piped
   pub links : is_passed new.last ≡ false →
       LinksStandFor old.topology.links new.links (entries_after old.topology view new.last)
 

@@ -25,11 +25,11 @@ cause_by hindrances.Tags = causes.Tags
 cause_by hindrances.Full = causes.Full
 
 -- the entries of the links after a give: a packet is handed to a direction where one is given
-abbrev pub given_to : List LinkRow → (direction : ℕ) → Given → (ℕ → List LinkEntry) →
+abbrev pub entries_given : List LinkRow → (direction : ℕ) → Given → (ℕ → List LinkEntry) →
     ℕ → List LinkEntry
-given_to rows direction (Gave packet request tag poisoned) entries =
+entries_given rows direction (Gave packet request tag poisoned) entries =
     called rows direction (λ d. LinkCall.hand d packet) entries
-given_to rows direction _ entries = entries
+entries_given rows direction _ entries = entries
 
 -- the direction has room, and this is the packet of the request that is given
 pub record IsPacketOf (links : List LinkHeld) (direction : ℕ) (packet : PacketFields)

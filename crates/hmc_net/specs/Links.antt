@@ -19,7 +19,7 @@ abbrev pub retired_by : (slot : ℕ) → (live : Bool) → Entry
 retired_by slot true = Retired slot
 retired_by slot false = Idle (steps.Retire slot) causes.Empty
 
--- the entries of the links, where what landed in a direction is taken if it goes on
+-- the entries of the links, where what landed in a direction is taken at once if it is forwarded
 abbrev pub taken_where : Bool → List LinkRow → (direction : ℕ) → (ℕ → List LinkEntry) → ℕ →
     List LinkEntry
 taken_where true rows direction entries = called rows direction LinkCall.take entries

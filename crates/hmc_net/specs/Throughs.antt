@@ -26,7 +26,7 @@ pipe_fields came profile = record {
 abbrev pub IsHeadAt : NetState → (from : ℕ) → Option Head → Type 0
 IsHeadAt net from head = (view : StepView) → Sees net view → head ≡ gathered_head view (Some from)
 
--- this is the direction onto which a packet with this head goes on from a port
+-- this is the direction onto which a packet with this head is forwarded from a port
 abbrev pub IsOnto : NetState → (cube port : ℕ) → Head → Option ℕ → Type 0
 IsOnto net cube port head onto =
     onto
@@ -41,12 +41,12 @@ is_free net view from onto flits =
     && is_none (slice_get (view.inside (landing_buffer net.topology from)) 0))
     && takes_on net.topology view onto flits
 
--- this is whether a packet of so many flits can go on now
+-- this is whether a packet of so many flits can be forwarded now
 abbrev pub IsFree : NetState → (from onto flits : ℕ) → Bool → Type 0
 IsFree net from onto flits free =
     (view : StepView) → Sees net view → free ≡ is_free net view from onto flits
 
--- the packet that is gathered at a port, where this direction ends, goes on now
+-- the packet that is gathered at a port, where this direction ends, is forwarded now
 pub record IsComing (net : NetState) (cube port from onto : ℕ) : Type 0 where
   pub ends : direction_to net.topology (places.Port cube port) ≡ Some from
   pub head : Head

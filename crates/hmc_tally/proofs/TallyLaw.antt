@@ -20,7 +20,7 @@ use Rattle.hmc_journal.specs.Links.{toward, landing_mask, link_sizes, link_entri
 use Rattle.hmc_journal.specs.Setup.{Topology, unit_cube, cubes_in, hosts_in, directions_in}
 use Rattle.hmc_entries.specs.declared.entry.Entry.{Entry}
 use Rattle.hmc_entries.specs.declared.entry.Entry.TheVariants.{Gave, Sent, Landed, Shifted, Dropped, Executed, Lifted, Took, Discarded, Through, Unlocked, Passed}
-use Rattle.hmc_journal.proofs.Projections.{IsBlind, feed_in, goes_at, came_at, put_on-same, taken_if-same, forwarded_on-same, shifted-same, same_direction}
+use Rattle.hmc_journal.proofs.Projections.{IsBlind, feed_in, goes_at, came_at, put_on-same, taken_if-same, forwarded_on-same, shifted-same, same_direction, IsNoLanding}
 use Rattle.hmc_tally.specs.Tally.{no_counters, no_host_steps, no_cube_counts, counts_as_accepted, is_repeat, is_abort, one_sent, one_landed, one_unlocked, one_given, one_taken, one_executed, one_dropped, directions_after, host_steps_after, cube_counts_after, tallied, host_steps, opening_tally, tally_of}
 use Rattle.hmc_tally.specs.declared.tally.HostSteps.{HostSteps}
 use Rattle.hmc_tally.proofs.Accepting.{IsCounted}
@@ -47,11 +47,6 @@ changed_put : (here : Bool) (d way : Toward) (mask flit : List ℕ) (outcome : O
 unfolding changed_landings
 changed_put true d way mask flit outcome past = refl
 changed_put false d way mask flit outcome past = refl
-
--- an entry that lands nothing
-abbrev IsNoLanding : Entry → Type 0
-IsNoLanding (Landed direction flit outcome) = ⊥
-IsNoLanding _ = Unit {0}
 
 changed_same : (topology : Topology) (k : ℕ) (entry : Entry) (past : List Entry) → IsNoLanding entry → changed_landings (toward k) (entries_on topology k (entry ∷ past)) ≡ changed_landings (toward k) (entries_on topology k past)
 unfolding link_entries changed_landings

@@ -4,10 +4,10 @@ ghost use Rattle.std.specs.Prelude.{◌≡◌, ◌<◌, ◌+◌, ◌^◌, ℕ, I
 ghost use Rattle.std.specs.List.{All};
 ghost use Rattle.hmc_journal.specs.Hosts.{count_if};
 ghost use Rattle.hmc_journal.specs.Setup.{unit_cube};
-ghost use Rattle.hmc_send.specs.LinkLines.{changes};
 ghost use Rattle.hmc_tally.specs.Tally.{no_counters, no_host_steps, no_cube_counts, direction_row, host_row, cube_row, counts_as_accepted, is_repeat, is_abort, one_landed, directions_after, host_steps_after, cube_counts_after, tallied, step_changes, CountersWithin, HostWithin, CubeWithin, IsWithin, with_row, one_executed};
 
-use hmc_codes::{Counters, CubeCounts, Flit, Memory, Unit, ZERO_FLIT};
+use hmc_codes::{Counters, CubeCounts, Memory, Unit};
+use hmc_ends::changes;
 use hmc_entries::Event;
 use hmc_packet::Outcome;
 use hmc_schedule::Step;
@@ -38,14 +38,6 @@ const NO_CUBE_COUNTS: CubeCounts = CubeCounts {
     executed: 0,
     dropped: 0,
 };
-
-// Whether a mask changes a flit.
-#[tactic(auto, unfolding(hmc_codes::specs::Flit::zero_flit))]
-fn changes(mask: &Flit) -> bool
-    ensures { result ≡ changes mask.now }
-{
-    *mask != ZERO_FLIT
-}
 
 /// Whether a step lands a flit under a mask that changes it.
 pub fn step_changes(step: &Step) -> bool

@@ -166,7 +166,7 @@ pub fn hand_both(link: &mut Link<FlitBuffer, FlitBuffer>) -> bool
     first && second
 }
 
-// Sends, where no packet is passed on.
+// Sends, where no packet is forwarded.
 fn send(link: &mut Link<FlitBuffer, FlitBuffer>, toward: Toward) -> Option<LinkSent>
     requires { link.old.going ≡ true }
     ensures { link.new.going ≡ true }

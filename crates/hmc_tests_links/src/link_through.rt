@@ -1,4 +1,4 @@
-//! Links: packets that are passed on before they have come whole.
+//! Links: packets that are forwarded before they have come whole.
 
 ghost use Rattle.std.specs.Prelude.{◌≡◌, true};
 ghost use Rattle.hmc_packet.specs.Head.{head_in};

@@ -16,7 +16,7 @@ const GOOD: View = View {
 fn a_new_sender_has_room_and_is_not_free(rt: HostRuntime) -> Result<(), Fail> {
     let mut sender = Sender::new(rt.alloc(), 17, Profile::One)?;
     assert!(rt; sender.room() == 17, "there is room for 17 flits");
-    assert!(rt; sender.through_at().is_none(), "no packet is passed on");
+    assert!(rt; sender.through_at().is_none(), "no packet is forwarded");
     assert!(rt; !sender.free(GOOD), "it is not open");
     assert!(rt;
         sender.acknowledge(0) == Ok(0),

@@ -111,7 +111,7 @@ pub fn out(flit: Flit, what: What) -> Option<Sent> {
     Some(Sent::Out { flit, what })
 }
 
-// Sends, where no packet is passed on.
+// Sends, where no packet is forwarded.
 fn sent(sender: &mut Sender, own: View, queue: &mut Queue, account: &mut Account) -> Option<Sent>
     requires rrp { own.rrp < 512 }
     requires front { IsFrontFit sender.old.profile (slice_get (packets_of queue.old) 0) }

@@ -1,4 +1,4 @@
-//! Senders: a response of two flits that is passed on before it has come whole, on a link of
+//! Senders: a response of two flits that is forwarded before it has come whole, on a link of
 //! profile Two. What is sent is as another program worked it out.
 
 ghost use Rattle.std.specs.Prelude.{◌≡◌, ◌<◌, [], true, IfOk};

@@ -1,5 +1,5 @@
 -- The directions of places, by what a wiring keeps.
-use Rattle.std.proofs.Common.{◌≡◌, ◌≤◌, ◌<◌, ◌*◌, ◌+◌, ◌/◌, ◌%◌, ◌↔◌, ◌∙◌, ℕ, Bool, IsTrue, nat_lt, true, Option, Some, None, List, length, refl, sym, ap, arith, ltb-true}
+use Rattle.std.proofs.Common.{◌≡◌, ◌≤◌, ◌<◌, ◌*◌, ◌+◌, ◌/◌, ◌%◌, ◌↔◌, ◌∙◌, ℕ, Bool, IsTrue, nat_lt, true, Option, Some, None, List, length, refl, sym, ap, arith, ltb-true, lt-ltb}
 use Rattle.std.specs.Prelude.{is_some, slice_index_or, IfSome}
 use Rattle.std.proofs.lemmas.Bool.Decides.{nat_tests}
 use Rattle.hmc_codes.specs.Graph.{GraphFields}
@@ -19,9 +19,6 @@ pub some_inside : (topology : Topology) (place : Place) (found : Option ℕ) →
 some_inside topology place None is = tt
 some_inside topology place (Some direction) is = starts_there topology place direction is
 
-lt_true : (a b : ℕ) → a < b → nat_lt a b ≡ true
-lt_true a b less = grind (arith, nat_tests)
-
 -- the direction of a host that is there
 pub record HostStart (topology : Topology) (hosts : List (Option ℕ)) (host : ℕ) : Type 0 where
   pub few : host < 8
@@ -31,7 +28,7 @@ pub record HostStart (topology : Topology) (hosts : List (Option ℕ)) (host : �
 
 pub host_start : (topology : Topology) (hosts : List (Option ℕ)) (host : ℕ) → IsLaidOut topology → AreHostStarts (joins_of topology) hosts → host < hosts_in topology → HostStart topology hosts host
 host_start topology hosts host laid starts less =
-    let home = has_home (graph_of topology) host laid.graph (laid.hosts host ∙ lt_true host (hosts_in topology) less) in
+    let home = has_home (graph_of topology) host laid.graph (laid.hosts host ∙ lt-ltb host (hosts_in topology) less) in
     let found = joined_from (joins_of topology) (places.Host host) (places.Port home.cube home.port) home.joined in
     record { few = home.host_real; direction = found.0; from = found.1; kept = starts host home.host_real ∙ found.1 }
 

@@ -120,8 +120,8 @@ impl Wiring {
         way_of(&self.routes, setup.shape, cube, packet)
     }
 
-    /// The port by which a packet with this head goes on that arrives at a port of a cube, if it
-    /// may go on there before it has come whole.
+    /// The port by which a packet with this head leaves that arrives at a port of a cube, if it may
+    /// be forwarded there before it has come whole.
     pub fn onward_port(&self, cube: u8, port: u8, head: &Head) -> Option<u8>
         requires { cube < cubes_in self.now }
         ensures { result ≡ onward_port self.now cube port head.now }

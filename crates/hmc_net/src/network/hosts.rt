@@ -8,7 +8,7 @@ ghost use Rattle.hmc_entries.specs.Event.{cause_of};
 ghost use Rattle.hmc_journal.specs.Setup.{hosts_in, direction_from};
 ghost use Rattle.hmc_send.specs.LinkEntries.{LinkEntry};
 ghost use Rattle.hmc_net.specs.Apply.{DoesStep};
-ghost use Rattle.hmc_net.specs.Gives.{IsGiven, IsRequested, given_to, cause_by};
+ghost use Rattle.hmc_net.specs.Gives.{IsGiven, IsRequested, entries_given, cause_by};
 ghost use Rattle.hmc_links.specs.LinkList.{LinksStandFor, IsDirection, IsRoom};
 ghost use Rattle.hmc_net.specs.NetState.{net_of};
 ghost use Rattle.hmc_net.specs.Sees.{IsReady};
@@ -88,7 +88,7 @@ fn hand_given(links: &mut LinkList, direction: u8, given: &Given)
     requires fit { IsGiven links.old direction given.now }
     ensures stands { (rows : List LinkRow) (entries : ℕ → List LinkEntry) →
         LinksStandFor rows links.old entries →
-        LinksStandFor rows links.new (given_to rows direction given.now entries) }
+        LinksStandFor rows links.new (entries_given rows direction given.now entries) }
     ensures asks { IsRequested given.now }
     ensures same { (host : ℕ) (cause : Cause) →
         cause_of (gave_entry host given.now) ≡ Some cause → links.new ≡ links.old }

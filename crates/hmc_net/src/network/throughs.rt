@@ -1,4 +1,4 @@
-//! The step through: a packet goes on that is still being gathered at a port.
+//! The step through: a packet is forwarded that is still being gathered at a port.
 
 ghost use Rattle.std.specs.Prelude.{◌≡◌, ◌<◌, ◌≤◌, ◌*◌, ◌&&◌, not, [], length, slice_index_or};
 ghost use Rattle.hmc_packet.specs.Head.{head_in};
@@ -18,7 +18,7 @@ use hmc_through::Pipe;
 use hmc_units::Workbench;
 
 impl<B: Workbench> Network<B> {
-    // The packet that is gathered at a port goes on, if there is one that may.
+    // The packet that is gathered at a port is forwarded, if there is one that may be.
     pub(crate) fn through(&mut self, cube: u8, port: u8)
         requires there { IsPortIn self.old.topology cube port }
         requires ready { IsReady (net_of B.slots self.old) }
@@ -52,7 +52,7 @@ impl<B: Workbench> Network<B> {
         head_of(first)
     }
 
-    // The direction onto which a packet with this head goes on.
+    // The direction onto which a packet with this head is forwarded.
     fn way_on(&self, cube: u8, port: u8, head: &Head) -> Option<u8>
         requires there { IsPortIn self.now.topology cube port }
         requires ready { IsReady (net_of B.slots self.now) }
@@ -62,7 +62,7 @@ impl<B: Workbench> Network<B> {
         self.wiring.from_port(cube, onward)
     }
 
-    // Whether a packet of so many flits can go on now from one direction onto another.
+    // Whether a packet of so many flits can be forwarded now from one direction onto another.
     fn may_forward(&self, from: u8, onto: u8, flits: u8) -> bool
         requires from { from < 2 * length self.now.topology.links }
         requires onto { onto < 2 * length self.now.topology.links }
@@ -75,7 +75,7 @@ impl<B: Workbench> Network<B> {
         may_go(forwarded.is_some(), arrived, ready)
     }
 
-    // The packet goes on: a cut-through is begun, and its pipe has the flits that came.
+    // The packet begins to be forwarded: its pipe has the flits that came.
     fn begin(&mut self, cube: u8, port: u8, from: u8, onto: u8)
         requires there { IsPortIn self.old.topology cube port }
         requires ready { IsReady (net_of B.slots self.old) }
@@ -95,8 +95,8 @@ impl<B: Workbench> Network<B> {
     }
 }
 
-// A packet may go on if it is not forwarded yet, no packet waits at its port, and the other
-// direction is ready for it.
+// A packet may be forwarded if it is not yet, no packet waits at its port, and the other direction
+// is ready for it.
 fn may_go(forwarded: bool, arrived: bool, ready: bool) -> bool
     ensures { result ≡ ((not forwarded && not arrived) && ready) }
 {

@@ -3,8 +3,9 @@ use Rattle.std.proofs.Common.{◌≤◌, length, sum_by, ap, arith}
 use Rattle.hmc_tokens.specs.Queue.{packets_of, all_cost_one}
 use Rattle.hmc_vault.specs.Vault.{held_by}
 use Rattle.hmc_cube.specs.Cube.{held_in_cube}
-use Rattle.hmc_cube.proofs.CubeLemmas.{few_vaults, few_used}
+use Rattle.hmc_cube.proofs.CubeLemmas.{few_vaults}
 use Rattle.hmc_cube.proofs.cube.Cube.held.Goals as goal
+use Rattle.hmc_vault.proofs.VaultLemmas.{few_used}
 
 pub held_in-requires : goal.held_in-requires
 held_in-requires c = omega (arith, ap length c.deref.ensures.value, few_vaults c.self.inside.banks.shape c.self.inside.vaults.items c.self.inside.register_queue c.self.inside.answers c.self.invariant)

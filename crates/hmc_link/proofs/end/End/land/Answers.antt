@@ -1,12 +1,13 @@
 -- For all entries after which the flit lands.
 use Rattle.std.proofs.Common.{◌∷◌, ◌∙◌, sym, subst}
+use Rattle.std.proofs.lemmas.Bool.{true≢false}
 use Rattle.hmc_packet.specs.Landings.ReceiverEntry.{Land}
 use Rattle.hmc_packet.specs.Receptions.{reception_of}
 use Rattle.hmc_send.specs.LinkEntries.{other, receiver_entries}
 use Rattle.hmc_send.specs.LinkSenders.{sender_entries}
 use Rattle.hmc_ends.specs.End.{EndFields}
 use Rattle.hmc_ends.specs.Landings.{Lands, landed_in}
-use Rattle.hmc_ends.proofs.Landing.{passes-is, is-passed, not-passed, both-ways, can-take, landed-is, land-stands}
+use Rattle.hmc_ends.proofs.Landing.{passes-is, is-passed, not-passed, can-take, landed-is, land-stands}
 use Rattle.hmc_link.proofs.end.End.land.Goals as goal
 
 pub returns-then-passes-clause-answer : goal.returns-then-passes-clause-answer
@@ -20,7 +21,7 @@ pub returns-then-passes-clause-stands : goal.returns-then-passes-clause-stands
 returns-then-passes-clause-stands g c link d past mask l caught =
     let lands = subst (λ (e : EndFields). Lands link d past mask c.args.flit.now c.args.changed e) (sym c.self.view_is) l in
     let rec_is = c.receive-reception.ensures.gives link.profile (receiver_entries (other d) past) lands.stands.receiver in
-    absurd (both-ways _ (passes-is link d past mask c.args.flit.now c.args.changed _ c.receive-reception.result c.either-changed.result c.passes.result lands rec_is c.either-changed.ensures c.passes.ensures ∙ c.if-passes.true) caught)
+    absurd (true≢false (sym (passes-is link d past mask c.args.flit.now c.args.changed _ c.receive-reception.result c.either-changed.result c.passes.result lands rec_is c.either-changed.ensures c.passes.ensures ∙ c.if-passes.true) ∙ caught))
 
 pub take_landing-requires : goal.take_landing-requires
 take_landing-requires g c =

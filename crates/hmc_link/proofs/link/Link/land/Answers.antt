@@ -1,5 +1,6 @@
 -- What the two ends answer and leave is what the definition says of the entries.
 use Rattle.std.proofs.Common.{◌≡◌, ◌∙◌, refl, ap, sym, subst, ◌++◌, map}
+use Rattle.std.proofs.lemmas.Bool.{not-true}
 use Rattle.hmc_ends.specs.Answers.{after_call}
 use Rattle.hmc_ends.specs.List.{handed_list, listed_packet}
 use Rattle.hmc_link.proofs.ListCalls.{land-list}
@@ -13,22 +14,22 @@ use Rattle.hmc_link.specs.Held.{LinkHeld}
 use Rattle.hmc_ends.specs.Landings.{link_landed, removed}
 use Rattle.hmc_link.specs.StandsFor.{LinkStandsFor}
 use Rattle.hmc_link.proofs.Joins.{forth-both, back-both, step-forth, step-back, keep-forth, keep-back}
-use Rattle.hmc_link.proofs.LinkLandings.{ordered, land-steps, went}
+use Rattle.hmc_link.proofs.LinkLandings.{ordered, land-steps}
 use Rattle.hmc_link.proofs.Idle.{landing-kept, landing-kept-back}
 use Rattle.hmc_link.proofs.link.Link.land.Goals as goal
 
 pub invariant_of-self : goal.invariant_of-self
 invariant_of-self g c = λ goes.
     keep-forth (LinkCall.land Forth c.args.mask) _ _
-    (land-steps Forth c.args.mask c.cross-landed.result c.self.inside.a c.self.inside.b c.cross-landed.new.from c.cross-landed.new.to c.cross-landed.ensures.stands (sym c.has_passed.ensures ∙ went _ goes))
-    (numbers-landed Forth c.args.mask c.cross-landed.result _ _ (λ link past s. c.cross-landed.ensures.answer link Forth past (forth-both link _ past s)) (sym c.has_passed.ensures ∙ went _ goes) c.without_landed-self-inside.ensures refl)
+    (land-steps Forth c.args.mask c.cross-landed.result c.self.inside.a c.self.inside.b c.cross-landed.new.from c.cross-landed.new.to c.cross-landed.ensures.stands (sym c.has_passed.ensures ∙ not-true _ goes))
+    (numbers-landed Forth c.args.mask c.cross-landed.result _ _ (λ link past s. c.cross-landed.ensures.answer link Forth past (forth-both link _ past s)) (sym c.has_passed.ensures ∙ not-true _ goes) c.without_landed-self-inside.ensures refl)
     c.self.invariant (ap (λ (h : LinkHeld). h.going) c.self.view_is ∙ c.requires)
 
 pub invariant_of-self-in-Back : goal.invariant_of-self-in-Back
 invariant_of-self-in-Back g c = λ goes.
     keep-back (LinkCall.land Back c.args.mask) _ _
-    (land-steps Back c.args.mask c.cross-landed-in-Back.result c.self.inside.b c.self.inside.a c.cross-landed-in-Back.new.from c.cross-landed-in-Back.new.to c.cross-landed-in-Back.ensures.stands (sym c.has_passed-in-Back.ensures ∙ went _ goes))
-    (numbers-landed Back c.args.mask c.cross-landed-in-Back.result _ _ (λ link past s. c.cross-landed-in-Back.ensures.answer link Back past (back-both link _ past s)) (sym c.has_passed-in-Back.ensures ∙ went _ goes) c.without_landed-self-inside-in-Back.ensures refl)
+    (land-steps Back c.args.mask c.cross-landed-in-Back.result c.self.inside.b c.self.inside.a c.cross-landed-in-Back.new.from c.cross-landed-in-Back.new.to c.cross-landed-in-Back.ensures.stands (sym c.has_passed-in-Back.ensures ∙ not-true _ goes))
+    (numbers-landed Back c.args.mask c.cross-landed-in-Back.result _ _ (λ link past s. c.cross-landed-in-Back.ensures.answer link Back past (back-both link _ past s)) (sym c.has_passed-in-Back.ensures ∙ not-true _ goes) c.without_landed-self-inside-in-Back.ensures refl)
     c.self.invariant (ap (λ (h : LinkHeld). h.going) c.self.view_is ∙ c.requires)
 
 pub returns-in-Forth-clause-answer : goal.returns-in-Forth-clause-answer
