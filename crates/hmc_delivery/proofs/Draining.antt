@@ -29,7 +29,7 @@ use Rattle.hmc_delivery.proofs.Awaited.{routes_of, maps_routes}
 use Rattle.hmc_laws.proofs.Entering.{Kept, landed-real}
 use Rattle.hmc_journal.proofs.EntryRule.{EntryRule, entry_rule, lawful_past}
 use Rattle.hmc_delivery.proofs.Hopped.{agrees}
-use Rattle.hmc_delivery.proofs.LandingMoves.{buffer_hop, buffer_real, token_seen}
+use Rattle.hmc_delivery.proofs.LineMoves.{buffer_hop, buffer_real, token_seen}
 use Rattle.hmc_delivery.proofs.Seen.{seen, hop_queue, comes_from, begins_move, lands, forward_moves, if_there, unlocks, moves_of, moves}
 use Rattle.hmc_laws.proofs.Sound.{kept}
 use Rattle.hmc_delivery.proofs.Transit.{none_in_transit}

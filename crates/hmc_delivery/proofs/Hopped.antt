@@ -53,7 +53,9 @@ use Rattle.hmc_packet.specs.Landings.{pending}
 use Rattle.hmc_journal.specs.Piped.{forwarded_onto, pipe_onto}
 use Rattle.hmc_laws.proofs.PipeSteps.{IsUp}
 use Rattle.hmc_laws.proofs.UnsentFlits.{AreGathered}
-use Rattle.hmc_delivery.proofs.LandingMoves.{line_off, landed_step, unlocked_step}
+use Rattle.hmc_delivery.proofs.LineMoves.{line_off}
+use Rattle.hmc_delivery.proofs.LandingMoves.{landed_step}
+use Rattle.hmc_delivery.proofs.UnlockMoves.{unlocked_step}
 use Rattle.hmc_delivery.proofs.Underway.{line_on, begins_with, new_begun, underway-sent, underway-elsewhere, underway-quiet, underway-through}
 use Rattle.hmc_laws.proofs.Wired.{Wired, wired, end_cubes}
 use Rattle.hmc_delivery.proofs.Seen.{seen, all_seen, kind_by, spot_of, spot_by, request_or, answer_or, hop_queue, comes_from, begins_move, lands, forward_moves, moves_of, moves}

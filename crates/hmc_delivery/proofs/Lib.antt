@@ -5,7 +5,10 @@ pub mod Seen
 pub mod Agreeing
 pub mod Hopping
 pub mod Forwarded
+pub mod LineMoves
 pub mod LandingMoves
+pub mod UnlockMoves
+pub mod SpoiledCopies
 pub mod Hopped
 pub mod MayMove
 pub mod TagsOut

@@ -54,7 +54,9 @@ use Rattle.hmc_laws.proofs.Wired.{Wired, wired}
 use Rattle.hmc_delivery.proofs.Seen.{seen, kind_by, spot_of, hop_queue, front_goes, comes_from, begins_move, lands, goes_past, last_packet, copy_comes, forward_moves, if_there, unlocks, moves_of, moves}
 use Rattle.hmc_delivery.proofs.Agreeing.{IsMapOf, IsReal, Agrees, not_line}
 use Rattle.hmc_delivery.proofs.Forwarded.{ForwardedPacket, forwarded_packet, forwarded_next, come_head}
-use Rattle.hmc_delivery.proofs.LandingMoves.{buffer_hop, buffer_real, token_seen, Spoils, come_of, landing_spoils, unlock_spoils, known_here}
+use Rattle.hmc_delivery.proofs.LineMoves.{buffer_hop, buffer_real, token_seen}
+use Rattle.hmc_delivery.proofs.LandingMoves.{Spoils, come_of}
+use Rattle.hmc_delivery.proofs.SpoiledCopies.{landing_spoils, unlock_spoils, known_here}
 use Rattle.hmc_delivery.proofs.Hopped.{unit_hop, unit_real, at_end, agrees}
 use Rattle.hmc_laws.proofs.ForwardingLandings.{forwarded_landed, still_gathered}
 use Rattle.hmc_laws.proofs.ForwardingUnlocks.{forwarded_unlocked}

@@ -122,7 +122,7 @@ abbrev pub lands : Topology → (direction : ℕ) → List PacketFields → List
 lands topology direction [] = []
 lands topology direction (packet ∷ rest) = Goes (hops.Line direction) 0 (seen topology packet) ∷ []
 
--- what is accepted while it is forwarded goes on at once: through the buffer, and past all that waits
+-- what is accepted while it is forwarded leaves at once: through the buffer, and past all that waits
 -- in the output queue
 abbrev pub goes_past : Topology → List Entry → (direction onto : ℕ) → List PacketFields → List Move
 goes_past topology past direction onto [] = []

@@ -15,7 +15,7 @@ use Rattle.hmc_journal.specs.Setup.{Topology, directions_in, end_of, direction_f
 use Rattle.hmc_laws.proofs.Wired.{Wired}
 use Rattle.hmc_delivery.proofs.Seen.{spot_of, hop_queue}
 use Rattle.hmc_delivery.proofs.Agreeing.{IsReal, Agrees}
-use Rattle.hmc_delivery.proofs.LandingMoves.{buffer_hop, buffer_real}
+use Rattle.hmc_delivery.proofs.LineMoves.{buffer_hop, buffer_real}
 use Rattle.hmc_wire.specs.LinkLaws.{IsKept}
 use Rattle.hmc_journal.specs.Links.{sizes_on, entries_on}
 use Rattle.hmc_delivery.proofs.Underway.{line_on, is_shown}

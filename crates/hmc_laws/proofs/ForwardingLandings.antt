@@ -30,8 +30,6 @@ use Rattle.hmc_laws.proofs.Standing.{IsMoving}
 use Rattle.hmc_packet.specs.declared.outcome.Outcome.TheVariants as outcomes
 use Rattle.hmc_laws.proofs.ForwardingPipes.{Waits, Way, IsGathering, IsGood, PipeKept, OnPipe, ArePiped, IsForwarding, AreForwarding, stays_empty}
 
--- ---- landings
-
 -- a landing that is accepted while its packet is forwarded: the flits are those of a packet that is
 -- on its way
 pub record GoodLanding (topology : Topology) (past : List Entry) (e : ℕ) (flit : List ℕ) : Type 0

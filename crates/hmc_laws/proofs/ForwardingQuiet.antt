@@ -22,8 +22,6 @@ use Rattle.hmc_laws.proofs.PipeSteps.{IsNoPipe, of_sends-up, pipe_same}
 use Rattle.hmc_laws.proofs.Piping.{up_on}
 use Rattle.hmc_laws.proofs.ForwardingPipes.{Waits, waits_sent, PipeKept, OnPipe, ArePiped, AreForwarding, is_buffer, stays_empty}
 
--- ---- entries that leave every pipe
-
 pub forwarded_same : (topology : Topology) (e : ℕ) (entry : Entry) (past : List Entry) →
     IsNoPipe entry → forwarded_onto topology e (entry ∷ past) ≡ forwarded_onto topology e past
 unfolding forwarded_onto

@@ -29,8 +29,6 @@ use Rattle.hmc_codes.specs.declared.place.Place.TheVariants as ends
 use Rattle.hmc_laws.proofs.ForwardingPipes.{Waits, IsGathering, PipeKept, OnPipe, ArePiped, IsForwarding, AreForwarding, is_buffer, stays_empty}
 use Rattle.hmc_laws.proofs.ForwardingLandings.{some_none}
 
--- ---- a packet is forwarded
-
 pub forwarded_through : (topology : Topology) (e cube port direction : ℕ) (past : List Entry) →
     forwarded_onto topology e (Through cube port direction ∷ past)
     ≡ choose (lands_at topology e cube port) (Some direction) (forwarded_onto topology e past)

@@ -18,8 +18,6 @@ use Rattle.hmc_laws.proofs.PipeSteps.{of_sends-up, pipe_unlocked}
 use Rattle.hmc_laws.proofs.ForwardingPipes.{Waits, PipeKept, OnPipe, ArePiped, IsForwarding, AreForwarding, is_buffer, stays_empty}
 use Rattle.hmc_laws.proofs.ForwardingLandings.{first_false, back_false, some_none, false_true, way_with}
 
--- ---- unlocks
-
 pub forwarded_unlocked : (topology : Topology) (e direction : ℕ) (past : List Entry) →
     forwarded_onto topology e (Unlocked direction ∷ past)
     ≡ choose (direction == e) None (forwarded_onto topology e past)

@@ -37,7 +37,7 @@ takes_landed : (d way : Toward) (mask flit : List ℕ) (outcome : Outcome) (past
 unfolding takes
 takes_landed d way mask flit outcome past = refl
 
--- ---- what goes on at once
+-- ---- what leaves at once
 
 pub gone_onto : (outcome : Outcome) (onto : Option ℕ) → goes_on outcome onto ≡ true → (to : ℕ)
     × (onto ≡ Some to) × (outcome ≡ outcomes.Accepted)
@@ -88,7 +88,7 @@ lands_good setup past d flit outcome right kept less to accepted forwarded =
         (filter is_token (landed_packets setup.topology d flit o past))) accepted
         (landed_stands setup d past flit outcome right kept))
 
--- the buffer holds what goes on
+-- the buffer holds what leaves at once
 pub holds_accepted : (setup : Setup) (past : List Entry) (d onto : ℕ) (mask flit : List ℕ) →
     IsFlit flit → (reception_of (sizes_on setup.topology d).profile (receiver_of d past)
     flit).outcome ≡ outcomes.Accepted → Kept setup past → d < directions_in setup.topology

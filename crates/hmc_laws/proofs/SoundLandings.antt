@@ -108,7 +108,7 @@ left_landed : (past : List Entry) (d : ℕ) (flit : List ℕ) (outcome : Outcome
 unfolding left leaves
 left_landed past d flit outcome queue = zero-add _
 
--- what goes on: the buffer is empty there, and it is at a port
+-- what leaves at once: the buffer is empty there, and it is at a port
 gone_empty : (setup : Setup) (past : List Entry) (d : ℕ) (outcome : Outcome) →
     d < directions_in setup.topology → Kept setup past → goes_at setup.topology d outcome past
     ≡ true → contents setup.topology past (landing_buffer setup.topology d) ≡ []
@@ -158,7 +158,7 @@ lands_in setup past d flit outcome less kept stays =
       host = λ host ends. entered_now ∙ ap (λ l. l ++ came) (k.host host ends) ∙ sym tokens;
     }
 
--- or goes on at once
+-- or leaves at once
 lands_gone : (setup : Setup) (past : List Entry) (d : ℕ) (flit : List ℕ) (outcome : Outcome) →
     d < directions_in setup.topology → HasLanded setup past d flit outcome → Kept setup past →
     goes_at setup.topology d outcome past ≡ true →

@@ -1,4 +1,4 @@
--- Nothing is sent where no direction is, and what is forwarded goes on, after one more entry.
+-- After one more entry nothing is sent where no direction is, and pipes keep what is known of them.
 use Rattle.std.proofs.Common.{◌≡◌, ◌≤◌, ◌<◌, ◌/◌, ◌∙◌, ℕ, zero, suc, Bool, true, false, nat_le, Option, Some, None, List, [], ◌∷◌, length, slice_index_or, refl, sym, ap, subst, arith, leb-true, leb-false, ne_eqb}
 use Rattle.std.specs.Prelude.{option_map}
 use Rattle.hmc_journal.specs.Choice.{append_if}

@@ -25,8 +25,6 @@ use Rattle.hmc_laws.proofs.Piping.{feed_fits, up_on}
 use Rattle.hmc_journal.specs.Piped.{pipe_onto}
 use Rattle.hmc_packet.specs.declared.what.What.TheVariants as what
 
--- ---- an output queue holds what its link's sender hasn't begun
-
 pub output_is : (topology : Topology) (d : ℕ) (past : List Entry) → AreGathered topology past →
     IsKept (sizes_on topology d) (entries_on topology d past) → contents topology past (Output d)
     ≡ queue_in (sizes_on topology d) (toward d) (entries_on topology d past)

@@ -37,8 +37,6 @@ use Rattle.hmc_codes.specs.declared.place.Place.TheVariants as ends
 use Rattle.hmc_entries.specs.declared.outcome.Goal.TheVariants as goals
 use Rattle.hmc_laws.proofs.SoundSends.{output_is}
 
--- ---- each link is kept
-
 fits_either : (profile : Profile) (errstat : ℕ) → errstat < 8 →
     FitsField (tail_layout profile).errstat errstat
 fits_either One errstat few = omega arith
@@ -187,7 +185,7 @@ through_of setup past cube port d has =
     record { from = has.from; arrives = has.arrives; head = has.flit; rest = has.rest; came =
     gathers_is setup past cube port d has }
 
--- a landing, and what goes on at once is taken
+-- a landing, and what leaves at once is taken
 pub landed-kept : (setup : Setup) (past : List Entry) (d : ℕ) (flit : List ℕ) (outcome : Outcome)
     (link : ℕ) → HasLanded setup past d flit outcome → Kept setup past → (here : Bool) →
     (d / 2 == link) ≡ here

@@ -25,8 +25,6 @@ use Rattle.hmc_laws.proofs.ForwardingPipes.{is_buffer}
 use Rattle.hmc_codes.specs.declared.place.Place.TheVariants as ends
 use Rattle.hmc_laws.proofs.SoundTakes.{more_than}
 
--- ---- the buffers
-
 drop_next : (n : ℕ) (l : List PacketFields) → drop (suc n) l ≡ drop 1 (drop n l)
 drop_next zero l = refl
 drop_next (suc n) [] = refl

@@ -6,4 +6,4 @@
 
 mod tally;
 
-pub use tally::{HostSteps, Tally, step_changes};
+pub use tally::{HostSteps, Tally, is_good, step_changes};

@@ -2,6 +2,7 @@
 
 ghost use Rattle.std.specs.Prelude.{◌≡◌, ◌<◌, ◌+◌, ◌^◌, ℕ, IfOk, length, replicate};
 ghost use Rattle.std.specs.List.{All};
+ghost use Rattle.hmc_journal.specs.Counts.{is_good};
 ghost use Rattle.hmc_journal.specs.Hosts.{count_if};
 ghost use Rattle.hmc_journal.specs.Setup.{unit_cube};
 ghost use Rattle.hmc_tally.specs.Tally.{no_counters, no_host_steps, no_cube_counts, direction_row, host_row, cube_row, counts_as_accepted, is_repeat, is_abort, one_landed, directions_after, host_steps_after, cube_counts_after, tallied, step_changes, CountersWithin, HostWithin, CubeWithin, IsWithin, with_row, one_executed};
@@ -9,7 +10,7 @@ ghost use Rattle.hmc_tally.specs.Tally.{no_counters, no_host_steps, no_cube_coun
 use hmc_codes::{Counters, CubeCounts, Memory, Unit};
 use hmc_ends::changes;
 use hmc_entries::Event;
-use hmc_packet::Outcome;
+use hmc_packet::{Mode, Outcome};
 use hmc_schedule::Step;
 use std::alloc::Global;
 use std::marker::Model;
@@ -47,6 +48,13 @@ pub fn step_changes(step: &Step) -> bool
         Step::Land(_, mask) => changes(mask),
         _ => false,
     }
+}
+
+/// Whether a receiver gathers packets, so that its unlock is counted as an abort.
+pub fn is_good(mode: Mode) -> bool
+    ensures { result ≡ is_good mode }
+{
+    matches!(mode, Mode::Good)
 }
 
 // The cube of a unit.

@@ -1,7 +1,6 @@
 //! Counting the steps.
 
 ghost use Rattle.std.specs.Prelude.{◌≡◌, ◌<◌, ◌+◌, ◌^◌, ℕ};
-ghost use Rattle.hmc_journal.specs.Counts.{is_good};
 ghost use Rattle.hmc_entries.specs.Event.{event_of, IsLongFlit};
 ghost use Rattle.hmc_journal.specs.StepView.{StepView};
 ghost use Rattle.hmc_net.specs.NetState.{net_of};
@@ -10,9 +9,8 @@ ghost use Rattle.hmc_net.specs.Sees.{Sees, IsReady};
 ghost use Rattle.hmc_tally.specs.Tally.{tallied, step_changes, unlocks_good, IsWithin};
 
 use crate::Network;
-use hmc_packet::Mode;
 use hmc_schedule::Step;
-use hmc_tally::step_changes;
+use hmc_tally::{is_good, step_changes};
 use hmc_units::Workbench;
 
 impl<B: Workbench> Network<B> {
@@ -43,11 +41,4 @@ impl<B: Workbench> Network<B> {
         let event = self.last.event();
         self.tally.add(event, step_changes(step), was_good);
     }
-}
-
-// Whether a receiver gathers packets.
-fn is_good(mode: Mode) -> bool
-    ensures { result ≡ is_good mode }
-{
-    matches!(mode, Mode::Good)
 }

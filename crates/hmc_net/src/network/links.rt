@@ -7,7 +7,7 @@ ghost use Rattle.hmc_send.specs.LinkEntries.{LinkEntry};
 ghost use Rattle.hmc_net.specs.Apply.{DoesStep};
 ghost use Rattle.hmc_journal.specs.Piped.{goes_on};
 ghost use Rattle.hmc_links.specs.LinkList.{AreGoing, LinksStandFor, IsDirection};
-ghost use Rattle.hmc_kept.specs.LinkAnswers.{sent_by, landed_by, outcome_of, landing_goes_on, after_landing, IsCameFlit};
+ghost use Rattle.hmc_kept.specs.LinkAnswers.{outcome_of, landing_goes_on, after_landing};
 ghost use Rattle.hmc_net.specs.Links.{taken_where, MayForward};
 ghost use Rattle.hmc_kept.specs.Pipes.{AreGathering, IsLastOf, forwarded_at, after_flit};
 ghost use Rattle.hmc_wiring.specs.Ready.{IsLandingIn};
@@ -15,14 +15,11 @@ ghost use Rattle.hmc_net.specs.NetState.{net_of};
 ghost use Rattle.hmc_net.specs.Sees.{IsReady};
 
 use crate::Network;
-use hmc_codes::{Flit, ZERO_FLIT};
-use hmc_ends::flit_is_bytes;
-use hmc_entries::{Cause, LastEntry};
-use hmc_kept::Pipes;
-use hmc_link::{LinkLanded, LinkSent};
+use hmc_codes::Flit;
+use hmc_kept::{Pipes, goes_on, note_landed, note_sent};
+use hmc_link::LinkLanded;
 use hmc_links::LinkList;
-use hmc_packet::{Landed, Outcome, constant_flits};
-use hmc_schedule::Step;
+use hmc_packet::Landed;
 use hmc_units::Workbench;
 
 impl<B: Workbench> Network<B> {
@@ -119,59 +116,5 @@ fn take_where(links: &mut LinkList, direction: u8, goes: bool)
 {
     if goes {
         links.take(direction);
-    }
-}
-
-// Whether a landing ends a packet that is forwarded, and that is accepted.
-fn goes_on(landed: &Landed, onto: Option<u8>) -> bool
-    ensures { result ≡ goes_on (outcome_of landed.now) onto }
-{
-    match landed {
-        Landed::Accepted(_) => onto.is_some(),
-        _ => false,
-    }
-}
-
-// The last entry becomes that of a send.
-fn note_sent(last: &mut LastEntry, direction: u8, sent: &LinkSent)
-    ensures { last.new ≡ sent_by direction sent.now }
-{
-    match sent {
-        LinkSent::Full => last.idle(&Step::Send(direction), Cause::Full),
-        LinkSent::Starved => last.idle(&Step::Send(direction), Cause::Starved),
-        LinkSent::Out { flit, what } => last.sent(direction, *what, flit),
-    }
-}
-
-// The last entry becomes that of a landing.
-fn note_landed(last: &mut LastEntry, direction: u8, landed: &LinkLanded)
-    ensures entry { last.new ≡ landed_by direction landed.now }
-    ensures size { IsCameFlit landed.now }
-{
-    constant_flits();
-    match landed {
-        LinkLanded::Empty => last.idle(&Step::Land(direction, ZERO_FLIT), Cause::Empty),
-        LinkLanded::Passed(flit) => last.passed(direction, flit),
-        LinkLanded::Came { flit, outcome } => {
-            flit_is_bytes(flit);
-            last.landed(direction, flit, outcome_of(outcome));
-        }
-    }
-}
-
-// The outcome of a landing, without its packet.
-fn outcome_of(landed: &Landed) -> Outcome
-    ensures { result ≡ outcome_of landed.now }
-{
-    match landed {
-        Landed::Quiet => Outcome::Quiet,
-        Landed::Trained => Outcome::Trained,
-        Landed::Gathered => Outcome::Gathered,
-        Landed::Accepted(_) => Outcome::Accepted,
-        Landed::Poisoned(_) => Outcome::Poisoned,
-        Landed::Repeat => Outcome::Repeat,
-        Landed::AbortedBad(bad) => Outcome::AbortedBad(*bad),
-        Landed::AbortedOrder => Outcome::AbortedOrder,
-        Landed::Ran(kind) => Outcome::Ran(*kind),
     }
 }

@@ -73,36 +73,3 @@ fn moves(rt: HostRuntime) -> Result<(), Fail> {
     assert_leaves(&rt, &mut to);
     Ok(())
 }
-
-// Two packets come, and the first leaves; two more fill the queue, and a fifth has no room.
-fn fills(queue: &mut Queue, tag: u16) -> bool
-    requires { tag < 2 ^ 10 }
-{
-    put(queue, read_with(tag))
-        && put(queue, read_with(tag + 1))
-        && leaves(queue, Some(tag))
-        && put(queue, read_with(tag + 2))
-        && put(queue, read_with(tag + 3))
-        && !put(queue, read_with(tag))
-}
-
-// The other three leave in their order.
-fn empties(queue: &mut Queue, tag: u16) -> bool
-    requires { tag < 2 ^ 10 }
-{
-    leaves(queue, Some(tag + 1))
-        && leaves(queue, Some(tag + 2))
-        && leaves(queue, Some(tag + 3))
-        && leaves(queue, None)
-}
-
-// A queue of three keeps the order ten times round, from a further place each time.
-#[test]
-fn ten_times_round(rt: HostRuntime) -> Result<(), Fail> {
-    let mut queue = Queue::new(rt.alloc(), 3)?;
-    for tag in 0..10 {
-        assert!(rt; fills(&mut queue, tag), "round {tag} fills");
-        assert!(rt; empties(&mut queue, tag), "round {tag} empties");
-    }
-    Ok(())
-}
