@@ -33,9 +33,9 @@ entrance cube Registers = cube.register_queue
 entrance cube _ = []
 
 -- the answers of a vault of the cube, or those of its registers
-abbrev pub IsLift : CubeFields → Lift → Type 0
-IsLift cube (lifts.Vault vault) = vault < 2 ^ cube.state.shape.vault_bits
-IsLift cube lifts.Registers = Unit {0}
+abbrev pub HasLift : CubeFields → Lift → Type 0
+HasLift cube (lifts.Vault vault) = vault < 2 ^ cube.state.shape.vault_bits
+HasLift cube lifts.Registers = Unit {0}
 
 -- the queue that answers are lifted from
 abbrev pub answers_at : CubeFields → Lift → List PacketFields

@@ -8,7 +8,7 @@ ghost use Rattle.hmc_vault.specs.Vault.{opening_vault, bank_at, held_by};
 ghost use Rattle.hmc_vault.specs.Spread.{spread_says};
 ghost use Rattle.hmc_vault.specs.Execute.{slots_after};
 ghost use Rattle.hmc_cube.specs.Cube.{opening_cube, vault_at, held_in_cube};
-ghost use Rattle.hmc_cube.specs.Places.{IsForRegisters, IsHere, IsFor, IsLift, entrance, answers_at};
+ghost use Rattle.hmc_cube.specs.Places.{IsForRegisters, IsHere, IsFor, HasLift, entrance, answers_at};
 ghost use Rattle.hmc_cube.specs.After.{after_enter, after_spread, bank_says, after_execute, registers_say, after_registers, after_lift};
 
 use hmc_codes::{Lift, Memory, Shape};
@@ -185,7 +185,7 @@ impl Cube {
 
     /// Whether there are no answers of a vault, or of the registers.
     pub fn answers_are_empty(&self, from: Lift) -> bool
-        requires { IsLift self.now from }
+        requires { HasLift self.now from }
         ensures { IsTrue result ↔ (answers_at self.now from ≡ []) }
     {
         match from {
@@ -196,7 +196,7 @@ impl Cube {
 
     /// The front of the answers of a vault, or of the registers.
     pub fn lift_front(&self, from: Lift) -> Option<Packet>
-        requires { IsLift self.now from }
+        requires { HasLift self.now from }
         ensures { result ≡ slice_get (answers_at self.now from) 0 }
     {
         match from {
@@ -207,7 +207,7 @@ impl Cube {
 
     /// Removes that front and returns it.
     pub fn lift(&mut self, from: Lift) -> Option<Packet>
-        requires { IsLift self.old from }
+        requires { HasLift self.old from }
         ensures front { result ≡ slice_get (answers_at self.old from) 0 }
         ensures leaves { self.new ≡ after_lift from self.old }
     {

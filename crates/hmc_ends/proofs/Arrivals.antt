@@ -15,7 +15,7 @@ use Rattle.hmc_packet.specs.Reading.{read_of}
 use Rattle.hmc_packet.specs.Receptions.{LandingView, landing_view, reception_of, landed_with}
 use Rattle.hmc_receive.specs.StandsFor.{latest, latest_of}
 use Rattle.hmc_wire.proofs.LandingCases.{Case, case_of}
-use Rattle.hmc_ends.specs.Landings.{arrived}
+use Rattle.hmc_ends.specs.Landings.{arrived_packets}
 
 abbrev accepts : Outcome → Bool
 accepts Accepted = true
@@ -44,7 +44,7 @@ unfolding reception_of landing_view
 read-it q past flit is = by-case q (landing_view q past) flit _ (case_of q (landing_view q past) flit) is
 
 by-outcome : (q : Profile) (past : List ReceiverEntry) (flit : List ℕ) (o : Outcome) (before : PacketFields) → (accepts o ≡ true → (seen : Seen) × (read_of q (pending past ++ flit ∷ []) ≡ Ok seen)) →
-    accepted_by q (pending past) (Land flit o) ≡ arrived (landed_with o (latest_of before (accepted_by q (pending past) (Land flit o))))
+    accepted_by q (pending past) (Land flit o) ≡ arrived_packets (landed_with o (latest_of before (accepted_by q (pending past) (Land flit o))))
 by-outcome q past flit Quiet before read = refl
 by-outcome q past flit Trained before read = refl
 by-outcome q past flit Gathered before read = refl
@@ -60,13 +60,13 @@ by-outcome q past flit AbortedOrder before read = refl
 by-outcome q past flit (Ran kind) before read = refl
 
 -- what was accepted with the landing
-pub accepted-more : (q : Profile) (past : List ReceiverEntry) (flit : List ℕ) → let o = (reception_of q past flit).outcome in accepted q (Land flit o ∷ past) ≡ accepted q past ++ arrived (landed_with o (latest q (Land flit o ∷ past)))
+pub accepted-more : (q : Profile) (past : List ReceiverEntry) (flit : List ℕ) → let o = (reception_of q past flit).outcome in accepted q (Land flit o ∷ past) ≡ accepted q past ++ arrived_packets (landed_with o (latest q (Land flit o ∷ past)))
 unfolding accepted latest
 accepted-more q past flit =
     let o = (reception_of q past flit).outcome in
     ap (λ (l : List PacketFields). accepted q past ++ l) (by-outcome q past flit o (latest q past) (read-it q past flit))
 
 -- what the landing accepts
-pub accepted-same : (q : Profile) (past : List ReceiverEntry) (flit : List ℕ) → let o = (reception_of q past flit).outcome in accepted_by q (pending past) (Land flit o) ≡ arrived (landed_with o (latest q (Land flit o ∷ past)))
+pub accepted-same : (q : Profile) (past : List ReceiverEntry) (flit : List ℕ) → let o = (reception_of q past flit).outcome in accepted_by q (pending past) (Land flit o) ≡ arrived_packets (landed_with o (latest q (Land flit o ∷ past)))
 unfolding latest
 accepted-same q past flit = by-outcome q past flit (reception_of q past flit).outcome (latest q past) (read-it q past flit)

@@ -21,7 +21,7 @@ use Rattle.hmc_send.specs.declared.toward.Toward.TheVariants.{Forth, Back}
 use Rattle.hmc_ends.specs.declared.link_landed.LinkLanded.TheVariants as links
 use Rattle.hmc_ends.specs.Answers.{after_call}
 use Rattle.hmc_ends.specs.End.{EndFields}
-use Rattle.hmc_ends.specs.Landings.{Lands, arrived, stored, landed_in, entry_landed, unless_passed, link_landed, came}
+use Rattle.hmc_ends.specs.Landings.{Lands, arrived_packets, stored, landing_in, entry_landed, landed_unless_passed, link_landed, came}
 use Rattle.hmc_ends.specs.Parts.{parts_of, parts_crossed, flits_under_way}
 use Rattle.hmc_ends.specs.StandsFor.{EndStandsFor, EndsStandFor, flits_on}
 use Rattle.hmc_ends.proofs.Arrivals.{accepted-more}
@@ -94,10 +94,10 @@ lands-of link Back past mask sent flit changed s l both front flit_is changed_is
 -- what the end answers
 abbrev Answers : (flit : List ℕ) → Bool → EndFields → Option Landed → Type 0
 Answers flit changed l result =
-    (link : LinkFields) (d : Toward) (past : List LinkEntry) (mask : List ℕ) → Lands link d past mask flit changed l → result ≡ unless_passed (passes link.profile (other d) past mask flit) (landed_in link (other d) past flit)
+    (link : LinkFields) (d : Toward) (past : List LinkEntry) (mask : List ℕ) → Lands link d past mask flit changed l → result ≡ landed_unless_passed (passes link.profile (other d) past mask flit) (landing_in link (other d) past flit)
 
 pub answer-of : (link : LinkFields) (d : Toward) (past : List LinkEntry) (mask flit : List ℕ) (changed : Bool) (l : EndFields) (result : Option Landed) → Answers flit changed l result → Lands link (other d) past mask flit changed l →
-    result ≡ unless_passed (passes link.profile d past mask flit) (landed_in link d past flit)
+    result ≡ landed_unless_passed (passes link.profile d past mask flit) (landing_in link d past flit)
 answer-of link Forth past mask flit changed l result answers lands = answers link Back past mask lands
 answer-of link Back past mask flit changed l result answers lands = answers link Forth past mask lands
 
@@ -111,41 +111,41 @@ left-of : (link : LinkFields) (d : Toward) (past : List LinkEntry) (mask flit : 
 left-of link Forth past mask flit changed l l' leaves lands caught = leaves link Back past mask lands caught
 left-of link Back past mask flit changed l l' leaves lands caught = leaves link Forth past mask lands caught
 
-pub caught-is : (b : Bool) (x y : Landed) → Some x ≡ unless_passed b y → (b ≡ false) × (x ≡ y)
+pub caught-is : (b : Bool) (x y : Landed) → Some x ≡ landed_unless_passed b y → (b ≡ false) × (x ≡ y)
 caught-is true x y is = absurd cc
 caught-is false x y is = (refl, cc)
 
-pub passed-is : (b : Bool) (y : Landed) → None ≡ unless_passed b y → b ≡ true
+pub passed-is : (b : Bool) (y : Landed) → None ≡ landed_unless_passed b y → b ≡ true
 passed-is true y is = refl
 passed-is false y is = absurd cc
 
 link-is : (link : LinkFields) (d : Toward) (past : List LinkEntry) (mask sent flit : List ℕ) (s : EndFields) → EndStandsFor link s (parts_of link d past) → Some sent ≡ slice_get s.line 0 → flit ≡ under_mask mask sent →
-    link_landed link d past mask (slice_get (line link.profile d past) 0) ≡ came (passes link.profile d past mask flit) flit (landed_in link d past flit)
+    link_landed link d past mask (slice_get (line link.profile d past) 0) ≡ came (passes link.profile d past mask flit) flit (landing_in link d past flit)
 link-is link d past mask sent flit s is front flit_is =
     let f = front-of link d past s sent is (sym front) in
     let same : under_mask mask f.front.flit ≡ flit = ap (under_mask mask) f.flit_is ∙ sym flit_is in
-    ap (link_landed link d past mask) f.is ∙ ap (λ (x : List ℕ). came (passes link.profile d past mask x) x (landed_in link d past x)) same
+    ap (link_landed link d past mask) f.is ∙ ap (λ (x : List ℕ). came (passes link.profile d past mask x) x (landing_in link d past x)) same
 
 pub passed-answer : (link : LinkFields) (d : Toward) (past : List LinkEntry) (mask sent flit : List ℕ) (changed : Bool) (s l : EndFields) → EndsStandFor link d s l past → Some sent ≡ slice_get s.line 0 → flit ≡ under_mask mask sent → changed ≡ changes mask → Answers flit changed l None →
     links.Passed flit ≡ link_landed link d past mask (slice_get (line link.profile d past) 0)
 passed-answer link d past mask sent flit changed s l both front flit_is changed_is answers =
     let lands = lands-of link d past mask sent flit changed s l both front flit_is changed_is in
-    let passed = passed-is _ (landed_in link d past flit) (answer-of link d past mask flit changed l None answers lands) in
-    sym (link-is link d past mask sent flit s both.sending front flit_is ∙ ap (λ (b : Bool). came b flit (landed_in link d past flit)) passed)
+    let passed = passed-is _ (landing_in link d past flit) (answer-of link d past mask flit changed l None answers lands) in
+    sym (link-is link d past mask sent flit s both.sending front flit_is ∙ ap (λ (b : Bool). came b flit (landing_in link d past flit)) passed)
 
 pub came-answer : (link : LinkFields) (d : Toward) (past : List LinkEntry) (mask sent flit : List ℕ) (changed : Bool) (s l : EndFields) (landed : Landed) → EndsStandFor link d s l past → Some sent ≡ slice_get s.line 0 → flit ≡ under_mask mask sent → changed ≡ changes mask → Answers flit changed l (Some landed) →
     links.Came flit landed ≡ link_landed link d past mask (slice_get (line link.profile d past) 0)
 came-answer link d past mask sent flit changed s l landed both front flit_is changed_is answers =
     let lands = lands-of link d past mask sent flit changed s l both front flit_is changed_is in
-    let caught = caught-is _ landed (landed_in link d past flit) (answer-of link d past mask flit changed l (Some landed) answers lands) in
+    let caught = caught-is _ landed (landing_in link d past flit) (answer-of link d past mask flit changed l (Some landed) answers lands) in
     sym (link-is link d past mask sent flit s both.sending front flit_is ∙ (λ i. came (caught.0 i) flit (sym caught.1 i)))
 
 -- ---- the end that sent it
 
-arrived-more : (link : LinkFields) (d : Toward) (past : List LinkEntry) (flit : List ℕ) → flits_accepted (accepted link.profile (Land flit (reception_of link.profile (receiver_entries d past) flit).outcome ∷ receiver_entries d past)) ≡ flits_accepted (accepted link.profile (receiver_entries d past)) + packets.flits_in (stored (landed_in link d past flit))
+arrived-more : (link : LinkFields) (d : Toward) (past : List LinkEntry) (flit : List ℕ) → flits_accepted (accepted link.profile (Land flit (reception_of link.profile (receiver_entries d past) flit).outcome ∷ receiver_entries d past)) ≡ flits_accepted (accepted link.profile (receiver_entries d past)) + packets.flits_in (stored (landing_in link d past flit))
 arrived-more link d past flit =
     let old = accepted link.profile (receiver_entries d past) in
-    ap flits_accepted (accepted-more link.profile (receiver_entries d past) flit) ∙ ap packets.flits_in (filter-append is_token old (arrived (landed_in link d past flit))) ∙ sum_by-append flits_of (filter is_token old) (stored (landed_in link d past flit))
+    ap flits_accepted (accepted-more link.profile (receiver_entries d past) flit) ∙ ap packets.flits_in (filter-append is_token old (arrived_packets (landing_in link d past flit))) ∙ sum_by-append flits_of (filter is_token old) (stored (landing_in link d past flit))
 
 transit-room : (b a x : ℕ) → a + x ≤ b → x ≤ b - a
 transit-room b a x le = omega arith
@@ -154,22 +154,22 @@ pub transit-few : (link : LinkFields) (d : Toward) (past : List LinkEntry) (mask
     packets.flits_in (stored landed) ≤ s.transit
 transit-few link d past mask sent flit changed s l landed both front flit_is changed_is answers =
     let lands = lands-of link d past mask sent flit changed s l both front flit_is changed_is in
-    let caught = caught-is _ landed (landed_in link d past flit) (answer-of link d past mask flit changed l (Some landed) answers lands) in
+    let caught = caught-is _ landed (landing_in link d past flit) (answer-of link d past mask flit changed l (Some landed) answers lands) in
     let f = front-of link d past s sent both.sending (sym front) in
     let kept = kept-landed link d past mask flit f.front both.kept f.is (flit_is ∙ ap (under_mask mask) (sym f.flit_is)) caught.0 in
     let o = (reception_of link.profile (receiver_entries d past) flit).outcome in
     let laws = subst (PartLaws link) (landed-here link d mask flit o past) (part_laws link d (entry_landed link d past mask flit ∷ past) kept) in
-    let L = landed_in link d past flit in
+    let L = landing_in link d past flit in
     let begun = flits_begun (places link.profile (parts_of link d past).sender) in
     let some : flits_accepted (accepted link.profile (receiver_entries d past)) + packets.flits_in (stored L) ≤ begun = subst (λ (n : ℕ). n ≤ begun) (arrived-more link d past flit) laws.transit in
     let room = transit-room begun (flits_accepted (accepted link.profile (receiver_entries d past))) (packets.flits_in (stored L)) some in
     subst (λ (x : Landed). packets.flits_in (stored x) ≤ s.transit) (sym caught.1) (subst (λ (n : ℕ). packets.flits_in (stored L) ≤ n) (sym both.sending.transit) room)
 
 stands-crossed : (link : LinkFields) (d : Toward) (past : List LinkEntry) (flit : List ℕ) (s : EndFields) (front : StampedFlit) → EndStandsFor link s (parts_of link d past) → slice_get (flits_under_way (parts_of link d past)) 0 ≡ Some front →
-    EndStandsFor link (record s { line = drop 1 s.line; transit = s.transit - packets.flits_in (stored (landed_in link d past flit)) }) (parts_crossed flit (reception_of link.profile (receiver_entries d past) flit).outcome (parts_of link d past))
+    EndStandsFor link (record s { line = drop 1 s.line; transit = s.transit - packets.flits_in (stored (landing_in link d past flit)) }) (parts_crossed flit (reception_of link.profile (receiver_entries d past) flit).outcome (parts_of link d past))
 stands-crossed link d past flit s front is some =
     let p = parts_of link d past in
-    let L = landed_in link d past flit in
+    let L = landing_in link d past flit in
     let begun = flits_begun (places link.profile p.sender) in
     let old = flits_accepted (accepted link.profile p.landed) in
     record {
@@ -199,11 +199,11 @@ pub came-stands : (link : LinkFields) (d : Toward) (past : List LinkEntry) (mask
     s1 ≡ record s { line = drop 1 s.line } → s' ≡ record s1 { transit = s1.transit - packets.flits_in (stored landed) } → EndsStandFor link d s' l' (after_call link past (LinkCall.land d mask))
 came-stands link d past mask sent flit changed s l s1 s' l' landed both front flit_is changed_is answers leaves taken left =
     let lands = lands-of link d past mask sent flit changed s l both front flit_is changed_is in
-    let caught = caught-is _ landed (landed_in link d past flit) (answer-of link d past mask flit changed l (Some landed) answers lands) in
+    let caught = caught-is _ landed (landing_in link d past flit) (answer-of link d past mask flit changed l (Some landed) answers lands) in
     let f = front-of link d past s sent both.sending (sym front) in
     let at : flit ≡ under_mask mask f.front.flit = flit_is ∙ ap (under_mask mask) (sym f.flit_is) in
     let o = (reception_of link.profile (receiver_entries d past) flit).outcome in
-    let L = landed_in link d past flit in
+    let L = landing_in link d past flit in
     let s_is : s' ≡ record s { line = drop 1 s.line; transit = s.transit - packets.flits_in (stored L) } =
     left ∙ (λ i. record (taken i) { transit = (taken i).transit - packets.flits_in (stored (caught.1 i)) }) in
     both-more link d past (LinkCall.land d mask) (entry_landed link d past mask flit) s' l' (next-landed link d past mask flit f.front f.is at caught.0) (record {

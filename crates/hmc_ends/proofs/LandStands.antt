@@ -32,7 +32,7 @@ use Rattle.hmc_tokens.specs.declared.account.Account.{Account}
 use Rattle.hmc_wire.specs.Conditions.{AreMet, AreHanded, AreFed}
 use Rattle.hmc_wire.specs.LinkLaws.{IsKept}
 use Rattle.hmc_ends.specs.End.{EndFields}
-use Rattle.hmc_ends.specs.Landings.{Lands, arrived, stored, noted, pending_changed, landed_in, entry_landed, KeepsSizes, is_start_run}
+use Rattle.hmc_ends.specs.Landings.{Lands, arrived_packets, stored, noted, pending_changed, landing_in, entry_landed, KeepsSizes, is_start_run}
 use Rattle.hmc_ends.specs.Parts.{EndParts, parts_of, parts_landed}
 use Rattle.hmc_ends.specs.StandsFor.{EndStandsFor}
 use Rattle.hmc_ends.proofs.Acknowledges.{named-is, stamp-least}
@@ -120,13 +120,13 @@ landed-back link Back mask flit o past = refl
 
 pub stands-landed : (link : LinkFields) (e : EndFields) (p : EndParts) (mask flit : List ℕ) (o : Outcome) (rrp : Option ℕ) (front : Option StampedFlit) (landed : Landed) (r : ReceiverFields) (s : State) (a : Account) (b : List PacketFields) (changed : Bool) →
     EndStandsFor link e p → PartLaws link p → ReceiverStandsFor link.profile r (Land flit o ∷ p.received) → StandsFor s ((run_entries o ++ acknowledgement rrp front) ++ p.sender) → KeepsSizes e.sender s →
-    accepted link.profile (Land flit o ∷ p.received) ≡ accepted link.profile p.received ++ arrived landed → a ≡ record e.account { held = e.account.held + tokens_credited (arrived landed) } → b ≡ e.buffer ++ stored landed → changed ≡ changed_after mask o p.changed →
+    accepted link.profile (Land flit o ∷ p.received) ≡ accepted link.profile p.received ++ arrived_packets landed → a ≡ record e.account { held = e.account.held + tokens_credited (arrived_packets landed) } → b ≡ e.buffer ++ stored landed → changed ≡ changed_after mask o p.changed →
     EndStandsFor link (record e { receiver = r; sender = s; account = a; buffer = b; changed = changed }) (parts_landed mask flit o (run_entries o ++ acknowledgement rrp front) p)
 stands-landed link e p mask flit o rrp front landed r s a b changed is laws receiver sender sizes more account buffer change =
     let q = link.profile in
     let t = p.sender in
     let old = accepted q p.received in
-    let new = arrived landed in
+    let new = arrived_packets landed in
     let held = laws.held in
     let placed = places-landed q o rrp front t in
     let fronts = fronts-landed o rrp front t in
@@ -159,9 +159,9 @@ stands-landed link e p mask flit o rrp front landed r s a b changed is laws rece
 
 pub record LandFacts (link : LinkFields) (d : Toward) (past : List LinkEntry) (mask flit : List ℕ) (e : EndFields) : Type 0 where
   pub kept : IsKept link (entry_landed link (other d) past mask flit ∷ past)
-  pub more : accepted link.profile (Land flit (reception_of link.profile (receiver_entries (other d) past) flit).outcome ∷ receiver_entries (other d) past) ≡ accepted link.profile (receiver_entries (other d) past) ++ arrived (landed_in link (other d) past flit)
-  pub held : e.account.held + tokens_credited (arrived (landed_in link (other d) past flit)) ≤ most_tokens
-  pub room : sum_by flits_of e.buffer + packets.flits_in (stored (landed_in link (other d) past flit)) ≤ link.tokens
+  pub more : accepted link.profile (Land flit (reception_of link.profile (receiver_entries (other d) past) flit).outcome ∷ receiver_entries (other d) past) ≡ accepted link.profile (receiver_entries (other d) past) ++ arrived_packets (landing_in link (other d) past flit)
+  pub held : e.account.held + tokens_credited (arrived_packets (landing_in link (other d) past flit)) ≤ most_tokens
+  pub room : sum_by flits_of e.buffer + packets.flits_in (stored (landing_in link (other d) past flit)) ≤ link.tokens
 
 room-of : (taken rest new tokens all : ℕ) → taken + rest + new ≤ taken + tokens → rest + new ≤ tokens
 room-of taken rest new tokens all le = omega arith
@@ -172,14 +172,14 @@ land-facts link d past mask flit changed e lands caught =
     let o = (reception_of q (receiver_entries (other d) past) flit).outcome in
     let p = parts_of link d past in
     let is = lands.stands in
-    let landed = landed_in link (other d) past flit in
+    let landed = landing_in link (other d) past flit in
     let kept = kept-landed link (other d) past mask flit lands.front lands.kept lands.is_front lands.flit_is caught in
     let laws = part_laws link d past lands.kept in
     let after = subst (PartLaws link) (landed-back link d mask flit o past) (part_laws link d (entry_landed link (other d) past mask flit ∷ past) kept) in
-    let more : accepted q (Land flit o ∷ p.received) ≡ accepted q p.received ++ arrived landed = accepted-more q p.received flit in
+    let more : accepted q (Land flit o ∷ p.received) ≡ accepted q p.received ++ arrived_packets landed = accepted-more q p.received flit in
     let placed = places-landed q o (reception_of q p.received flit).rrp (slice_get (line q (other d) past) 0) p.sender in
     let old = accepted q p.received in
-    let new = arrived landed in
+    let new = arrived_packets landed in
     let filtered : filter is_token (accepted q (Land flit o ∷ p.received)) ≡ filter is_token old ++ stored landed = ap (filter is_token) more ∙ filter-append is_token old new in
     let credited : tokens_credited (accepted q (Land flit o ∷ p.received)) ≡ tokens_credited old + tokens_credited new = ap tokens_credited more ∙ sum_by-append _ old new in
     let took : flits_taken p.takes (accepted q (Land flit o ∷ p.received)) ≡ flits_taken p.takes old =

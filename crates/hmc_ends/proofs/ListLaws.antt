@@ -23,7 +23,7 @@ use Rattle.hmc_wire.specs.Conditions.{AreMet, AreHanded, AreFed}
 use Rattle.hmc_wire.specs.LinkLaws.{IsKept, Put, puts, begun_puts}
 use Rattle.hmc_wire.specs.LinkLaws.Put.{put_packet, put_through}
 use Rattle.hmc_wire.proofs.Agreements.{landed-fed}
-use Rattle.hmc_ends.specs.Landings.{stored, landed_in, entry_landed}
+use Rattle.hmc_ends.specs.Landings.{stored, landing_in, entry_landed}
 use Rattle.hmc_ends.specs.List.{handed_list, list_by, list_sent, listed_packet, listed_open, leaves}
 use Rattle.hmc_ends.proofs.Acknowledges.{accepted-known}
 use Rattle.hmc_ends.proofs.Arrivals.{accepted-same}
@@ -176,7 +176,7 @@ list-landed link Back mask flit o past kept =
 
 -- and these are what it gives
 pub list-gives : (link : LinkFields) (d : Toward) (mask flit : List ℕ) (past : List LinkEntry) → IsKept link (entry_landed link d past mask flit ∷ past) →
-    handed_list link d past ≡ map listed_packet (stored (landed_in link d past flit)) ++ handed_list link d (entry_landed link d past mask flit ∷ past)
+    handed_list link d past ≡ map listed_packet (stored (landing_in link d past flit)) ++ handed_list link d (entry_landed link d past mask flit ∷ past)
 list-gives link d mask flit past kept =
     let o = (reception_of link.profile (receiver_entries d past) flit).outcome in
     let after = handed_list link d (entry_landed link d past mask flit ∷ past) in

@@ -31,7 +31,7 @@ use Rattle.hmc_wire.specs.LinkLaws.{IsKept}
 use Rattle.hmc_ends.specs.declared.link_sent.LinkSent.{LinkSent}
 use Rattle.hmc_ends.specs.Answers.{link_sent, after_call}
 use Rattle.hmc_ends.specs.End.{EndFields}
-use Rattle.hmc_ends.specs.Parts.{EndParts, parts_of, flits_under_way, given_by, view_by, parts_sent, parts_after_send}
+use Rattle.hmc_ends.specs.Parts.{EndParts, parts_of, flits_under_way, send_given, view_by, parts_sent, parts_after_send}
 use Rattle.hmc_ends.specs.StandsFor.{EndStandsFor, EndsStandFor, CanSend}
 use Rattle.hmc_ends.proofs.Fed.{sender-is}
 use Rattle.hmc_ends.proofs.Lists.{length-map}
@@ -88,8 +88,8 @@ send-next link d past e own feed S Q A L flit w kept s own_is fed feed_is front 
     let given = given-is link e p own feed s own_is in
     let under : e.sender.under_way ≡ under_way q p.sender = s.sender.begun ∙ ap (λ (r : Profile). under_way r p.sender) s.profile in
     let chosen : choice q (view_by link p feed) ≡ Out flit w = sym (answer ∙ choice-is link e p own feed s own_is) in
-    let fit : IsFrontFit q (given_by link p feed).front = subst (λ (l : List PacketFields). IsFrontFit q (slice_get l 0)) s.queue front in
-    let moves = moves-of q link.retry p.sender (given_by link p feed) e.account flit w (sender-is link d past kept) (subst (λ (u : Option UnderWay). IsFed u feed) under fed) feed_is fit (sym s.due) chosen in
+    let fit : IsFrontFit q (send_given link p feed).front = subst (λ (l : List PacketFields). IsFrontFit q (slice_get l 0)) s.queue front in
+    let moves = moves-of q link.retry p.sender (send_given link p feed) e.account flit w (sender-is link d past kept) (subst (λ (u : Option UnderWay). IsFed u feed) under fed) feed_is fit (sym s.due) chosen in
     let after = stands-sent link e p feed S flit w s (part_laws link d past kept) moves (left ∙ ap (λ (x : Given). after_send x (Out flit w) e.sender) given)
     (subst (λ (x : Given). StandsFor S (SenderEntry.sent x w flit ∷ p.sender)) given stands) in
     let same : record e { queue = Q; sender = S; line = L; transit = e.transit + (e.account.held - A.held); account = A } ≡ after_flit e S flit w =

@@ -24,7 +24,7 @@ use Rattle.hmc_send.specs.declared.sent.Sent.TheVariants.{Out, Starved}
 use Rattle.hmc_send.specs.declared.state.State.{State}
 use Rattle.hmc_tokens.specs.declared.account.Account.{Account}
 use Rattle.hmc_ends.specs.End.{EndFields}
-use Rattle.hmc_ends.specs.Parts.{EndParts, flits_under_way, given_by, parts_sent}
+use Rattle.hmc_ends.specs.Parts.{EndParts, flits_under_way, send_given, parts_sent}
 use Rattle.hmc_ends.specs.StandsFor.{EndStandsFor}
 use Rattle.hmc_ends.proofs.Lists.{drop-push, drop-add, map-push, front-longer}
 use Rattle.hmc_ends.proofs.Moves.{Moves}
@@ -82,7 +82,7 @@ held-less None front (Out flit what.Null) a = omega arith
 held-less None front (Out flit what.Pret) a = omega arith
 
 -- what the sender is given is what the definition says
-pub given-is : (link : LinkFields) (e : EndFields) (p : EndParts) (own : View) (feed : Feed) → EndStandsFor link e p → own ≡ receiver_view link.profile p.received → given_of own e.queue e.account feed ≡ given_by link p feed
+pub given-is : (link : LinkFields) (e : EndFields) (p : EndParts) (own : View) (feed : Feed) → EndStandsFor link e p → own ≡ receiver_view link.profile p.received → given_of own e.queue e.account feed ≡ send_given link p feed
 given-is link e p own feed s is = λ i. record {
   own = is i;
   front = slice_get (s.queue i) 0;
@@ -109,12 +109,12 @@ after_flit e s flit as_what = record e {
   transit = e.transit + (e.account.held - (account_after e.sender.under_way (slice_get e.queue 0) (Out flit as_what) e.account).held);
 }
 
-pub stands-sent : (link : LinkFields) (e : EndFields) (p : EndParts) (feed : Feed) (s : State) (flit : List ℕ) (as_what : What) → EndStandsFor link e p → PartLaws link p → Moves link.profile p.sender (given_by link p feed) e.account as_what flit →
-    s ≡ after_send (given_by link p feed) (Out flit as_what) e.sender → StandsFor s (SenderEntry.sent (given_by link p feed) as_what flit ∷ p.sender) →
+pub stands-sent : (link : LinkFields) (e : EndFields) (p : EndParts) (feed : Feed) (s : State) (flit : List ℕ) (as_what : What) → EndStandsFor link e p → PartLaws link p → Moves link.profile p.sender (send_given link p feed) e.account as_what flit →
+    s ≡ after_send (send_given link p feed) (Out flit as_what) e.sender → StandsFor s (SenderEntry.sent (send_given link p feed) as_what flit ∷ p.sender) →
     EndStandsFor link (after_flit e s flit as_what) (parts_sent link feed as_what flit p)
 stands-sent link e p feed s flit as_what is laws moves left stands =
     let q = link.profile in
-    let given = given_by link p feed in
+    let given = send_given link p feed in
     let t = p.sender in
     let same = sent-same given as_what flit e.sender in
     let under : e.sender.under_way ≡ under_way q t = is.sender.begun ∙ ap (λ (r : Profile). under_way r t) is.profile in

@@ -29,7 +29,7 @@ use Rattle.hmc_send.proofs.Views.{view-same}
 use Rattle.hmc_tokens.specs.Account.{tokens_of_code, code_for}
 use Rattle.hmc_tokens.specs.declared.account.Account.{Account}
 use Rattle.hmc_ends.specs.End.{EndFields, own_view, is_ready}
-use Rattle.hmc_ends.specs.Parts.{EndParts, due_of, given_by, view_by, parts_through}
+use Rattle.hmc_ends.specs.Parts.{EndParts, due_of, send_given, view_by, parts_through}
 use Rattle.hmc_ends.specs.StandsFor.{EndStandsFor, CanForward}
 use Rattle.hmc_ends.proofs.Fed.{begun-push, returned-push}
 use Rattle.hmc_ends.proofs.PartLaws.{PartLaws, part_laws}
@@ -49,7 +49,7 @@ pub ready-is : (link : LinkFields) (e : EndFields) (p : EndParts) (own : View) (
     b ≡ is_free (view_after e.sender.retry.profile e.sender.retry.flits p.sender (given_only own)) → c ≡ nat_le flits e.account.held → d ≡ nat_le flits (room e.sender.retry.profile e.sender.retry.flits p.sender) → r ≡ ((a && b) && (c && d)) →
     r ≡ may_pass_on (view_by link p Waiting) flits
 ready-is link e p own flits a b c d r s own_is a_is b_is c_is d_is r_is =
-    let given = given_by link p Waiting in
+    let given = send_given link p Waiting in
     let front : a ≡ is_none given.front = a_is ∙ ap (λ (l : List PacketFields). is_none (slice_get l 0)) s.queue in
     let free : b ≡ is_free (view_by link p Waiting) = b_is ∙ (λ i. is_free (view_after (s.profile i) (s.retry i) p.sender (given_only (own_is i)))) ∙ free-own link.profile link.retry p.sender given in
     let held : c ≡ nat_le flits given.held = c_is ∙ ap (nat_le flits) s.held in

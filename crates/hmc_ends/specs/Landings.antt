@@ -39,12 +39,12 @@ abbrev pub listed : Option PacketFields → List PacketFields
 listed None = []
 listed (Some packet) = packet ∷ []
 
-abbrev pub arrived : Landed → List PacketFields
-arrived landed = listed (arriving landed)
+abbrev pub arrived_packets : Landed → List PacketFields
+arrived_packets landed = listed (arriving landed)
 
 -- the same, where it is a request or a response
 abbrev pub stored : Landed → List PacketFields
-stored landed = filter is_token (arrived landed)
+stored landed = filter is_token (arrived_packets landed)
 
 -- an outcome that begins again: a run of Starts
 abbrev pub is_start_run : Outcome → Bool
@@ -63,9 +63,9 @@ pub record KeepsSizes (old new : State) : Type 0 where
   pub flits : new.retry.flits ≡ old.retry.flits
 
 -- what lands, unless a change passes
-abbrev pub unless_passed : (passed : Bool) → Landed → Option Landed
-unless_passed true landed = None
-unless_passed false landed = Some landed
+abbrev pub landed_unless_passed : (passed : Bool) → Landed → Option Landed
+landed_unless_passed true landed = None
+landed_unless_passed false landed = Some landed
 
 -- the entries of a sender after a return pointer was taken, or none
 abbrev pub noted : Profile → Option ℕ → List SenderEntry → List SenderEntry
@@ -94,8 +94,8 @@ pub record CanLand (flit : List ℕ) (changed : Bool) (e : EndFields) : Type 0 w
   pub lands : Lands link d past mask flit changed e
 
 -- what the landing of a flit in a direction gives
-abbrev pub landed_in : LinkFields → Toward → List LinkEntry → (flit : List ℕ) → Landed
-landed_in link d past flit = (landing_of link.profile (receiver_entries d past) flit).outcome
+abbrev pub landing_in : LinkFields → Toward → List LinkEntry → (flit : List ℕ) → Landed
+landing_in link d past flit = (landing_of link.profile (receiver_entries d past) flit).outcome
 
 -- its entry
 abbrev pub entry_landed : LinkFields → Toward → List LinkEntry → (mask flit : List ℕ) → LinkEntry
@@ -109,7 +109,7 @@ pub record CanTake (reception : Reception) (changed : Bool) (e : EndFields) : Ty
   pub past : List ReceiverEntry
   pub receiver : ReceiverStandsFor profile e.receiver past
   pub held : e.account.held
-      + tokens_credited (arrived (landed_with reception.outcome (latest profile past)))
+      + tokens_credited (arrived_packets (landed_with reception.outcome (latest profile past)))
       ≤ most_tokens
   pub room : sum_by flits_of e.buffer
       + flits_in (stored (landed_with reception.outcome (latest profile past))) ≤ e.setup.tokens
@@ -125,12 +125,12 @@ abbrev pub link_landed :
 link_landed link d past mask None = links.Empty
 link_landed link d past mask (Some front) =
     let flit = under_mask mask front.flit in
-    came (passes link.profile d past mask flit) flit (landed_in link d past flit)
+    came (passes link.profile d past mask flit) flit (landing_in link d past flit)
 
 -- a change passed
-abbrev pub has_passed : LinkLanded → Bool
-has_passed (links.Passed flit) = true
-has_passed _ = false
+abbrev pub landing_passed : LinkLanded → Bool
+landing_passed (links.Passed flit) = true
+landing_passed _ = false
 
 -- no flit was there to land
 abbrev pub lands_none : LinkLanded → Bool

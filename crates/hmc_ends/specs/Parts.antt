@@ -46,8 +46,8 @@ parts_of link d past = record {
 }
 
 -- the packets that wait in its output queue
-abbrev pub queue_of : EndParts → List PacketFields
-queue_of p = drop (taken_fronts p.sender) p.handed
+abbrev pub output_queue : EndParts → List PacketFields
+output_queue p = drop (taken_fronts p.sender) p.handed
 
 -- the flits that it sent and that have not landed
 abbrev pub flits_under_way : EndParts → List StampedFlit
@@ -72,10 +72,10 @@ due_of link p =
     (places link.profile p.sender)
 
 -- what a send is given
-abbrev pub given_by : LinkFields → EndParts → Feed → Given
-given_by link p feed = record {
+abbrev pub send_given : LinkFields → EndParts → Feed → Given
+send_given link p feed = record {
   own = record { mode = mode p.received; rrp = pointer_of link.profile p.received };
-  front = slice_get (queue_of p) 0;
+  front = slice_get (output_queue p) 0;
   held = held_of link p;
   due = due_of link p;
   feed = feed;
@@ -83,7 +83,7 @@ given_by link p feed = record {
 
 -- what a send sees
 abbrev pub view_by : LinkFields → EndParts → Feed → SendView
-view_by link p feed = view_after link.profile link.retry p.sender (given_by link p feed)
+view_by link p feed = view_after link.profile link.retry p.sender (send_given link p feed)
 
 -- ---- the parts after an entry
 
@@ -98,7 +98,7 @@ parts_taken p = record p { takes = suc p.takes }
 -- a flit was sent
 abbrev pub parts_sent : LinkFields → Feed → What → (flit : List ℕ) → EndParts → EndParts
 parts_sent link feed as_what flit p = record p {
-  sender = SenderEntry.sent (given_by link p feed) as_what flit ∷ p.sender;
+  sender = SenderEntry.sent (send_given link p feed) as_what flit ∷ p.sender;
   flits = p.flits
       ++ record { flit = flit; stamp = length (accepted link.profile p.received) } ∷ [];
 }

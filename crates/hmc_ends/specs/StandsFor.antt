@@ -17,7 +17,7 @@ use Rattle.hmc_send.specs.StandsFor.{StandsFor}
 use Rattle.hmc_send.specs.declared.toward.Toward.{Toward}
 use Rattle.hmc_wire.specs.LinkLaws.{IsKept}
 use Rattle.hmc_ends.specs.End.{EndFields, is_ready}
-use Rattle.hmc_ends.specs.Parts.{EndParts, parts_of, queue_of, flits_under_way, tokens_accepted, buffer_of, held_of, due_of}
+use Rattle.hmc_ends.specs.Parts.{EndParts, parts_of, output_queue, flits_under_way, tokens_accepted, buffer_of, held_of, due_of}
 
 -- the flits of a line without their stamps
 abbrev pub flits_on : List StampedFlit → List (List ℕ)
@@ -32,7 +32,7 @@ pub record EndStandsFor (link : LinkFields) (e : EndFields) (p : EndParts) : Typ
   pub retry : e.sender.retry.flits ≡ link.retry
   pub sender : StandsFor e.sender p.sender
   -- the output queue, and the line
-  pub queue : e.queue ≡ queue_of p
+  pub queue : e.queue ≡ output_queue p
   pub line : e.line ≡ flits_on (flits_under_way p)
   -- the flits of packets that were begun and not accepted
   pub transit : e.transit

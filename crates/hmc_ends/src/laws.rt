@@ -8,7 +8,7 @@ ghost use Rattle.hmc_packet.specs.Packet.{PacketFields};
 ghost use Rattle.hmc_send.specs.LinkEntries.{LinkEntry};
 ghost use Rattle.hmc_send.specs.declared.toward.Toward.{Toward};
 ghost use Rattle.hmc_wire.specs.LinkLaws.{IsKept};
-ghost use Rattle.hmc_ends.specs.Landings.{entry_landed, landed_in, stored};
+ghost use Rattle.hmc_ends.specs.Landings.{entry_landed, landing_in, stored};
 ghost use Rattle.hmc_ends.specs.List.{handed_list, list_sent, listed_open, listed_packet, leaves};
 
 /// What each entry does to the list of its direction: the packets that were handed and are not
@@ -35,7 +35,7 @@ pub fn directions_are_lists()
         ≡ list_sent link d past feed as_what }
     ensures landed { (link : LinkFields) (d : Toward) (mask flit : List ℕ)
         (past : List LinkEntry) → IsKept link (entry_landed link d past mask flit ∷ past) →
-        handed_list link d past ≡ map listed_packet (stored (landed_in link d past flit))
+        handed_list link d past ≡ map listed_packet (stored (landing_in link d past flit))
         ++ handed_list link d (entry_landed link d past mask flit ∷ past) }
     ensures left { (link : LinkFields) (d : Toward) (entry : LinkEntry)
         (past : List LinkEntry) → leaves d entry ≡ true →

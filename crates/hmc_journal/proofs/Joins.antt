@@ -1,5 +1,5 @@
 -- Where the directions of joins start and end.
-use Rattle.std.proofs.Common.{◌≡◌, ◌∙◌, ◌<◌, ◌+◌, ◌-◌, ◌*◌, ◌/◌, ◌%◌, ◌==◌, ◌||◌, ◌⊎◌, inl, inr, ℕ, zero, suc, Bool, true, false, if◌then◌else◌, Option, Some, None, List, [], ◌∷◌, length, slice_index_or, refl, sym, ap, ap₂, arith, eqb-true, eq-eqb, ne_eqb}
+use Rattle.std.proofs.Common.{◌≡◌, ◌∙◌, ◌<◌, ◌+◌, ◌-◌, ◌*◌, ◌/◌, ◌%◌, ◌==◌, ◌||◌, ◌⊎◌, inl, inr, ℕ, zero, suc, Bool, true, false, if◌then◌else◌, Option, Some, None, List, [], ◌∷◌, length, slice_index_or, refl, sym, ap, ap₂, arith, eq-eqb, ne_eqb}
 use Rattle.std.specs.Prelude.{not, option_map}
 use Rattle.std.specs.List.{find, list_any}
 use Rattle.std.proofs.lemmas.Bool.{and_parts, not-true, or_parts}
@@ -7,7 +7,6 @@ use mathlib.Core.Bool.{cond}
 use Rattle.hmc_codes.specs.Places.{same_place}
 use Rattle.hmc_codes.specs.declared.place.Join.{Join}
 use Rattle.hmc_codes.specs.declared.place.Place.{Place}
-use Rattle.hmc_codes.specs.declared.place.Place.TheVariants.{Host, Port}
 use Rattle.hmc_routes.specs.Directions.{no_join, other, join_of, start_of, end_of, direction_among, direction_from}
 use Rattle.hmc_routes.specs.Neighbours.{ends_at, far_end, joined_to}
 use Rattle.hmc_routes.specs.WellFormed.{ends_of, are_distinct}

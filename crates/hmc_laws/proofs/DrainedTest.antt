@@ -1,6 +1,6 @@
 -- Nothing is on its way where the test of all queues that there are says so: in the others there is
 -- nothing.
-use Rattle.std.proofs.Common.{◌≡◌, ◌≤◌, ◌<◌, ◌+◌, ◌/◌, ◌%◌, ◌^◌, ◌∙◌, ◌==◌, ◌&&◌, ℕ, Bool, true, false, if◌then◌else◌, Option, Some, None, List, [], ◌∷◌, ◌++◌, All, length, map, refl, sym, ap, subst, arith, eqb-true, nat_le, leb-true, leb-false, eq-eqb}
+use Rattle.std.proofs.Common.{◌≡◌, ◌≤◌, ◌<◌, ◌+◌, ◌/◌, ◌^◌, ◌∙◌, ◌==◌, ℕ, Bool, true, false, if◌then◌else◌, Option, Some, None, List, [], ◌∷◌, ◌++◌, All, length, map, refl, sym, ap, subst, arith, eqb-true, nat_le, leb-true, leb-false, eq-eqb}
 use Rattle.std.specs.Prelude.{option_map}
 use Rattle.std.specs.List.{list_all, flat_map}
 use Rattle.std.proofs.lemmas.List.Elements.{All-head, All-nil, All-cons, All-append, All-drop, All-get_or}
@@ -8,7 +8,6 @@ use Rattle.std.proofs.lemmas.List.Sums.{AllPass-from_list_all}
 use Rattle.std.proofs.lemmas.List.Folds.{list_all-append, list_all-map}
 use Rattle.std.proofs.lemmas.List.FromFn.{length-range_with_len, get_or-range_with_len}
 use Rattle.std.proofs.lemmas.Nat.{pow_pos}
-use Rattle.std.proofs.lemmas.Bool.Decides.{nat_tests}
 use Rattle.std.proofs.lemmas.Bool.{and_parts}
 use Rattle.std.proofs.Math.Nat.{mod-lt}
 use Rattle.hmc_codes.specs.Commands.{is_posted}
@@ -76,11 +75,11 @@ named_vault false v vault is = cc
 vault_there : (topology : Topology) (cube vault : ℕ) (packet : PacketFields) → IsBound topology cube (goals.Vault vault) packet → vault < 2 ^ (shape_of topology cube).vault_bits
 vault_there topology cube vault packet is =
     let named : vault_of (shape_of topology cube) packet.address ≡ vault = named_vault (is_for_registers packet.command) (vault_of (shape_of topology cube) packet.address) vault is.is_goal in
-    subst (λ (n : ℕ). n < 2 ^ (shape_of topology cube).vault_bits) named (mod-lt (packet.address / (shape_of topology cube).block) (pow_pos (shape_of topology cube)).vault_bits)
+    subst (λ (n : ℕ). n < 2 ^ (shape_of topology cube).vault_bits) named (mod-lt (packet.address / (shape_of topology cube).block) (pow_pos (shape_of topology cube).vault_bits))
 
 bank_there : (topology : Topology) (cube bank : ℕ) (packet : PacketFields) → bank_of (shape_of topology cube) packet.address ≡ bank → bank < 2 ^ (shape_of topology cube).bank_bits
 bank_there topology cube bank packet is =
-    subst (λ (n : ℕ). n < 2 ^ (shape_of topology cube).bank_bits) is (mod-lt (packet.address / (shape_of topology cube).block / 2 ^ (shape_of topology cube).vault_bits) (pow_pos (shape_of topology cube)).bank_bits)
+    subst (λ (n : ℕ). n < 2 ^ (shape_of topology cube).bank_bits) is (mod-lt (packet.address / (shape_of topology cube).block / 2 ^ (shape_of topology cube).vault_bits) (pow_pos (shape_of topology cube).bank_bits))
 
 -- its cube is there
 bound_cube : (topology : Topology) (cube : ℕ) (goal : Goal) (packet : PacketFields) → IsBound topology cube goal packet → cube < cubes_in topology

@@ -43,7 +43,7 @@ use Rattle.hmc_serial.specs.Unit.{is_for_registers}
 use Rattle.hmc_journal.specs.Setup.{Setup, Topology, shape_of, graph_of, cubes_in, hosts_in, directions_in, end_of, direction_from, unit_cube}
 use Rattle.hmc_journal.specs.Network.{IsNetwork, IsItemOf}
 use Rattle.hmc_journal.specs.Next.{lacks_room, goal_at, tag_of}
-use Rattle.hmc_crossbar.specs.To.{into_cube, out_of_cube, request_to, unpoisoned_to}
+use Rattle.hmc_crossbar.specs.To.{out_of_cube, request_to, unpoisoned_to}
 use Rattle.hmc_codes.specs.declared.family.Family.{Family}
 use Rattle.hmc_routes.specs.Ports.{port_to_cube, port_to_host}
 use Rattle.hmc_laws.proofs.Machine.{HasCubes, cube_there}

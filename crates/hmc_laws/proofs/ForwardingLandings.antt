@@ -33,14 +33,14 @@ use Rattle.hmc_laws.proofs.ForwardingPipes.{Waits, Way, IsGathering, IsGood, Pip
 -- a landing that is accepted while its packet is forwarded: the flits are those of a packet that is
 -- on its way
 pub record GoodLanding (topology : Topology) (past : List Entry) (e : ℕ) (flit : List ℕ) : Type 0
-    where
-  pub packet : PacketFields
-  pub moving : IsMoving topology packet
-  pub clean : packet.poisoned ≡ false
-  pub rrp : ℕ
-  pub fits : FitsProfile (profile_of topology e) packet rrp
-  pub spelled : pending (receiver_of e past) ++ flit ∷ []
-      ≡ spelling (profile_of topology e) packet rrp
+  where
+    pub packet : PacketFields
+    pub moving : IsMoving topology packet
+    pub clean : packet.poisoned ≡ false
+    pub rrp : ℕ
+    pub fits : FitsProfile (profile_of topology e) packet rrp
+    pub spelled : pending (receiver_of e past) ++ flit ∷ []
+        ≡ spelling (profile_of topology e) packet rrp
 
 abbrev pub LandsGood : Topology → List Entry → (e : ℕ) → (flit : List ℕ) → Outcome → Type 0
 LandsGood topology past e flit outcome = (d : ℕ) → outcome ≡ outcomes.Accepted →
@@ -115,8 +115,8 @@ outcome_is topology past d e flit outcomes.Gathered p from none lands is =
             (forwarded_onto topology p.from past)) here ∙ g.forwarded;
         came = ap (λ l. l ++ flit ∷ []) g.came ∙ sym (gathered_more (receiver_of p.from past) flit)
             ∙ sym (ap pending (received_landed p.from e flit outcomes.Gathered past
-                ∙ ap (λ (b : Bool). put_if b (ReceiverEntry.Land flit outcomes.Gathered)
-                (receiver_of p.from past)) here));
+            ∙ ap (λ (b : Bool). put_if b (ReceiverEntry.Land flit outcomes.Gathered)
+            (receiver_of p.from past)) here));
         up =
             subst Waits (sym (no-send (under_way (sizes_on topology d).profile)
             (of_sends-up topology d) topology d (Landed e flit outcomes.Gathered) past tt)) g.up;
@@ -128,8 +128,8 @@ outcome_is topology past d e flit outcomes.Gathered p from none lands is =
 outcome_is topology past d e flit outcomes.Accepted p from none lands is =
     let g = is.gathering none in
     let good =
-        lands d refl (ap (λ (n : ℕ). forwarded_onto topology n past) (sym from) ∙ g.forwarded) in
-        record {
+    lands d refl (ap (λ (n : ℕ). forwarded_onto topology n past) (sym from) ∙ g.forwarded) in
+    record {
       gathering = λ still. absurd (some_none true still);
       good = λ accepted. record {
         packet = good.packet;
@@ -143,7 +143,7 @@ outcome_is topology past d e flit outcomes.Accepted p from none lands is =
             ap (λ l. l ++ flit ∷ []) (g.came ∙ ap (λ (n : ℕ). pending (receiver_of n past)) from)
             ∙ good.spelled
             ∙ ap (λ (q : Profile). spelling q good.packet good.rrp)
-                (sym (is.profile ∙ ap (profile_of topology) from));
+            (sym (is.profile ∙ ap (profile_of topology) from));
       };
       came = refl;
       profile = refl;
@@ -181,7 +181,7 @@ way_with topology p d pipe same way = record {
 pipe_lands : (topology : Topology) (past : List Entry) (d e : ℕ) (flit : List ℕ) (outcome : Outcome)
     (p : PipeFrom) → LandsGood topology past e flit outcome → PipeKept topology past d p
     → PipeKept topology (Landed e flit outcome ∷ past) d
-        (while_gathering e (with_landing flit outcome) p)
+    (while_gathering e (with_landing flit outcome) p)
 pipe_lands topology past d e flit outcome p lands is =
     by_test ((p.from == e) && is_none p.pipe.good) refl
   where
@@ -191,10 +191,10 @@ pipe_lands topology past d e flit outcome p lands is =
     by_test true at =
         let both = and_parts (p.from == e) (is_none p.pipe.good) at in
         let o =
-            outcome_is topology past d e flit outcome p (eqb-true p.from e both.0)
-            (none_is p.pipe.good both.1) lands is in
+        outcome_is topology past d e flit outcome p (eqb-true p.from e both.0)
+        (none_is p.pipe.good both.1) lands is in
         let long : length (with_landing flit outcome p.pipe).came ≡ length p.pipe.came + 1 =
-            ap length o.came ∙ length-append p.pipe.came (flit ∷ []) in
+        ap length o.came ∙ length-append p.pipe.came (flit ∷ []) in
         let some = is.some in record {
           way =
               way_with topology p d (with_landing flit outcome p.pipe)
@@ -212,7 +212,7 @@ pipe_lands topology past d e flit outcome p lands is =
       gathering = λ none.
           (let g = is.gathering none in
           let off : (e == p.from) ≡ false =
-              back_false p.from e (first_false (p.from == e) p.pipe.good at none) in record {
+          back_false p.from e (first_false (p.from == e) p.pipe.good at none) in record {
             forwarded = forwarded_landed topology p.from e flit outcome past
                 ∙ ap (λ (b : Bool). choose b (while_gathered outcome
                 (forwarded_onto topology p.from past)) (forwarded_onto topology p.from past)) off
@@ -231,7 +231,7 @@ pipe_lands topology past d e flit outcome p lands is =
 on_landed : (topology : Topology) (past : List Entry) (d e : ℕ) (flit : List ℕ) (outcome : Outcome)
     (pipe : Option PipeFrom) → LandsGood topology past e flit outcome → OnPipe topology past d pipe
     → OnPipe topology (Landed e flit outcome ∷ past) d
-        (option_map (while_gathering e (with_landing flit outcome)) pipe)
+    (option_map (while_gathering e (with_landing flit outcome)) pipe)
 on_landed topology past d e flit outcome None lands is = tt
 on_landed topology past d e flit outcome (Some p) lands is =
     pipe_lands topology past d e flit outcome p lands is
@@ -241,8 +241,8 @@ pub piped_landed : (topology : Topology) (past : List Entry) (e : ℕ) (flit : L
     ArePiped topology (Landed e flit outcome ∷ past)
 piped_landed topology past e flit outcome lands piped d =
     subst (OnPipe topology (Landed e flit outcome ∷ past) d)
-        (sym (pipe_landed topology d e flit outcome past))
-        (on_landed topology past d e flit outcome (pipe_onto topology d past) lands (piped d))
+    (sym (pipe_landed topology d e flit outcome past))
+    (on_landed topology past d e flit outcome (pipe_onto topology d past) lands (piped d))
 
 -- a packet that is forwarded goes on being gathered only with the outcome `gathered`
 pub still_gathered : (outcome : Outcome) (onto : Option ℕ) (d : ℕ) → while_gathered outcome onto
@@ -265,7 +265,7 @@ gathered_lands : (topology : Topology) (e : ℕ) (flit : List ℕ) (past : List 
 unfolding landed_packets
 gathered_lands topology e flit past same =
     landed-enters topology e flit outcomes.Gathered past same
-        ∙ append-nil (entered topology past (landing_buffer topology e))
+    ∙ append-nil (entered topology past (landing_buffer topology e))
 
 pub forwarding_landed : (topology : Topology) (past : List Entry) (e0 : ℕ) (flit : List ℕ)
     (outcome : Outcome) → Wired topology → e0 < directions_in topology →
@@ -282,8 +282,8 @@ forwarding_landed topology past e0 flit outcome wires real forwarding e d less i
         let still = still_gathered outcome (forwarded_onto topology e past) d now in
         let old = forwarding e d less still.1 in
         let test : ((old.pipe.from == e0) && is_none old.pipe.pipe.good) ≡ true =
-            ap₂ (λ (a : Bool) (b : Bool). a && b) (eq-eqb old.pipe.from e0 (old.from ∙ sym one))
-            (ap is_none old.gathers) in
+        ap₂ (λ (a : Bool) (b : Bool). a && b) (eq-eqb old.pipe.from e0 (old.from ∙ sym one))
+        (ap is_none old.gathers) in
         let pipe = record old.pipe { pipe = with_landing flit outcome old.pipe.pipe } in record {
           pipe = pipe;
           is = pipe_landed topology d e0 flit outcome past
@@ -296,25 +296,25 @@ forwarding_landed topology past e0 flit outcome wires real forwarding e d less i
               subst (λ (o : Outcome). contents topology (Landed e0 flit o ∷ past)
               (landing_buffer topology e) ≡ []) (sym still.0)
               (subst (λ (n : ℕ). contents topology (Landed n flit outcomes.Gathered ∷ past)
-                  (landing_buffer topology e) ≡ []) (sym one)
+              (landing_buffer topology e) ≡ []) (sym one)
               (stays_empty topology (Landed e flit outcomes.Gathered) past
-                  (landing_buffer topology e) (gathered_lands topology e flit past
-                  (same_queue_refl (landing_buffer topology e))) old.empty));
+              (landing_buffer topology e) (gathered_lands topology e flit past
+              (same_queue_refl (landing_buffer topology e))) old.empty));
         }
     by_here false off now =
         let old = forwarding e d less now in
         let from_off : (old.pipe.from == e0) ≡ false = ap (λ (n : ℕ). n == e0) old.from
-            ∙ back_false e0 e off in
+        ∙ back_false e0 e off in
         let apart : same_queue (landing_buffer topology e0) (landing_buffer topology e) ≡ false =
         false_from_ne_true (same_queue (landing_buffer topology e0) (landing_buffer topology e))
-            (λ same. let clash : true ≡ false = sym
-            (eq-eqb e0 e (one_buffer topology wires e0 e real less same)) ∙ off in cc) in record {
+        (λ same. let clash : true ≡ false = sym
+        (eq-eqb e0 e (one_buffer topology wires e0 e real less same)) ∙ off in cc) in record {
           pipe = old.pipe;
           is = pipe_landed topology d e0 flit outcome past
               ∙ ap (option_map (while_gathering e0 (with_landing flit outcome))) old.is
               ∙ ap (λ (b : Bool). Some (if b && is_none old.pipe.pipe.good then
-                  record old.pipe { pipe = with_landing flit outcome old.pipe.pipe } else old.pipe))
-                  from_off;
+              record old.pipe { pipe = with_landing flit outcome old.pipe.pipe } else old.pipe))
+              from_off;
           from = old.from;
           gathers = old.gathers;
           empty =

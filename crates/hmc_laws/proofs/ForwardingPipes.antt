@@ -87,8 +87,8 @@ pub waits_sent : (link : LinkFields) (d : Toward) (feed : Feed) (as_what : What)
     (past : List LinkEntry) (p : PipeFrom) → p.pipe.good ≡ None → feed
     ≡ fed (through_place (under_way link.profile (sender_entries link d past))) (Some p)
     → OpenAfter link d feed as_what flit past →
-        Waits (under_way link.profile (sender_entries link d past)) →
-        Waits (under_way link.profile (sent_on link d feed as_what flit past))
+    Waits (under_way link.profile (sender_entries link d past)) →
+    Waits (under_way link.profile (sent_on link d feed as_what flit past))
 waits_sent link d feed as_what flit past p none fed_is (AllKnown before known) waits =
     absurd (known_waits link.profile (sender_entries link d past) before waits)
 waits_sent link d feed as_what flit past p none fed_is (SameUp same) waits =
@@ -99,10 +99,10 @@ waits_sent link d feed as_what flit past p none fed_is
 waits_sent link d feed as_what flit past p none fed_is
     (Fills part head count numbers half slid errstat good under last new after) waits =
     let gives : feed_at p.pipe (length part.sent) ≡ Last half slid errstat good =
-        sym (ap (λ (u : Option UnderWay). fed (through_place u) (Some p)) under) ∙ sym fed_is
-        ∙ last in
+    sym (ap (λ (u : Option UnderWay). fed (through_place u) (Some p)) under) ∙ sym fed_is
+    ∙ last in
     absurd (no_last p.pipe (length part.sent) (suc (length part.sent) == p.pipe.flits) p.pipe.good
-        half slid errstat good none gives)
+    half slid errstat good none gives)
 
 -- ---- what is known of a pipe
 
@@ -120,10 +120,10 @@ pub record Way (topology : Topology) (p : PipeFrom) (d : ℕ) : Type 0 where
 
 -- its packet is still being gathered
 pub record IsGathering (topology : Topology) (past : List Entry) (d : ℕ) (p : PipeFrom) : Type 0
-    where
-  pub forwarded : forwarded_onto topology p.from past ≡ Some d
-  pub came : p.pipe.came ≡ pending (receiver_of p.from past)
-  pub up : Waits (up_on topology d past)
+  where
+    pub forwarded : forwarded_onto topology p.from past ≡ Some d
+    pub came : p.pipe.came ≡ pending (receiver_of p.from past)
+    pub up : Waits (up_on topology d past)
 
 -- its packet was accepted: the flits that came are this one
 pub record IsGood (topology : Topology) (p : PipeFrom) : Type 0 where
@@ -187,5 +187,5 @@ pub stays_empty : (topology : Topology) (entry : Entry) (past : List Entry) (que
 unfolding contents left
 stays_empty topology entry past queue same empty =
     ap (drop (one_if (is_at (leaves past entry) queue) + left past queue)) same
-        ∙ empty_drop (left past queue) (is_at (leaves past entry) queue)
-        (entered topology past queue) empty
+    ∙ empty_drop (left past queue) (is_at (leaves past entry) queue)
+    (entered topology past queue) empty

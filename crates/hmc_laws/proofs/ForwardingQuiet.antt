@@ -43,15 +43,19 @@ kept_pipe : (topology : Topology) (entry : Entry) (past : List Entry) (d : ℕ) 
     forwarded_onto topology p.from (entry ∷ past) ≡ forwarded_onto topology p.from past →
     receiver_of p.from (entry ∷ past) ≡ receiver_of p.from past
     → (p.pipe.good ≡ None → Waits (up_on topology d past) →
-        Waits (up_on topology d (entry ∷ past))) → PipeKept topology past d p →
-        PipeKept topology (entry ∷ past) d p
+    Waits (up_on topology d (entry ∷ past))) → PipeKept topology past d p →
+    PipeKept topology (entry ∷ past) d p
 kept_pipe topology entry past d p forwarded same waits is = record {
   way = is.way;
   some = is.some;
   profile = is.profile;
   gathering = λ none. (let g = is.gathering none in
-      record { forwarded = forwarded ∙ g.forwarded; came = g.came ∙ ap pending (sym same); up =
-      waits none g.up });
+      record {
+        forwarded = forwarded ∙ g.forwarded;
+        came = g.came ∙ ap pending (sym same);
+        up =
+            waits none g.up;
+      });
   good = is.good;
 }
 
@@ -71,8 +75,8 @@ piped_quiet topology entry past send quiet piped d =
     subst (OnPipe topology (entry ∷ past) d) (sym (pipe_same topology d entry past quiet))
     (on_quiet topology entry past d (pipe_onto topology d past) quiet
     (λ p is none waits. subst Waits (sym
-        (no-send (under_way (sizes_on topology d).profile) (of_sends-up topology d) topology d entry
-        past send)) waits) (piped d))
+    (no-send (under_way (sizes_on topology d).profile) (of_sends-up topology d) topology d entry
+    past send)) waits) (piped d))
 
 pub piped_send : (topology : Topology) (direction : ℕ) (as_what : What) (flit : List ℕ)
     (past : List Entry) → ((d : ℕ) → IsKept (sizes_on topology d)
@@ -80,9 +84,9 @@ pub piped_send : (topology : Topology) (direction : ℕ) (as_what : What) (flit 
     ArePiped topology (Sent direction as_what flit ∷ past)
 piped_send topology direction as_what flit past kept piped d =
     subst (OnPipe topology (Sent direction as_what flit ∷ past) d)
-        (sym (pipe_same topology d (Sent direction as_what flit) past tt))
+    (sym (pipe_same topology d (Sent direction as_what flit) past tt))
     (on_quiet topology (Sent direction as_what flit) past d (pipe_onto topology d past) tt
-        (λ p is none. by_here (direction == d) refl p is none) (piped d))
+    (λ p is none. by_here (direction == d) refl p is none) (piped d))
   where
     up_here : (p : PipeFrom) → pipe_onto topology d past ≡ Some p → p.pipe.good ≡ None →
         IsKept (sizes_on topology d) (entries_on topology d (Sent d as_what flit ∷ past)) →
@@ -93,14 +97,14 @@ piped_send topology direction as_what flit past kept piped d =
         let feed = feed_in topology (d / 2) d past (toward d) in
         let at = sent-here topology d as_what flit past in
         let kept_now : IsKept sizes (LinkEntry.sent (toward d) feed as_what flit ∷ before) =
-            subst (IsKept sizes) at now in
+        subst (IsKept sizes) at now in
         let up = ap (λ l. under_way sizes.profile (sender_entries sizes (toward d) l)) at
-            ∙ ap (under_way sizes.profile) (sender-sent sizes (toward d) feed as_what flit
-            before) in
+        ∙ ap (under_way sizes.profile) (sender-sent sizes (toward d) feed as_what flit
+        before) in
         subst Waits (sym up)
         (waits_sent sizes (toward d) feed as_what flit before p none
-            (ap (fed (through_place (up_on topology d past))) is)
-            (open_sent sizes (toward d) feed as_what flit before kept_now) waits)
+        (ap (fed (through_place (up_on topology d past))) is)
+        (open_sent sizes (toward d) feed as_what flit before kept_now) waits)
 
     by_here : (here : Bool) → (direction == d) ≡ here → (p : PipeFrom) → pipe_onto topology d past
         ≡ Some p → p.pipe.good ≡ None → Waits (up_on topology d past) →
@@ -111,15 +115,15 @@ piped_send topology direction as_what flit past kept piped d =
     by_here true on p is none waits =
         let one : direction ≡ d = eqb-true direction d on in
         subst (λ (e : ℕ). Waits (up_on topology d (Sent e as_what flit ∷ past))) (sym one)
-            (up_here p is none (subst (λ (e : ℕ). IsKept (sizes_on topology d)
-            (entries_on topology d (Sent e as_what flit ∷ past))) one (kept d)) waits)
+        (up_here p is none (subst (λ (e : ℕ). IsKept (sizes_on topology d)
+        (entries_on topology d (Sent e as_what flit ∷ past))) one (kept d)) waits)
 
 -- of a packet that is forwarded, where nothing lands and no buffer gets anything
 pub forwarding_quiet : (topology : Topology) (entry : Entry) (past : List Entry) → IsNoPipe entry →
     IsNoLanding entry → AreForwarding topology past → AreForwarding topology (entry ∷ past)
 forwarding_quiet topology entry past quiet landing forwarding e d less is =
     let old = forwarding e d less (sym (forwarded_same topology e entry past quiet) ∙ is) in
-        record {
+    record {
       pipe = old.pipe;
       is = pipe_same topology d entry past quiet ∙ old.is;
       from = old.from;

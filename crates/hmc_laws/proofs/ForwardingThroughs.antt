@@ -42,24 +42,24 @@ received_through e cube port direction past = refl
 
 -- what is known where a packet is forwarded
 pub record Forwards (topology : Topology) (past : List Entry) (cube port direction : ℕ) : Type 0
-    where
-  pub from : ℕ
-  pub inside : from < directions_in topology
-  pub lands : end_of topology from ≡ ends.Port cube port
-  pub flit : List ℕ
-  pub rest : List (List ℕ)
-  pub came : pending (receiver_of from past) ≡ flit ∷ rest
-  pub head : Head
-  pub is_head : head_in flit ≡ Some head
-  pub onward : ℕ
-  pub is_onward : port_by topology cube head (family_of head.command) ≡ Some onward
-  pub starts : direction_from topology (ends.Port cube onward) ≡ Some direction
-  pub arrives : direction_to topology (ends.Port cube port) ≡ Some from
-  pub alone : forwarded_onto topology from past ≡ None
-  pub empty : contents topology past (landing_buffer topology from) ≡ []
-  -- and after it the packet is under way there, where nothing was before
-  pub free : up_on topology direction past ≡ None
-  pub up : Waits (up_on topology direction (Through cube port direction ∷ past))
+  where
+    pub from : ℕ
+    pub inside : from < directions_in topology
+    pub lands : end_of topology from ≡ ends.Port cube port
+    pub flit : List ℕ
+    pub rest : List (List ℕ)
+    pub came : pending (receiver_of from past) ≡ flit ∷ rest
+    pub head : Head
+    pub is_head : head_in flit ≡ Some head
+    pub onward : ℕ
+    pub is_onward : port_by topology cube head (family_of head.command) ≡ Some onward
+    pub starts : direction_from topology (ends.Port cube onward) ≡ Some direction
+    pub arrives : direction_to topology (ends.Port cube port) ≡ Some from
+    pub alone : forwarded_onto topology from past ≡ None
+    pub empty : contents topology past (landing_buffer topology from) ≡ []
+    -- and after it the packet is under way there, where nothing was before
+    pub free : up_on topology direction past ≡ None
+    pub up : Waits (up_on topology direction (Through cube port direction ∷ past))
 
 -- a direction lands at the port only where it is this one
 lands_there : (topology : Topology) (past : List Entry) (cube port direction e : ℕ) →
@@ -68,8 +68,8 @@ lands_there : (topology : Topology) (past : List Entry) (cube port direction e :
 lands_there topology past cube port direction e wires is less lands =
     one_buffer topology wires e is.from less is.inside
     (ap₂ (λ (p : End) (q : End). same_queue (buffer_at p) (buffer_at q))
-        (same_place-true (end_of topology e) (ends.Port cube port) lands) is.lands
-        ∙ same_queue_refl (buffer_at (ends.Port cube port)))
+    (same_place-true (end_of topology e) (ends.Port cube port) lands) is.lands
+    ∙ same_queue_refl (buffer_at (ends.Port cube port)))
 
 -- a pipe of another direction stays
 through_other : (topology : Topology) (past : List Entry) (cube port direction d : ℕ)
@@ -98,9 +98,9 @@ through_other topology past cube port direction d (Some p) wires forwards off is
     by_lands g false at = g.forwarded
     by_lands g true at =
         let one =
-            lands_there topology past cube port direction p.from wires forwards is.way.inside at in
+        lands_there topology past cube port direction p.from wires forwards is.way.inside at in
         let clash : None ≡ Some d = sym forwards.alone
-            ∙ ap (λ (n : ℕ). forwarded_onto topology n past) (sym one) ∙ g.forwarded in absurd cc
+        ∙ ap (λ (n : ℕ). forwarded_onto topology n past) (sym one) ∙ g.forwarded in absurd cc
 
 new_kept : (topology : Topology) (past : List Entry) (cube port d : ℕ) →
     (is : Forwards topology past cube port d) →
@@ -151,16 +151,16 @@ piped_through topology past cube port direction wires forwards piped d =
     by_here false off =
         subst (OnPipe topology (Through cube port direction ∷ past) d)
         (sym (pipe_through topology d cube port direction past
-            ∙ ap (λ (b : Bool). choose b (option_map
-            (λ from. pipe_of topology from (pending (receiver_of from past)))
-            (direction_to topology (ends.Port cube port))) (pipe_onto topology d past)) off))
+        ∙ ap (λ (b : Bool). choose b (option_map
+        (λ from. pipe_of topology from (pending (receiver_of from past)))
+        (direction_to topology (ends.Port cube port))) (pipe_onto topology d past)) off))
         (through_other topology past cube port direction d (pipe_onto topology d past) wires
-            forwards off (piped d))
+        forwards off (piped d))
     by_here true on =
         let one : direction ≡ d = eqb-true direction d on in
         subst (λ (e : ℕ). OnPipe topology (Through cube port e ∷ past) d
-            (pipe_onto topology d (Through cube port e ∷ past))) (sym one)
-            (new_here (subst (Forwards topology past cube port) one forwards))
+        (pipe_onto topology d (Through cube port e ∷ past))) (sym one)
+        (new_here (subst (Forwards topology past cube port) one forwards))
       where
         new_here : Forwards topology past cube port d →
             OnPipe topology (Through cube port d ∷ past) d
@@ -168,12 +168,12 @@ piped_through topology past cube port direction wires forwards piped d =
         new_here now =
             subst (OnPipe topology (Through cube port d ∷ past) d)
             (sym (pipe_through topology d cube port d past
-                ∙ ap (λ (b : Bool). choose b (option_map
-                (λ from. pipe_of topology from (pending (receiver_of from past)))
-                (direction_to topology (ends.Port cube port))) (pipe_onto topology d past))
-                (eq-eqb d d refl)
+            ∙ ap (λ (b : Bool). choose b (option_map
+            (λ from. pipe_of topology from (pending (receiver_of from past)))
+            (direction_to topology (ends.Port cube port))) (pipe_onto topology d past))
+            (eq-eqb d d refl)
             ∙ ap (option_map (λ from. pipe_of topology from (pending (receiver_of from past))))
-                now.arrives))
+            now.arrives))
             (new_kept topology past cube port d now)
 
 pub forwarding_through : (topology : Topology) (past : List Entry) (cube port direction : ℕ) →
@@ -200,11 +200,11 @@ forwarding_through topology past cube port direction wires forwards piped forwar
           pipe = pipe_of topology forwards.from (pending (receiver_of forwards.from past));
           is = pipe_through topology d cube port direction past
               ∙ ap (λ (b : Bool). choose b (option_map
-                  (λ from. pipe_of topology from (pending (receiver_of from past)))
-                  (direction_to topology (ends.Port cube port))) (pipe_onto topology d past))
-                  (eq-eqb direction d onto)
+              (λ from. pipe_of topology from (pending (receiver_of from past)))
+              (direction_to topology (ends.Port cube port))) (pipe_onto topology d past))
+              (eq-eqb direction d onto)
               ∙ ap (option_map (λ from. pipe_of topology from (pending (receiver_of from past))))
-                  forwards.arrives;
+              forwards.arrives;
           from = sym one;
           gathers = refl;
           empty =
@@ -216,9 +216,9 @@ forwarding_through topology past cube port direction wires forwards piped forwar
           pipe = old.pipe;
           is = pipe_through topology d cube port direction past
               ∙ ap (λ (b : Bool). choose b (option_map
-                  (λ from. pipe_of topology from (pending (receiver_of from past)))
-                  (direction_to topology (ends.Port cube port))) (pipe_onto topology d past))
-                  (other_one old)
+              (λ from. pipe_of topology from (pending (receiver_of from past)))
+              (direction_to topology (ends.Port cube port))) (pipe_onto topology d past))
+              (other_one old)
               ∙ old.is;
           from = old.from;
           gathers = old.gathers;

@@ -52,7 +52,7 @@ pipe_unlocks topology past d e p is = by_test ((p.from == e) && is_none p.pipe.g
       gathering = λ none.
           (let g = is.gathering none in
           let off : (e == p.from) ≡ false =
-              back_false p.from e (first_false (p.from == e) p.pipe.good at none) in record {
+          back_false p.from e (first_false (p.from == e) p.pipe.good at none) in record {
             forwarded = forwarded_unlocked topology p.from e past
                 ∙ ap (λ (b : Bool). choose b None (forwarded_onto topology p.from past)) off
                 ∙ g.forwarded;
@@ -89,12 +89,12 @@ forwarding_unlocked topology past e0 forwarding e d less is =
     by_here false off now =
         let old = forwarding e d less now in
         let from_off : (old.pipe.from == e0) ≡ false = ap (λ (n : ℕ). n == e0) old.from
-            ∙ back_false e0 e off in record {
+        ∙ back_false e0 e off in record {
           pipe = old.pipe;
           is = pipe_unlocked topology d e0 past
               ∙ ap (option_map (while_gathering e0 with_unlock)) old.is
               ∙ ap (λ (b : Bool). Some (if b && is_none old.pipe.pipe.good then
-                  record old.pipe { pipe = with_unlock old.pipe.pipe } else old.pipe)) from_off;
+              record old.pipe { pipe = with_unlock old.pipe.pipe } else old.pipe)) from_off;
           from = old.from;
           gathers = old.gathers;
           empty =

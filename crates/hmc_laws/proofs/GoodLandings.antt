@@ -24,12 +24,12 @@ use Rattle.hmc_packet.specs.declared.outcome.Outcome.TheVariants as outcomes
 use Rattle.hmc_packet.specs.declared.seen.Seen.{Seen}
 use Rattle.hmc_packet.specs.declared.view.Mode.{Mode}
 use Rattle.hmc_packet.specs.declared.view.Mode.TheVariants as modes
-use Rattle.hmc_packet.specs.Head.{named_by, head_in}
+use Rattle.hmc_packet.specs.Head.{head_in}
 use Rattle.hmc_packet.specs.Irtry.{kind_of, irtry_in}
 use Rattle.hmc_packet.specs.Landings.{ReceiverEntry, pending, packets_in, whole_run, whole_training, is_training}
 use Rattle.hmc_packet.specs.Packet.{PacketFields, IsPacket}
-use Rattle.hmc_packet.specs.Parts.{header_in, lng_of}
-use Rattle.hmc_packet.specs.Reading.{command_in, is_null, read_of}
+use Rattle.hmc_packet.specs.Parts.{lng_of}
+use Rattle.hmc_packet.specs.Reading.{is_null, read_of}
 use Rattle.hmc_packet.specs.Receptions.{LandingView, checked, unchecked, abort_reception, is_next, is_repeat, packet_reception, read_reception, flits_reception, is_no_length, lng_with, mode_reception, landing_view, reception_by, reception_of}
 use Rattle.hmc_packet.specs.Spelling.{FitsProfile, spelling}
 use Rattle.hmc_packet.proofs.FlitLemmas.{AreFlits}
@@ -39,7 +39,6 @@ use Rattle.hmc_send.specs.LinkCalls.{names_flits}
 use Rattle.hmc_send.specs.LinkEntries.{put_if}
 use Rattle.hmc_send.specs.Places.{is_token}
 use Rattle.hmc_send.proofs.CopyLemmas.{head-says}
-use Rattle.hmc_wire.proofs.Filled.{head-lng}
 use Rattle.hmc_entries.specs.declared.entry.Entry.{Entry}
 use Rattle.hmc_entries.specs.declared.entry.Entry.TheVariants.{Gave, Sent, Landed, Shifted, Dropped, Spread, Executed, Lifted, Took, Discarded, Through, Unlocked, Retired, Passed, Idle}
 use Rattle.hmc_journal.specs.Directions.{receiver_of, profile_of, landed_packets}

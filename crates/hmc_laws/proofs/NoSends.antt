@@ -5,21 +5,18 @@ use Rattle.hmc_codes.specs.declared.place.Place.TheVariants as places
 use Rattle.hmc_packet.specs.declared.feed.Feed.{Feed}
 use Rattle.hmc_packet.specs.declared.outcome.Outcome.{Outcome}
 use Rattle.hmc_packet.specs.declared.what.What.{What}
-use Rattle.hmc_packet.specs.Packet.{PacketFields}
 use Rattle.hmc_packet.specs.Parts.{lng_of}
 use Rattle.hmc_send.specs.declared.toward.Toward.{Toward}
 use Rattle.hmc_send.specs.declared.toward.Toward.TheVariants.{Forth, Back}
 use Rattle.hmc_send.specs.Entries.{SenderEntry}
 use Rattle.hmc_send.specs.LinkEntries.{LinkEntry, same_way, put_if}
 use Rattle.hmc_send.specs.LinkSenders.{sender_entries}
-use Rattle.hmc_entries.specs.declared.outcome.Goal.{Goal}
-use Rattle.hmc_entries.specs.declared.outcome.Goal.TheVariants as goals
 use Rattle.hmc_entries.specs.declared.entry.Entry.{Entry}
 use Rattle.hmc_entries.specs.declared.entry.Entry.TheVariants.{Gave, Sent, Landed, Shifted, Dropped, Spread, Executed, Lifted, Took, Discarded, Through, Unlocked, Retired, Passed, Idle}
 use Rattle.hmc_journal.specs.Setup.{Topology}
 use Rattle.hmc_journal.specs.Queues.{front_of, contents}
 use Rattle.hmc_journal.specs.Queues.QueueId.{Port}
-use Rattle.hmc_journal.specs.Links.{toward, taken_at, handed_on, landing_mask, forwarded_on, link_sizes, link_entries, sizes_on, entries_on}
+use Rattle.hmc_journal.specs.Links.{toward, taken_at, landing_mask, forwarded_on, link_sizes, link_entries, sizes_on, entries_on}
 use Rattle.hmc_laws.proofs.LinkHanded.{landing-same}
 use Rattle.hmc_journal.proofs.Projections.{feed_in, goes_at, came_at, same_direction, put_on-same, taken_if-same, handed_on-same}
 

@@ -29,7 +29,6 @@ use Rattle.hmc_laws.proofs.PipeSteps.{pending_first, pending_step, up_first, up_
 use Rattle.hmc_laws.proofs.GoodLandings.{short_step}
 use Rattle.hmc_journal.specs.Piped.{forwarded_onto, pipe_onto}
 use Rattle.hmc_packet.specs.Landings.{pending}
-use Rattle.hmc_codes.specs.declared.place.Place.TheVariants as ends
 use Rattle.hmc_packet.specs.Landings as landings
 use Rattle.hmc_laws.proofs.SoundQueues.{stands-more, state-more, tags-more}
 use Rattle.hmc_laws.proofs.SoundSends.{has_begun}
@@ -66,8 +65,8 @@ retry_by : (setup : Setup) (link : ℕ) (far : Bool) → nat_le (length setup.to
     (link_sizes setup.topology link).profile
 retry_by setup link true is network =
     subst (λ (l : LinkRow). l.setup.retry ≤ most_retry l.setup.profile)
-        (sym (past_links setup.topology.links link
-        (leb-true (length setup.topology.links) link is))) (omega arith)
+    (sym (past_links setup.topology.links link
+    (leb-true (length setup.topology.links) link is))) (omega arith)
 retry_by setup link false is network =
     (network.sizes link no_link (leb-false (length setup.topology.links) link is)).retry
 
@@ -99,7 +98,7 @@ kept-all : (setup : Setup) (past : List Entry) → IsNetwork setup → Wired set
 kept-all setup [] network wires lawful = kept_at_first setup network
 kept-all setup (entry ∷ past) network wires lawful =
     kept-more setup entry past network wires (entry_rule setup entry past lawful)
-        (kept-all setup past network wires (lawful_past setup entry past lawful))
+    (kept-all setup past network wires (lawful_past setup entry past lawful))
 
 pub kept : (setup : Setup) (past : List Entry) → IsNetwork setup → Lawful setup past →
     Kept setup past

@@ -57,66 +57,68 @@ pub landed_flit : (setup : Setup) (past : List Entry) (d : ℕ) (flit : List ℕ
     HasLanded setup past d flit outcome → Kept setup past → IsFlit flit
 landed_flit setup past d flit outcome right kept =
     let mask : HasFlit (steps.Land d right.mask) =
-        all_get HasFlit setup.schedule (length past) (steps.Land d right.mask) kept.masks
-        right.step in
+    all_get HasFlit setup.schedule (length past) (steps.Land d right.mask) kept.masks
+    right.step in
     landing-flit (sizes_on setup.topology d) (entries_on setup.topology d past) (toward d)
-        right.mask flit outcome (kept.links (d / 2)) mask.long mask.bytes right.landing
+    right.mask flit outcome (kept.links (d / 2)) mask.long mask.bytes right.landing
 
 pub one_lands : (setup : Setup) (past : List Entry) (d : ℕ) (flit : List ℕ) (outcome : Outcome) →
     HasLanded setup past d flit outcome → Kept setup past → d < directions_in setup.topology →
     goes_at setup.topology d outcome past ≡ true
     → (packet : PacketFields) × (filter is_token (landed_packets setup.topology d flit outcome past)
-        ≡ packet ∷ [])
+    ≡ packet ∷ [])
 one_lands setup past d flit outcome right kept less gone =
     let went = gone_onto outcome (forwarded_onto setup.topology d past) gone in
     let one =
-        lands_one setup past d went.0 flit (landed_outcome setup past d flit outcome right ∙ went.2)
-        (landed_flit setup past d flit outcome right kept) kept.pendings kept.piped kept.forwarding
-        less went.1 in
-    (one.packet, subst (λ (o : Outcome). filter is_token
-        (landed_packets setup.topology d flit o past) ≡ one.packet ∷ []) (sym went.2) one.is)
+    lands_one setup past d went.0 flit (landed_outcome setup past d flit outcome right ∙ went.2)
+    (landed_flit setup past d flit outcome right kept) kept.pendings kept.piped kept.forwarding
+    less went.1 in (
+      one.packet,
+      subst (λ (o : Outcome). filter is_token
+          (landed_packets setup.topology d flit o past) ≡ one.packet ∷ []) (sym went.2) one.is,
+    )
 
 pub lands_good : (setup : Setup) (past : List Entry) (d : ℕ) (flit : List ℕ) (outcome : Outcome) →
     HasLanded setup past d flit outcome → Kept setup past → d < directions_in setup.topology →
     LandsGood setup.topology past d flit outcome
 lands_good setup past d flit outcome right kept less to accepted forwarded =
     one_good setup past d flit (lands_one setup past d to flit
-        (landed_outcome setup past d flit outcome right ∙ accepted)
-        (landed_flit setup past d flit outcome right kept) kept.pendings kept.piped kept.forwarding
-        less forwarded)
+    (landed_outcome setup past d flit outcome right ∙ accepted)
+    (landed_flit setup past d flit outcome right kept) kept.pendings kept.piped kept.forwarding
+    less forwarded)
     (subst (λ (o : Outcome). All (Stands setup.topology (Output d))
-        (filter is_token (landed_packets setup.topology d flit o past))) accepted
-        (landed_stands setup d past flit outcome right kept))
+    (filter is_token (landed_packets setup.topology d flit o past))) accepted
+    (landed_stands setup d past flit outcome right kept))
 
 -- the buffer holds what leaves at once
 pub holds_accepted : (setup : Setup) (past : List Entry) (d onto : ℕ) (mask flit : List ℕ) →
     IsFlit flit → (reception_of (sizes_on setup.topology d).profile (receiver_of d past)
     flit).outcome ≡ outcomes.Accepted → Kept setup past → d < directions_in setup.topology
     → forwarded_onto setup.topology d past ≡ Some onto →
-        holds_packet (sizes_on setup.topology d) (toward d)
-        (LinkEntry.landed (toward d) mask flit outcomes.Accepted ∷ entries_on setup.topology d past)
-        ≡ true
+    holds_packet (sizes_on setup.topology d) (toward d)
+    (LinkEntry.landed (toward d) mask flit outcomes.Accepted ∷ entries_on setup.topology d past)
+    ≡ true
 holds_accepted setup past d onto mask flit is_flit accepts kept less forwarded =
     let sizes = sizes_on setup.topology d in
     let before = entries_on setup.topology d past in
     let inside = (kept.ends d less).inside in
     let one =
-        lands_one setup past d onto flit accepts is_flit kept.pendings kept.piped kept.forwarding
-        less forwarded in
+    lands_one setup past d onto flit accepts is_flit kept.pendings kept.piped kept.forwarding
+    less forwarded in
     let parts =
-        ap (filter is_token) (accepted-landed sizes.profile (toward d) mask flit outcomes.Accepted
-        before) ∙ filter-append is_token (accepted_packets sizes.profile (toward d) before) _
+    ap (filter is_token) (accepted-landed sizes.profile (toward d) mask flit outcomes.Accepted
+    before) ∙ filter-append is_token (accepted_packets sizes.profile (toward d) before) _
     ∙ ap (λ l. filter is_token (accepted_packets sizes.profile (toward d) before)
-        ++ filter is_token l) (sym (landed_on_link setup.topology d past flit outcomes.Accepted)) in
+    ++ filter is_token l) (sym (landed_on_link setup.topology d past flit outcomes.Accepted)) in
     let many =
-        ap length parts ∙ length-append (filter is_token
-        (accepted_packets sizes.profile (toward d) before))
-        (filter is_token (landed_packets setup.topology d flit outcomes.Accepted past)) in
+    ap length parts ∙ length-append (filter is_token
+    (accepted_packets sizes.profile (toward d) before))
+    (filter is_token (landed_packets setup.topology d flit outcomes.Accepted past)) in
     let last : length (filter is_token (landed_packets setup.topology d flit outcomes.Accepted
-        past)) ≡ 1 = ap length one.is in
+    past)) ≡ 1 = ap length one.is in
     let same : length (filter is_token (accepted setup.topology d past))
-        ≡ length (filter is_token (accepted_packets sizes.profile (toward d) before)) =
-        ap (λ l. length (filter is_token l)) (accepted_are setup.topology d past) in
+    ≡ length (filter is_token (accepted_packets sizes.profile (toward d) before)) =
+    ap (λ l. length (filter is_token l)) (accepted_are setup.topology d past) in
     let took = takes_landed (toward d) (toward d) mask flit outcomes.Accepted before in
     lt-ltb _ _ (omega arith)
 
@@ -124,25 +126,25 @@ holds_landed : (setup : Setup) (past : List Entry) (d : ℕ) (flit : List ℕ) (
     HasLanded setup past d flit outcome → Kept setup past → goes_at setup.topology d outcome past
     ≡ true
     → holds_packet (sizes_on setup.topology d) (toward d)
-        (LinkEntry.landed (toward d) (landing_mask (sizes_on setup.topology d) (toward d)
-        (entries_on setup.topology d past) flit) flit outcome ∷ entries_on setup.topology d past)
-        ≡ true
+    (LinkEntry.landed (toward d) (landing_mask (sizes_on setup.topology d) (toward d)
+    (entries_on setup.topology d past) flit) flit outcome ∷ entries_on setup.topology d past)
+    ≡ true
 holds_landed setup past d flit outcome right kept gone =
     let went = gone_onto outcome (forwarded_onto setup.topology d past) gone in
     let mask =
-        landing_mask (sizes_on setup.topology d) (toward d) (entries_on setup.topology d past)
-        flit in
+    landing_mask (sizes_on setup.topology d) (toward d) (entries_on setup.topology d past)
+    flit in
     subst (λ (o : Outcome). holds_packet (sizes_on setup.topology d) (toward d)
-        (LinkEntry.landed (toward d) mask flit o ∷ entries_on setup.topology d past) ≡ true)
-        (sym went.2)
+    (LinkEntry.landed (toward d) mask flit o ∷ entries_on setup.topology d past) ≡ true)
+    (sym went.2)
     (holds_accepted setup past d went.0 mask flit (landed_flit setup past d flit outcome right kept)
-        (landed_outcome setup past d flit outcome right ∙ went.2) kept
-        (landed-real setup past d flit outcome right kept) went.1)
+    (landed_outcome setup past d flit outcome right ∙ went.2) kept
+    (landed-real setup past d flit outcome right kept) went.1)
 
 pub taken-landed : (setup : Setup) (past : List Entry) (d : ℕ) (flit : List ℕ) (outcome : Outcome)
     (link : ℕ) → Wired setup.topology → HasLanded setup past d flit outcome → Kept setup past
     → IsKept (link_sizes setup.topology link)
-        (link_entries setup.topology link (Landed d flit outcome ∷ past))
+    (link_entries setup.topology link (Landed d flit outcome ∷ past))
 unfolding link_entries
 taken-landed setup past d flit outcome link wires right kept =
     by_gone (goes_at setup.topology d outcome past) refl (d / 2 == link) refl
@@ -155,21 +157,21 @@ taken-landed setup past d flit outcome link wires right kept =
     by_gone : (gone : Bool) → goes_at setup.topology d outcome past ≡ gone → (here : Bool) →
         (d / 2 == link) ≡ here
         → IsKept (link_sizes setup.topology link)
-            (taken_if gone link d (put_if (d / 2 == link)
-            (LinkEntry.landed (toward d) (landing_mask (link_sizes setup.topology link) (toward d)
-            (link_entries setup.topology link past) flit) flit outcome)
-            (link_entries setup.topology link past)))
+        (taken_if gone link d (put_if (d / 2 == link)
+        (LinkEntry.landed (toward d) (landing_mask (link_sizes setup.topology link) (toward d)
+        (link_entries setup.topology link past) flit) flit outcome)
+        (link_entries setup.topology link past)))
     by_gone false is here at =
         landed-kept setup past d flit outcome link right kept (d / 2 == link) refl
     by_gone true is false at = rw at (kept.links link)
     by_gone true is true at =
         subst (λ (i : ℕ). IsKept (link_sizes setup.topology i)
-            (put_if (d / 2 == i) (LinkEntry.taken (toward d))
-            (put_if (d / 2 == i) (LinkEntry.landed (toward d)
-            (landing_mask (link_sizes setup.topology i) (toward d)
-            (link_entries setup.topology i past) flit) flit outcome)
-            (link_entries setup.topology i past))))
+        (put_if (d / 2 == i) (LinkEntry.taken (toward d))
+        (put_if (d / 2 == i) (LinkEntry.landed (toward d)
+        (landing_mask (link_sizes setup.topology i) (toward d)
+        (link_entries setup.topology i past) flit) flit outcome)
+        (link_entries setup.topology i past))))
         (eqb-true (d / 2) link at)
         (rw (eq-eqb (d / 2) (d / 2) refl) (kept-taken (sizes_on setup.topology d) _ (toward d)
-            (kept_landing setup d past flit outcome right kept)
-            (holds_landed setup past d flit outcome right kept is)))
+        (kept_landing setup d past flit outcome right kept)
+        (holds_landed setup past d flit outcome right kept is)))

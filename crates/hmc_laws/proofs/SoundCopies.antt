@@ -13,7 +13,6 @@ use Rattle.hmc_send.specs.LinkSenders.{sender_entries}
 use Rattle.hmc_send.specs.Places.{Place, numbers_at}
 use Rattle.hmc_wire.specs.Conditions.{IsHalf, IsFeed}
 use Rattle.hmc_wire.specs.LinkLaws.{IsKept}
-use Rattle.hmc_journal.specs.Directions.{accepted}
 use Rattle.hmc_journal.specs.Links.{toward, sizes_on, entries_on}
 use Rattle.hmc_journal.specs.Queues.QueueId.{Output}
 use Rattle.hmc_journal.proofs.LinkKept.{opened}
@@ -115,11 +114,11 @@ copy_stands setup past d network wires kept part head count numbers half slid er
         → P (copy_of q o.part.sent half slid errstat b o.numbers)
     by_good o p true k piped is is_packet fed_next =
         let accepted =
-            k.good (copy_is q p.pipe o.head o.count o.part half slid errstat true o.numbers piped
-            is).1 in
+        k.good (copy_is q p.pipe o.head o.count o.part half slid errstat true o.numbers piped
+        is).1 in
         Stands-alike setup.topology d (copy_of q o.part.sent half slid errstat true o.numbers)
-            accepted.packet (good_same setup.topology p accepted q T o half slid errstat k.some
-            piped is) is_packet (good_goes setup.topology d p accepted wires k.way k.some)
+        accepted.packet (good_same setup.topology p accepted q T o half slid errstat k.some
+        piped is) is_packet (good_goes setup.topology d p accepted wires k.way k.some)
     by_good o p false k piped is is_packet fed_next = record {
       inside = wires.inside (ends.Port k.way.cube k.way.onward) d k.way.starts;
       goes =
@@ -141,8 +140,8 @@ copy_stands setup past d network wires kept part head count numbers half slid er
     by_open (inl known) = absurd (known_waits q T known (subst Waits (sym under) tt))
     by_open (inr o) =
         subst (λ (u : UnderWay). P (copy_of q u.part.sent half slid errstat good
-            (numbers_at u.place))) (same_Some (record { part = o.part; place = open_place o }) up
-            (sym (under_o o) ∙ under)) (by_pipe o (pipe_onto setup.topology d past) refl)
+        (numbers_at u.place))) (same_Some (record { part = o.part; place = open_place o }) up
+        (sym (under_o o) ∙ under)) (by_pipe o (pipe_onto setup.topology d past) refl)
 
 of_sends-places : (q : Profile) → IsOfSends (begun.places q)
 unfolding begun.places
@@ -158,8 +157,8 @@ copies_still : (setup : Setup) (entry : Entry) (past : List Entry) (d : ℕ) →
     own_marks (sender_on setup.topology d (entry ∷ past))
     ≡ own_marks (sender_on setup.topology d past)
     → begun.places (sizes_on setup.topology d).profile (sender_on setup.topology d (entry ∷ past))
-        ≡ begun.places (sizes_on setup.topology d).profile (sender_on setup.topology d past) →
-        Kept setup past → CopiesStand setup.topology (entry ∷ past) d
+    ≡ begun.places (sizes_on setup.topology d).profile (sender_on setup.topology d past) →
+    Kept setup past → CopiesStand setup.topology (entry ∷ past) d
 copies_still setup entry past d marks places kept =
     others_same (Stands setup.topology (Output d)) _ _ _ _ (sym marks) (sym places) (kept.copies d)
 
@@ -176,8 +175,8 @@ copies_quiet : (setup : Setup) (entry : Entry) (past : List Entry) (d : ℕ) →
     Kept setup past → CopiesStand setup.topology (entry ∷ past) d
 copies_quiet setup entry past d quiet =
     copies_still setup entry past d (no-send own_marks of_sends-marks setup.topology d entry past
-        quiet) (no-send (begun.places (sizes_on setup.topology d).profile)
-        (of_sends-places (sizes_on setup.topology d).profile) setup.topology d entry past quiet)
+    quiet) (no-send (begun.places (sizes_on setup.topology d).profile)
+    (of_sends-places (sizes_on setup.topology d).profile) setup.topology d entry past quiet)
 
 copies_sent : (setup : Setup) (past : List Entry) (d e : ℕ) (as_what : What) (flit : List ℕ) →
     IsNetwork setup → Wired setup.topology → EntryRule setup past (Sent e as_what flit) →
@@ -185,47 +184,47 @@ copies_sent : (setup : Setup) (past : List Entry) (d e : ℕ) (as_what : What) (
     CopiesStand setup.topology (Sent e as_what flit ∷ past) d
 copies_sent setup past d e as_what flit network wires right kept false off =
     copies_still setup (Sent e as_what flit) past d
-        (sent-elsewhere own_marks setup.topology d e as_what flit past off)
-        (sent-elsewhere (begun.places (sizes_on setup.topology d).profile) setup.topology d e
-        as_what flit past off) kept
+    (sent-elsewhere own_marks setup.topology d e as_what flit past off)
+    (sent-elsewhere (begun.places (sizes_on setup.topology d).profile) setup.topology d e
+    as_what flit past off) kept
 copies_sent setup past d e as_what flit network wires right kept true on =
     let t = setup.topology in
     let sizes = sizes_on t d in
     let one : e ≡ d = eqb-true e d on in
     let now : IsKept sizes (entries_on t d (Sent d as_what flit ∷ past)) =
-        subst (λ (n : ℕ). IsKept sizes (entries_on t d (Sent n as_what flit ∷ past))) one
-        (link-more setup (Sent e as_what flit) past (d / 2) network wires right kept) in
+    subst (λ (n : ℕ). IsKept sizes (entries_on t d (Sent n as_what flit ∷ past))) one
+    (link-more setup (Sent e as_what flit) past (d / 2) network wires right kept) in
     let at = sent-here t d as_what flit past in
     subst (λ (n : ℕ). CopiesStand t (Sent n as_what flit ∷ past) d) (sym one)
     (copies_here setup (Sent d as_what flit ∷ past) d _
-        (ap (sender_entries sizes (toward d)) at
-        ∙ sender-sent sizes (toward d) (feed_on t past d) as_what flit (entries_on t d past))
+    (ap (sender_entries sizes (toward d)) at
+    ∙ sender-sent sizes (toward d) (feed_on t past d) as_what flit (entries_on t d past))
     (others_sent (Stands t (Output d)) sizes (toward d) (feed_on t past d) as_what flit
-        (entries_on t d past) (subst (IsKept sizes) at now) (kept.copies d)
-        (copy_stands setup past d network wires kept)))
+    (entries_on t d past) (subst (IsKept sizes) at now) (kept.copies d)
+    (copy_stands setup past d network wires kept)))
 
 copies_through : (setup : Setup) (past : List Entry) (d cube port e : ℕ) →
     HasThrough setup past cube port e → Kept setup past → (here : Bool) → (e == d) ≡ here →
     CopiesStand setup.topology (Through cube port e ∷ past) d
 copies_through setup past d cube port e right kept false off =
     copies_still setup (Through cube port e) past d
-        (through-elsewhere own_marks setup.topology d cube port e past off)
-        (through-elsewhere (begun.places (sizes_on setup.topology d).profile) setup.topology d cube
-        port e past off) kept
+    (through-elsewhere own_marks setup.topology d cube port e past off)
+    (through-elsewhere (begun.places (sizes_on setup.topology d).profile) setup.topology d cube
+    port e past off) kept
 copies_through setup past d cube port e right kept true on =
     let t = setup.topology in
     let sizes = sizes_on t d in
     let one : e ≡ d = eqb-true e d on in
     let at =
-        through-here t d cube port right.flit right.rest past
-        (came_is t past cube port (through_of setup past cube port e right)) in
+    through-here t d cube port right.flit right.rest past
+    (came_is t past cube port (through_of setup past cube port e right)) in
     let own = (fronts sizes (toward d) (entries_on t d past) (kept.links (d / 2))).own in
     subst (λ (n : ℕ). CopiesStand t (Through cube port n ∷ past) d) (sym one)
     (copies_here setup (Through cube port d ∷ past) d _
-        (ap (sender_entries sizes (toward d)) at
-        ∙ sender-through sizes (toward d) right.flit (lng_of right.flit) (entries_on t d past))
+    (ap (sender_entries sizes (toward d)) at
+    ∙ sender-through sizes (toward d) right.flit (lng_of right.flit) (entries_on t d past))
     (others_through (Stands t (Output d)) sizes.profile right.flit (lng_of right.flit) _
-        (sender_on t d past) own (kept.copies d)))
+    (sender_on t d past) own (kept.copies d)))
 
 pub copies-more : (setup : Setup) (entry : Entry) (past : List Entry) (d : ℕ) → IsNetwork setup →
     Wired setup.topology → EntryRule setup past entry → Kept setup past →
@@ -233,7 +232,7 @@ pub copies-more : (setup : Setup) (entry : Entry) (past : List Entry) (d : ℕ) 
 copies-more setup entry past d network wires right kept =
     by_sending (λ (n : Entry). EntryRule setup past n → CopiesStand setup.topology (n ∷ past) d)
     (λ e as_what flit rule. copies_sent setup past d e as_what flit network wires rule kept (e == d)
-        refl)
+    refl)
     (λ cube port e rule. copies_through setup past d cube port e rule kept (e == d) refl)
     (λ n quiet rule. copies_quiet setup n past d quiet kept)
     entry right

@@ -35,26 +35,26 @@ unfolding link_entries takes
 takes_elsewhere topology past e d flit outcome off =
     let before = entries_on topology d past in
     let entry : Toward → LinkEntry = λ way. LinkEntry.landed way
-        (landing_mask (link_sizes topology (d / 2)) way before flit) flit outcome in
+    (landing_mask (link_sizes topology (d / 2)) way before flit) flit outcome in
     let landed = put_on (d / 2) (Some e) entry before in
     by_gone (goes_at topology e outcome past)
-        ∙ put_on-same (takes (toward d)) (d / 2) (Some e) entry before (λ way. refl)
+    ∙ put_on-same (takes (toward d)) (d / 2) (Some e) entry before (λ way. refl)
   where
     by_gone : (gone : Bool) → takes (toward d)
         (taken_if gone (d / 2) e (put_on (d / 2) (Some e)
         (λ way. LinkEntry.landed way (landing_mask (link_sizes topology (d / 2)) way
         (entries_on topology d past) flit) flit outcome) (entries_on topology d past)))
         ≡ takes (toward d) (put_on (d / 2) (Some e)
-            (λ way. LinkEntry.landed way (landing_mask (link_sizes topology (d / 2)) way
-            (entries_on topology d past) flit) flit outcome) (entries_on topology d past))
+        (λ way. LinkEntry.landed way (landing_mask (link_sizes topology (d / 2)) way
+        (entries_on topology d past) flit) flit outcome) (entries_on topology d past))
     by_gone false = refl
     by_gone true =
         takes_put (e / 2 == d / 2) (same_way (toward d) (toward e)) (toward d)
-            (LinkEntry.taken (toward e)) _ refl
+        (LinkEntry.taken (toward e)) _ refl
         ∙ ap (λ (b : Bool). count_if b (takes (toward d)
-            (put_on (d / 2) (Some e) (λ way. LinkEntry.landed way
-            (landing_mask (link_sizes topology (d / 2)) way (entries_on topology d past) flit) flit
-            outcome) (entries_on topology d past)))) (sym (same_direction d e) ∙ off)
+        (put_on (d / 2) (Some e) (λ way. LinkEntry.landed way
+        (landing_mask (link_sizes topology (d / 2)) way (entries_on topology d past) flit) flit
+        outcome) (entries_on topology d past)))) (sym (same_direction d e) ∙ off)
 
 takes_here : (topology : Topology) (past : List Entry) (d : ℕ) (flit : List ℕ) (outcome : Outcome)
     (gone : Bool) → goes_at topology d outcome past ≡ gone →
@@ -64,27 +64,27 @@ unfolding link_entries takes
 takes_here topology past d flit outcome gone is =
     let before = entries_on topology d past in
     let entry : Toward → LinkEntry = λ way. LinkEntry.landed way
-        (landing_mask (link_sizes topology (d / 2)) way before flit) flit outcome in
+    (landing_mask (link_sizes topology (d / 2)) way before flit) flit outcome in
     ap (λ (b : Bool). takes (toward d) (taken_if b (d / 2) d
-        (put_on (d / 2) (Some d) entry before))) is
+    (put_on (d / 2) (Some d) entry before))) is
     ∙ by_gone gone ∙ ap (count_if gone) (put_on-same (takes (toward d)) (d / 2) (Some d) entry
-        before (λ way. refl))
+    before (λ way. refl))
   where
     by_gone : (b : Bool) → takes (toward d)
         (taken_if b (d / 2) d (put_on (d / 2) (Some d)
         (λ way. LinkEntry.landed way (landing_mask (link_sizes topology (d / 2)) way
         (entries_on topology d past) flit) flit outcome) (entries_on topology d past)))
         ≡ count_if b (takes (toward d) (put_on (d / 2) (Some d)
-            (λ way. LinkEntry.landed way (landing_mask (link_sizes topology (d / 2)) way
-            (entries_on topology d past) flit) flit outcome) (entries_on topology d past)))
+        (λ way. LinkEntry.landed way (landing_mask (link_sizes topology (d / 2)) way
+        (entries_on topology d past) flit) flit outcome) (entries_on topology d past)))
     by_gone false = refl
     by_gone true =
         takes_put (d / 2 == d / 2) (same_way (toward d) (toward d)) (toward d)
-            (LinkEntry.taken (toward d)) _ refl
+        (LinkEntry.taken (toward d)) _ refl
         ∙ ap (λ (b : Bool). count_if b (takes (toward d)
-            (put_on (d / 2) (Some d) (λ way. LinkEntry.landed way
-            (landing_mask (link_sizes topology (d / 2)) way (entries_on topology d past) flit) flit
-            outcome) (entries_on topology d past)))) (sym (same_direction d d) ∙ eq-eqb d d refl)
+        (put_on (d / 2) (Some d) (λ way. LinkEntry.landed way
+        (landing_mask (link_sizes topology (d / 2)) way (entries_on topology d past) flit) flit
+        outcome) (entries_on topology d past)))) (sym (same_direction d d) ∙ eq-eqb d d refl)
 
 drop_push : (n : ℕ) (l more : List PacketFields) → n ≤ length l → drop n (l ++ more) ≡ drop n l
     ++ more
@@ -123,9 +123,9 @@ not_gone_at_host setup past d outcome host less kept gone at =
     let onto = gone_onto outcome (forwarded_onto setup.topology d past) gone in
     let forwarding = kept.forwarding d onto.0 less onto.1 in
     let piped : PipeKept setup.topology past onto.0 forwarding.pipe =
-        subst (OnPipe setup.topology past onto.0) forwarding.is (kept.piped onto.0) in
+    subst (OnPipe setup.topology past onto.0) forwarding.is (kept.piped onto.0) in
     let clash : ends.Host host ≡ ends.Port piped.way.cube piped.way.port = sym at
-        ∙ ap (end_of setup.topology) (sym forwarding.from) ∙ piped.way.lands in cc
+    ∙ ap (end_of setup.topology) (sym forwarding.from) ∙ piped.way.lands in cc
 
 -- a landing here: what it accepts enters the buffer
 lands_in : (setup : Setup) (past : List Entry) (d : ℕ) (flit : List ℕ) (outcome : Outcome) →
@@ -139,19 +139,19 @@ lands_in setup past d flit outcome less kept stays =
     let came = tokens_landed t d flit outcome past in
     let entered_now : entered t (Landed d flit outcome ∷ past) room ≡ entered t past room ++ came =
     landed-enters t d flit outcome past (same_queue_refl room)
-        ∙ ap (λ (b : Bool). entered t past room ++ unless_gone b came) stays in
+    ∙ ap (λ (b : Bool). entered t past room ++ unless_gone b came) stays in
     let tokens : filter is_token (accepted t d (Landed d flit outcome ∷ past))
-        ≡ filter is_token (accepted t d past) ++ came =
+    ≡ filter is_token (accepted t d past) ++ came =
     ap (filter is_token) (accepted_more t d flit outcome past)
-        ∙ filter-append is_token (accepted t d past) (landed_packets t d flit outcome past) in
+    ∙ filter-append is_token (accepted t d past) (landed_packets t d flit outcome past) in
     let took = takes_here t past d flit outcome false stays in
     let n = takes (toward d) (entries_on t d past) in record {
       buffer =
           ap₂ (λ (i : ℕ) (l : List PacketFields). drop i l) (left_landed past d flit outcome room)
           entered_now ∙ drop_push (left past room) (entered t past room) came (kept.within room)
           ∙ ap (λ l. l ++ came) k.buffer ∙ sym
-              (drop_push n (filter is_token (accepted t d past)) came k.inside)
-              ∙ sym (ap₂ (λ (i : ℕ) (l : List PacketFields). drop i l) took tokens);
+          (drop_push n (filter is_token (accepted t d past)) came k.inside)
+          ∙ sym (ap₂ (λ (i : ℕ) (l : List PacketFields). drop i l) took tokens);
       inside =
           (let many = ap length tokens ∙ length-append (filter is_token (accepted t d past)) came in
           let inside = k.inside in omega arith);
@@ -172,12 +172,12 @@ lands_gone setup past d flit outcome less right kept gone =
     let empty = gone_empty setup past d outcome less kept gone in
     let entered_now : entered t (Landed d flit outcome ∷ past) room ≡ entered t past room =
     landed-enters t d flit outcome past (same_queue_refl room)
-        ∙ ap (λ (b : Bool). entered t past room ++ unless_gone b came) gone
-        ∙ append-nil (entered t past room) in
+    ∙ ap (λ (b : Bool). entered t past room ++ unless_gone b came) gone
+    ∙ append-nil (entered t past room) in
     let tokens : filter is_token (accepted t d (Landed d flit outcome ∷ past))
-        ≡ filter is_token (accepted t d past) ++ came =
+    ≡ filter is_token (accepted t d past) ++ came =
     ap (filter is_token) (accepted_more t d flit outcome past)
-        ∙ filter-append is_token (accepted t d past) (landed_packets t d flit outcome past) in
+    ∙ filter-append is_token (accepted t d past) (landed_packets t d flit outcome past) in
     let took = takes_here t past d flit outcome true gone in
     let n = takes (toward d) (entries_on t d past) in
     let many = ap length tokens ∙ length-append (filter is_token (accepted t d past)) came in
@@ -208,14 +208,14 @@ ends_landed setup past e d flit outcome wires real less right kept = by_here (e 
     by_here true on =
         let one : e ≡ d = eqb-true e d on in
         subst (λ (n : ℕ). EndKept setup.topology (Landed n flit outcome ∷ past) d) (sym one)
-            (by_gone (goes_at setup.topology d outcome past) refl
-            (subst (λ (n : ℕ). HasLanded setup past n flit outcome) one right))
+        (by_gone (goes_at setup.topology d outcome past) refl
+        (subst (λ (n : ℕ). HasLanded setup past n flit outcome) one right))
     by_here false off =
         let t = setup.topology in
         let k = kept.ends d less in
         let room = landing_buffer t d in
         let entered_now =
-            landed-off t d e flit outcome past (same_buffer t d e false wires less real off) in
+        landed-off t d e flit outcome past (same_buffer t d e false wires less real off) in
         let tokens = ap (filter is_token) (accepted_off t d e flit outcome past off) in
         let took = takes_elsewhere t past e d flit outcome off in record {
           buffer =
@@ -235,11 +235,11 @@ ends-more setup (Landed e flit outcome) past d less wires right kept =
     less right kept
 ends-more setup (Shifted cube port goal) past d less wires right kept =
     taken-from setup (Shifted cube port goal) past (ends.Port cube port) right.at.front d less wires
-        tt refl
+    tt refl
     (λ i. handed_on-same (takes (toward d)) setup.topology (d / 2) cube goal
-        (front_of (contents setup.topology past (Port cube port)))
-        (taken_at setup.topology (d / 2) (ends.Port cube port) (entries_on setup.topology d past))
-        (λ e. refl))
+    (front_of (contents setup.topology past (Port cube port)))
+    (taken_at setup.topology (d / 2) (ends.Port cube port) (entries_on setup.topology d past))
+    (λ e. refl))
     kept right.at (front_stands setup past (Port cube port) kept right.at)
 ends-more setup (Dropped cube port) past d less wires right kept =
     taken-from setup (Dropped cube port) past (ends.Port cube port) right.at.front d less wires tt

@@ -39,17 +39,17 @@ link-through : (setup : Setup) (past : List Entry) (cube port d link : ℕ) →
 link-through setup past cube port d link right kept =
     let came = gathers_is setup past cube port d right in
     let names =
-        names_more right.from past right.flit right.rest right.head kept.short came right.is_head in
+    names_more right.from past right.flit right.rest right.head kept.short came right.is_head in
     subst (λ (c : List (List ℕ)). IsKept (link_sizes setup.topology link)
-        (forwarded_on link d c (link_entries setup.topology link past)))
-        (sym (came_is setup.topology past cube port (through_of setup past cube port d right)))
+    (forwarded_on link d c (link_entries setup.topology link past)))
+    (sym (came_is setup.topology past cube port (through_of setup past cube port d right)))
     (put-on-kept setup.topology link d (Some d)
-        (λ way. LinkEntry.through way right.flit (lng_of right.flit))
-        (λ i. link_entries setup.topology i past) refl (kept.links link)
+    (λ way. LinkEntry.through way right.flit (lng_of right.flit))
+    (λ i. link_entries setup.topology i past) refl (kept.links link)
     (kept-through (sizes_on setup.topology d) (entries_on setup.topology d past) (toward d)
-        right.flit (lng_of right.flit) (kept.links (d / 2))
+    right.flit (lng_of right.flit) (kept.links (d / 2))
     (ap (may_pass_on (view_in (sizes_on setup.topology d) (toward d)
-        (entries_on setup.topology d past) Waiting)) (sym names.1) ∙ right.may) names.0
+    (entries_on setup.topology d past) Waiting)) (sym names.1) ∙ right.may) names.0
     (ap_flit came (kept.pendings right.from 0))))
   where
     ap_flit : pending (receiver_of right.from past) ≡ right.flit ∷ right.rest →
@@ -64,28 +64,28 @@ pub link-more : (setup : Setup) (entry : Entry) (past : List Entry) (link : ℕ)
 unfolding link_entries
 link-more setup (Gave host tag poisoned request) past link network wires right kept =
     handed-kept setup past (ends.Host host) (request_packet request (tag_number tag) host poisoned)
-        link (λ i. link_entries setup.topology i past) kept
-        (given_asks setup past host tag poisoned request network right kept).counted right.room
-        kept.links (λ d. refl)
+    link (λ i. link_entries setup.topology i past) kept
+    (given_asks setup past host tag poisoned request network right kept).counted right.room
+    kept.links (λ d. refl)
 link-more setup (Lifted cube from to) past link network wires right kept =
     let front : front_of (contents setup.topology past (Answers cube from)) ≡ right.at.front =
-        front_is setup past (Answers cube from) right.at in
+    front_is setup past (Answers cube from) right.at in
     subst (λ (p : PacketFields). IsKept (link_sizes setup.topology link)
-        (handed_at setup.topology link (ends.Port cube to) p
-        (link_entries setup.topology link past))) (sym front)
+    (handed_at setup.topology link (ends.Port cube to) p
+    (link_entries setup.topology link past))) (sym front)
     (handed-kept setup past (ends.Port cube to) right.at.front link
-        (λ i. link_entries setup.topology i past) kept
-        (front_stands setup past (Answers cube from) kept right.at).replying.counted right.room
-        kept.links (λ d. refl))
+    (λ i. link_entries setup.topology i past) kept
+    (front_stands setup past (Answers cube from) kept right.at).replying.counted right.room
+    kept.links (λ d. refl))
 link-more setup (Shifted cube port goal) past link network wires right kept =
     let front : front_of (contents setup.topology past (Port cube port)) ≡ right.at.front =
-        front_is setup past (Port cube port) right.at in
+    front_is setup past (Port cube port) right.at in
     subst (λ (p : PacketFields). IsKept (link_sizes setup.topology link)
-        (handed_on setup.topology link cube goal p
-        (taken_at setup.topology link (ends.Port cube port)
-        (link_entries setup.topology link past)))) (sym front)
+    (handed_on setup.topology link cube goal p
+    (taken_at setup.topology link (ends.Port cube port)
+    (link_entries setup.topology link past)))) (sym front)
     (link-shifted setup past cube port goal link wires kept right
-        (front_stands setup past (Port cube port) kept right.at))
+    (front_stands setup past (Port cube port) kept right.at))
 link-more setup (Dropped cube port) past link network wires right kept =
     taken-kept setup past (ends.Port cube port) right.at.front link wires kept
     (front_stands setup past (Port cube port) kept right.at) right.at
@@ -105,18 +105,18 @@ link-more setup (Sent d as_what flit) past link network wires right kept =
     by_here false at = kept.links link
     by_here true at =
         subst (λ (i : ℕ). IsKept (link_sizes setup.topology i)
-            (LinkEntry.sent (toward d) (feed_in setup.topology i d past (toward d)) as_what flit
-            ∷ link_entries setup.topology i past)) (eqb-true (d / 2) link at)
-            (sent_kept setup past d as_what flit kept right)
+        (LinkEntry.sent (toward d) (feed_in setup.topology i d past (toward d)) as_what flit
+        ∷ link_entries setup.topology i past)) (eqb-true (d / 2) link at)
+        (sent_kept setup past d as_what flit kept right)
 link-more setup (Landed d flit outcome) past link network wires right kept =
     taken-landed setup past d flit outcome link wires right kept
 link-more setup (Through cube port d) past link network wires right kept =
     link-through setup past cube port d link right kept
 link-more setup (Unlocked d) past link network wires right kept =
     put-on-kept setup.topology link d (Some d) LinkEntry.unlocked
-        (λ i. link_entries setup.topology i past) refl (kept.links link)
+    (λ i. link_entries setup.topology i past) refl (kept.links link)
     (kept-unlocked (sizes_on setup.topology d) (entries_on setup.topology d past) (toward d)
-        (kept.links (d / 2)))
+    (kept.links (d / 2)))
 link-more setup (Spread cube vault bank) past link network wires right kept = kept.links link
 link-more setup (Executed unit host tag request answer) past link network wires right kept =
     kept.links link

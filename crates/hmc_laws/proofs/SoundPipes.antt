@@ -21,7 +21,6 @@ use Rattle.hmc_send.specs.LinkLines.{line}
 use Rattle.hmc_codes.specs.declared.place.Place.{Place as End}
 use Rattle.hmc_laws.proofs.UnsentFlits.{AreGathered}
 use Rattle.hmc_journal.proofs.EntryRule.{EntryRule, HasSent, HasThrough}
-use Rattle.hmc_journal.proofs.Moves.{arrives}
 use Rattle.hmc_laws.proofs.Entering.{Kept, landed-real}
 use Rattle.hmc_laws.proofs.Wired.{Wired}
 use Rattle.hmc_journal.specs.Network.{IsNetwork}
@@ -64,11 +63,11 @@ sent-real setup past d as_what flit has = by_far (nat_le (directions_in setup.to
     by_far false is = leb-false (directions_in setup.topology) d is
     by_far true is =
         let more : length (line (sizes_on setup.topology d).profile (toward d)
-            (entries_on setup.topology d past)) < (sizes_on setup.topology d).line =
-            leb-false _ _ has.has_room in
+        (entries_on setup.topology d past)) < (sizes_on setup.topology d).line =
+        leb-false _ _ has.has_room in
         let none : (sizes_on setup.topology d).line ≡ 0 =
-            ap (λ (l : LinkFields). l.line) (far_sizes setup.topology d
-            (leb-true (directions_in setup.topology) d is)) in
+        ap (λ (l : LinkFields). l.line) (far_sizes setup.topology d
+        (leb-true (directions_in setup.topology) d is)) in
         absurd (omega arith)
 
 pub none-more : (setup : Setup) (entry : Entry) (past : List Entry) → EntryRule setup past entry →
@@ -78,7 +77,7 @@ unfolding sent_flits
 none-more setup (Sent direction as_what flit) past right none d big =
     let less = sent-real setup past direction as_what flit right in
     ap (λ (b : Bool). append_if b (flit ∷ []) (sent_flits d past))
-        (ne_eqb direction d (λ e. omega arith)) ∙ none d big
+    (ne_eqb direction d (λ e. omega arith)) ∙ none d big
 none-more setup _ past right none d big = none d big
 
 -- ---- what is forwarded
@@ -97,10 +96,11 @@ some_came (x ∷ came) head rest is = tt
 
 pub gathered-more : (setup : Setup) (entry : Entry) (past : List Entry) →
     EntryRule setup past entry → Kept setup past → AreGathered setup.topology (entry ∷ past)
-gathered-more setup (Through cube port d) past right kept =
-    (some_came (came_at setup.topology cube port past) right.flit right.rest
-        (came_is setup.topology past cube port (through_of setup past cube port d right)),
-        kept.gathered)
+gathered-more setup (Through cube port d) past right kept = (
+  some_came (came_at setup.topology cube port past) right.flit right.rest
+      (came_is setup.topology past cube port (through_of setup past cube port d right)),
+  kept.gathered,
+)
 gathered-more setup _ past right kept = kept.gathered
 
 -- where the direction that ends at a place comes from
@@ -124,16 +124,16 @@ forward_step setup past cube port d network wires has kept =
     let sizes = sizes_on t d in
     let before = entries_on t d past in
     let at =
-        arrives_at t (ends.Port cube port) has.from (direction_from t (ends.Port cube port)) wires
-        refl has.arrives in
+    arrives_at t (ends.Port cube port) has.from (direction_from t (ends.Port cube port)) wires
+    refl has.arrives in
     let through = through_of setup past cube port d has in
     let here =
-        through-here t d cube port has.flit has.rest past (came_is t past cube port through) in
+    through-here t d cube port has.flit has.rest past (came_is t past cube port through) in
     let now : IsKept sizes (LinkEntry.through (toward d) has.flit (lng_of has.flit) ∷ before) =
-        subst (IsKept sizes) here (link-more setup (Through cube port d) past (d / 2) network wires
-        has kept) in
+    subst (IsKept sizes) here (link-more setup (Through cube port d) past (d / 2) network wires
+    has kept) in
     let free : unfinished (sender_entries sizes (toward d) before) ≡ None =
-        through_free sizes (toward d) has.flit (lng_of has.flit) before now in record {
+    through_free sizes (toward d) has.flit (lng_of has.flit) before now in record {
       from = has.from;
       inside = at.0;
       lands = at.1;
@@ -164,8 +164,8 @@ pub piped-more : (setup : Setup) (entry : Entry) (past : List Entry) → IsNetwo
     ArePiped setup.topology (entry ∷ past)
 piped-more setup (Landed e flit outcome) past network wires right kept =
     piped_landed setup.topology past e flit outcome
-        (lands_good setup past e flit outcome right kept
-        (landed-real setup past e flit outcome right kept)) kept.piped
+    (lands_good setup past e flit outcome right kept
+    (landed-real setup past e flit outcome right kept)) kept.piped
 piped-more setup (Unlocked e) past network wires right kept =
     piped_unlocked setup.topology past e kept.piped
 piped-more setup (Sent d as_what flit) past network wires right kept =

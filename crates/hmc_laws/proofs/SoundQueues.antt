@@ -27,8 +27,8 @@ arriving_stands : (topology : Topology) (queue room : QueueId) (packet : Unit {0
 arriving_stands topology queue room packet false right is = All-nil (Stands topology room)
 arriving_stands topology queue room packet true right is =
     All-cons (Stands topology room) (packet tt) []
-        (subst (λ (r : QueueId). Stands topology r (packet tt)) (same_queue_is queue room is) right)
-        (All-nil (Stands topology room))
+    (subst (λ (r : QueueId). Stands topology r (packet tt)) (same_queue_is queue room is) right)
+    (All-nil (Stands topology room))
 
 entering_stands : (topology : Topology) (to : Option Arrival) (room : QueueId) →
     ArrivesRight topology to → All (Stands topology room) (arrived room to)
@@ -44,7 +44,7 @@ unfolding entered contents
 stands-more setup entry past room network wires right kept =
     All-append (Stands setup.topology room) (entered setup.topology past room) _ (kept.stands room)
     (entering_stands setup.topology (arrives setup.topology past entry) room
-        (enters_right setup past entry network wires right kept))
+    (enters_right setup past entry network wires right kept))
 
 pub state-more : (setup : Setup) (entry : Entry) (past : List Entry) → EntryRule setup past entry →
     Kept setup past → HasCubes setup.topology (state_of setup (entry ∷ past))

@@ -43,32 +43,32 @@ begun-by : (setup : Setup) (past : List Entry) (d : ℕ) (waiting : Bool) (n : �
     (given : Given) (flit : List ℕ) → Kept setup past → n ≡ left_begun u → waiting ≡ waits u →
     IsSentAs what.New u given → SendFacts what.New flit u
     → given.front ≡ slice_get (queue_in (sizes_on setup.topology d) (toward d)
-        (entries_on setup.topology d past)) 0 → HasLeaving setup past (begins waiting n d)
+    (entries_on setup.topology d past)) 0 → HasLeaving setup past (begins waiting n d)
 begun-by setup past d true n u given flit kept left awaits has facts front = tt
 begun-by setup past d false zero None given flit kept left awaits has facts front =
     has_front setup past (Output d) (queue_in (sizes_on setup.topology d) (toward d)
-        (entries_on setup.topology d past)) has.front
-        (output_is setup.topology d past kept.gathered (kept.links (d / 2))) (sym front ∙ has.is)
+    (entries_on setup.topology d past)) has.front
+    (output_is setup.topology d past kept.gathered (kept.links (d / 2))) (sym front ∙ has.is)
 begun-by setup past d false (suc n) u given flit kept left awaits has facts front = tt
 begun-by setup past d false zero (Some part) given flit kept left awaits new facts front =
     let more = facts.more part refl in
     let now = new_left-some part new in
     let same : left_begun (Some part) ≡ new_left (Some part) =
-        ap (λ (b : Bool). if b then 0 else new_left (Some part)) (sym awaits) in
-        absurd (omega arith)
+    ap (λ (b : Bool). if b then 0 else new_left (Some part)) (sym awaits) in
+    absurd (omega arith)
 
 -- a send leaves the link as its users keep it: what is fed fits
 pub sent_kept : (setup : Setup) (past : List Entry) (d : ℕ) (as_what : What) (flit : List ℕ) →
     Kept setup past → HasSent setup past d as_what flit
     → IsKept (sizes_on setup.topology d)
-        (LinkEntry.sent (toward d) (feed_on setup.topology past d) as_what flit ∷ entries_on
-        setup.topology d past)
+    (LinkEntry.sent (toward d) (feed_on setup.topology past d) as_what flit ∷ entries_on
+    setup.topology d past)
 sent_kept setup past d as_what flit kept sent =
     let fits =
-        feed_fits (pipe_onto setup.topology d past) (up_on setup.topology d past) (kept.up d) in
+    feed_fits (pipe_onto setup.topology d past) (up_on setup.topology d past) (kept.up d) in
     kept-sent (sizes_on setup.topology d) (entries_on setup.topology d past) (toward d)
-        (feed_on setup.topology past d) as_what flit (kept.links (d / 2)) fits.fits fits.is_feed
-        sent
+    (feed_on setup.topology past d) as_what flit (kept.links (d / 2)) fits.fits fits.is_feed
+    sent
 
 begun-at : (setup : Setup) (past : List Entry) (d : ℕ) (flit : List ℕ) → Kept setup past →
     HasSent setup past d what.New flit →
@@ -80,11 +80,11 @@ begun-at setup past d flit kept sent =
     let feed = feed_on setup.topology past d in
     let unsent_now = unsent_is setup.topology d past kept.gathered (kept.links (d / 2)) in
     begun-by setup past d (awaits_first d past) (unsent d past)
-        (unfinished (sender_entries sizes (toward d) before))
-        (given_in sizes (toward d) before feed) flit kept unsent_now.left unsent_now.awaits
-        (sent_as sizes before (toward d) feed what.New flit sent)
+    (unfinished (sender_entries sizes (toward d) before))
+    (given_in sizes (toward d) before feed) flit kept unsent_now.left unsent_now.awaits
+    (sent_as sizes before (toward d) feed what.New flit sent)
     (send_facts sizes (toward d) feed what.New flit before
-        (sent_kept setup past d what.New flit kept sent)) refl
+    (sent_kept setup past d what.New flit kept sent)) refl
 
 -- the front of an output queue is there where a flit begins a packet
 pub has_begun : (setup : Setup) (past : List Entry) (entry : Entry) → EntryRule setup past entry →

@@ -27,7 +27,6 @@ use Rattle.hmc_entries.specs.declared.outcome.Goal.{Goal}
 use Rattle.hmc_laws.proofs.UnsentFlits.{AreGathered}
 use Rattle.hmc_journal.specs.StepView.{view_of}
 use Rattle.hmc_journal.proofs.EntryRule.{HasFront, HasShifted, HasLanded, HasThrough}
-use Rattle.hmc_journal.proofs.Moves.{arrives}
 use Rattle.hmc_laws.proofs.Standing.{IsCounted, IsAtEnd, IsCounted-moving}
 use Rattle.hmc_laws.proofs.Entering.{Kept, accepted_are, has_direction, kept_landing}
 use Rattle.hmc_laws.proofs.Wired.{Wired, ends_there}
@@ -61,13 +60,13 @@ has_room_at : (setup : Setup) (past : List Entry) (d : ℕ) (to : Option QueueId
 unfolding view_of
 has_room_at setup past d to gathered kept is lacks =
     let full : nat_le (sizes_on setup.topology d).output
-        (length (contents setup.topology past (Output d))) ≡ false =
-        sym (ap (lacks_room setup.topology (view_of setup past)) is) ∙ lacks in
+    (length (contents setup.topology past (Output d))) ≡ false =
+    sym (ap (lacks_room setup.topology (view_of setup past)) is) ∙ lacks in
     room_by (sizes_on setup.topology d).output
-        (length (queue_in (sizes_on setup.topology d) (toward d)
-        (entries_on setup.topology d past)))
+    (length (queue_in (sizes_on setup.topology d) (toward d)
+    (entries_on setup.topology d past)))
     (ap (λ (l : List PacketFields). nat_le (sizes_on setup.topology d).output (length l))
-        (sym (output_is setup.topology d past gathered kept)) ∙ full)
+    (sym (output_is setup.topology d past gathered kept)) ∙ full)
 
 -- one more entry of the link of a direction is one of this link, or not
 put-kept : (topology : Topology) (link d : ℕ) (entry : LinkEntry)
@@ -87,7 +86,7 @@ pub put-on-kept : (topology : Topology) (link d : ℕ) (found : Option ℕ) (ent
     → IsKept (link_sizes topology link) (put_on link found entry (before link))
 put-on-kept topology link d found entry before at is more =
     subst (λ (o : Option ℕ). IsKept (link_sizes topology link) (put_on link o entry (before link)))
-        (sym at) (put-kept topology link d (entry (toward d)) before (d / 2 == link) refl is more)
+    (sym at) (put-kept topology link d (entry (toward d)) before (d / 2 == link) refl is more)
 
 -- a buffer that has a front holds a packet
 pub more_than : (n : ℕ) (l : List PacketFields) (front : PacketFields) (rest : List PacketFields) →
@@ -106,12 +105,12 @@ holds_at : (setup : Setup) (past : List Entry) (d : ℕ) → d < directions_in s
 holds_at setup past d less kept at =
     let e = kept.ends d less in
     let inside =
-        more_than (takes (toward d) (entries_on setup.topology d past))
-        (filter is_token (accepted setup.topology d past)) at.front at.rest
-        (sym e.buffer ∙ at.is) in
+    more_than (takes (toward d) (entries_on setup.topology d past))
+    (filter is_token (accepted setup.topology d past)) at.front at.rest
+    (sym e.buffer ∙ at.is) in
     let same : length (filter is_token (accepted setup.topology d past))
-        ≡ length (filter is_token (accepted_packets (sizes_on setup.topology d).profile (toward d)
-        (entries_on setup.topology d past))) =
+    ≡ length (filter is_token (accepted_packets (sizes_on setup.topology d).profile (toward d)
+    (entries_on setup.topology d past))) =
     ap (λ l. length (filter is_token l)) (accepted_are setup.topology d past) in
     lt-ltb _ _ (omega arith)
 
@@ -120,57 +119,57 @@ pub taken-kept : (setup : Setup) (past : List Entry) (place : End) (packet : Pac
     (link : ℕ) → Wired setup.topology → Kept setup past → IsAtEnd setup.topology place packet →
     HasFront setup past (buffer_at place)
     → IsKept (link_sizes setup.topology link)
-        (taken_at setup.topology link place (link_entries setup.topology link past))
+    (taken_at setup.topology link place (link_entries setup.topology link past))
 taken-kept setup past place packet link wires kept came at =
     let d = came.direction in
     let front : HasFront setup past (landing_buffer setup.topology d) =
-        subst (λ (p : End). HasFront setup past (buffer_at p)) (sym came.ends) at in
+    subst (λ (p : End). HasFront setup past (buffer_at p)) (sym came.ends) at in
     put-on-kept setup.topology link d (direction_to setup.topology place) LinkEntry.taken
-        (λ i. link_entries setup.topology i past)
-        (ap (direction_to setup.topology) (sym came.ends)
-        ∙ ends_there setup.topology wires d came.inside) (kept.links link)
+    (λ i. link_entries setup.topology i past)
+    (ap (direction_to setup.topology) (sym came.ends)
+    ∙ ends_there setup.topology wires d came.inside) (kept.links link)
     (kept-taken (sizes_on setup.topology d) (entries_on setup.topology d past) (toward d)
-        (kept.links (d / 2)) (holds_at setup past d came.inside kept front))
+    (kept.links (d / 2)) (holds_at setup past d came.inside kept front))
 
 -- a packet is handed at a place, after entries which leave the room there
 pub handed-kept : (setup : Setup) (past : List Entry) (place : End) (packet : PacketFields)
     (link : ℕ) (before : (i : ℕ) → List LinkEntry) → Kept setup past → IsCounted packet
     → lacks_room setup.topology (view_of setup past) (output_from setup.topology place) ≡ false →
-        ((i : ℕ) → IsKept (link_sizes setup.topology i) (before i))
+    ((i : ℕ) → IsKept (link_sizes setup.topology i) (before i))
     → ((d : ℕ) → has_room (sizes_on setup.topology d) (toward d) (before (d / 2))
-        ≡ has_room (sizes_on setup.topology d) (toward d) (entries_on setup.topology d past))
+    ≡ has_room (sizes_on setup.topology d) (toward d) (entries_on setup.topology d past))
     → IsKept (link_sizes setup.topology link)
-        (handed_at setup.topology link place packet (before link))
+    (handed_at setup.topology link place packet (before link))
 handed-kept setup past place packet link before kept counted lacks all same =
     let to = has_direction setup.topology (view_of setup past) place lacks in
     let d = to.0 in
     put-on-kept setup.topology link d (direction_from setup.topology place)
-        (λ way. LinkEntry.handed way packet) before to.1 (all link)
+    (λ way. LinkEntry.handed way packet) before to.1 (all link)
     (kept-handed (sizes_on setup.topology d) (before (d / 2)) (toward d) packet (all (d / 2))
-        (same d ∙ has_room_at setup past d (output_from setup.topology place) kept.gathered
-        (kept.links (d / 2)) (ap (option_map Output) to.1) lacks)
+    (same d ∙ has_room_at setup past d (output_from setup.topology place) kept.gathered
+    (kept.links (d / 2)) (ap (option_map Output) to.1) lacks)
     (counted_token packet counted) (is_handed _ packet counted))
 
 pub link-shifted : (setup : Setup) (past : List Entry) (cube port : ℕ) (goal : Goal) (link : ℕ) →
     Wired setup.topology → Kept setup past → (has : HasShifted setup past cube port goal) →
     IsAtEnd setup.topology (ends.Port cube port) has.at.front
     → IsKept (link_sizes setup.topology link)
-        (handed_on setup.topology link cube goal has.at.front
-        (taken_at setup.topology link (ends.Port cube port)
-        (link_entries setup.topology link past)))
+    (handed_on setup.topology link cube goal has.at.front
+    (taken_at setup.topology link (ends.Port cube port)
+    (link_entries setup.topology link past)))
 link-shifted setup past cube port (goals.Vault vault) link wires kept has came =
     taken-kept setup past (ends.Port cube port) has.at.front link wires kept came has.at
 link-shifted setup past cube port goals.Registers link wires kept has came =
     taken-kept setup past (ends.Port cube port) has.at.front link wires kept came has.at
 link-shifted setup past cube port (goals.Port out) link wires kept has came =
     handed-kept setup past (ends.Port cube out) has.at.front link
-        (λ i. taken_at setup.topology i (ends.Port cube port) (link_entries setup.topology i past))
-        kept (IsCounted-moving setup.topology has.at.front has.unpoisoned came.goes) has.room
+    (λ i. taken_at setup.topology i (ends.Port cube port) (link_entries setup.topology i past))
+    kept (IsCounted-moving setup.topology has.at.front has.unpoisoned came.goes) has.room
     (λ i. taken-kept setup past (ends.Port cube port) has.at.front i wires kept came has.at)
     (λ d. put_on-same (has_room (sizes_on setup.topology d) (toward d)) (d / 2)
-        (direction_to setup.topology (ends.Port cube port)) LinkEntry.taken
-        (entries_on setup.topology d past) (λ way. room_taken (sizes_on setup.topology d) (toward d)
-        way (entries_on setup.topology d past)))
+    (direction_to setup.topology (ends.Port cube port)) LinkEntry.taken
+    (entries_on setup.topology d past) (λ way. room_taken (sizes_on setup.topology d) (toward d)
+    way (entries_on setup.topology d past)))
 
 -- what is gathered where a packet is forwarded
 pub gathers_is : (setup : Setup) (past : List Entry) (cube port d : ℕ)
@@ -182,22 +181,28 @@ gathers_is setup past cube port d has = ap pending (received setup.topology has.
 abbrev pub through_of : (setup : Setup) (past : List Entry) (cube port d : ℕ) →
     HasThrough setup past cube port d → IsThrough setup.topology past cube port
 through_of setup past cube port d has =
-    record { from = has.from; arrives = has.arrives; head = has.flit; rest = has.rest; came =
-    gathers_is setup past cube port d has }
+    record {
+      from = has.from;
+      arrives = has.arrives;
+      head = has.flit;
+      rest = has.rest;
+      came =
+          gathers_is setup past cube port d has;
+    }
 
 -- a landing, and what leaves at once is taken
 pub landed-kept : (setup : Setup) (past : List Entry) (d : ℕ) (flit : List ℕ) (outcome : Outcome)
     (link : ℕ) → HasLanded setup past d flit outcome → Kept setup past → (here : Bool) →
     (d / 2 == link) ≡ here
     → IsKept (link_sizes setup.topology link)
-        (put_if here (LinkEntry.landed (toward d)
-        (landing_mask (link_sizes setup.topology link) (toward d)
-        (link_entries setup.topology link past) flit) flit outcome)
-        (link_entries setup.topology link past))
+    (put_if here (LinkEntry.landed (toward d)
+    (landing_mask (link_sizes setup.topology link) (toward d)
+    (link_entries setup.topology link past) flit) flit outcome)
+    (link_entries setup.topology link past))
 landed-kept setup past d flit outcome link right kept false at = kept.links link
 landed-kept setup past d flit outcome link right kept true at =
     subst (λ (i : ℕ). IsKept (link_sizes setup.topology i)
-        (LinkEntry.landed (toward d) (landing_mask (link_sizes setup.topology i) (toward d)
-        (link_entries setup.topology i past) flit) flit outcome ∷ link_entries setup.topology i
-        past))
+    (LinkEntry.landed (toward d) (landing_mask (link_sizes setup.topology i) (toward d)
+    (link_entries setup.topology i past) flit) flit outcome ∷ link_entries setup.topology i
+    past))
     (eqb-true (d / 2) link at) (kept_landing setup d past flit outcome right kept)

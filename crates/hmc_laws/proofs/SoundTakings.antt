@@ -47,7 +47,7 @@ pub same_buffer : (topology : Topology) (d e : ℕ) (same : Bool) → Wired topo
     same_queue (landing_buffer topology e) (landing_buffer topology d) ≡ same
 same_buffer topology d e true wires d_less e_less is =
     ap (λ (n : ℕ). same_queue (landing_buffer topology n) (landing_buffer topology d))
-        (eqb-true e d is) ∙ same_queue_refl (landing_buffer topology d)
+    (eqb-true e d is) ∙ same_queue_refl (landing_buffer topology d)
 same_buffer topology d e false wires d_less e_less is =
     two (same_queue (landing_buffer topology e) (landing_buffer topology d)) refl
   where
@@ -71,7 +71,7 @@ unfolding takes
 takes_at topology d e place past at =
     ap (λ (o : Option ℕ). takes (toward d) (put_on (d / 2) o LinkEntry.taken past)) at
     ∙ takes_put (e / 2 == d / 2) (same_way (toward d) (toward e)) (toward d)
-        (LinkEntry.taken (toward e)) past refl
+    (LinkEntry.taken (toward e)) past refl
     ∙ ap (λ (b : Bool). count_if b (takes (toward d) past)) (sym (same_direction d e))
 
 takes_same : (topology : Topology) (d : ℕ) (entry : Entry) (past : List Entry) → IsNoLanding entry →
@@ -80,12 +80,12 @@ takes_same : (topology : Topology) (d : ℕ) (entry : Entry) (past : List Entry)
 unfolding link_entries takes
 takes_same topology d (Gave host tag poisoned request) past landing quiet =
     put_on-same (takes (toward d)) (d / 2) (direction_from topology (ends.Host host))
-        (λ way. LinkEntry.handed way (request_packet request (tag_number tag) host poisoned))
-        (entries_on topology d past) (λ e. refl)
+    (λ way. LinkEntry.handed way (request_packet request (tag_number tag) host poisoned))
+    (entries_on topology d past) (λ e. refl)
 takes_same topology d (Lifted cube from port) past landing quiet =
     put_on-same (takes (toward d)) (d / 2) (direction_from topology (ends.Port cube port))
-        (λ way. LinkEntry.handed way (front_of (contents topology past (Answers cube from))))
-        (entries_on topology d past) (λ e. refl)
+    (λ way. LinkEntry.handed way (front_of (contents topology past (Answers cube from))))
+    (entries_on topology d past) (λ e. refl)
 takes_same topology d (Sent direction as_what flit) past landing quiet =
     put_on-same (takes (toward d)) (d / 2) (Some direction)
     (λ way. LinkEntry.sent way (feed_in topology (d / 2) direction past way) as_what flit)
@@ -152,9 +152,9 @@ pub taken-from : (setup : Setup) (entry : Entry) (past : List Entry) (place : En
     (packet : PacketFields) (d : ℕ) → d < directions_in setup.topology → Wired setup.topology →
     IsNoLanding entry → leaves past entry ≡ Some (buffer_at place)
     → ((i : ℕ) → takes (toward d) (link_entries setup.topology (d / 2) (entry ∷ past))
-        ≡ takes (toward d) (taken_at setup.topology (d / 2) place
-        (entries_on setup.topology d past))) → Kept setup past →
-        HasFront setup past (buffer_at place) → IsAtEnd setup.topology place packet
+    ≡ takes (toward d) (taken_at setup.topology (d / 2) place
+    (entries_on setup.topology d past))) → Kept setup past →
+    HasFront setup past (buffer_at place) → IsAtEnd setup.topology place packet
     → EndKept setup.topology (entry ∷ past) d
 taken-from setup entry past place packet d less wires landing goes taking kept at came =
     let t = setup.topology in
@@ -165,23 +165,23 @@ taken-from setup entry past place packet d less wires landing goes taking kept a
     let tokens = ap (filter is_token) (accepted-same t d entry past landing) in
     let here : is_at (leaves past entry) room ≡ (e == d) =
     ap (λ (q : Option QueueId). is_at q room) goes
-        ∙ ap (λ (p : End). same_queue (buffer_at p) room) (sym came.ends)
-        ∙ same_buffer t d e (e == d) wires less came.inside refl in
+    ∙ ap (λ (p : End). same_queue (buffer_at p) room) (sym came.ends)
+    ∙ same_buffer t d e (e == d) wires less came.inside refl in
     let took : takes (toward d) (entries_on t d (entry ∷ past))
-        ≡ count_if (e == d) (takes (toward d) (entries_on t d past)) =
+    ≡ count_if (e == d) (takes (toward d) (entries_on t d past)) =
     taking 0 ∙ takes_at t d e place (entries_on t d past)
-        (ap (direction_to t) (sym came.ends) ∙ ends_there t wires e came.inside) in record {
+    (ap (direction_to t) (sym came.ends) ∙ ends_there t wires e came.inside) in record {
       buffer = contents_by t entry past room entered_now
           ∙ ap (λ (b : Bool). drop (one_if b + left past room) (entered t past room)) here
           ∙ drop_both (e == d) (left past room) (takes (toward d) (entries_on t d past))
-              (entered t past room) (filter is_token (accepted t d past))
-              (sym (contents_is t past room) ∙ k.buffer)
+          (entered t past room) (filter is_token (accepted t d past))
+          (sym (contents_is t past room) ∙ k.buffer)
           ∙ sym (ap₂ (λ (n : ℕ) (l : List PacketFields). drop n l) took tokens);
       inside =
           (let many = ap length tokens in
           let bound =
-              count_inside (e == d) (takes (toward d) (entries_on t d past))
-              (length (filter is_token (accepted t d past))) k.inside
+          count_inside (e == d) (takes (toward d) (entries_on t d past))
+          (length (filter is_token (accepted t d past))) k.inside
           (λ one. front_within (eqb-true e d one)) in omega arith);
       host = λ host ends. entered_now ∙ k.host host ends ∙ sym tokens;
     }
@@ -190,8 +190,8 @@ taken-from setup entry past place packet d less wires landing goes taking kept a
         (filter is_token (accepted setup.topology d past))
     front_within one =
         let front : HasFront setup past (landing_buffer setup.topology d) =
-            subst (λ (p : End). HasFront setup past (buffer_at p))
-            (sym (ap (end_of setup.topology) (sym one) ∙ came.ends)) at in
+        subst (λ (p : End). HasFront setup past (buffer_at p))
+        (sym (ap (end_of setup.topology) (sym one) ∙ came.ends)) at in
         more_than (takes (toward d) (entries_on setup.topology d past))
-            (filter is_token (accepted setup.topology d past)) front.front front.rest
-            (sym (kept.ends d less).buffer ∙ front.is)
+        (filter is_token (accepted setup.topology d past)) front.front front.rest
+        (sym (kept.ends d less).buffer ∙ front.is)

@@ -4,7 +4,7 @@ use Rattle.hmc_journal.proofs.EntryRule.{goal_by}
 use Rattle.std.proofs.lemmas.List.{drop_at}
 use Rattle.std.proofs.lemmas.List.Elements.{All-drop, All-same}
 use Rattle.std.proofs.lemmas.Option.{slice_get_within, get_or_from_slice_get}
-use Rattle.hmc_codes.specs.Commands.{layout_of, family_of, family_of_layout, is_ask, is_flow}
+use Rattle.hmc_codes.specs.Commands.{layout_of, family_of, is_ask, is_flow}
 use Rattle.hmc_codes.specs.Request.{RequestFields, IsRequest}
 use Rattle.hmc_codes.specs.Shape.{bank_of}
 use Rattle.hmc_codes.specs.declared.answer.Answer.{Answer}
@@ -15,8 +15,6 @@ use Rattle.hmc_codes.specs.Graph.{GraphFields}
 use Rattle.hmc_codes.specs.declared.family.Family.{Family}
 use Rattle.hmc_codes.specs.declared.family.Family.TheVariants as families
 use Rattle.hmc_routes.specs.WellFormed.{is_host_of}
-use Rattle.hmc_codes.specs.declared.layout.Layout.{Layout}
-use Rattle.hmc_codes.specs.declared.layout.Layout.TheVariants as layouts
 use Rattle.hmc_packet.specs.Packet.{PacketFields, IsPacket}
 use Rattle.hmc_codes.specs.Answer.{CanReply, IsAnswer}
 use Rattle.hmc_packet.specs.Transactions.{request_packet, reply_packet, request_in, answer_by, answer_in, payload_of}

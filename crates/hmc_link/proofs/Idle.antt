@@ -3,7 +3,7 @@ use Rattle.std.proofs.Common.{◌≡◌, ◌∙◌, ◌-◌, ℕ, Bool, true, fa
 use Rattle.std.specs.Prelude.{slice_get}
 use Rattle.hmc_ends.specs.End.{EndFields}
 use Rattle.hmc_link.specs.Held.{LinkHeld}
-use Rattle.hmc_ends.specs.Landings.{has_passed, lands_none, removed}
+use Rattle.hmc_ends.specs.Landings.{landing_passed, lands_none, removed}
 use Rattle.hmc_ends.specs.declared.link_landed.LinkLanded.{LinkLanded}
 use Rattle.hmc_ends.specs.declared.link_landed.LinkLanded.TheVariants as links
 
@@ -16,7 +16,7 @@ pub line-kept : (e after : EndFields) → None ≡ slice_get e.line 0 → after 
 line-kept e after none is = is ∙ ap (λ (line : List (List ℕ)). record e { line = line }) (none-dropped e.line none)
 
 -- where no flit was there, a landing leaves the link as it was
-pub landing-kept : (h : LinkHeld) (a b : EndFields) (passed : Bool) (n : ℕ) (landed : LinkLanded) → lands_none landed ≡ true → h.going ≡ true → a ≡ h.a → b ≡ h.b → passed ≡ has_passed landed → n ≡ h.forth - length (removed landed)
+pub landing-kept : (h : LinkHeld) (a b : EndFields) (passed : Bool) (n : ℕ) (landed : LinkLanded) → lands_none landed ≡ true → h.going ≡ true → a ≡ h.a → b ≡ h.b → passed ≡ landing_passed landed → n ≡ h.forth - length (removed landed)
     → record h { a = a; b = b; going = not passed; forth = n } ≡ h
 landing-kept h a b passed n links.Empty is going a_is b_is passed_is n_is =
     let same : n ≡ h.forth = omega (arith, n_is) in
@@ -24,7 +24,7 @@ landing-kept h a b passed n links.Empty is going a_is b_is passed_is n_is =
 landing-kept h a b passed n (links.Passed flit) is going a_is b_is passed_is n_is = absurd (cc)
 landing-kept h a b passed n (links.Came flit landed) is going a_is b_is passed_is n_is = absurd (cc)
 
-pub landing-kept-back : (h : LinkHeld) (a b : EndFields) (passed : Bool) (n : ℕ) (landed : LinkLanded) → lands_none landed ≡ true → h.going ≡ true → a ≡ h.a → b ≡ h.b → passed ≡ has_passed landed → n ≡ h.back - length (removed landed)
+pub landing-kept-back : (h : LinkHeld) (a b : EndFields) (passed : Bool) (n : ℕ) (landed : LinkLanded) → lands_none landed ≡ true → h.going ≡ true → a ≡ h.a → b ≡ h.b → passed ≡ landing_passed landed → n ≡ h.back - length (removed landed)
     → record h { a = a; b = b; going = not passed; back = n } ≡ h
 landing-kept-back h a b passed n links.Empty is going a_is b_is passed_is n_is =
     let same : n ≡ h.back = omega (arith, n_is) in

@@ -18,7 +18,7 @@ use Rattle.hmc_ends.specs.declared.link_landed.LinkLanded.TheVariants as links
 use Rattle.hmc_ends.specs.Answers.{after_call}
 use Rattle.hmc_ends.specs.End.{EndFields}
 use Rattle.hmc_link.specs.Held.{LinkHeld}
-use Rattle.hmc_ends.specs.Landings.{landed_in, link_landed, came, has_passed, is_out_of_order}
+use Rattle.hmc_ends.specs.Landings.{landing_in, link_landed, came, landing_passed, is_out_of_order}
 use Rattle.hmc_ends.specs.StandsFor.{EndsStandFor, AreEnds}
 use Rattle.hmc_link.specs.StandsFor.{IsLink}
 use Rattle.hmc_ends.proofs.Steps.{Steps}
@@ -40,7 +40,7 @@ by-outcome flit (AbortedBad bad) p never = refl
 by-outcome flit (Ran kind) p never = refl
 
 by-pass : (link : LinkFields) (d : Toward) (past : List LinkEntry) (mask : List ℕ) (front : StampedFlit) (b : Bool) → IsKept link past → slice_get (line link.profile d past) 0 ≡ Some front → passes link.profile d past mask (under_mask mask front.flit) ≡ b →
-    is_out_of_order (came b (under_mask mask front.flit) (landed_in link d past (under_mask mask front.flit))) ≡ false
+    is_out_of_order (came b (under_mask mask front.flit) (landing_in link d past (under_mask mask front.flit))) ≡ false
 by-pass link d past mask front true kept is passed = refl
 by-pass link d past mask front false kept is passed =
     let flit = under_mask mask front.flit in
@@ -57,7 +57,7 @@ ordered link d past mask x kept is = ap is_out_of_order is ∙ by-front link d p
 
 -- ---- the link stands for it
 
-pub land-steps : (d : Toward) (mask : List ℕ) (x : LinkLanded) (s l s' l' : EndFields) → ((link : LinkFields) (d : Toward) (past : List LinkEntry) → EndsStandFor link d s l past → has_passed x ≡ false → EndsStandFor link d s' l' (after_call link past (LinkCall.land d mask))) → has_passed x ≡ false → Steps d (LinkCall.land d mask) s l s' l'
+pub land-steps : (d : Toward) (mask : List ℕ) (x : LinkLanded) (s l s' l' : EndFields) → ((link : LinkFields) (d : Toward) (past : List LinkEntry) → EndsStandFor link d s l past → landing_passed x ≡ false → EndsStandFor link d s' l' (after_call link past (LinkCall.land d mask))) → landing_passed x ≡ false → Steps d (LinkCall.land d mask) s l s' l'
 land-steps d mask x s l s' l' crosses caught = record { after = λ link past both. crosses link d past both caught }
 
 pub ends-forth : (h : LinkHeld) → IsLink h → h.going ≡ true → AreEnds h.a h.b

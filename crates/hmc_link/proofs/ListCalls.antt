@@ -14,7 +14,7 @@ use Rattle.hmc_ends.specs.declared.link_landed.LinkLanded.{LinkLanded}
 use Rattle.hmc_ends.specs.Answers.{after_call}
 use Rattle.hmc_ends.specs.End.{EndFields, is_ready}
 use Rattle.hmc_link.specs.Held.{LinkHeld, sending_end}
-use Rattle.hmc_ends.specs.Landings.{link_landed, came, has_passed, landed_in, entry_landed, removed}
+use Rattle.hmc_ends.specs.Landings.{link_landed, came, landing_passed, landing_in, entry_landed, removed}
 use Rattle.hmc_ends.specs.List.{handed_list, listed_packet, listed_open}
 use Rattle.hmc_ends.specs.StandsFor.{EndsStandFor}
 use Rattle.hmc_ends.proofs.Calls.{next-handed}
@@ -47,21 +47,21 @@ abbrev Gives : LinkFields → Toward → (past after : List LinkEntry) → LinkL
 Gives link d past after x = handed_list link d past ≡ map listed_packet (removed x) ++ handed_list link d after
 
 by-pass : (link : LinkFields) (d : Toward) (past : List LinkEntry) (mask : List ℕ) (front : StampedFlit) (x : LinkLanded) (b : Bool) → slice_get (line link.profile d past) 0 ≡ Some front → passes link.profile d past mask (under_mask mask front.flit) ≡ b →
-    x ≡ came b (under_mask mask front.flit) (landed_in link d past (under_mask mask front.flit)) → has_passed x ≡ false → IsKept link (after_call link past (LinkCall.land d mask)) → Gives link d past (after_call link past (LinkCall.land d mask)) x
-by-pass link d past mask front x true is passed x_is caught kept = absurd (let clash : true ≡ false = sym (ap has_passed x_is) ∙ caught in cc)
+    x ≡ came b (under_mask mask front.flit) (landing_in link d past (under_mask mask front.flit)) → landing_passed x ≡ false → IsKept link (after_call link past (LinkCall.land d mask)) → Gives link d past (after_call link past (LinkCall.land d mask)) x
+by-pass link d past mask front x true is passed x_is caught kept = absurd (let clash : true ≡ false = sym (ap landing_passed x_is) ∙ caught in cc)
 by-pass link d past mask front x false is passed x_is caught kept =
     let flit = under_mask mask front.flit in
     let e : after_call link past (LinkCall.land d mask) ≡ entry_landed link d past mask flit ∷ past = ap (with_entry past) (next-landed link d past mask flit front is refl passed) in
     list-gives link d mask flit past (subst (IsKept link) e kept) ∙ (λ i. map listed_packet (removed (sym x_is i)) ++ handed_list link d (sym e i))
 
-by-front : (link : LinkFields) (d : Toward) (past : List LinkEntry) (mask : List ℕ) (front : Option StampedFlit) (x : LinkLanded) → slice_get (line link.profile d past) 0 ≡ front → x ≡ link_landed link d past mask front → has_passed x ≡ false →
+by-front : (link : LinkFields) (d : Toward) (past : List LinkEntry) (mask : List ℕ) (front : Option StampedFlit) (x : LinkLanded) → slice_get (line link.profile d past) 0 ≡ front → x ≡ link_landed link d past mask front → landing_passed x ≡ false →
     IsKept link (after_call link past (LinkCall.land d mask)) → Gives link d past (after_call link past (LinkCall.land d mask)) x
 by-front link d past mask None x is x_is caught kept =
     let e : after_call link past (LinkCall.land d mask) ≡ past = ap (with_entry past) (next-empty link d past mask is) in
     λ i. map listed_packet (removed (sym x_is i)) ++ handed_list link d (sym e i)
 by-front link d past mask (Some front) x is x_is caught kept = by-pass link d past mask front x _ is refl x_is caught kept
 
-pub land-list : (d : Toward) (mask : List ℕ) (x : LinkLanded) (s l s' l' : EndFields) → Steps d (LinkCall.land d mask) s l s' l' → has_passed x ≡ false → (link : LinkFields) (past : List LinkEntry) → EndsStandFor link d s l past → x ≡ link_landed link d past mask (slice_get (line link.profile d past) 0) →
+pub land-list : (d : Toward) (mask : List ℕ) (x : LinkLanded) (s l s' l' : EndFields) → Steps d (LinkCall.land d mask) s l s' l' → landing_passed x ≡ false → (link : LinkFields) (past : List LinkEntry) → EndsStandFor link d s l past → x ≡ link_landed link d past mask (slice_get (line link.profile d past) 0) →
     Gives link d past (after_call link past (LinkCall.land d mask)) x
 land-list d mask x s l s' l' steps caught link past both is =
     let after = steps.after link past both in

@@ -31,7 +31,7 @@ use Rattle.hmc_ends.specs.declared.link_landed.LinkLanded.{LinkLanded}
 use Rattle.hmc_ends.specs.Answers.{after_call}
 use Rattle.hmc_ends.specs.End.{EndFields, own_view, is_ready}
 use Rattle.hmc_link.specs.Held.{LinkHeld, sending_end, listed_at}
-use Rattle.hmc_ends.specs.Landings.{link_landed, came, has_passed, landed_in, entry_landed, removed, stored}
+use Rattle.hmc_ends.specs.Landings.{link_landed, came, landing_passed, landing_in, entry_landed, removed, stored}
 use Rattle.hmc_ends.specs.List.{handed_list, listed_place, listed_packet, listed_open, place_sent, leaves}
 use Rattle.hmc_ends.specs.Parts.{parts_of}
 use Rattle.hmc_ends.specs.StandsFor.{EndStandsFor}
@@ -140,10 +140,10 @@ numbers-through d head flits h h' next more rest =
 -- ---- a landing
 
 landed-number : (link : LinkFields) (d : Toward) (mask flit : List ℕ) (past : List LinkEntry) → IsKept link (entry_landed link d past mask flit ∷ past) →
-    number link d (entry_landed link d past mask flit ∷ past) ≡ number link d past - length (stored (landed_in link d past flit))
+    number link d (entry_landed link d past mask flit ∷ past) ≡ number link d past - length (stored (landing_in link d past flit))
 landed-number link d mask flit past kept =
     let after = handed_list link d (entry_landed link d past mask flit ∷ past) in
-    let gives = stored (landed_in link d past flit) in
+    let gives = stored (landing_in link d past flit) in
     let e : number link d past ≡ length gives + length after =
     ap (λ (l : List Place). length l) (list-gives link d mask flit past kept) ∙ length-append (map listed_packet gives) after ∙ ap (λ (n : ℕ). n + length after) (length-map listed_packet gives) in
     less (length gives) (length after) (number link d past) e
@@ -161,8 +161,8 @@ record Fewer (link : LinkFields) (d : Toward) (past after : List LinkEntry) (x :
   there : number link (other d) after ≡ number link (other d) past
 
 by-pass : (link : LinkFields) (d : Toward) (past : List LinkEntry) (mask : List ℕ) (front : StampedFlit) (x : LinkLanded) (b : Bool) → slice_get (line link.profile d past) 0 ≡ Some front → passes link.profile d past mask (under_mask mask front.flit) ≡ b →
-    x ≡ came b (under_mask mask front.flit) (landed_in link d past (under_mask mask front.flit)) → has_passed x ≡ false → IsKept link (after_call link past (LinkCall.land d mask)) → Fewer link d past (after_call link past (LinkCall.land d mask)) x
-by-pass link d past mask front x true is passed x_is caught kept = absurd (let clash : true ≡ false = sym (ap has_passed x_is) ∙ caught in cc)
+    x ≡ came b (under_mask mask front.flit) (landing_in link d past (under_mask mask front.flit)) → landing_passed x ≡ false → IsKept link (after_call link past (LinkCall.land d mask)) → Fewer link d past (after_call link past (LinkCall.land d mask)) x
+by-pass link d past mask front x true is passed x_is caught kept = absurd (let clash : true ≡ false = sym (ap landing_passed x_is) ∙ caught in cc)
 by-pass link d past mask front x false is passed x_is caught kept =
     let flit = under_mask mask front.flit in
     let e : after_call link past (LinkCall.land d mask) ≡ entry_landed link d past mask flit ∷ past = ap (with_entry past) (next-landed link d past mask flit front is refl passed) in
@@ -173,7 +173,7 @@ by-pass link d past mask front x false is passed x_is caught kept =
     }
 
 by-front : (link : LinkFields) (d : Toward) (past : List LinkEntry) (mask : List ℕ) (front : Option StampedFlit) (x : LinkLanded) → slice_get (line link.profile d past) 0 ≡ front →
-    x ≡ link_landed link d past mask front → has_passed x ≡ false → IsKept link (after_call link past (LinkCall.land d mask)) → Fewer link d past (after_call link past (LinkCall.land d mask)) x
+    x ≡ link_landed link d past mask front → landing_passed x ≡ false → IsKept link (after_call link past (LinkCall.land d mask)) → Fewer link d past (after_call link past (LinkCall.land d mask)) x
 by-front link d past mask None x is x_is caught kept =
     let e : after_call link past (LinkCall.land d mask) ≡ past = ap (with_entry past) (next-empty link d past mask is) in
     record {
@@ -182,7 +182,7 @@ by-front link d past mask None x is x_is caught kept =
     }
 by-front link d past mask (Some front) x is x_is caught kept = by-pass link d past mask front x _ is refl x_is caught kept
 
-pub numbers-landed : (d : Toward) (mask : List ℕ) (x : LinkLanded) (h h' : LinkHeld) → ((link : LinkFields) (past : List LinkEntry) → LinkStandsFor link h past → x ≡ link_landed link d past mask (slice_get (line link.profile d past) 0)) → has_passed x ≡ false →
+pub numbers-landed : (d : Toward) (mask : List ℕ) (x : LinkLanded) (h h' : LinkHeld) → ((link : LinkFields) (past : List LinkEntry) → LinkStandsFor link h past → x ≡ link_landed link d past mask (slice_get (line link.profile d past) 0)) → landing_passed x ≡ false →
     listed_at d h' ≡ listed_at d h - length (removed x) → listed_at (other d) h' ≡ listed_at (other d) h → Numbers (LinkCall.land d mask) h h'
 numbers-landed Forth mask x h h' answers caught here there = record {
   after = λ link past s kept.

@@ -7,7 +7,7 @@ ghost use Rattle.hmc_send.specs.LinkEntries.{LinkEntry};
 ghost use Rattle.hmc_send.specs.LinkLines.{line};
 ghost use Rattle.hmc_send.specs.declared.toward.Toward.{Toward};
 ghost use Rattle.hmc_ends.specs.Answers.{after_call};
-ghost use Rattle.hmc_ends.specs.Landings.{link_landed, has_passed, lands_none, removed, stored, IsUntouched};
+ghost use Rattle.hmc_ends.specs.Landings.{link_landed, landing_passed, lands_none, removed, stored, IsUntouched};
 ghost use Rattle.hmc_ends.specs.StandsFor.{EndsStandFor, AreEnds};
 
 use crate::arrival::{arriving, is_token};
@@ -19,7 +19,7 @@ use hmc_tokens::Intake;
 
 /// Whether a change passed.
 pub fn has_passed(landed: &LinkLanded) -> bool
-    ensures { result ≡ has_passed landed.now }
+    ensures { result ≡ landing_passed landed.now }
 {
     matches!(landed, LinkLanded::Passed(_))
 }
@@ -53,10 +53,10 @@ pub fn cross<S: Intake, L: Intake>(from: &mut End<S>, to: &mut End<L>, mask: &Fl
         EndsStandFor link d from.old to.old past → result
         ≡ link_landed link d past mask.now (slice_get (line link.profile d past) 0) }
     ensures stands { (link : LinkFields) (d : Toward) (past : List LinkEntry) →
-        EndsStandFor link d from.old to.old past → has_passed result ≡ false →
+        EndsStandFor link d from.old to.old past → landing_passed result ≡ false →
         EndsStandFor link d from.new to.new (after_call link past (LinkCall.land d mask.now)) }
-    ensures from_untouched { has_passed result ≡ true → IsUntouched from.old from.new }
-    ensures to_untouched { has_passed result ≡ true → IsUntouched to.old to.new }
+    ensures from_untouched { landing_passed result ≡ true → IsUntouched from.old from.new }
+    ensures to_untouched { landing_passed result ≡ true → IsUntouched to.old to.new }
     ensures from_idle { lands_none result ≡ true → from.new ≡ from.old }
     ensures to_idle { lands_none result ≡ true → to.new ≡ to.old }
 {

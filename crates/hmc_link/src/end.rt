@@ -90,7 +90,7 @@ impl<I: Intake> End<I> {
     ghost use Rattle.hmc_send.specs.LinkSenders.{run_entries};
     ghost use Rattle.hmc_send.specs.LinkTokens.{tokens_credited};
     ghost use Rattle.hmc_send.specs.StandsFor.{StandsFor};
-    ghost use Rattle.hmc_ends.specs.Landings.{arrived, stored, noted, pending_changed, unless_passed, KeepsSizes, Lands, CanLand, CanTake, landed_in, entry_landed};
+    ghost use Rattle.hmc_ends.specs.Landings.{arrived_packets, stored, noted, pending_changed, landed_unless_passed, KeepsSizes, Lands, CanLand, CanTake, landing_in, entry_landed};
     ghost use Rattle.hmc_send.specs.LinkEntries.{LinkEntry, other};
     ghost use Rattle.hmc_wire.specs.Conditions.{IsFeed};
     ghost use Rattle.hmc_wire.specs.LinkLaws.{IsKept};
@@ -275,14 +275,14 @@ impl<I: Intake> End<I> {
 
     // Stores the packet that a landing accepted, if it did.
     fn store(&mut self, landed: &Landed)
-        requires held { self.old.account.held + tokens_credited (arrived landed.now)
+        requires held { self.old.account.held + tokens_credited (arrived_packets landed.now)
             ≤ most_tokens }
         requires room { sum_by flits_of self.old.buffer + flits_in (stored landed.now)
             ≤ self.old.setup.tokens }
         ensures { self.new ≡ record self.old {
           buffer = self.old.buffer ++ stored landed.now;
           account = record self.old.account {
-            held = self.old.account.held + tokens_credited (arrived landed.now);
+            held = self.old.account.held + tokens_credited (arrived_packets landed.now);
           };
         } }
     {
@@ -306,7 +306,7 @@ impl<I: Intake> End<I> {
           changed = pending_changed reception.outcome changed;
           buffer = self.old.buffer ++ stored result;
           account = record self.old.account {
-            held = self.old.account.held + tokens_credited (arrived result);
+            held = self.old.account.held + tokens_credited (arrived_packets result);
           };
         } }
     {
@@ -324,8 +324,8 @@ impl<I: Intake> End<I> {
         requires { CanLand flit.now changed self.old }
         ensures answer { (link : LinkFields) (d : Toward) (past : List LinkEntry)
             (mask : List ℕ) → Lands link d past mask flit.now changed self.old → result
-            ≡ unless_passed (passes link.profile (other d) past mask flit.now)
-            (landed_in link (other d) past flit.now) }
+            ≡ landed_unless_passed (passes link.profile (other d) past mask flit.now)
+            (landing_in link (other d) past flit.now) }
         ensures stands { (link : LinkFields) (d : Toward) (past : List LinkEntry)
             (mask : List ℕ) → Lands link d past mask flit.now changed self.old →
             passes link.profile (other d) past mask flit.now ≡ false →

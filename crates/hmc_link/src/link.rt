@@ -17,7 +17,7 @@ ghost use Rattle.hmc_send.specs.LinkSenders.{sender_entries, tokens};
 ghost use Rattle.hmc_link.specs.Held.{sending_end, landing_end};
 ghost use Rattle.hmc_ends.specs.End.{row_held, is_ready, flits_seen, IsQuiet};
 ghost use Rattle.hmc_ends.specs.Answers.{after_call, front_in, link_sent, sends_none};
-ghost use Rattle.hmc_ends.specs.Landings.{link_landed, has_passed, lands_none, is_out_of_order, removed, IsUntouched};
+ghost use Rattle.hmc_ends.specs.Landings.{link_landed, landing_passed, lands_none, is_out_of_order, removed, IsUntouched};
 ghost use Rattle.hmc_ends.specs.List.{handed_list, listed_packet, listed_open};
 ghost use Rattle.hmc_link.specs.StandsFor.{LinkStandsFor};
 
@@ -239,17 +239,17 @@ impl<A: Intake, B: Intake> Link<A, B> {
             ≡ link_landed link toward past mask
             (slice_get (line link.profile toward past) 0) }
         ensures stands { (link : LinkFields) (past : List LinkEntry) →
-            LinkStandsFor link self.old past → has_passed result ≡ false →
+            LinkStandsFor link self.old past → landing_passed result ≡ false →
             LinkStandsFor link self.new (after_call link past (LinkCall.land toward mask)) }
         ensures list { (link : LinkFields) (past : List LinkEntry) →
-            LinkStandsFor link self.old past → has_passed result ≡ false →
+            LinkStandsFor link self.old past → landing_passed result ≡ false →
             handed_list link toward past ≡ map listed_packet (removed result)
             ++ handed_list link toward (after_call link past (LinkCall.land toward mask)) }
         ensures idle { lands_none result ≡ true → self.new ≡ self.old }
-        ensures going { self.new.going ≡ not (has_passed result) }
+        ensures going { self.new.going ≡ not (landing_passed result) }
         ensures ordered { is_out_of_order result ≡ false }
-        ensures a_untouched { has_passed result ≡ true → IsUntouched self.old.a self.new.a }
-        ensures b_untouched { has_passed result ≡ true → IsUntouched self.old.b self.new.b }
+        ensures a_untouched { landing_passed result ≡ true → IsUntouched self.old.a self.new.a }
+        ensures b_untouched { landing_passed result ≡ true → IsUntouched self.old.b self.new.b }
     {
         match toward {
             Toward::Forth => {

@@ -6,7 +6,7 @@ ghost use Rattle.hmc_codes.specs.Limits.{most_links};
 ghost use Rattle.hmc_case.specs.declared.setup.LinkRow.{LinkRow};
 ghost use Rattle.hmc_journal.specs.Links.{toward};
 ghost use Rattle.hmc_ends.specs.Answers.{link_sent, sends_none};
-ghost use Rattle.hmc_ends.specs.Landings.{link_landed, has_passed, lands_none};
+ghost use Rattle.hmc_ends.specs.Landings.{link_landed, landing_passed, lands_none};
 ghost use Rattle.hmc_link.specs.StandsFor.{LinkStandsFor};
 ghost use Rattle.hmc_packet.specs.Head.{head_in};
 ghost use Rattle.hmc_send.specs.Choice.{choice};
@@ -144,7 +144,7 @@ impl LinkList {
             (slice_get (line (sizes_by rows direction).profile (toward direction)
             (entries (direction / 2))) 0) }
         ensures stand { (rows : List LinkRow) (entries : ℕ → List LinkEntry) →
-            LinksStandFor rows self.old entries → has_passed result ≡ false →
+            LinksStandFor rows self.old entries → landing_passed result ≡ false →
             LinksStandFor rows self.new
             (called rows direction (λ d. LinkCall.land d mask.now) entries) }
         ensures idle { lands_none result ≡ true → self.new ≡ self.old }

@@ -13,7 +13,7 @@ use Rattle.hmc_packet.specs.Reading.{is_null, read_of}
 use Rattle.hmc_packet.specs.Receptions.{LandingView, landing_view, reception_by, reception_of, mode_reception, good_reception, flits_reception, read_reception, unchecked, checked, lng_with, is_no_length}
 use Rattle.hmc_packet.specs.declared.bad.Bad.TheVariants as bads
 use Rattle.hmc_packet.specs.declared.reception.Reception.{Reception}
-use Rattle.hmc_ends.specs.Landings.{link_landed, landed_in, came, has_passed}
+use Rattle.hmc_ends.specs.Landings.{link_landed, landing_in, came, landing_passed}
 use Rattle.hmc_ends.specs.declared.link_landed.LinkLanded.{LinkLanded}
 use Rattle.hmc_ends.specs.declared.link_landed.LinkLanded.TheVariants as lands
 use Rattle.hmc_send.specs.LinkCalls.{LinkCall, holds_packet}
@@ -77,11 +77,11 @@ pub came_outcome : (link : LinkFields) (d : Toward) (past : List LinkEntry) (mas
 came_outcome link d past mask None flit landed is = absurd (cc)
 came_outcome link d past mask (Some front) flit landed is = by_passed (passes link.profile d past mask (under_mask mask front.flit)) is
   where
-    by_passed : (passed : Bool) → lands.Came flit landed ≡ came passed (under_mask mask front.flit) (landed_in link d past (under_mask mask front.flit)) → outcome_of landed ≡ (reception_of link.profile (receiver_entries d past) flit).outcome
+    by_passed : (passed : Bool) → lands.Came flit landed ≡ came passed (under_mask mask front.flit) (landing_in link d past (under_mask mask front.flit)) → outcome_of landed ≡ (reception_of link.profile (receiver_entries d past) flit).outcome
     by_passed true same = absurd (cc)
     by_passed false same =
         let flits : flit ≡ under_mask mask front.flit = cc in
-        let lands_same : landed ≡ landed_in link d past (under_mask mask front.flit) = cc in
+        let lands_same : landed ≡ landing_in link d past (under_mask mask front.flit) = cc in
         ap outcome_of lands_same ∙ outcome_is link d past (under_mask mask front.flit) ∙ ap (λ (f : List ℕ). (reception_of link.profile (receiver_entries d past) f).outcome) (sym flits)
 
 pub holds_landed : (net : NetState) (view : StepView) (direction : ℕ) (mask : List ℕ) (landed : LinkLanded) → IsLandingIn net.topology direction (length mask) → Sees net view
@@ -171,7 +171,7 @@ is_last net direction mask (lands.Came flit landed) ready there is = λ onto p a
 pub may_forward_landed : (net : NetState) (direction : ℕ) (mask : List ℕ) (landed : LinkLanded) (between : List LinkHeld) → IsReady net → direction < directions_in net.topology
     → ((rows : List LinkRow) (entries : ℕ → List LinkEntry) → LinksStandFor rows net.links entries → landed
     ≡ link_landed (sizes_by rows direction) (toward direction) (entries (direction / 2)) mask (slice_get (line (sizes_by rows direction).profile (toward direction) (entries (direction / 2))) 0))
-    → ((rows : List LinkRow) (entries : ℕ → List LinkEntry) → LinksStandFor rows net.links entries → has_passed landed ≡ false → LinksStandFor rows between (called rows direction (λ d. LinkCall.land d mask) entries))
+    → ((rows : List LinkRow) (entries : ℕ → List LinkEntry) → LinksStandFor rows net.links entries → landing_passed landed ≡ false → LinksStandFor rows between (called rows direction (λ d. LinkCall.land d mask) entries))
     → MayForward between net.piped direction landed
 may_forward_landed net direction mask lands.Empty between ready there answer stand = tt
 may_forward_landed net direction mask (lands.Passed flit) between ready there answer stand = tt

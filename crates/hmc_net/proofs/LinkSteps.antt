@@ -21,7 +21,7 @@ use Rattle.hmc_send.specs.declared.sent.Sent.TheVariants.{Out, Starved}
 use Rattle.hmc_send.specs.declared.toward.Toward.{Toward}
 use Rattle.hmc_ends.specs.Answers.{after_call, link_sent, sends_none}
 use Rattle.hmc_link.specs.Held.{LinkHeld}
-use Rattle.hmc_ends.specs.Landings.{link_landed, landed_in, came, has_passed, lands_none}
+use Rattle.hmc_ends.specs.Landings.{link_landed, landing_in, came, landing_passed, lands_none}
 use Rattle.hmc_ends.specs.declared.link_landed.LinkLanded.{LinkLanded}
 use Rattle.hmc_ends.specs.declared.link_landed.LinkLanded.TheVariants as lands
 use Rattle.hmc_ends.specs.declared.link_sent.LinkSent.{LinkSent}
@@ -174,7 +174,7 @@ outcome_with outcomes.AbortedOrder packet = refl
 outcome_with (outcomes.Ran kind) packet = refl
 
 -- the outcome is that of the definition
-pub outcome_is : (link : LinkFields) (d : Toward) (past : List LinkEntry) (flit : List ℕ) → outcome_of (landed_in link d past flit) ≡ (reception_of link.profile (receiver_entries d past) flit).outcome
+pub outcome_is : (link : LinkFields) (d : Toward) (past : List LinkEntry) (flit : List ℕ) → outcome_of (landing_in link d past flit) ≡ (reception_of link.profile (receiver_entries d past) flit).outcome
 outcome_is link d past flit = outcome_with (reception_of link.profile (receiver_entries d past) flit).outcome _
 
 landed_same : (direction : ℕ) (link : LinkFields) (d : Toward) (past : List LinkEntry) (mask : List ℕ) (front : Option StampedFlit) → d ≡ toward direction
@@ -184,11 +184,11 @@ landed_same direction link d past mask (Some front) way =
     came_same (passes link.profile d past mask (under_mask mask front.flit)) (under_mask mask front.flit) refl
     ∙ ap (λ w. journals.landed_entry direction (passes link.profile w past mask (under_mask mask front.flit)) (under_mask mask front.flit) (reception_of link.profile (receiver_entries w past) (under_mask mask front.flit)).outcome) way
   where
-    came_same : (passed : Bool) (flit : List ℕ) → flit ≡ under_mask mask front.flit → landed_by direction (came passed flit (landed_in link d past flit)) ≡ journals.landed_entry direction passed flit (reception_of link.profile (receiver_entries d past) flit).outcome
+    came_same : (passed : Bool) (flit : List ℕ) → flit ≡ under_mask mask front.flit → landed_by direction (came passed flit (landing_in link d past flit)) ≡ journals.landed_entry direction passed flit (reception_of link.profile (receiver_entries d past) flit).outcome
     came_same true flit is = refl
     came_same false flit is = ap (Landed direction flit) (outcome_is link d past flit)
 
-passed_same : (direction : ℕ) (landed : LinkLanded) → is_passed (landed_by direction landed) ≡ has_passed landed
+passed_same : (direction : ℕ) (landed : LinkLanded) → is_passed (landed_by direction landed) ≡ landing_passed landed
 passed_same direction lands.Empty = refl
 passed_same direction (lands.Passed flit) = refl
 passed_same direction (lands.Came flit landed) = refl
@@ -202,7 +202,7 @@ landed_entries_of net view _ link = view.entries link
 -- a landing that does not pass
 landed_entries : (net : NetState) (view : StepView) (direction link : ℕ) (mask : List ℕ) (front : Option StampedFlit) → slice_get (line (sizes_by net.topology.links direction).profile (toward direction) (view.entries (direction / 2))) 0 ≡ front → length mask ≡ 16
     → ((f : StampedFlit) → front ≡ Some f → length f.flit ≡ 16)
-    → has_passed (link_landed (sizes_by net.topology.links direction) (toward direction) (view.entries (direction / 2)) mask front) ≡ false
+    → landing_passed (link_landed (sizes_by net.topology.links direction) (toward direction) (view.entries (direction / 2)) mask front) ≡ false
     → called net.topology.links direction (λ d. LinkCall.land d mask) view.entries link ≡ landed_entries_of net view (landed_by direction (link_landed (sizes_by net.topology.links direction) (toward direction) (view.entries (direction / 2)) mask front)) link
 unfolding next_entry
 landed_entries net view direction link mask None is long full on =
@@ -212,13 +212,13 @@ landed_entries net view direction link mask (Some front) is long full on =
     came_entries (passes (sizes_by net.topology.links direction).profile (toward direction) (view.entries (direction / 2)) mask (under_mask mask front.flit)) refl on
   where
     came_entries : (passed : Bool) → passes (sizes_by net.topology.links direction).profile (toward direction) (view.entries (direction / 2)) mask (under_mask mask front.flit) ≡ passed
-        → has_passed (came passed (under_mask mask front.flit) (landed_in (sizes_by net.topology.links direction) (toward direction) (view.entries (direction / 2)) (under_mask mask front.flit))) ≡ false
+        → landing_passed (came passed (under_mask mask front.flit) (landing_in (sizes_by net.topology.links direction) (toward direction) (view.entries (direction / 2)) (under_mask mask front.flit))) ≡ false
         → called net.topology.links direction (λ d. LinkCall.land d mask) view.entries link
-        ≡ landed_entries_of net view (landed_by direction (came passed (under_mask mask front.flit) (landed_in (sizes_by net.topology.links direction) (toward direction) (view.entries (direction / 2)) (under_mask mask front.flit)))) link
+        ≡ landed_entries_of net view (landed_by direction (came passed (under_mask mask front.flit) (landing_in (sizes_by net.topology.links direction) (toward direction) (view.entries (direction / 2)) (under_mask mask front.flit)))) link
     came_entries true passed on = absurd (cc)
     came_entries false passed on =
         called_puts net.topology.links direction link (λ d. LinkCall.land d mask)
-        (λ n d. LinkEntry.landed d (landing_mask (sizes_at net.topology.links n) d (view.entries n) (under_mask mask front.flit)) (under_mask mask front.flit) (outcome_of (landed_in (sizes_by net.topology.links direction) (toward direction) (view.entries (direction / 2)) (under_mask mask front.flit)))) view.entries
+        (λ n d. LinkEntry.landed d (landing_mask (sizes_at net.topology.links n) d (view.entries n) (under_mask mask front.flit)) (under_mask mask front.flit) (outcome_of (landing_in (sizes_by net.topology.links direction) (toward direction) (view.entries (direction / 2)) (under_mask mask front.flit)))) view.entries
         (ap (λ (f : Option StampedFlit). with_entry (view.entries (direction / 2)) (calls.landed_front (sizes_by net.topology.links direction) (toward direction) (view.entries (direction / 2)) mask f)) is
         ∙ ap (λ (p : Bool). with_entry (view.entries (direction / 2)) (calls.entry_if (not p) (LinkEntry.landed (toward direction) mask (under_mask mask front.flit) (reception_of (sizes_by net.topology.links direction).profile (receiver_entries (toward direction) (view.entries (direction / 2))) (under_mask mask front.flit)).outcome))) passed
         ∙ ap (λ (m : List ℕ). LinkEntry.landed (toward direction) m (under_mask mask front.flit) (reception_of (sizes_by net.topology.links direction).profile (receiver_entries (toward direction) (view.entries (direction / 2))) (under_mask mask front.flit)).outcome ∷ view.entries (direction / 2))
@@ -263,7 +263,7 @@ taken_calls rows direction link false entries holds = refl
 pub land_does : (net now : NetState) (direction : ℕ) (mask : List ℕ) (landed : LinkLanded) (between own : List LinkHeld) (piped : PipesHeld) → IsReady net → IsLandingIn net.topology direction (length mask)
     → ((rows : List LinkRow) (entries : ℕ → List LinkEntry) → LinksStandFor rows net.links entries → landed
     ≡ link_landed (sizes_by rows direction) (toward direction) (entries (direction / 2)) mask (slice_get (line (sizes_by rows direction).profile (toward direction) (entries (direction / 2))) 0))
-    → ((rows : List LinkRow) (entries : ℕ → List LinkEntry) → LinksStandFor rows net.links entries → has_passed landed ≡ false → LinksStandFor rows between (called rows direction (λ d. LinkCall.land d mask) entries))
+    → ((rows : List LinkRow) (entries : ℕ → List LinkEntry) → LinksStandFor rows net.links entries → landing_passed landed ≡ false → LinksStandFor rows between (called rows direction (λ d. LinkCall.land d mask) entries))
     → (lands_none landed ≡ true → between ≡ net.links)
     → ((rows : List LinkRow) (entries : ℕ → List LinkEntry) → LinksStandFor rows between entries → LinksStandFor rows own (taken_where (landing_goes_on net.piped direction landed) rows direction entries))
     → (landing_goes_on net.piped direction landed ≡ false → own ≡ between)
@@ -283,11 +283,11 @@ land_does net now direction mask landed between own piped ready there answer sta
       piped_are = λ view sees. piped_is ∙ landed_piped net view direction landed;
       links_are = λ view sees on.
           (let says = answer rows view.entries sees.shows.links in
-          let fine : has_passed landed ≡ false = sym (passed_same direction landed) ∙ on in
+          let fine : landing_passed landed ≡ false = sym (passed_same direction landed) ∙ on in
           let came : (link : ℕ) → called rows direction (λ d. LinkCall.land d mask) view.entries link ≡ landed_entries_of net view (landed_by direction landed) link = λ link.
           landed_entries net view direction link mask _ refl there.long
           (λ f at. (line-flit (sizes_by rows direction) (view.entries (direction / 2)) (toward direction) f (one_there rows net.links view.entries direction sees.shows.links there.some_direction).kept at).long)
-          (sym (ap has_passed says) ∙ fine)
+          (sym (ap landing_passed says) ∙ fine)
           ∙ ap (λ (l : LinkLanded). landed_entries_of net view (landed_by direction l) link) (sym says) in
           same_entries rows own (taken_where (landing_goes_on net.piped direction landed) rows direction (landed_entries_of net view (landed_by direction landed))) (entries_after net.topology view (landed_by direction landed))
           (take rows (landed_entries_of net view (landed_by direction landed)) (same_entries rows between (called rows direction (λ d. LinkCall.land d mask) view.entries) (landed_entries_of net view (landed_by direction landed)) (stand rows view.entries sees.shows.links fine) came))

@@ -25,7 +25,7 @@ use Rattle.hmc_crossbar.specs.declared.to.To.TheVariants as tos
 use Rattle.hmc_crossbar.specs.To.{into_cube, out_of_cube, request_to, unpoisoned_to, where_to, HasGoal, HasWay}
 use Rattle.hmc_cube.specs.Cube.{CubeFields}
 use Rattle.hmc_cube.specs.After.{after_enter, after_lift}
-use Rattle.hmc_cube.specs.Places.{IsHere, IsFor, IsLift, entrance, answers_at}
+use Rattle.hmc_cube.specs.Places.{IsHere, IsFor, HasLift, entrance, answers_at}
 use Rattle.hmc_cube.specs.Parts.{AreParts}
 use Rattle.hmc_link.specs.Held.{LinkHeld}
 use Rattle.hmc_send.specs.Given.{IsTaken}
@@ -356,7 +356,7 @@ shift_out_does net now cube port direction out onward front taken links ready is
 answers_seen : (net : NetState) (view : StepView) (cube : ℕ) (from : Lift) → Sees net view → answers_at (cube_in net.cubes cube) from ≡ view.inside (Answers cube from)
 answers_seen net view cube from sees = sees.shows.queues (Answers cube from) tt
 
-pub lift_here : (net : NetState) (cube : ℕ) (from : Lift) → IsSized net → IsLiftIn net.topology cube from → IsLift (cube_in net.cubes cube) from
+pub lift_here : (net : NetState) (cube : ℕ) (from : Lift) → IsSized net → IsLiftIn net.topology cube from → HasLift (cube_in net.cubes cube) from
 lift_here net cube (lifts.Vault vault) sized there = subst (λ (s : ShapeFields). vault < 2 ^ s.vault_bits) (sym (sized.fits cube (cube_inside net cube sized there.some_cube)).shape) there.some_lift
 lift_here net cube lifts.Registers sized there = tt
 
@@ -396,7 +396,7 @@ lift_kept : (x : CubeFields) (from : Lift) → ((after_lift from x).state.shape 
 lift_kept x (lifts.Vault vault) = (refl, refl)
 lift_kept x lifts.Registers = (refl, refl)
 
-lift_entry_in : (cubes : List CubeFields) (cube port : ℕ) (from : Lift) → cube < length cubes → AreParts (cube_in cubes cube) → IsLift (cube_in cubes cube) from → IsEntryIn cubes (entries.Lifted cube from port)
+lift_entry_in : (cubes : List CubeFields) (cube port : ℕ) (from : Lift) → cube < length cubes → AreParts (cube_in cubes cube) → HasLift (cube_in cubes cube) from → IsEntryIn cubes (entries.Lifted cube from port)
 lift_entry_in cubes cube port (lifts.Vault vault) there parts here = (there, subst (λ (n : ℕ). vault < n) (sym parts.vaults) here)
 lift_entry_in cubes cube port lifts.Registers there parts here = (there, tt)
 

@@ -21,7 +21,7 @@ use Rattle.hmc_journal.specs.Setup.{Topology, unit_cube, cubes_in, hosts_in, dir
 use Rattle.hmc_entries.specs.declared.entry.Entry.{Entry}
 use Rattle.hmc_entries.specs.declared.entry.Entry.TheVariants.{Gave, Sent, Landed, Shifted, Dropped, Executed, Lifted, Took, Discarded, Through, Unlocked, Passed}
 use Rattle.hmc_journal.proofs.Projections.{IsBlind, feed_in, goes_at, came_at, put_on-same, taken_if-same, forwarded_on-same, shifted-same, same_direction, IsNoLanding}
-use Rattle.hmc_tally.specs.Tally.{no_counters, no_host_steps, no_cube_counts, counts_as_accepted, is_repeat, is_abort, one_sent, one_landed, one_unlocked, one_given, one_taken, one_executed, one_dropped, directions_after, host_steps_after, cube_counts_after, tallied, host_steps, opening_tally, tally_of}
+use Rattle.hmc_tally.specs.Tally.{no_counters, no_host_steps, no_cube_counts, counts_as_accepted, is_repeat, is_abort, one_more_sent, one_landed, one_unlocked, one_given, one_taken, one_executed, one_dropped, directions_after, host_steps_after, cube_counts_after, tallied, host_steps, opening_tally, tally_of}
 use Rattle.hmc_tally.specs.declared.tally.HostSteps.{HostSteps}
 use Rattle.hmc_tally.proofs.Accepting.{IsCounted}
 use Rattle.hmc_tally.proofs.Rows.{rows_same, rows_changed, rows_opened}
@@ -127,7 +127,7 @@ counts_are : (s s' l l' c c' a a' r r' b b' : ℕ) → s ≡ s' → l ≡ l' →
     → ◌≡◌ {A = Counters} (record { sent = s; landed = l; changed = c; accepted = a; repeats = r; aborts = b }) (record { sent = s'; landed = l'; changed = c'; accepted = a'; repeats = r'; aborts = b' })
 counts_are s s' l l' c c' a a' r r' b b' hs hl hc ha hr hb = λ i. record { sent = hs i; landed = hl i; changed = hc i; accepted = ha i; repeats = hr i; aborts = hb i }
 
-sent_by : (here : Bool) (row : Counters) → ◌≡◌ {A = Counters} (record row { sent = count_if here row.sent }) (choose here (one_sent row) row)
+sent_by : (here : Bool) (row : Counters) → ◌≡◌ {A = Counters} (record row { sent = count_if here row.sent }) (choose here (one_more_sent row) row)
 sent_by true row = refl
 sent_by false row = refl
 
@@ -142,7 +142,7 @@ unlocked_by true was_good row = refl
 unlocked_by false was_good row = refl
 
 sent_row : (topology : Topology) (past : List Entry) (d k : ℕ) (entry : Entry) (flit : List ℕ) → sent_flits k (entry ∷ past) ≡ append_if (d == k) (flit ∷ []) (sent_flits k past) → landed_flits k (entry ∷ past) ≡ landed_flits k past → receiver_of k (entry ∷ past) ≡ receiver_of k past → IsNoLanding entry
-    → direction_counts topology (entry ∷ past) k ≡ choose (d == k) (one_sent (direction_counts topology past k)) (direction_counts topology past k)
+    → direction_counts topology (entry ∷ past) k ≡ choose (d == k) (one_more_sent (direction_counts topology past k)) (direction_counts topology past k)
 unfolding direction_counts accepted
 sent_row topology past d k entry flit sends lands receives none =
     counts_are _ _ _ _ _ _ _ _ _ _ _ _
@@ -212,7 +212,7 @@ directions_next : (topology : Topology) (past : List Entry) (entry : Entry) (cha
     → directions_after changed was_good (event_of entry) (map (direction_counts topology past) (upto n)) ≡ map (direction_counts topology (entry ∷ past)) (upto n)
 unfolding sent_flits landed_flits receiver_of
 directions_next topology past (Sent d what flit) changed was_good n on told =
-    rows_changed no_counters one_sent (direction_counts topology past) (direction_counts topology (Sent d what flit ∷ past)) n d (λ k. sent_row topology past d k (Sent d what flit) flit refl refl refl tt)
+    rows_changed no_counters one_more_sent (direction_counts topology past) (direction_counts topology (Sent d what flit ∷ past)) n d (λ k. sent_row topology past d k (Sent d what flit) flit refl refl refl tt)
 directions_next topology past (Landed d flit outcome) changed was_good n on told =
     rows_changed no_counters (one_landed changed outcome) (direction_counts topology past) (direction_counts topology (Landed d flit outcome ∷ past)) n d (λ k. landed_row topology past d k flit outcome changed was_good told)
 directions_next topology past (Unlocked d) changed was_good n on told =

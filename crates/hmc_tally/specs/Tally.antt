@@ -68,8 +68,8 @@ with_row none number changed rows =
 -- ---- one step more
 
 -- a flit was sent
-abbrev pub one_sent : Counters → Counters
-one_sent counts = record counts { sent = counts.sent + 1 }
+abbrev pub one_more_sent : Counters → Counters
+one_more_sent counts = record counts { sent = counts.sent + 1 }
 
 -- outcomes that are counted: of a packet that is accepted, poisoned or not, of one that was
 -- accepted before, and of an abort
@@ -118,7 +118,7 @@ one_dropped counts = record counts { dropped = counts.dropped + 1 }
 -- the counts of all directions, of all hosts and of all cubes with one step more
 abbrev pub directions_after : (changed was_good : Bool) → Event → List Counters → List Counters
 directions_after changed was_good (Sent direction) rows =
-    with_row no_counters direction one_sent rows
+    with_row no_counters direction one_more_sent rows
 directions_after changed was_good (Landed direction outcome) rows =
     with_row no_counters direction (one_landed changed outcome) rows
 directions_after changed was_good (Unlocked direction) rows =

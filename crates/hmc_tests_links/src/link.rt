@@ -6,7 +6,7 @@ mod retries;
 ghost use Rattle.std.specs.Prelude.{◌≡◌, true, Some, IfOk, IsSome, length};
 ghost use Rattle.hmc_codes.specs.declared.profile.Profile.{Profile};
 ghost use Rattle.hmc_send.specs.Given.{IsFrontFit};
-ghost use Rattle.hmc_ends.specs.Landings.{has_passed};
+ghost use Rattle.hmc_ends.specs.Landings.{landing_passed};
 
 use hmc_codes::{Command, Flit, LinkSetup, Memory, Payload, Profile, Request, TokenRow, ZERO_FLIT};
 use hmc_link::{Link, LinkLanded, LinkSent, Toward};
@@ -171,7 +171,7 @@ fn send(link: &mut Link<FlitBuffer, FlitBuffer>, toward: Toward) -> Option<LinkS
 }
 
 fn passed(landed: &LinkLanded) -> bool
-    ensures { result ≡ has_passed landed.now }
+    ensures { result ≡ landing_passed landed.now }
 {
     match landed {
         LinkLanded::Passed(_) => true,

@@ -6,7 +6,7 @@ use Rattle.hmc_packet.specs.Receptions.{reception_of}
 use Rattle.hmc_send.specs.LinkEntries.{other, receiver_entries}
 use Rattle.hmc_send.specs.LinkSenders.{sender_entries}
 use Rattle.hmc_ends.specs.End.{EndFields}
-use Rattle.hmc_ends.specs.Landings.{Lands, landed_in}
+use Rattle.hmc_ends.specs.Landings.{Lands, landing_in}
 use Rattle.hmc_ends.proofs.Landing.{passes-is, is-passed, not-passed, can-take, landed-is, land-stands}
 use Rattle.hmc_link.proofs.end.End.land.Goals as goal
 
@@ -14,7 +14,7 @@ pub returns-then-passes-clause-answer : goal.returns-then-passes-clause-answer
 returns-then-passes-clause-answer g c link d past mask l =
     let lands = subst (λ (e : EndFields). Lands link d past mask c.args.flit.now c.args.changed e) (sym c.self.view_is) l in
     let rec_is = c.receive-reception.ensures.gives link.profile (receiver_entries (other d) past) lands.stands.receiver in
-    is-passed _ (landed_in link (other d) past c.args.flit.now)
+    is-passed _ (landing_in link (other d) past c.args.flit.now)
     (passes-is link d past mask c.args.flit.now c.args.changed _ c.receive-reception.result c.either-changed.result c.passes.result lands rec_is c.either-changed.ensures c.passes.ensures ∙ c.if-passes.true)
 
 pub returns-then-passes-clause-stands : goal.returns-then-passes-clause-stands
@@ -39,7 +39,7 @@ returns-clause-answer g c link d past mask l =
     let received = receiver_entries (other d) past in
     let flit = c.args.flit.now in
     let rec_is = c.receive-reception.ensures.gives link.profile received lands.stands.receiver in
-    not-passed _ (landed_in link (other d) past flit) c.take_landing.result
+    not-passed _ (landing_in link (other d) past flit) c.take_landing.result
     (passes-is link d past mask flit c.args.changed _ c.receive-reception.result c.either-changed.result c.passes.result lands rec_is c.either-changed.ensures c.passes.ensures ∙ c.if-passes.false)
     (landed-is link d past flit c.receive-reception.result c.take_landing.result rec_is (c.take_landing.ensures.value link.profile (Land flit (reception_of link.profile received flit).outcome ∷ received) (c.receive-reception.ensures.stands link.profile received lands.stands.receiver)))
 

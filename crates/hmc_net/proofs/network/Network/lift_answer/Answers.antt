@@ -6,7 +6,7 @@ use Rattle.hmc_packet.specs.Packet.{PacketFields}
 use Rattle.hmc_cube.specs.Cube.{CubeFields}
 use Rattle.hmc_cube.specs.After.{after_lift}
 use Rattle.hmc_cube.specs.Parts.{AreParts}
-use Rattle.hmc_cube.specs.Places.{IsLift, answers_at}
+use Rattle.hmc_cube.specs.Places.{HasLift, answers_at}
 use Rattle.hmc_journal.specs.Routes.{port_towards}
 use Rattle.hmc_journal.specs.Setup.{hosts_in}
 use Rattle.hmc_links.specs.LinkList.{IsDirection, MayHand, LinksStandFor}
@@ -20,7 +20,7 @@ use Rattle.hmc_net.proofs.network.Network.lift_answer.Goals as goal
 pub lift_front-requires : goal.lift_front-requires
 lift_front-requires g c =
     let found = cube_found c.self.inside.cubes.items (net_of g.B.Workbench.slots c.args.self.now) c.from.result c.args.cube c.index.result.now (ap (λ (n : NetState). n.cubes) (ap (net_of g.B.Workbench.slots) c.self.view_is)) c.from.ensures c.index.ensures c.requires.ready.sized c.requires.there.some_cube in
-    subst (λ (x : CubeFields). IsLift x c.args.from) (sym found) (lift_here (net_of g.B.Workbench.slots c.args.self.now) c.args.cube c.args.from c.requires.ready.sized c.requires.there)
+    subst (λ (x : CubeFields). HasLift x c.args.from) (sym found) (lift_here (net_of g.B.Workbench.slots c.args.self.now) c.args.cube c.args.from c.requires.ready.sized c.requires.there)
 
 pub returns-in_default : goal.returns-in_default
 returns-in_default g c =
@@ -48,7 +48,7 @@ returns-in_default-room_through g c =
 pub lift-requires : goal.lift-requires
 lift-requires g c =
     let found = cube_found c.self.inside.cubes.items (net_of g.B.Workbench.slots c.args.self.now) c.from-2.result c.args.cube c.index_mut-owner.result.now (ap (λ (n : NetState). n.cubes) (ap (net_of g.B.Workbench.slots) c.self.view_is)) c.from-2.ensures c.index_mut-owner.ensures.value c.requires.ready.sized c.requires.there.some_cube in
-    subst (λ (x : CubeFields). IsLift x c.args.from) (sym found) (lift_here (net_of g.B.Workbench.slots c.args.self.now) c.args.cube c.args.from c.requires.ready.sized c.requires.there)
+    subst (λ (x : CubeFields). HasLift x c.args.from) (sym found) (lift_here (net_of g.B.Workbench.slots c.args.self.now) c.args.cube c.args.from c.requires.ready.sized c.requires.there)
 
 pub hand-requires-clause-there : goal.hand-requires-clause-there
 hand-requires-clause-there g c =
