@@ -3,6 +3,7 @@ use Rattle.std.proofs.Common.{◌≡◌, ◌∙◌, ◌≤◌, ◌+◌, ◌-◌,
 use Rattle.std.specs.Prelude.{slice_get, filter}
 use Rattle.std.proofs.lemmas.List.Sums.{sum_by-append}
 use Rattle.std.proofs.Math.Nat.{sub-add-eq}
+use Rattle.std.proofs.lemmas.List.Elements.{filter-append}
 use Rattle.hmc_codes.specs.Link.{LinkFields}
 use Rattle.hmc_packet.specs.declared.landed.Landed.{Landed}
 use Rattle.hmc_packet.specs.Landings.{accepted}
@@ -27,7 +28,7 @@ use Rattle.hmc_ends.specs.StandsFor.{EndStandsFor, EndsStandFor, flits_on}
 use Rattle.hmc_ends.proofs.Arrivals.{accepted-more}
 use Rattle.hmc_ends.proofs.Steps.{both-more, both-same}
 use Rattle.hmc_ends.proofs.LandStands.{kept-landed, next-landed}
-use Rattle.hmc_ends.proofs.Lists.{drop-one_more, map-drop, filter-append, front-longer}
+use Rattle.hmc_ends.proofs.Lists.{drop-one_more, map-drop, front-longer}
 use Rattle.hmc_ends.proofs.PartLaws.{PartLaws, part_laws}
 use Rattle.hmc_ends.proofs.Projections.{landed-here}
 

@@ -1,8 +1,9 @@
 -- What is fed to a packet under way changes neither its length nor its tokens.
-use Rattle.std.proofs.Common.{◌≡◌, ◌∙◌, ◌+◌, ◌⊎◌, inl, inr, ℕ, Bool, true, false, List, [], ◌∷◌, ◌++◌, Option, Some, refl, sym, ap, subst, arith}
+use Rattle.std.proofs.Common.{◌≡◌, ◌∙◌, ◌+◌, ◌⊎◌, inl, inr, ℕ, Bool, true, false, List, [], ◌∷◌, ◌++◌, Option, Some, refl, sym, ap, subst, arith, append-nil}
 use Rattle.std.specs.Prelude.{filter, if◌then◌else◌}
 use Rattle.std.proofs.lemmas.List.Sums.{sum_by_push}
 use Rattle.std.proofs.lemmas.Option.{same_Some}
+use Rattle.std.proofs.lemmas.List.Elements.{filter-append}
 use Rattle.hmc_codes.specs.Link.{LinkFields}
 use Rattle.hmc_codes.specs.declared.profile.Profile.{Profile}
 use Rattle.hmc_packet.specs.declared.feed.Feed.{Feed}
@@ -32,18 +33,13 @@ use Rattle.hmc_wire.proofs.OpenPlaces.{AreKnown, IsOpen, open_place, open-place,
 use Rattle.hmc_wire.proofs.Places.{AllFit}
 use Rattle.hmc_wire.proofs.SenderLists.{Chosen}
 use Rattle.hmc_wire.specs.EntryTurns.{weight}
-use Rattle.hmc_ends.proofs.Lists.{filter-append}
 use Rattle.hmc_numbers.specs.Tokens.{if_token}
 
 -- ---- the tokens of places
 
 filter-one : (b : Bool) (x : Place) (l : List Place) → places.flits_in (filter takes_tokens l ++ (if b then x ∷ [] else [])) ≡ flits_begun l + if_token b (flits_at x)
 filter-one true x l = sum_by_push flits_at (filter takes_tokens l) x
-filter-one false x l = ap places.flits_in (append-none (filter takes_tokens l)) ∙ (let e : flits_begun l ≡ flits_begun l + 0 = omega arith in e)
-  where
-    append-none : (m : List Place) → m ++ [] ≡ m
-    append-none [] = refl
-    append-none (y ∷ m) = ap (λ (t : List Place). y ∷ t) (append-none m)
+filter-one false x l = ap places.flits_in (append-nil (filter takes_tokens l)) ∙ (let e : flits_begun l ≡ flits_begun l + 0 = omega arith in e)
 
 pub begun-push : (l : List Place) (x : Place) → flits_begun (l ++ x ∷ []) ≡ flits_begun l + if_token (takes_tokens x) (flits_at x)
 begun-push l x = ap places.flits_in (filter-append takes_tokens l (x ∷ [])) ∙ filter-one (takes_tokens x) x l

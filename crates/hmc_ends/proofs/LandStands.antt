@@ -2,6 +2,8 @@
 use Rattle.std.proofs.Common.{◌≡◌, ◌∙◌, ◌≤◌, ◌+◌, ◌-◌, ℕ, Bool, true, false, not, ◌||◌, List, ◌∷◌, ◌++◌, length, take, drop, Option, Some, None, refl, sym, ap, subst, arith, length-append, append_assoc}
 use Rattle.std.specs.Prelude.{filter, slice_get, sum_by}
 use Rattle.std.proofs.lemmas.List.Sums.{sum_by-append, sum_by-take-drop}
+use Rattle.std.proofs.lemmas.List.{drop-append-le, take-append-le}
+use Rattle.std.proofs.lemmas.List.Elements.{filter-append}
 use Rattle.hmc_codes.specs.Link.{LinkFields}
 use Rattle.hmc_codes.specs.Limits.{most_tokens}
 use Rattle.hmc_codes.specs.declared.profile.Profile.{Profile}
@@ -38,7 +40,7 @@ use Rattle.hmc_ends.specs.StandsFor.{EndStandsFor}
 use Rattle.hmc_ends.proofs.Acknowledges.{named-is, stamp-least}
 use Rattle.hmc_ends.proofs.Arrivals.{accepted-more}
 use Rattle.hmc_ends.proofs.Steps.{kept-more}
-use Rattle.hmc_ends.proofs.Lists.{drop-append, take-append, filter-append, taken-then-added}
+use Rattle.hmc_ends.proofs.Lists.{taken-then-added}
 use Rattle.hmc_ends.proofs.PartLaws.{PartLaws, part_laws}
 use Rattle.hmc_wire.proofs.LawsHold.{direction-laws}
 
@@ -133,7 +135,7 @@ stands-landed link e p mask flit o rrp front landed r s a b changed is laws rece
     let filtered : filter is_token (accepted q (Land flit o ∷ p.received)) ≡ filter is_token old ++ stored landed = ap (filter is_token) more ∙ filter-append is_token old new in
     let credited : tokens_credited (accepted q (Land flit o ∷ p.received)) ≡ tokens_credited old + tokens_credited new = ap tokens_credited more ∙ sum_by-append _ old new in
     let took : flits_taken p.takes (accepted q (Land flit o ∷ p.received)) ≡ flits_taken p.takes old =
-    ap (λ (l : List PacketFields). packets.flits_in (take p.takes l)) filtered ∙ ap packets.flits_in (take-append p.takes (filter is_token old) (stored landed) is.taken) in
+    ap (λ (l : List PacketFields). packets.flits_in (take p.takes l)) filtered ∙ ap packets.flits_in (take-append-le p.takes (filter is_token old) (stored landed) is.taken) in
     let taken = is.taken in
     record {
       setup = is.setup;
@@ -146,7 +148,7 @@ stands-landed link e p mask flit o rrp front landed r s a b changed is laws rece
       transit = is.transit ∙ ap (λ l. flits_begun l - flits_accepted (accepted q p.landed)) (sym placed);
       receiver = receiver;
       changed = change;
-      buffer = buffer ∙ ap (λ (l : List PacketFields). l ++ stored landed) is.buffer ∙ sym (drop-append p.takes (filter is_token old) (stored landed) is.taken) ∙ ap (drop p.takes) (sym filtered);
+      buffer = buffer ∙ ap (λ (l : List PacketFields). l ++ stored landed) is.buffer ∙ sym (drop-append-le p.takes (filter is_token old) (stored landed) is.taken) ∙ ap (drop p.takes) (sym filtered);
       held = ap (λ (x : Account). x.held) account ∙ ap (λ (n : ℕ). n + tokens_credited new) is.held ∙ taken-then-added (tokens_credited old) (flits_begun (places q t)) (tokens_credited new) held
           ∙ (λ i. sym credited i - flits_begun (sym placed i));
       due = ap (λ (x : Account). x.due) account ∙ is.due ∙ (λ i. (link.tokens + sym took i) - tokens_returned (sym placed i));
@@ -183,7 +185,7 @@ land-facts link d past mask flit changed e lands caught =
     let filtered : filter is_token (accepted q (Land flit o ∷ p.received)) ≡ filter is_token old ++ stored landed = ap (filter is_token) more ∙ filter-append is_token old new in
     let credited : tokens_credited (accepted q (Land flit o ∷ p.received)) ≡ tokens_credited old + tokens_credited new = ap tokens_credited more ∙ sum_by-append _ old new in
     let took : flits_taken p.takes (accepted q (Land flit o ∷ p.received)) ≡ flits_taken p.takes old =
-    ap (λ (l : List PacketFields). packets.flits_in (take p.takes l)) filtered ∙ ap packets.flits_in (take-append p.takes (filter is_token old) (stored landed) is.taken) in
+    ap (λ (l : List PacketFields). packets.flits_in (take p.takes l)) filtered ∙ ap packets.flits_in (take-append-le p.takes (filter is_token old) (stored landed) is.taken) in
     let all : flits_accepted (accepted q (Land flit o ∷ p.received)) ≡ packets.flits_in (filter is_token old) + packets.flits_in (stored landed) = ap packets.flits_in filtered ∙ sum_by-append flits_of (filter is_token old) (stored landed) in
     let split : packets.flits_in (filter is_token old) ≡ flits_taken p.takes old + sum_by flits_of (drop p.takes (filter is_token old)) = sym (sum_by-take-drop flits_of (filter is_token old) p.takes) in
     let buffer : sum_by flits_of e.buffer ≡ sum_by flits_of (drop p.takes (filter is_token old)) = ap (sum_by flits_of) is.buffer in

@@ -1,7 +1,9 @@
 -- The list of a direction after what its sender does.
-use Rattle.std.proofs.Common.{◌≡◌, ◌∙◌, ◌≤◌, ◌<◌, ◌⊎◌, inl, inr, ℕ, zero, suc, Bool, true, false, List, [], ◌∷◌, ◌++◌, length, take, drop, map, get_or, Option, Some, None, refl, sym, ap, subst, arith, append_assoc}
+use Rattle.std.proofs.Common.{◌≡◌, ◌∙◌, ◌≤◌, ◌<◌, ◌⊎◌, inl, inr, ℕ, zero, suc, Bool, true, false, List, [], ◌∷◌, ◌++◌, length, take, drop, map, get_or, Option, Some, None, refl, sym, ap, subst, arith, append_assoc, append-nil}
 use Rattle.std.specs.Prelude.{is_none, filter, if◌then◌else◌}
 use Rattle.std.specs.List.{concat}
+use Rattle.std.proofs.lemmas.List.Elements.{filter-append}
+use Rattle.std.proofs.lemmas.List.{map_push}
 use Rattle.hmc_codes.specs.Commands.{layout_of}
 use Rattle.hmc_codes.specs.declared.layout.Layout.{Layout}
 use Rattle.hmc_codes.specs.declared.layout.Layout.TheVariants as layouts
@@ -38,7 +40,7 @@ use Rattle.hmc_wire.proofs.OpenPlaces.{AreKnown, IsOpen, open_place, open-place,
 use Rattle.hmc_wire.proofs.Places.{AllFit, packet_of}
 use Rattle.hmc_ends.specs.List.{no_numbers, listed_packet, listed_open, listed_place, list_by, place_sent}
 use Rattle.hmc_ends.proofs.Fed.{SenderIs}
-use Rattle.hmc_ends.proofs.Lists.{drop-push, map-push, filter-append, append-none}
+use Rattle.hmc_ends.proofs.Lists.{drop-push}
 use Rattle.hmc_ends.proofs.Moves.{is_quiet, places-quiet, place-new, place-tret, tret-flow}
 
 -- ---- lists
@@ -70,12 +72,12 @@ same-packets a b e = sym (unput-map a) ∙ ap (map unput) e ∙ unput-map b
 
 pub queue-by : (begun : List Put) (old new : List PacketFields) (packet : PacketFields) → begun ++ map put_packet new ≡ (begun ++ map put_packet old) ++ put_packet packet ∷ [] → new ≡ old ++ packet ∷ []
 queue-by begun old new packet e =
-    same-packets new (old ++ packet ∷ []) (append-left begun (map put_packet new) (map put_packet (old ++ packet ∷ [])) (e ∙ append_assoc begun (map put_packet old) (put_packet packet ∷ []) ∙ ap (λ (l : List Put). begun ++ l) (sym (map-push put_packet old packet))))
+    same-packets new (old ++ packet ∷ []) (append-left begun (map put_packet new) (map put_packet (old ++ packet ∷ [])) (e ∙ append_assoc begun (map put_packet old) (put_packet packet ∷ []) ∙ ap (λ (l : List Put). begun ++ l) (sym (map_push put_packet old packet))))
 
 pub list-waits : (n : ℕ) (l : List Place) (old : List PacketFields) (packet : PacketFields) → list_by n l (old ++ packet ∷ []) ≡ list_by n l old ++ listed_packet packet ∷ []
 list-waits n l old packet =
     let begun = map listed_place (filter takes_tokens (drop n l)) in
-    ap (λ (t : List Place). begun ++ t) (map-push listed_packet old packet) ∙ sym (append_assoc begun (map listed_packet old) (listed_packet packet ∷ []))
+    ap (λ (t : List Place). begun ++ t) (map_push listed_packet old packet) ∙ sym (append_assoc begun (map listed_packet old) (listed_packet packet ∷ []))
 
 -- ---- a place more
 
@@ -93,14 +95,14 @@ place-yes : (n : ℕ) (l : List Place) (x : Place) (waiting : List PacketFields)
 place-yes n l x waiting le is =
     let before = filter takes_tokens (drop n l) in
     ap (λ (t : List Place). map listed_place t ++ map listed_packet waiting) (begun-more n l x le ∙ ap (λ (t : List Place). before ++ t) (filter-yes x is))
-    ∙ ap (λ (t : List Place). t ++ map listed_packet waiting) (map-push listed_place before x)
+    ∙ ap (λ (t : List Place). t ++ map listed_packet waiting) (map_push listed_place before x)
     ∙ append_assoc (map listed_place before) (listed_place x ∷ []) (map listed_packet waiting)
 
 -- another one is not of the list
 place-no : (n : ℕ) (l : List Place) (x : Place) (waiting : List PacketFields) → n ≤ length l → takes_tokens x ≡ false → list_by n (l ++ x ∷ []) waiting ≡ list_by n l waiting
 place-no n l x waiting le is =
     let before = filter takes_tokens (drop n l) in
-    ap (λ (t : List Place). map listed_place t ++ map listed_packet waiting) (begun-more n l x le ∙ ap (λ (t : List Place). before ++ t) (filter-no x is) ∙ append-none before)
+    ap (λ (t : List Place). map listed_place t ++ map listed_packet waiting) (begun-more n l x le ∙ ap (λ (t : List Place). before ++ t) (filter-no x is) ∙ append-nil before)
 
 -- ---- a front is begun
 
@@ -311,7 +313,7 @@ list-begun begun n l x head flits w le token e =
     let none = nothing w (append-left begun (put_through head flits ∷ map put_packet w) (map put_packet w ++ put_through head flits ∷ []) (sym (append_assoc begun (put_through head flits ∷ []) (map put_packet w)) ∙ e ∙ append_assoc begun (map put_packet w) (put_through head flits ∷ []))) in
     let before = map listed_place (filter takes_tokens (drop n l)) in
     place-yes n l x w le token ∙ ap (λ (v : List PacketFields). before ++ (listed_place x ∷ map listed_packet v)) none
-    ∙ ap (λ (t : List Place). t ++ listed_place x ∷ []) (sym (append-none before)) ∙ ap (λ (v : List PacketFields). (before ++ map listed_packet v) ++ listed_place x ∷ []) (sym none)
+    ∙ ap (λ (t : List Place). t ++ listed_place x ∷ []) (sym (append-nil before)) ∙ ap (λ (v : List PacketFields). (before ++ map listed_packet v) ++ listed_place x ∷ []) (sym none)
   where
     nothing : (w : List PacketFields) → put_through head flits ∷ map put_packet w ≡ map put_packet w ++ put_through head flits ∷ [] → w ≡ []
     nothing [] is = refl

@@ -1,12 +1,10 @@
 -- Facts of lists and of numbers.
 use Rattle.std.proofs.Common.{◌≡◌, ◌∙◌, ◌≤◌, ◌<◌, ◌+◌, ◌-◌, ℕ, zero, suc, Bool, true, false, List, [], ◌∷◌, ◌++◌, length, take, drop, map, Some, None, refl, sym, ap, arith}
 use Rattle.std.specs.Prelude.{slice_get, filter, if◌then◌else◌}
-use Rattle.std.proofs.lemmas.List.{length-drop}
+use Rattle.std.proofs.lemmas.List.{length-map as length-map-of, length-drop, drop-append-le, drop-map}
 
 pub drop-push : {X : Type 0} (n : ℕ) (l : List X) (x : X) → n ≤ length l → drop n (l ++ x ∷ []) ≡ drop n l ++ x ∷ []
-drop-push zero l x le = refl
-drop-push (suc n) [] x le = absurd (omega arith)
-drop-push (suc n) (y ∷ l) x le = drop-push n l x (omega arith)
+drop-push n l x le = drop-append-le n l (x ∷ []) le
 
 pub drop-one_more : {X : Type 0} (n : ℕ) (l : List X) → drop (suc n) l ≡ drop 1 (drop n l)
 drop-one_more zero l = refl
@@ -18,17 +16,10 @@ drop-add zero m l = ap (λ (k : ℕ). drop k l) (let e : m ≡ 0 + m = omega ari
 drop-add (suc n) m l = drop-one_more n (drop m l) ∙ ap (drop 1) (drop-add n m l) ∙ sym (drop-one_more (n + m) l) ∙ ap (λ (k : ℕ). drop k l) (let e : suc (n + m) ≡ suc n + m = omega arith in e)
 
 pub map-drop : {X Y : Type 0} (f : X → Y) (n : ℕ) (l : List X) → map f (drop n l) ≡ drop n (map f l)
-map-drop f zero l = refl
-map-drop f (suc n) [] = refl
-map-drop f (suc n) (x ∷ l) = map-drop f n l
-
-pub map-push : {X Y : Type 0} (f : X → Y) (l : List X) (x : X) → map f (l ++ x ∷ []) ≡ map f l ++ f x ∷ []
-map-push f [] x = refl
-map-push {Y = Y} f (y ∷ l) x = ap (λ (t : List Y). f y ∷ t) (map-push f l x)
+map-drop f n l = sym (drop-map f n l)
 
 pub length-map : {X Y : Type 0} (f : X → Y) (l : List X) → length (map f l) ≡ length l
-length-map f [] = refl
-length-map f (x ∷ l) = ap suc (length-map f l)
+length-map f l = length-map-of l f
 
 -- the front of what is left is at the place up to which was dropped
 pub front-some : {X : Type 0} (l : List X) (x : X) → slice_get l 0 ≡ Some x → l ≡ x ∷ drop 1 l
@@ -48,28 +39,6 @@ take-one_more zero [] x is = absurd cc
 take-one_more {X = X} zero (y ∷ l) x is = let e : y ≡ x = cc in ap (λ (z : X). z ∷ []) e
 take-one_more (suc n) [] x is = absurd cc
 take-one_more {X = X} (suc n) (y ∷ l) x is = ap (λ (t : List X). y ∷ t) (take-one_more n l x is)
-
-pub take-append : {X : Type 0} (n : ℕ) (l m : List X) → n ≤ length l → take n (l ++ m) ≡ take n l
-take-append zero l m le = refl
-take-append (suc n) [] m le = absurd (omega arith)
-take-append {X = X} (suc n) (x ∷ l) m le = ap (λ (t : List X). x ∷ t) (take-append n l m (omega arith))
-
-pub drop-append : {X : Type 0} (n : ℕ) (l m : List X) → n ≤ length l → drop n (l ++ m) ≡ drop n l ++ m
-drop-append zero l m le = refl
-drop-append (suc n) [] m le = absurd (omega arith)
-drop-append (suc n) (x ∷ l) m le = drop-append n l m (omega arith)
-
-pub append-none : {X : Type 0} (l : List X) → l ++ [] ≡ l
-append-none [] = refl
-append-none {X = X} (x ∷ l) = ap (λ (t : List X). x ∷ t) (append-none l)
-
-pub filter-append : {X : Type 0} (p : X → Bool) (l m : List X) → filter p (l ++ m) ≡ filter p l ++ filter p m
-filter-append p [] m = refl
-filter-append {X = X} p (x ∷ l) m = by_test (p x) (filter-append p l m)
-  where
-    by_test : (b : Bool) → filter p (l ++ m) ≡ filter p l ++ filter p m → (if b then x ∷ filter p (l ++ m) else filter p (l ++ m)) ≡ (if b then x ∷ filter p l else filter p l) ++ filter p m
-    by_test true e = ap (λ (t : List X). x ∷ t) e
-    by_test false e = e
 
 -- what is taken before more is added may be taken after it
 pub taken-then-added : (all taken more : ℕ) → taken ≤ all → (all - taken) + more ≡ (all + more) - taken

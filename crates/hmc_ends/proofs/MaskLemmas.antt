@@ -1,9 +1,8 @@
 -- A flit under a mask, byte by byte.
-use Rattle.std.proofs.Common.{◌≡◌, ◌∙◌, ◌<◌, ◌+◌, ℕ, zero, suc, List, [], ◌∷◌, ◌++◌, length, take, drop, refl, ap, arith}
+use Rattle.std.proofs.Common.{◌≡◌, ◌∙◌, ◌<◌, ◌+◌, ℕ, zero, suc, List, [], ◌∷◌, ◌++◌, length, take, drop, refl, ap, arith, append-nil}
 use Rattle.std.specs.Prelude.{slice_set, slice_index, bit_xor}
 use Rattle.std.proofs.lemmas.List.{take_all, drop_all}
 use Rattle.hmc_send.specs.LinkLines.{under_mask}
-use Rattle.hmc_ends.proofs.Lists.{append-none}
 
 next-byte : (m f : List ℕ) (i : ℕ) → i < length m → i < length f → slice_set (under_mask (take i m) (take i f) ++ drop i f) i (bit_xor (slice_index m i) (slice_index f i)) ≡ under_mask (take (suc i) m) (take (suc i) f) ++ drop (suc i) f
 next-byte [] f i lt lt' = absurd (omega arith)
@@ -16,4 +15,4 @@ byte-more m f i lt lt' = next-byte m f i lt lt' ∙ ap (λ (n : ℕ). under_mask
 
 pub all-bytes : (m f : List ℕ) → length m ≡ 16 → length f ≡ 16 → under_mask (take 16 m) (take 16 f) ++ drop 16 f ≡ under_mask m f
 all-bytes m f a b =
-    (λ i. under_mask (take_all 16 m (omega arith) i) (take_all 16 f (omega arith) i) ++ drop_all 16 f (omega arith) i) ∙ append-none (under_mask m f)
+    (λ i. under_mask (take_all 16 m (omega arith) i) (take_all 16 f (omega arith) i) ++ drop_all 16 f (omega arith) i) ∙ append-nil (under_mask m f)

@@ -2,6 +2,7 @@
 use Rattle.std.proofs.Common.{◌≡◌, ◌∙◌, ◌≤◌, ◌+◌, ◌-◌, ℕ, List, [], ◌∷◌, ◌++◌, length, drop, map, Option, Some, None, refl, sym, ap, subst, arith, length-append}
 use Rattle.std.specs.Prelude.{All, slice_get}
 use Rattle.std.proofs.Math.Nat.{sub-add-eq}
+use Rattle.std.proofs.lemmas.List.{map_push}
 use Rattle.hmc_codes.specs.Link.{LinkFields}
 use Rattle.hmc_codes.specs.declared.profile.Profile.{Profile}
 use Rattle.hmc_packet.specs.declared.feed.Feed.{Feed}
@@ -26,7 +27,7 @@ use Rattle.hmc_tokens.specs.declared.account.Account.{Account}
 use Rattle.hmc_ends.specs.End.{EndFields}
 use Rattle.hmc_ends.specs.Parts.{EndParts, flits_under_way, send_given, parts_sent}
 use Rattle.hmc_ends.specs.StandsFor.{EndStandsFor}
-use Rattle.hmc_ends.proofs.Lists.{drop-push, drop-add, map-push, front-longer}
+use Rattle.hmc_ends.proofs.Lists.{drop-push, drop-add, front-longer}
 use Rattle.hmc_ends.proofs.Moves.{Moves}
 use Rattle.hmc_ends.proofs.PartLaws.{PartLaws}
 
@@ -137,7 +138,7 @@ stands-sent link e p feed s flit as_what is laws moves left stands =
       retry = ap (λ (x : State). x.retry.flits) left ∙ same.flits ∙ is.retry;
       sender = stands;
       queue = (λ i. drop (drawn i) (is.queue i)) ∙ drop-add moves.fronts (taken_fronts t) p.handed ∙ ap (λ (n : ℕ). drop n p.handed) (sym moves.taken);
-      line = ap (λ (l : List (List ℕ)). l ++ flit ∷ []) is.line ∙ sym (map-push (λ (x : StampedFlit). x.flit) (flits_under_way p) _)
+      line = ap (λ (l : List (List ℕ)). l ++ flit ∷ []) is.line ∙ sym (map_push (λ (x : StampedFlit). x.flit) (flits_under_way p) _)
           ∙ ap (map (λ (x : StampedFlit). x.flit)) (sym (drop-push p.landings p.flits _ is.crossed));
       transit = (λ i. is.transit i + (e.account.held - held i)) ∙ transit-more begun (flits_accepted (accepted q p.landed)) e.account.held spent laws.transit few
           ∙ ap (λ (n : ℕ). n - flits_accepted (accepted q p.landed)) (sym moves.begun);

@@ -1,5 +1,5 @@
 -- An end after a packet is handed or taken, and after an unlock.
-use Rattle.std.proofs.Common.{◌≡◌, ◌∙◌, ◌≤◌, ◌+◌, ◌-◌, ℕ, suc, false, List, [], ◌∷◌, ◌++◌, drop, take, Some, refl, sym, ap, arith, length-append}
+use Rattle.std.proofs.Common.{◌≡◌, ◌∙◌, ◌≤◌, ◌+◌, ◌-◌, ℕ, suc, false, List, [], ◌∷◌, ◌++◌, drop, take, Some, refl, sym, ap, arith, length-append, append-nil}
 use Rattle.std.specs.Prelude.{slice_get}
 use Rattle.std.proofs.lemmas.List.Sums.{sum_by_push}
 use Rattle.hmc_codes.specs.Link.{LinkFields}
@@ -15,7 +15,7 @@ use Rattle.hmc_send.specs.LinkTokens.{tokens_returned, flits_taken}
 use Rattle.hmc_ends.specs.End.{EndFields}
 use Rattle.hmc_ends.specs.Parts.{EndParts, parts_handed, parts_taken, parts_unlocked, parts_lost, tokens_accepted, buffer_of}
 use Rattle.hmc_ends.specs.StandsFor.{EndStandsFor}
-use Rattle.hmc_ends.proofs.Lists.{drop-push, drop-one_more, front-longer, take-one_more, append-none}
+use Rattle.hmc_ends.proofs.Lists.{drop-push, drop-one_more, front-longer, take-one_more}
 
 -- ---- a packet is handed
 
@@ -81,7 +81,7 @@ stands-taken link e p packet s front due =
 
 pub accepted-unlock : (profile : Profile) (l : List ReceiverEntry) → accepted profile (Unlock ∷ l) ≡ accepted profile l
 unfolding accepted
-accepted-unlock profile l = append-none (accepted profile l)
+accepted-unlock profile l = append-nil (accepted profile l)
 
 pub stands-unlocked : (link : LinkFields) (e : EndFields) (p : EndParts) (r : ReceiverFields) → EndStandsFor link e p → ReceiverStandsFor link.profile r (Unlock ∷ p.received) →
     EndStandsFor link (record e { receiver = r; changed = false }) (parts_unlocked p)

@@ -2,6 +2,7 @@
 use Rattle.std.proofs.Common.{◌≡◌, ◌≤◌, ◌<◌, ◌/◌, ◌==◌, ◌∙◌, ℕ, zero, suc, Bool, true, false, Some, List, [], ◌∷◌, drop, length, refl, sym, ap, ap₂, subst, arith, zero-add, eqb-true, eq-eqb, ◌++◌, append-nil, length-append}
 use Rattle.std.specs.Prelude.{filter}
 use Rattle.std.proofs.lemmas.List.Elements.{filter-append}
+use Rattle.std.proofs.lemmas.List.{drop-append-le, drop_all}
 use Rattle.hmc_packet.specs.Packet.{PacketFields}
 use Rattle.hmc_entries.specs.declared.entry.Entry.{Entry}
 use Rattle.hmc_entries.specs.declared.entry.Entry.TheVariants.{Gave, Sent, Landed, Shifted, Dropped, Spread, Executed, Lifted, Took, Discarded, Through, Unlocked, Retired, Passed, Idle}
@@ -86,18 +87,6 @@ takes_here topology past d flit outcome gone is =
         (landing_mask (link_sizes topology (d / 2)) way (entries_on topology d past) flit) flit
         outcome) (entries_on topology d past)))) (sym (same_direction d d) ∙ eq-eqb d d refl)
 
-drop_push : (n : ℕ) (l more : List PacketFields) → n ≤ length l → drop n (l ++ more) ≡ drop n l
-    ++ more
-drop_push zero l more within = refl
-drop_push (suc n) [] more within = absurd (omega arith)
-drop_push (suc n) (x ∷ l) more within = drop_push n l more (omega arith)
-
-drop_whole : (n : ℕ) (l : List PacketFields) → length l ≤ n → drop n l ≡ []
-drop_whole zero [] within = refl
-drop_whole zero (x ∷ l) within = absurd (omega arith)
-drop_whole (suc n) [] within = refl
-drop_whole (suc n) (x ∷ l) within = drop_whole n l (omega arith)
-
 none_left_in : (n : ℕ) (l : List PacketFields) → drop n l ≡ [] → length l ≤ n
 none_left_in n [] is = omega arith
 none_left_in zero (x ∷ l) is = absurd cc
@@ -148,9 +137,9 @@ lands_in setup past d flit outcome less kept stays =
     let n = takes (toward d) (entries_on t d past) in record {
       buffer =
           ap₂ (λ (i : ℕ) (l : List PacketFields). drop i l) (left_landed past d flit outcome room)
-          entered_now ∙ drop_push (left past room) (entered t past room) came (kept.within room)
+          entered_now ∙ drop-append-le (left past room) (entered t past room) came (kept.within room)
           ∙ ap (λ l. l ++ came) k.buffer ∙ sym
-          (drop_push n (filter is_token (accepted t d past)) came k.inside)
+          (drop-append-le n (filter is_token (accepted t d past)) came k.inside)
           ∙ sym (ap₂ (λ (i : ℕ) (l : List PacketFields). drop i l) took tokens);
       inside =
           (let many = ap length tokens ∙ length-append (filter is_token (accepted t d past)) came in
@@ -185,7 +174,7 @@ lands_gone setup past d flit outcome less right kept gone =
     let whole = none_left_in n (filter is_token (accepted t d past)) (sym k.buffer ∙ empty) in
     let within = k.inside in record {
       buffer = stays_empty t (Landed d flit outcome) past room entered_now empty
-          ∙ sym (drop_whole (takes (toward d) (entries_on t d (Landed d flit outcome ∷ past)))
+          ∙ sym (drop_all (takes (toward d) (entries_on t d (Landed d flit outcome ∷ past)))
           (filter is_token (accepted t d (Landed d flit outcome ∷ past))) (omega arith));
       inside = omega arith;
       host = λ host ends. absurd (not_gone_at_host setup past d outcome host less kept gone ends);
