@@ -43,7 +43,7 @@ executed_said setup past host unit here giver tag request answer keeps has =
     let front = has.at.front in
     let run = runs_request setup past here giver tag request answer has keeps in
     let parts = request_of_packet front request has.is_request in
-    item_when ((front.slid == host) && ((unit_cube here == unit_cube unit) && same_spot (spot_of here) (spot_of unit))) (record { tag = tag_by (kind_of front) front.tag; request = request_or (request_in front) })
+    item_when {X = TaggedRequest} ((front.slid == host) && ((unit_cube here == unit_cube unit) && same_spot (spot_of here) (spot_of unit))) (record { tag = tag_by (kind_of front) front.tag; request = request_or (request_in front) })
     ∙ ap₂ (λ (b : Bool) (o : Option ℕ). if b then record { tag = o; request = request_or (request_in front) } ∷ [] else [])
     (ap₂ (λ (n : ℕ) (b : Bool). (n == host) && b) (sym has.is_host) (sym (unit_parts here unit)))
     (ap (λ f. tag_by (kind_by f (is_posted front.command)) front.tag) run.asking.asks ∙ posted_tag (is_posted front.command) front.tag ∙ ap (λ c. tag_of (is_posted c) front.tag) (sym parts.command) ∙ sym has.is_tag)

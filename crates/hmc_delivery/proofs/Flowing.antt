@@ -67,7 +67,7 @@ same_test false true true spot = refl
 same_test false true false spot = refl
 same_test false false cube spot = refl
 
-pub item_when : (b : Bool) (x : TaggedRequest) → (item_if b x) ≡ (if b then x ∷ [] else [])
+pub item_when : {X : Type 0} (b : Bool) (x : X) → item_if b x ≡ (if b then x ∷ [] else [])
 item_when true x = refl
 item_when false x = refl
 
@@ -102,7 +102,7 @@ one_request topology host unit packet (Some request) is =
     let value : TaggedRequest = record { tag = tag_of (is_posted request.command) packet.tag; request = request } in
     ap₂ (λ (b : Bool) (o : Option RequestFields). (item_if ((not packet.poisoned && b) && (there && same_spot (spot_by topology o) (spot_of unit))) (record { tag = tag_by (kind_of packet) packet.tag; request = request_or o })))
     (kind_request (layout_of packet.command) (is_posted packet.command) ∙ asks) is
-    ∙ item_when ((not packet.poisoned && true) && (there && same_spot (spot_of (unit_in topology request)) (spot_of unit))) (record { tag = tag_by (kind_of packet) packet.tag; request = request })
+    ∙ item_when {X = TaggedRequest} ((not packet.poisoned && true) && (there && same_spot (spot_of (unit_in topology request)) (spot_of unit))) (record { tag = tag_by (kind_of packet) packet.tag; request = request })
     ∙ ap₂ (λ (b : Bool) (t : Option ℕ). if b then record { tag = t; request = request } ∷ [] else [])
     (same_test packet.poisoned (packet.slid == host) (packet.cube == unit_cube unit) (same_spot (spot_of (unit_in topology request)) (spot_of unit))
     ∙ ap (λ (u : Bool). (packet.slid == host) && (not packet.poisoned && u)) (ap (λ (c : ℕ). (c == unit_cube unit) && same_spot (spot_of (unit_in topology request)) (spot_of unit)) (sym parts.cube ∙ sym (unit_in_cube topology request)) ∙ sym (unit_parts (unit_in topology request) unit)))

@@ -49,11 +49,7 @@ use Rattle.hmc_delivery.proofs.MayMove.{may_all}
 use Rattle.hmc_delivery.proofs.TagsOut.{asks_given, taken_here, taken_there, taken_not, discards_poison}
 use Rattle.hmc_delivery.proofs.Awaiting.{keeps_tags}
 use Rattle.hmc_delivery.proofs.Collecting.{piece_of, collected, append_when, quiet, begins_nothing, landing_nothing, unlocks_nothing, onto_there, comes_nothing}
-
--- the same, as an item and as a choice
-item_when : {X : Type 0} (b : Bool) (x : X) → (if b then x ∷ [] else []) ≡ item_if b x
-item_when true x = refl
-item_when false x = refl
+use Rattle.hmc_delivery.proofs.Flowing.{item_when}
 
 -- ---- asked
 
@@ -81,7 +77,7 @@ asked_more setup h t network (Gave host tag poisoned request) past lawful =
     append_when ((host == h) && same_tag tag t) request (asked_under h t past)
     ∙ ap (λ l. asked_under h t past ++ l)
     (ap₂ (λ (b : Bool) (r : RequestFields). if b then r ∷ [] else []) same (sym (ap request_or (request_in-request_packet request (tag_number tag) host poisoned is)))
-    ∙ item_when (asks_now h t (Comes (hops.Output to.0) (seen top packet))) (request_or (request_in packet))
+    ∙ sym (item_when (asks_now h t (Comes (hops.Output to.0) (seen top packet))) (request_or (request_in packet)))
     ∙ ap (λ (o : Option ℕ). piece_of (asked_piece h t) (comes_from top o packet)) (sym to.1))
 asked_more setup h t network (Sent d what.New flit) past lawful =
     quiet (asked_under h t past) ∙ ap (λ l. asked_under h t past ++ l) (sym (begins_nothing (asked_piece h t) setup.topology past d (awaits_first d past) (unsent d past) (λ x. refl)))
@@ -139,7 +135,7 @@ done_more setup said value agree h t network (Executed unit host tag request ans
     map_when said ((host == h) && same_tag tag t) (record { request = request; answer = answer }) (replies_under h t past)
     ∙ ap (λ l. map said (replies_under h t past) ++ l)
     (ap₂ (λ (b : Bool) y. if b then y ∷ [] else []) (done_tag setup past unit host tag request answer h t keeps right) (agree unit right.at.front request answer right.is_request)
-    ∙ item_when (executes_now h t (move right.at.front)) (value (move right.at.front))
+    ∙ sym (item_when (executes_now h t (move right.at.front)) (value (move right.at.front)))
     ∙ ap (λ (p : PacketFields). done_piece value h t (move p)) (sym (front_is setup past (queue_of unit) right.at)))
 done_more setup said value agree h t network (Gave giver tag poisoned request) past lawful =
     quiet (map said (replies_under h t past))
@@ -186,7 +182,7 @@ took_more setup m h t network map_of (Took host tag answer) past lawful =
     (ap₂ (λ (b : Bool) (a : Answer). if b then a ∷ [] else [])
     (ap (λ (n : ℕ). (host == h) && (n == t)) right.is_tag ∙ sym (taken_here setup m host right.at.front (arriving top (places.Host host)) h t ends right.unpoisoned))
     (sym (ap answer_or right.is_answer))
-    ∙ item_when (takes_now m h t (move right.at.front)) (answer_or (answer_in right.at.front))
+    ∙ sym (item_when (takes_now m h t (move right.at.front)) (answer_or (answer_in right.at.front)))
     ∙ ap (λ (p : PacketFields). took_piece m h t (move p)) (sym (front_is setup past (queues.Host host) right.at)))
 took_more setup m h t network map_of (Discarded host) past lawful =
     let right = entry_rule setup (Discarded host) past lawful in

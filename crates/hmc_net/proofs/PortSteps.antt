@@ -195,7 +195,7 @@ going_in net cube port direction front goal is inner = poisoned_in (graph_of net
 
 vault_below : (shape : ShapeFields) (packet : PacketFields) (registers : Bool) (vault : ℕ) → (if registers then goals.Registers else goals.Vault (vault_of shape packet.address)) ≡ goals.Vault vault → vault < 2 ^ shape.vault_bits
 vault_below shape packet true vault is = absurd (cc)
-vault_below shape packet false vault is = let same : vault_of shape packet.address ≡ vault = cc in subst (λ (n : ℕ). n < 2 ^ shape.vault_bits) same (mod-lt _ (pow_pos _))
+vault_below shape packet false vault is = let same : vault_of shape packet.address ≡ vault = cc in subst (λ (n : ℕ). n < 2 ^ shape.vault_bits) same (mod-lt (packet.address / shape.block) (pow_pos shape.vault_bits))
 
 here_by : (x : CubeFields) (shape : ShapeFields) (packet : PacketFields) (goal : Goal) → x.state.shape ≡ shape → IsInner goal → IsGoingIn shape packet goal → IsHere x (to_of goal)
 here_by x shape packet (goals.Vault vault) same inner is = subst (λ (s : ShapeFields). vault < 2 ^ s.vault_bits) (sym same) (vault_below shape packet (is_for_registers packet.command) vault is.goal_is)
