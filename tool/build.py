@@ -9,16 +9,15 @@ from __future__ import annotations
 import hashlib
 import os
 import re
-import shutil
-import signal
 import subprocess
 import sys
 from collections.abc import Iterable, Iterator
 from pathlib import Path
 
-from tool.trouble import UNAVAILABLE, Trouble, note
+from tool import kit, processes
+from tool.kit import TOP
+from tool.trouble import UNAVAILABLE, Trouble, note, say
 
-TOP = Path(__file__).resolve().parent.parent
 CRATE = TOP / "crates" / "hmc_prog"
 OUT = CRATE / "out"
 PROGRAM = OUT / "hmc_prog"
@@ -27,6 +26,9 @@ LOG = OUT / "hmc_prog.log"
 # What the program writes for an input of no bytes, and its status then.
 OF_NOTHING = (6, b"bad top 0 missing\n")
 SHOWN = 30
+# One build at a time in a checkout: each locks this file, which is always there.
+LOCKED = TOP / "crates.txt"
+WAITS = "another build of this checkout is at work: this one waits for it"
 
 NAME = re.compile(r"\b(hmc_[a-z_]+)\b")
 PROGRESS = re.compile(r"so far: ([0-9]+) of ([0-9]+) functions")
@@ -70,45 +72,40 @@ def digest() -> str:
     return whole.hexdigest()
 
 
-def record_of(sources: str) -> str:
-    """What is recorded of the program that is built from sources with this digest."""
-    return f"sources {sources}\nprogram {hashlib.sha256(PROGRAM.read_bytes()).hexdigest()}\n"
+def record_of(sources: str, program: Path) -> str:
+    """What is recorded of a program that is built from sources with this digest."""
+    return f"sources {sources}\nprogram {hashlib.sha256(program.read_bytes()).hexdigest()}\n"
 
 
-def is_current() -> bool:
-    """Whether the built program is that of these sources."""
-    if not os.access(PROGRAM, os.X_OK) or not RECORD.is_file():
+def is_current(program: Path = PROGRAM, beside: Path = RECORD) -> bool:
+    """Whether a built program is that of these sources, as the file beside it states."""
+    if not os.access(program, os.X_OK) or not beside.is_file():
         return False
-    return RECORD.read_text(encoding="utf-8") == record_of(digest())
+    return beside.read_text(encoding="utf-8") == record_of(digest(), program)
 
 
 def record(sources: str) -> None:
     """Records that the program was built from the sources with this digest."""
-    RECORD.write_text(record_of(sources), encoding="utf-8")
-
-
-def kit() -> str:
-    """The path of the kit's command."""
-    found = shutil.which("rt")
-    if found is None:
-        raise Trouble(UNAVAILABLE, "the Rattle kit's command rt is not on the path")
-    return found
+    RECORD.write_text(record_of(sources, PROGRAM), encoding="utf-8")
 
 
 def proved_program() -> Path:
     """The proved program of these sources, which is built first where it is not there."""
     if not is_current():
-        build()
+        with processes.lock(LOCKED, WAITS):
+            if not is_current():
+                build()
     return PROGRAM
 
 
 def build() -> None:
     """Proves and builds the program, and records the sources."""
-    command, sources = kit(), digest()
+    rt, _ = kit.require()
+    sources = digest()
     OUT.mkdir(exist_ok=True)
     RECORD.unlink(missing_ok=True)
     note("proving and building the program; the first time takes up to half an hour")
-    result = prove([command, "run", "--", "run"])
+    result = prove([rt, "run", "--", "run"])
     if result != OF_NOTHING:
         show_log()
         raise Trouble(UNAVAILABLE, f"the program could not be proved and built; {LOG} has it all")
@@ -119,15 +116,12 @@ def build() -> None:
 
 def prove(words: list[str]) -> tuple[int, bytes]:
     """Runs the kit, shows how far it is, and returns the status and the output of the program."""
-    how = {"stdin": subprocess.DEVNULL, "stdout": subprocess.PIPE, "stderr": subprocess.PIPE}
-    # The kit ends its whole process group when it is stopped, so it gets a group of its own.
-    with subprocess.Popen(words, cwd=CRATE, start_new_session=True, **how) as running:
-        try:
-            follow(running.stderr)
-            written = running.stdout.read()
-        except BaseException:
-            os.killpg(running.pid, signal.SIGTERM)
-            raise
+    pipe = subprocess.PIPE
+    how = {"cwd": CRATE, "stdin": subprocess.DEVNULL, "stdout": pipe, "stderr": pipe}
+    with processes.child(words, **how) as running:
+        assert running.stdout and running.stderr
+        follow(running.stderr)
+        written = running.stdout.read()
     return running.returncode, written
 
 
@@ -144,17 +138,17 @@ def follow(lines: Iterable[bytes]) -> None:
 def show_log() -> None:
     """Shows the end of what the kit wrote."""
     for line in LOG.read_text(encoding="utf-8", errors="replace").splitlines()[-SHOWN:]:
-        print(f"  {line}", file=sys.stderr)
+        say(f"  {line}")
 
 
 class Progress:
     """Says which crate is being proved, and how many are left after it."""
 
-    def __init__(self):
+    def __init__(self) -> None:
         self._known = libraries()
         self._all = crates_below(CRATE.name, self._known)
         self._done: set[str] = set()
-        self._is_terminal = sys.stderr.isatty()
+        self._is_terminal = sys.stderr is not None and sys.stderr.isatty()
 
     def see(self, line: str) -> None:
         """Takes a line of the kit."""

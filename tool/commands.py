@@ -2,6 +2,7 @@
 
 from __future__ import annotations
 
+from collections.abc import Iterator
 from dataclasses import dataclass
 
 FLOW = "flow"
@@ -31,7 +32,7 @@ class Command:
         return 16 * (self.lengths[0] - 1)
 
 
-def _rows():
+def _rows() -> Iterator[tuple[tuple[str, ...], int, str, int, str]]:
     """Yields the rows of the table: words, first code, family, length of the first word, reply."""
     sizes = range(16, 129, 16)
     yield ("null", "pret", "tret", "irtry"), 0, FLOW, 1, ""

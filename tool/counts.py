@@ -6,7 +6,8 @@ import re
 from collections.abc import Iterable, Iterator
 from pathlib import Path
 
-from tool.build import TOP, libraries
+from tool.build import libraries
+from tool.kit import TOP
 
 CRATES = TOP / "crates"
 ROW = re.compile(r"^[^ -].*= refl$", re.MULTILINE)

@@ -1,61 +1,102 @@
-"""Compares two reports: the first entry where they part, and what came before it."""
+"""Compares two reports: the lines where they differ, and what came before.
+
+A first pass finds the lines that differ. Only then is it known which earlier lines matter, and a
+second pass over one of the reports finds these.
+"""
 
 from __future__ import annotations
 
 from collections import deque
-from collections.abc import Iterable
-from itertools import zip_longest
+from collections.abc import Callable, Iterable, Iterator
+from dataclasses import dataclass
+from itertools import islice, zip_longest
 
 from tool import explain, packets, report
+from tool.subjects import Subject, name_of, parts_of, pattern_of, subjects_of
 
 # How many earlier lines of a request or a direction are shown.
 SHOWN = 6
-# The first words of lines whose second word is a direction.
-OF_DIRECTION = ("sent", "landed", "passed", "unlocked", "tokens", "counters")
-
-Subject = tuple
+ENDED = "(the report ends here)"
+Lines = Callable[[], Iterable[str]]
 
 
-def subjects_of(line: str) -> list[Subject]:
-    """What a line is about: a request, by host and tag, a direction, or a slot."""
-    words = line.split(" ")
-    if words[0] in OF_DIRECTION and len(words) > 1:
-        return [("direction", words[1])]
-    if words[0] == "retired" and len(words) > 1:
-        return [("slot", words[1])]
-    if words[0] == "through" and len(words) > 3:
-        return [("direction", words[3])]
-    if words[0] in ("gave", "took") and len(words) > 2:
-        return [("request", words[1], words[2])]
-    if words[0] == "executed":
-        start = 3 if words[2:3] == ["r"] else 4
-        return [("request", *words[start : start + 2])] if len(words) > start + 1 else []
-    if words[0] == "idle" and words[1:2] in (["send"], ["land"], ["retire"]) and len(words) > 2:
-        return [("slot" if words[1] == "retire" else "direction", words[2])]
-    return []
+@dataclass(frozen=True)
+class How:
+    """The names of the reports, the profile of the links, and what is shown."""
+
+    names: tuple[str, str]
+    profile: int = 1
+    context: int = SHOWN
+    start: int = 1
+    is_all: bool = False
 
 
-def name_of(subject: Subject) -> str:
-    """A subject in words."""
-    if subject[0] in ("direction", "slot"):
-        return f"{subject[0]} {subject[1]}"
-    tag = "no tag" if subject[2] == "-" else f"tag {subject[2]}"
-    return f"requests of host {subject[1]} with {tag}"
+@dataclass(frozen=True)
+class Difference:
+    """The number of a line that differs, and the line in each report; None where one has ended."""
+
+    number: int
+    sides: tuple[str | None, str | None]
+
+    @property
+    def present(self) -> list[str]:
+        """The lines that are there."""
+        return [side for side in self.sides if side is not None]
+
+
+def compare(first: Lines, second: Lines, how: How) -> list[str]:
+    """The lines that state where two reports differ; none where they are equal."""
+    found = list(differences(first(), second(), how))
+    lines: list[str] = []
+    for place, difference in enumerate(found):
+        before = Before(difference, how)
+        before.read(islice(first(), difference.number - 1))
+        lines += [""] * (place > 0) + shown(difference, before, how)
+    return lines
+
+
+def differences(first: Iterable[str], second: Iterable[str], how: How) -> Iterator[Difference]:
+    """Yields the first difference; and the others that are of no part that differed before."""
+    differed: set[Subject] = set()
+    pairs = zip_longest(first, second)
+    for number, pair in enumerate(islice(pairs, how.start - 1, None), start=how.start):
+        if pair[0] == pair[1]:
+            continue
+        sides = [None if side is None else side.removesuffix("\n") for side in pair]
+        found = Difference(number, (sides[0], sides[1]))
+        parts = {part for side in found.present for part in parts_of(side)}
+        if parts & differed or (differed and not parts):
+            continue
+        differed |= parts
+        yield found
+        if not how.is_all or None in sides:
+            return
 
 
 class Before:
-    """The last lines of each subject, and the flits of the packet that each direction is at."""
+    """The last lines before a difference that are about the same, and the flits of its packet."""
 
-    def __init__(self, profile: int):
-        self._profile = profile
-        self._lines: dict[Subject, deque[str]] = {}
-        self._flits: dict[tuple, list[str]] = {}
+    def __init__(self, difference: Difference, how: How):
+        subjects = [it for side in difference.present for it in subjects_of(side)]
+        self._patterns = {subject: pattern_of(subject) for subject in dict.fromkeys(subjects)}
+        self.lines: dict[Subject, deque[str]] = {
+            subject: deque(maxlen=how.context) for subject in self._patterns
+        }
+        self._flits: dict[tuple[str, ...], list[str]] = {}
+        self._profile = how.profile
 
-    def add(self, number: int, line: str) -> None:
-        """Adds a line that both reports have."""
-        for subject in subjects_of(line):
-            kept = self._lines.setdefault(subject, deque(maxlen=SHOWN))
-            kept.append(f"  {number}: {line}")
+    def read(self, lines: Iterable[str]) -> None:
+        """Takes the lines before the difference."""
+        rows = [(pattern.match, self.lines[subject]) for subject, pattern in self._patterns.items()]
+        for number, line in enumerate(lines, start=1):
+            for is_of, kept in rows:
+                if is_of(line):
+                    line = line.removesuffix("\n")
+                    kept.append(f"  {number}: {line}")
+                    self.add(line)
+
+    def add(self, line: str) -> None:
+        """Adds a line to the packet that its direction is at."""
         key, flit = flit_of(line)
         if key:
             flits = [*self._flits.get(key, []), flit]
@@ -64,10 +105,6 @@ class Before:
             # The receiver has dropped what it had gathered.
             self._flits["landed", line.split(" ")[1]] = []
 
-    def lines(self, subject: Subject) -> list[str]:
-        """The last lines of the subject."""
-        return list(self._lines.get(subject, ()))
-
     def explained(self, line: str) -> list[str]:
         """The lines that explain the packet of the line's flit, up to that flit."""
         key, flit = flit_of(line)
@@ -75,7 +112,7 @@ class Before:
         return explain.explain_flits(flits, self._profile)
 
 
-def flit_of(line: str) -> tuple[tuple, str]:
+def flit_of(line: str) -> tuple[tuple[str, ...], str]:
     """The flit of a line and whose it is, the sends or the landings of a direction."""
     words = line.split(" ")
     if words[0] == "sent" and len(words) == 4 and explain.flit_of(words[3]):
@@ -94,44 +131,30 @@ def goes_on(line: str, flits: list[str]) -> bool:
     return len(flits) < length <= packets.MOST_FLITS
 
 
-def compare(
-    first: Iterable[str], second: Iterable[str], names: tuple[str, str], profile: int = 1
-) -> list[str]:
-    """The lines that state where two reports part; none where they are equal."""
-    before = Before(profile)
-    for number, pair in enumerate(zip_longest(first, second), start=1):
-        if pair[0] != pair[1]:
-            return parting(number, pair, names, before)
-        before.add(number, pair[0].rstrip("\n"))
-    return []
-
-
-def parting(number: int, pair, names: tuple[str, str], before: Before) -> list[str]:
+def shown(difference: Difference, before: Before, how: How) -> list[str]:
     """The two lines that differ, what differs in their flits, and what came before them."""
-    sides = [None if line is None else line.rstrip("\n") for line in pair]
-    present = [side for side in sides if side is not None]
-    is_final = all(report.is_final(side) for side in present)
-    lines = [f"the reports part at line {number}{', a final line' if is_final else ''}"]
-    for name, side in zip(names, sides):
-        lines.append(f"{name}: {'(the report ends here)' if side is None else side}")
-    if None not in sides:
-        lines += flit_difference(sides, names, before)
-    subjects = [subject for side in present for subject in subjects_of(side)]
-    for subject in dict.fromkeys(subjects):
-        earlier = before.lines(subject)
+    is_final = all(report.is_final(side) for side in difference.present)
+    kind = ", a final line" if is_final else ""
+    lines = [f"the reports differ at line {difference.number}{kind}"]
+    for name, side in zip(how.names, difference.sides):
+        lines.append(f"{name}: {ENDED if side is None else side}")
+    lines += flit_difference(difference, before, how)
+    for subject, earlier in before.lines.items() if how.context else ():
         lines.append(f"before, in both reports, {name_of(subject)}:")
         lines += earlier or ["  nothing"]
     return lines
 
 
-def flit_difference(sides: list[str], names: tuple[str, str], before: Before) -> list[str]:
+def flit_difference(difference: Difference, before: Before, how: How) -> list[str]:
     """The fields that differ, where both lines have a flit of one direction and it differs."""
-    (key, flit), (other_key, other) = flit_of(sides[0]), flit_of(sides[1])
+    if len(difference.present) < 2:
+        return []
+    (key, flit), (other_key, other) = map(flit_of, difference.present)
     if not key or key != other_key or flit == other:
         return []
-    explained = [before.explained(side) for side in sides]
+    explained = [before.explained(side) for side in difference.present]
     lines = []
-    for name, mine, theirs in zip(names, explained, reversed(explained)):
+    for name, mine, theirs in zip(how.names, explained, reversed(explained)):
         lines.append(f"in the flit of {name}:")
         lines += [f"  {line.strip()}" for line in mine if line not in theirs]
     return lines

@@ -6,7 +6,7 @@ import re
 
 from tool import packets
 from tool.commands import FLOW, Command
-from tool.packets import Packet
+from tool.packets import Field, Packet
 
 PROFILES = {1: "One", 2: "Two"}
 # The fields that are shown in hexadecimal, and the digits of each.
@@ -56,7 +56,7 @@ def title(packet: Packet) -> str:
     return f"{command.word}: {kind}, LNG {packet.length} (profile {profile})"
 
 
-def word_lines(name: str, packet: Packet, word: int, fields) -> list[str]:
+def word_lines(name: str, packet: Packet, word: int, fields: tuple[Field, ...]) -> list[str]:
     """The word, and a line for each of its fields: name, bits, value, and what it says."""
     lines = [f"{name}  0x{word:016x}"]
     for field in fields:
@@ -114,7 +114,9 @@ def verdict(packet: Packet) -> str:
 def length_fault(packet: Packet) -> str:
     """Why the test Length fails."""
     if 1 <= packet.length <= packets.MOST_FLITS:
-        return f"{len(packet.flits)} of its {packet.length} flits are given"
+        given = len(packet.flits)
+        is_or_are = "is" if given == 1 else "are"
+        return f"the packet has {packet.length} flits, and here {is_or_are} {given}"
     return f"LNG is {packet.length}, and has to be 1 to {packets.MOST_FLITS}"
 
 

@@ -5,8 +5,9 @@ from __future__ import annotations
 import re
 
 from tool import case, schedule, texts
-from tool.case import Fault
-from tool.commands import BY_WORD
+from tool.case import Document, Fault, net_advice
+from tool.commands import BY_WORD, REQUEST
+from tool.nearest import nearest
 from tool.places import Places, Span
 
 LINE = re.compile(r"bad (toml|top|cube|net|link|script|schedule) ([0-9]+) ([a-z]+)")
@@ -69,6 +70,11 @@ MEANINGS = {
         "steps": f"with this line there are more than {texts.MOST_STEPS:,} steps",
     },
 }
+# The words that a word at fault may have been meant to be.
+KNOWN_WORDS = {
+    ("script", "command"): [it.word for it in BY_WORD.values() if it.family == REQUEST],
+    ("schedule", "step"): list(schedule.STEPS),
+}
 # What the number of the line counts, by the section.
 COUNTED = {
     "cube": "cube {}",
@@ -103,7 +109,17 @@ def explain_in_case(line: str, data: bytes, name: str) -> list[str]:
     return lines + shown(fault, document, data, name)
 
 
-def shown(fault: Fault, document: dict, data: bytes, name: str) -> list[str]:
+def lint(data: bytes, name: str) -> list[str]:
+    """Each fault of the case that these bytes were to be, at its place; none where it is valid."""
+    document, fault = case.document_of(data)
+    found = [fault] if fault else list(case.faults(document))
+    lines: list[str] = []
+    for number, fault in enumerate(found):
+        lines += [""] * (number > 0) + [str(fault), *shown(fault, document, data, name)]
+    return lines
+
+
+def shown(fault: Fault, document: Document, data: bytes, name: str) -> list[str]:
     """The line of the file with a caret under the fault, and what it is."""
     text = data.decode("utf-8", errors="replace")
     if fault.section == "toml":
@@ -156,7 +172,7 @@ def text_lines(fault: Fault, text: str, places: Places, name: str) -> list[str]:
     if span:
         return [*caret_lines(places, span, name), said]
     key = places.key(fault.path)
-    title = f"{name}:{key.line + 1}: line {fault.line} of the {fault.section}"
+    title = f"{name}:{key.line + 1 if key else 1}: line {fault.line} of the {fault.section}"
     return [*caret_at(line, Span(0, column, width), title), said]
 
 
@@ -170,10 +186,19 @@ def text_advice(fault: Fault, words: list[texts.Word]) -> str:
     if fault.section == "schedule" and fault.kind == "range":
         return range_advice(words[0].text, word, fault.word)
     if fault.kind == "payload" and words[fault.word - 3].text != "mdwr":
-        command = BY_WORD[words[fault.word - 3].text]
-        digits = 2 * command.payload_bytes
-        return f"{command.word} carries {digits} hexadecimal digits; here are {len(word)} signs"
-    return f"`{word}`: {MEANINGS[fault.section][fault.kind]}"
+        return payload_advice(words[fault.word - 3].text, word)
+    known = KNOWN_WORDS.get((fault.section, fault.kind))
+    near = nearest(word, known) if known else ""
+    suggested = f"; the nearest word is `{near}`" if near else ""
+    return f"`{word}`: {MEANINGS[fault.section][fault.kind]}{suggested}"
+
+
+def payload_advice(command: str, word: str) -> str:
+    """How many digits a command carries, and what the word is."""
+    digits = 2 * BY_WORD[command].payload_bytes
+    wrong = re.search("[^0-9a-fA-F]", word)
+    found = f"`{wrong[0]}` is not one" if wrong else f"this word has {len(word)}"
+    return f"{command} carries {digits} hexadecimal digits, and {found}"
 
 
 def range_advice(step: str, word: str, place: int) -> str:
@@ -189,13 +214,17 @@ def range_advice(step: str, word: str, place: int) -> str:
     return f"`{word}`: the network of the case has no such {part}"
 
 
-def advice(fault: Fault, document: dict) -> str:
+def advice(fault: Fault, document: Document) -> str:
     """What is wrong with the key, and what is allowed."""
     key = fault.path[-1] if fault.path else ""
     if fault.kind == "missing":
         return f"`{key}` is missing"
     if fault.kind == "unknown":
-        return f"`{key}` is not a key of a case here"
+        near = nearest(str(key), case.keys_at(fault.path[:-1], document))
+        suggested = f"; the nearest one is `{near}`" if near else ""
+        return f"`{key}` is not a key of a case here{suggested}"
+    if fault.section == "net":
+        return f"{MEANINGS['net'][fault.kind]}: {net_advice(fault.kind, document)}"
     if fault.kind == "range":
         return range_of_key(fault, document)
     if fault.kind == "kind":
@@ -203,7 +232,7 @@ def advice(fault: Fault, document: dict) -> str:
     return MEANINGS[fault.section][fault.kind]
 
 
-def range_of_key(fault: Fault, document: dict) -> str:
+def range_of_key(fault: Fault, document: Document) -> str:
     """What is allowed as the value of the key at fault."""
     key = fault.path[-1]
     if key == "block":
@@ -227,6 +256,6 @@ def kind_advice(fault: Fault) -> str:
     if isinstance(key, int):
         return f"{fault.path[0].removesuffix('s')} {key} is not a table"
     numbers = [*case.CUBE_RANGES, "block", *case.LINK_RANGES]
-    kinds = {"a": str, "b": str, **dict.fromkeys(numbers, int), **case.TOP_KEYS}
+    kinds: dict[str, type] = {"a": str, "b": str, **dict.fromkeys(numbers, int), **case.TOP_KEYS}
     names = {int: "an integer", str: "a string", list: "an array of tables"}
     return f"`{key}` is {names[kinds[key]]}"

@@ -5,6 +5,8 @@ from __future__ import annotations
 import re
 from dataclasses import dataclass
 
+from tool.case import Path
+
 MULTI_LINE = ("'''", '"""')
 KEY = re.compile(r"""("[^"\n]*"|'[^'\n]*'|[^=\n])+=""")
 HEADER = re.compile(r"\[\[?([^\]\n]*)\]\]?")
@@ -28,26 +30,26 @@ class Places:
 
     def __init__(self, text: str):
         self.text = text.replace("\r\n", "\n").removeprefix("\ufeff")
-        self.keys: dict[tuple, Span] = {}
-        self.values: dict[tuple, Span] = {}
-        self.starts: dict[tuple, int] = {}
+        self.keys: dict[Path, Span] = {}
+        self.values: dict[Path, Span] = {}
+        self.starts: dict[Path, int] = {}
         self._counts: dict[str, int] = {}
-        self._table: tuple = ()
+        self._table: Path = ()
         self._scan()
 
     def lines(self) -> list[str]:
         """The lines of the text."""
         return self.text.split("\n")
 
-    def key(self, path: tuple) -> Span | None:
+    def key(self, path: Path) -> Span | None:
         """The place of the key or header that a path names, or of what encloses it."""
         return self._nearest(self.keys, path)
 
-    def value(self, path: tuple) -> Span | None:
+    def value(self, path: Path) -> Span | None:
         """The place of the value that a path names, or of what encloses it."""
         return self._nearest({**self.keys, **self.values}, path)
 
-    def in_string(self, path: tuple, line: int, column: int, width: int) -> Span | None:
+    def in_string(self, path: Path, line: int, column: int, width: int) -> Span | None:
         """The place of a part of a string: its line, from 1, its column, from 0, and its width.
 
         It is None where the string is on one line of the document or has escapes, so that its
@@ -57,7 +59,7 @@ class Places:
         if start is None or not self.text.startswith(MULTI_LINE, start):
             return None
         found = STRING.match(self.text, start)
-        if self.text[start] == '"' and "\\" in found.group():
+        if found and self.text[start] == '"' and "\\" in found.group():
             return None
         start += 4 if self.text.startswith("\n", start + 3) else 3
         first = self._span(start, 1)
@@ -65,7 +67,7 @@ class Places:
         return Span(first.line + line - 1, column, width)
 
     @staticmethod
-    def _nearest(places: dict[tuple, Span], path: tuple) -> Span | None:
+    def _nearest(places: dict[Path, Span], path: Path) -> Span | None:
         while path and path not in places:
             path = path[:-1]
         return places.get(path)
@@ -97,6 +99,8 @@ class Places:
 
     def _header(self, at: int) -> int:
         found = HEADER.match(self.text, at)
+        if not found:
+            return self._line_end(at)
         name = found.group(1).strip().strip("\"'")
         self._table = (name,)
         if found.group().startswith("[["):

@@ -1,189 +1,251 @@
-"""Reads the lines of reports. The fields have the names of docs/grammar-report.md."""
+"""Reads the lines of reports.
+
+A line is read by one pattern, which is put together from those of its words. Equal lines share one
+record: most lines of a report come again and again.
+"""
 
 from __future__ import annotations
 
 import re
 from collections.abc import Callable, Iterable, Iterator
+from typing import Any, NamedTuple
 
 from tool.commands import BY_WORD, REQUEST
+from tool.lines import (
+    REGISTERS,
+    Answer,
+    Bad,
+    Counters,
+    Cube,
+    Discarded,
+    Dropped,
+    Entry,
+    Executed,
+    Gave,
+    Host,
+    Idle,
+    Landed,
+    Lifted,
+    Line,
+    Memory,
+    Passed,
+    Register,
+    Request,
+    Retired,
+    Sent,
+    Shifted,
+    Spread,
+    State,
+    Through,
+    Tokens,
+    Took,
+    Unlocked,
+)
 
 # The first words of the lines that end a report.
 FINAL = ("memory", "register", "tokens", "counters", "host", "cube", "state")
+# So many lines are remembered at most.
+MOST_KNOWN = 50_000
 
 
 class NotALine(ValueError):
-    """A line that no report has."""
+    """A line that no report has, or that this report cannot have."""
 
 
-class Words:
-    """The words of a line that are not read yet."""
+class Words(NamedTuple):
+    """The words of a field: their pattern, what they are, and their value."""
 
-    def __init__(self, line: str):
-        self._words = line.split(" ")
-        self._at = 0
-
-    def next(self) -> str:
-        """The next word."""
-        if self._at == len(self._words):
-            raise NotALine("a word is missing")
-        self._at += 1
-        return self._words[self._at - 1]
-
-    def left(self) -> int:
-        """How many words are left."""
-        return len(self._words) - self._at
-
-    def is_next(self, word: str) -> bool:
-        """Whether the next word is this one."""
-        return self.left() > 0 and self._words[self._at] == word
+    pattern: str
+    what: str
+    convert: Callable[[str], Any] = str
 
 
-Reader = Callable[[Words], object]
+def _hexadecimal(text: str) -> int:
+    return int(text, 16)
 
 
-def word_like(pattern: str, convert: Callable[[str], object] = str) -> Reader:
-    """Reads a word that the pattern fits, and converts it."""
-    compiled = re.compile(pattern)
+_NUMBER = "(?:0|[1-9][0-9]*)"
+_REQUEST = rf"(?:poison )?[a-z0-9]+ {_NUMBER} 0x(?:0|[1-9a-f][0-9a-f]*)(?: [0-9a-f]+)?"
+_BYTES = "(?:[0-9a-f]{2})+"
+_ANSWER = (
+    f"(?:silent|done [01]|read [01] {_BYTES}|register [0-9a-f]{{8}}|stored|error {_NUMBER})(?![^ ])"
+)
 
-    def read(words: Words) -> object:
-        word = words.next()
-        if not compiled.fullmatch(word):
-            raise NotALine(f"`{word}` is not what is due there")
-        return convert(word)
-
-    return read
-
-
-number = word_like("[0-9]+", int)
-address = word_like("0x(0|[1-9a-f][0-9a-f]*)", lambda word: int(word, 16))
-eight_digits = word_like("[0-9a-f]{8}", lambda word: int(word, 16))
-flit = word_like("[0-9a-f]{32}")
-some_bytes = word_like("([0-9a-f]{2})+")
-flag = word_like("[01]", lambda word: word == "1")
-tag = word_like("[0-9]+|-", lambda word: None if word == "-" else int(word))
-what = word_like("train|clear|start|null|pret|tret|new|again")
-port = word_like("p[0-3]", lambda word: int(word[1:]))
-to = word_like("v[0-9]+|r|p[0-3]")
-place = word_like("[0-9]+|r", lambda word: word if word == "r" else int(word))
-state = word_like("drained|busy")
-cause = word_like("ended|fence|tags|full|empty|starved|nopacket|busy")
-outcome_word = word_like("quiet|trained|gathered|accepted|poisoned|repeat|aborted|ran")
-OUTCOME_DETAILS = {
-    "aborted": word_like("length|command|reserved|crc|order"),
-    "ran": word_like("start|clear"),
-}
+NUMBER = Words(_NUMBER, "a number", int)
+TAG = Words(f"{_NUMBER}|-", "a tag or `-`", lambda word: None if word == "-" else int(word))
+FLIT = Words("[0-9a-f]{32}", "a flit of 32 digits")
+BYTES = Words(_BYTES, "bytes of two digits each")
+ADDRESS = Words("0x(?:0|[1-9a-f][0-9a-f]*)", "an address, as 0x40", _hexadecimal)
+VALUE = Words("[0-9a-f]{8}", "a value of eight digits", _hexadecimal)
+WHAT = Words("train|clear|start|null|pret|tret|new|again", "a kind of flit, as new or null")
+OUTCOME = Words(
+    "quiet|trained|gathered|accepted|poisoned|repeat|ran (?:start|clear)"
+    "|aborted (?:length|command|reserved|crc|order)",
+    "an outcome, as gathered or accepted",
+)
+GOAL = Words(f"v{_NUMBER}|r|p[0-3]", "a vault, registers or a port, as v0, r or p1")
+PLACE = Words(
+    f"{_NUMBER}|r", "a vault, or r", lambda word: word if word == REGISTERS else int(word)
+)
+PORT = Words("p[0-3]", "a port, as p0", lambda word: int(word[1:]))
+UNIT = Words(f"{_NUMBER} {_NUMBER}|r", "a vault and a bank, or r")
+STEP = Words("[a-z]+(?: [0-9a-z]+)*", "a step")
+CAUSE = Words("ended|fence|tags|full|empty|starved|nopacket|busy", "a cause, as empty or full")
+STATE = Words("drained|busy", "drained or busy")
+WORD = Words("[a-z]+", "a word")
 
 
-def outcome(words: Words) -> str:
-    """The outcome of a landing, of one word or two."""
-    first = outcome_word(words)
-    return f"{first} {OUTCOME_DETAILS[first](words)}" if first in OUTCOME_DETAILS else first
-
-
-def request(words: Words) -> dict:
-    """A request as a script prints it, without its host."""
-    is_poisoned = words.is_next("poison") and bool(words.next())
-    command = BY_WORD.get(words.next())
+def request_of(text: str) -> Request:
+    """A request in the words of a report."""
+    words = text.split(" ")
+    is_poisoned = words[0] == "poison"
+    word, cube, address, *rest = words[is_poisoned:]
+    command = BY_WORD.get(word)
     if command is None or command.family != REQUEST:
-        raise NotALine("there is no such request")
-    read = {"poisoned": is_poisoned, "command": command.word, "cube": number(words)}
-    read["address"] = address(words)
-    if command.word == "mdwr":
-        return {**read, "value": number(words)}
-    return {**read, "bytes": some_bytes(words)} if command.payload_bytes else read
+        raise NotALine(f"unexpected `{word}`: the word of a request is expected")
+    front = (is_poisoned, word, int(cube), int(address, 16))
+    if word == "mdwr":
+        if not rest or not rest[0].isdigit():
+            raise NotALine("the value of a register is expected after mdwr")
+        return Request(*front, value=int(rest[0]))
+    carried = rest[0] if rest else ""
+    if len(carried) != 2 * command.payload_bytes:
+        digits = 2 * command.payload_bytes
+        raise NotALine(f"{word} carries {digits} digits, and here are {len(carried)}")
+    return Request(*front, bytes=carried or None)
 
 
-ANSWERS: dict[str, dict[str, Reader]] = {
-    "silent": {},
-    "done": {"flag": flag},
-    "read": {"flag": flag, "bytes": some_bytes},
-    "register": {"value": eight_digits},
-    "stored": {},
-    "error": {"error": number},
+def answer_of(text: str) -> Answer:
+    """An answer in the words of a report."""
+    kind, *words = text.split(" ")
+    if kind == "done":
+        return Answer(kind, flag=words[0] == "1")
+    if kind == "read":
+        return Answer(kind, flag=words[0] == "1", bytes=words[1])
+    if kind == "register":
+        return Answer(kind, value=int(words[0], 16))
+    return Answer(kind, error=int(words[0])) if kind == "error" else Answer(kind)
+
+
+def _executed(cube: int, unit: str, *rest: Any) -> Executed:
+    """The record of `executed`, which has a bank only where a vault executed the request."""
+    if unit == REGISTERS:
+        return Executed(cube, unit, None, *rest)
+    vault, bank = unit.split(" ")
+    return Executed(cube, int(vault), int(bank), *rest)
+
+
+REQUESTED = Words(_REQUEST, "a request", request_of)
+ANSWERED = Words(_ANSWER, "an answer", answer_of)
+
+# The words of each line after its first one.
+LINES: dict[str, tuple[Callable[..., Line], tuple[Words, ...]]] = {
+    "gave": (Gave, (NUMBER, TAG, REQUESTED)),
+    "sent": (Sent, (NUMBER, WHAT, FLIT)),
+    "landed": (Landed, (NUMBER, FLIT, OUTCOME)),
+    "passed": (Passed, (NUMBER, FLIT)),
+    "shifted": (Shifted, (NUMBER, NUMBER, GOAL)),
+    "dropped": (Dropped, (NUMBER, NUMBER)),
+    "spread": (Spread, (NUMBER, NUMBER, NUMBER)),
+    "executed": (_executed, (NUMBER, UNIT, NUMBER, TAG, REQUESTED, ANSWERED)),
+    "lifted": (Lifted, (NUMBER, PLACE, PORT)),
+    "took": (Took, (NUMBER, NUMBER, ANSWERED)),
+    "discarded": (Discarded, (NUMBER,)),
+    "through": (Through, (NUMBER, NUMBER, NUMBER)),
+    "unlocked": (Unlocked, (NUMBER,)),
+    "retired": (Retired, (NUMBER,)),
+    "idle": (Idle, (STEP, CAUSE)),
+    "memory": (Memory, (NUMBER, ADDRESS, BYTES)),
+    "register": (Register, (NUMBER, NUMBER, VALUE)),
+    "tokens": (Tokens, (NUMBER,) * 7),
+    "counters": (Counters, (NUMBER,) * 7),
+    "host": (Host, (NUMBER,) * 4),
+    "cube": (Cube, (NUMBER,) * 3),
+    "state": (State, (STATE,)),
+    "bad": (Bad, (WORD, NUMBER, WORD)),
+}
+_PATTERNS = {
+    first: re.compile("".join([first, *(f" ({words.pattern})" for words in form)]))
+    for first, (_, form) in LINES.items()
 }
 
 
-def answer(words: Words) -> dict:
-    """An answer."""
-    kind = words.next()
-    if kind not in ANSWERS:
-        raise NotALine(f"`{kind}` is no answer")
-    return {"kind": kind, **{name: read(words) for name, read in ANSWERS[kind].items()}}
-
-
-def step(words: Words) -> str:
-    """The words of a step, all but the last word of the line."""
-    taken = [words.next()]
-    while words.left() > 1:
-        taken.append(words.next())
-    return " ".join(taken)
-
-
-_TOKENS = ("held", "transit", "used", "due", "returning", "advertised")
-_COUNTERS = ("sent", "landed", "changed", "accepted", "repeats", "aborts")
-
-# The fields of each line, by its first word.
-LINES: dict[str, dict[str, Reader]] = {
-    "gave": {"host": number, "tag": tag, "request": request},
-    "sent": {"direction": number, "what": what, "flit": flit},
-    "landed": {"direction": number, "flit": flit, "outcome": outcome},
-    "passed": {"direction": number, "flit": flit},
-    "shifted": {"cube": number, "port": number, "to": to},
-    "dropped": {"cube": number, "port": number},
-    "spread": {"cube": number, "vault": number, "bank": number},
-    "lifted": {"cube": number, "from": place, "port": port},
-    "took": {"host": number, "tag": tag, "answer": answer},
-    "discarded": {"host": number},
-    "through": {"cube": number, "port": number, "direction": number},
-    "unlocked": {"direction": number},
-    "retired": {"slot": number},
-    "idle": {"step": step, "cause": cause},
-    "memory": {"cube": number, "address": address, "bytes": some_bytes},
-    "register": {"cube": number, "register": number, "value": eight_digits},
-    "tokens": {"direction": number, **dict.fromkeys(_TOKENS, number)},
-    "counters": {"direction": number, **dict.fromkeys(_COUNTERS, number)},
-    "host": dict.fromkeys(("host", "given", "taken", "out"), number),
-    "cube": dict.fromkeys(("cube", "executed", "dropped"), number),
-    "state": {"state": state},
-    "bad": {"section": word_like("[a-z]+"), "number": number, "kind": word_like("[a-z]+")},
-}
-
-
-def executed(words: Words) -> dict:
-    """The fields of `executed`, which has a bank only where a vault executed the request."""
-    read: dict = {"cube": number(words), "vault": place(words)}
-    if read["vault"] != "r":
-        read["bank"] = number(words)
-    read.update(host=number(words), tag=tag(words), request=request(words))
-    return {**read, "answer": answer(words)}
-
-
-def read_line(line: str) -> dict:
-    """The fields of a line; the field `line` is its first word."""
-    words = Words(line)
-    first = words.next()
-    if first == "executed":
-        fields = executed(words)
-    elif first in LINES:
-        fields = {name: read(words) for name, read in LINES[first].items()}
-    else:
+def read_line(text: str) -> Line:
+    """The record of a line, which has no line feed."""
+    first = text.partition(" ")[0]
+    pattern = _PATTERNS.get(first)
+    if pattern is None:
         raise NotALine(f"no line begins with `{first}`")
-    if words.left():
-        raise NotALine("words are left over")
-    return {"line": first, **fields}
+    found = pattern.fullmatch(text)
+    make, form = LINES[first]
+    if found is None:
+        raise NotALine(_fault_of(text[len(first) :], form))
+    return make(*[words.convert(it) for words, it in zip(form, found.groups())])
+
+
+def _fault_of(text: str, form: tuple[Words, ...]) -> str:
+    """What is wrong with the words of a line after its first one."""
+    at = 0
+    for words in form:
+        found = re.compile(f" (?:{words.pattern})(?= |$)").match(text, at)
+        if found is None:
+            word = text[at:].removeprefix(" ").partition(" ")[0]
+            if not word:
+                return f"a word is missing: {words.what} is expected"
+            return f"unexpected `{word}`: {words.what} is expected"
+        at = found.end()
+    return f"unexpected `{text[at:].strip()}`: the line ends before it"
+
+
+class Reader:
+    """Reads the lines of one report, in order."""
+
+    def __init__(self) -> None:
+        self._known: dict[str, Line] = {}
+        self._last: Line | None = None
+
+    def read(self, text: str) -> Line:
+        """The record of the next line, with or without its line feed."""
+        line = self._known.get(text)
+        if line is None:
+            line = read_line(text.removesuffix("\n"))
+            if len(self._known) >= MOST_KNOWN:
+                self._known.clear()
+            self._known[text] = line
+        return line
+
+    def numbered(self, lines: Iterable[str]) -> Iterator[tuple[int, Line, str]]:
+        """Yields the number of each line, from 1, its record, and its text.
+
+        The number of an entry is that of its step.
+        """
+        number, is_over, known = 0, "", self._known
+        for text in lines:
+            number += 1
+            line = known.get(text)
+            if line is None:
+                try:
+                    line = self.read(text)
+                except NotALine as error:
+                    said = f"line {number} is not a line of a report: {error}"
+                    raise NotALine(said) from error
+            if is_over:
+                _check_order(number, line, is_over)
+            if not isinstance(line, Entry) or line.line == "passed":
+                is_over = line.line
+            yield number, line, text
+
+
+def _check_order(number: int, line: Line, before: str) -> None:
+    """Refuses a line that cannot come after a final line, `passed`, or `bad`."""
+    if before in ("passed", "bad"):
+        raise NotALine(f"line {number}: `{before}` is the last line of a report")
+    if line.line not in FINAL or FINAL.index(line.line) < FINAL.index(before):
+        raise NotALine(f"line {number}: `{line.line}` cannot come after a final line `{before}`")
+    if line.line == before == "state":
+        raise NotALine(f"line {number}: `state` is the last line of a report")
 
 
 def is_final(line: str) -> bool:
     """Whether the line is one of those that end a report."""
     return line.split(" ", 1)[0] in FINAL
-
-
-def read_report(lines: Iterable[str]) -> Iterator[dict]:
-    """Yields the fields of each line of a report. An entry has its number, from 1."""
-    for place_in_file, line in enumerate(lines, start=1):
-        try:
-            fields = read_line(line.rstrip("\n"))
-        except NotALine as error:
-            raise NotALine(f"line {place_in_file} is not a line of a report: {error}") from error
-        is_entry = fields["line"] not in (*FINAL, "bad")
-        yield {"entry": place_in_file, **fields} if is_entry else fields

@@ -1,13 +1,17 @@
-"""The first fault of a schedule, by the rules of docs/schedule.md."""
+"""The first fault of a schedule, and its steps, by the rules of docs/schedule.md."""
 
 from __future__ import annotations
 
 import re
+from collections.abc import Iterator, Sequence
+from itertools import chain, repeat
 
 from tool import texts
 from tool.texts import Plan, TextFault
 
 LineFault = tuple[str, int]
+# A step, its words without a mask, and the mask; it is empty where no bit is inverted.
+Step = tuple[str, str]
 MASK = re.compile(r"[0-9a-fA-F]{32}")
 
 # The words after each first word. `place` is the number of a vault, or `r`.
@@ -31,23 +35,28 @@ STEPS = {
 
 def first_fault(text: str, plan: Plan) -> TextFault | None:
     """The first fault of the schedule, read for the network of the plan."""
+    return next(faults(text, plan), None)
+
+
+def faults(text: str, plan: Plan) -> Iterator[TextFault]:
+    """Yields the first fault of each line. There are too many steps only from one line on."""
     steps = 0
     for number, line in enumerate(texts.lines_of(text), start=1):
-        words = [word.text for word in texts.words_of(line)]
+        words = texts.plain_words_of(line)
         fault = line_fault(words, plan) if words else None
         if fault:
-            return TextFault(number, *fault)
-        steps += steps_of(words, plan) if words else 0
-        if steps > texts.MOST_STEPS:
-            return TextFault(number, "steps", 0)
-    return None
+            yield TextFault(number, *fault)
+        elif words:
+            before, steps = steps, steps + steps_of(words, plan)
+            if before <= texts.MOST_STEPS < steps:
+                yield TextFault(number, "steps", 0)
 
 
 def steps_of(words: list[str], plan: Plan) -> int:
     """The steps of a line without faults."""
     if words[0] == "noise":
         return 0
-    return texts.number_of(words[1]) * plan.round_steps if words[0] == "round" else 1
+    return texts.value_of(words[1]) * plan.round_steps if words[0] == "round" else 1
 
 
 def line_fault(words: list[str], plan: Plan) -> LineFault | None:
@@ -65,7 +74,9 @@ def line_fault(words: list[str], plan: Plan) -> LineFault | None:
     return rest_fault(words, 1 + len(operands))
 
 
-def operand_fault(words, at: int, operand: str, numbers: list[int], plan: Plan) -> str | None:
+def operand_fault(
+    words: list[str], at: int, operand: str, numbers: list[int], plan: Plan
+) -> str | None:
     """The fault of one word, if it has one; else its number is added to those before it."""
     if at == len(words):
         return "words"
@@ -103,3 +114,72 @@ def rest_fault(words: list[str], at: int) -> LineFault | None:
             return "mask", at
         at += 1
     return ("words", at) if at < len(words) else None
+
+
+def round_of(plan: Plan) -> list[str]:
+    """The steps of a round."""
+    cubes = list(enumerate(plan.cubes))
+    hosts, directions = range(plan.hosts), range(plan.directions)
+    steps = [f"give {host}" for host in hosts]
+    steps += [f"send {direction}" for direction in directions]
+    steps += [f"land {direction}" for direction in directions]
+    steps += [f"shift {number} {port}" for number, cube in cubes for port in cube.joined]
+    steps += [f"spread {number} {vault}" for number, cube in cubes for vault in range(cube.vaults)]
+    for number, cube in cubes:
+        places = ((vault, bank) for vault in range(cube.vaults) for bank in range(cube.banks))
+        steps += [f"bank {number} {vault} {bank}" for vault, bank in places]
+    steps += [f"registers {number}" for number, _ in cubes]
+    for number, cube in cubes:
+        steps += [f"lift {number} {vault}" for vault in (*range(cube.vaults), "r")]
+    return steps + [f"take {host}" for host in hosts]
+
+
+def steps_in(text: str, plan: Plan) -> Iterator[Step]:
+    """Yields each step of a schedule without faults, those of rounds one by one."""
+    return chain.from_iterable(_pieces(text, plan))
+
+
+def _pieces(text: str, plan: Plan) -> Iterator[Sequence[Step] | Iterator[Step]]:
+    """Yields the steps of each line."""
+    one_round = [(step, "") for step in round_of(plan)]
+    noise = Noise(0, "")
+    for line in texts.lines_of(text):
+        words = texts.plain_words_of(line)
+        if not words:
+            continue
+        if words[0] == "noise":
+            is_off = words[1] == "off"
+            noise = Noise(0, "") if is_off else Noise(texts.value_of(words[1]), words[2].lower())
+        elif words[0] != "round":
+            yield [_single(words)]
+        elif noise.every:
+            yield chain.from_iterable(map(noise.over, repeat(one_round, texts.value_of(words[1]))))
+        else:
+            yield chain.from_iterable(repeat(one_round, texts.value_of(words[1])))
+
+
+class Noise:
+    """The masks of landings that rounds make: each so many a one has the mask."""
+
+    def __init__(self, every: int, mask: str):
+        self.every = every
+        self._mask = mask
+        self._count = 0
+
+    def over(self, steps: Sequence[Step]) -> Sequence[Step]:
+        """The steps of a round with their masks."""
+        places = [place for place, (step, _) in enumerate(steps) if step.startswith("land ")]
+        before, self._count = self._count, self._count + len(places)
+        first = self.every - before % self.every
+        masked = list(steps)
+        for place in places[first - 1 :: self.every]:
+            masked[place] = (steps[place][0], self._mask)
+        return masked
+
+
+def _single(words: list[str]) -> Step:
+    """The step of a line that is no round."""
+    operands = len(STEPS[words[0]])
+    named = words[1 : 1 + operands]
+    numbers = [word if word == "r" else str(texts.value_of(word)) for word in named]
+    return " ".join([words[0], *numbers]), "".join(words[1 + operands :]).lower()

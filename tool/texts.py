@@ -77,11 +77,24 @@ def words_of(line: str) -> list[Word]:
     return [] if words and words[0].text.startswith("#") else words
 
 
+def plain_words_of(line: str) -> list[str]:
+    """The words of a line without their places. A comment has none."""
+    words = WORD.findall(line)
+    return [] if words and words[0].startswith("#") else words
+
+
 def number_of(word: str) -> int | None:
     """The number that a word is, or None."""
     if not NUMBER.fullmatch(word):
         return None
     return int(word[2:], 16) if word.startswith("0x") else int(word)
+
+
+def value_of(word: str) -> int:
+    """The number that a word is, which has been read without a fault."""
+    number = number_of(word)
+    assert number is not None
+    return number
 
 
 def is_below(word: str, bound: int) -> bool:

@@ -10,11 +10,14 @@ accepted while it goes on uses no room.
 from __future__ import annotations
 
 from collections import deque
+from collections.abc import Callable
 from typing import NamedTuple
 
-from tool import packets, report
-from tool.case import Endpoint, ends_of
+from tool import packets
+from tool.case import Document, Endpoint, ends_of
 from tool.gathering import Gathering
+from tool.lines import Discarded, Dropped, Landed, Line, Sent, Shifted, Through, Took, Unlocked
+from tool.report import NotALine
 
 # Where a token is, in the order of a line `tokens`.
 PLACES = ("held", "transit", "used", "due", "returning")
@@ -36,38 +39,45 @@ def returned_of(due: int) -> int:
 class Tokens:
     """The tokens of each direction after some entries, by their places."""
 
-    def __init__(self, document: dict):
+    def __init__(self, document: Document):
         self.counts: list[dict[str, int]] = []
-        self._at: dict[Endpoint, int] = {}
+        at: dict[Endpoint, int] = {}
         for link in document["links"]:
             for receiver in reversed(ends_of(link)):
-                self._at[receiver] = len(self.counts)
+                at[receiver] = len(self.counts)
                 self.counts.append(dict.fromkeys(PLACES, 0) | {"due": link["tokens"]})
+        self._at_port = {(end.cube, end.port): it for end, it in at.items() if end.host is None}
+        self._at_host = {end.host: it for end, it in at.items() if end.host is not None}
         self._begun = [deque[Begun]() for _ in self.counts]
         self._buffers = [deque[int]() for _ in self.counts]
         # The flits still to be sent of the packet that each direction sends for the first time.
         self._left = [0] * len(self.counts)
         self._gathering = [Gathering() for _ in self.counts]
 
-    def apply(self, entry: dict) -> list[int]:
+    def apply(self, line: Line) -> list[int]:
         """Counts an entry, and returns the directions whose tokens it may have moved."""
+        move = _MOVES.get(type(line))
+        if move is None:
+            return []
         try:
-            moved = getattr(self, f"_{entry['line']}", lambda _: [])(entry)
+            moved: list[int] = move(self, line)
         except (IndexError, KeyError) as error:
-            raise report.NotALine(f"{entry['line']} does not fit this case") from error
-        if any(count < 0 for direction in moved for count in self.counts[direction].values()):
-            raise report.NotALine(f"{entry['line']} takes more tokens than there are")
+            raise NotALine(f"`{line.line}` does not fit this case") from error
+        for direction in moved:
+            if min(self.counts[direction].values()) < 0:
+                raise NotALine(f"`{line.line}` takes more tokens than there are")
         return moved
 
-    def _sent(self, entry: dict) -> list[int]:
-        direction, what = entry["direction"], entry["what"]
-        if what == "tret":
+    def sent(self, line: Sent) -> list[int]:
+        """A TRET, or the first flit of a new packet, begins it."""
+        direction = line.direction
+        if line.what == "tret":
             return self._begin(direction, 0)
-        if what != "new":
+        if line.what != "new":
             return []
         is_first = self._left[direction] == 0
         if is_first:
-            self._left[direction] = packets.length_of(bytes.fromhex(entry["flit"]))
+            self._left[direction] = packets.length_of(bytes.fromhex(line.flit))
         self._left[direction] -= 1
         return self._begin(direction, self._left[direction] + 1) if is_first else []
 
@@ -80,20 +90,22 @@ class Tokens:
         self._begun[direction].append(Begun(taken, returned))
         return [direction, direction ^ 1]
 
-    def _through(self, entry: dict) -> list[int]:
-        direction = entry["direction"]
-        source = self._at[Endpoint(None, entry["cube"], entry["port"])]
-        self._left[direction] = self._gathering[source].go_on()
-        return self._begin(direction, self._left[direction])
+    def through(self, line: Through) -> list[int]:
+        """The packet that is gathered at a port is begun on a direction."""
+        source = self._at_port[line.cube, line.port]
+        self._left[line.direction] = self._gathering[source].go_on()
+        return self._begin(line.direction, self._left[line.direction])
 
-    def _unlocked(self, entry: dict) -> list[int]:
-        self._gathering[entry["direction"]].end()
+    def unlocked(self, line: Unlocked) -> list[int]:
+        """What was gathered is dropped."""
+        self._gathering[line.direction].end()
         return []
 
-    def _landed(self, entry: dict) -> list[int]:
-        direction = entry["direction"]
-        leaves = self._gathering[direction].land(entry)
-        if entry["outcome"] not in ("accepted", "poisoned"):
+    def landed(self, line: Landed) -> list[int]:
+        """A packet that is accepted brings its tokens to the buffer, and returns others."""
+        direction = line.direction
+        leaves = self._gathering[direction].land(line)
+        if line.outcome not in ("accepted", "poisoned"):
             return []
         packet = self._begun[direction].popleft()
         move(self.counts[direction], "transit", "used", packet.taken)
@@ -104,21 +116,30 @@ class Tokens:
             self._buffers[direction].append(packet.taken)
         return [direction, direction ^ 1]
 
-    def _leave(self, receiver: Endpoint) -> list[int]:
+    def _leave(self, direction: int) -> list[int]:
         """The packet at the front of a buffer leaves it."""
-        direction = self._at[receiver]
         move(self.counts[direction], "used", "due", self._buffers[direction].popleft())
         return [direction]
 
-    def _shifted(self, entry: dict) -> list[int]:
-        return self._leave(Endpoint(None, entry["cube"], entry["port"]))
+    def shifted(self, line: Shifted | Dropped) -> list[int]:
+        """A packet leaves the buffer of a port."""
+        return self._leave(self._at_port[line.cube, line.port])
 
-    _dropped = _shifted
+    def took(self, line: Took | Discarded) -> list[int]:
+        """A packet leaves the buffer of a host."""
+        return self._leave(self._at_host[line.host])
 
-    def _took(self, entry: dict) -> list[int]:
-        return self._leave(Endpoint(entry["host"]))
 
-    _discarded = _took
+_MOVES: dict[type[Line], Callable[..., list[int]]] = {
+    Sent: Tokens.sent,
+    Landed: Tokens.landed,
+    Through: Tokens.through,
+    Unlocked: Tokens.unlocked,
+    Shifted: Tokens.shifted,
+    Dropped: Tokens.shifted,
+    Took: Tokens.took,
+    Discarded: Tokens.took,
+}
 
 
 def move(counts: dict[str, int], source: str, goal: str, tokens: int) -> None:

@@ -9,6 +9,12 @@ BAD_DATA = 65
 NO_INPUT = 66
 UNAVAILABLE = 69
 NO_OUTPUT = 73
+NO_STANDARD_OUTPUT = 74
+# A signal N ends a program with 128 + N, as a shell gives it: here those of Ctrl-C and of a pipe
+# that no one reads.
+SIGNALLED = 128
+INTERRUPTED = SIGNALLED + 2
+CLOSED_PIPE = SIGNALLED + 13
 
 
 class Trouble(Exception):
@@ -19,6 +25,35 @@ class Trouble(Exception):
         self.status = status
 
 
+class ClosedPipe(Exception):
+    """No one reads standard output any more."""
+
+
+def printable(text: str) -> str:
+    """The text with each character that a terminal does not show as its number."""
+    return "".join(it if it.isprintable() or it == "\n" else _escape(it) for it in text)
+
+
+def _escape(character: str) -> str:
+    """A character that is not shown, as Python spells it in a string."""
+    code = ord(character)
+    # A byte that is not UTF-8 is read as a lone surrogate of this range.
+    if 0xDC80 <= code <= 0xDCFF:
+        return f"\\x{code - 0xDC00:02x}"
+    return character.encode("unicode_escape").decode("ascii")
+
+
 def note(said: str) -> None:
-    """Says something on standard error."""
-    print(f"zehimbado: {said}", file=sys.stderr, flush=True)
+    """Says something on standard error, if there is one."""
+    say(f"zehimbado: {said}")
+
+
+def say(text: str) -> None:
+    """Writes a line on standard error, if it can be written."""
+    if sys.stderr is None:
+        return
+    try:
+        print(printable(text), file=sys.stderr, flush=True)
+    except OSError:
+        # There is no other place to state that.
+        return

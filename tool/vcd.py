@@ -1,4 +1,4 @@
-"""Writes value change dumps (VCD), the waves that GTKWave shows."""
+"""Writes value change dumps (VCD), the waves that GTKWave shows, and GTKWave's save files."""
 
 from __future__ import annotations
 
@@ -9,57 +9,102 @@ from dataclasses import dataclass
 SIGNS = [chr(code) for code in range(33, 127)]
 TEXT = "string"
 NUMBER = "integer"
-WIDTHS = {TEXT: 1, NUMBER: 32}
+FLIT = "flit"
+BIT = "bit"
+EVENT = "event"
+# How each kind is declared: its word in a dump, and its bits.
+DECLARED = {
+    TEXT: ("string", 1),
+    NUMBER: ("integer", 32),
+    FLIT: ("wire", 128),
+    BIT: ("wire", 1),
+    EVENT: ("event", 1),
+}
+# How GTKWave shows each kind, as the number that its save files have: as text, decimal, in
+# hexadecimal, as bits.
+SHOWN = {TEXT: "820", NUMBER: "24", FLIT: "22", BIT: "28", EVENT: "28"}
+OPENS_GROUP, CLOSES_GROUP = "@800200", "@1000200"
+Value = int | str
 
 
 @dataclass(frozen=True)
 class Signal:
-    """A signal: the scopes that it is in, its name, its kind, and its width in bits."""
+    """A signal: the scopes that it is in, its name, and its kind."""
 
     scopes: tuple[str, ...]
     name: str
     kind: str
-    width: int
+
+    @property
+    def path(self) -> str:
+        """The name with its scopes, as save files have it."""
+        width = DECLARED[self.kind][1]
+        bits = f"[{width - 1}:0]" if self.kind in (NUMBER, FLIT) else ""
+        return ".".join([*self.scopes, self.name]) + bits
 
 
 class Dump:
     """A dump: signals first, and then their changes."""
 
-    def __init__(self):
-        self._signals: list[Signal] = []
-        self._values: list[str] = []
+    def __init__(self) -> None:
+        self.signals: list[Signal] = []
+        self._kinds: list[str] = []
+        self._marks: list[str] = []
+        self._values: list[Value | None] = []
 
     def add(self, scopes: tuple[str, ...], name: str, kind: str = NUMBER) -> int:
         """Adds a signal, and returns its number."""
-        self._signals.append(Signal(scopes, name, kind, WIDTHS[kind]))
-        self._values.append("")
-        return len(self._signals) - 1
+        number = len(self.signals)
+        self.signals.append(Signal(scopes, name, kind))
+        self._kinds.append(kind)
+        self._marks.append(_identifier(number))
+        self._values.append(None)
+        return number
+
+    def mark(self, number: int) -> str:
+        """The identifier of a signal, for changes that are not compared."""
+        return self._marks[number]
 
     def head(self) -> Iterator[str]:
         """Yields the lines before the first change."""
         yield "$comment one time unit is one step of the schedule $end"
         yield "$timescale 1 ns $end"
         open_scopes: tuple[str, ...] = ()
-        order = sorted(range(len(self._signals)), key=lambda n: self._signals[n].scopes)
+        order = sorted(range(len(self.signals)), key=lambda number: self.signals[number].scopes)
         for number in order:
-            signal = self._signals[number]
+            signal = self.signals[number]
             yield from _scope_lines(open_scopes, signal.scopes)
             open_scopes = signal.scopes
-            mark = _identifier(number)
-            yield f"$var {signal.kind} {signal.width} {mark} {signal.name} $end"
+            word, width = DECLARED[signal.kind]
+            bits = f" [{width - 1}:0]" if signal.kind in (NUMBER, FLIT) else ""
+            yield f"$var {word} {width} {self._marks[number]} {signal.name}{bits} $end"
         yield from _scope_lines(open_scopes, ())
         yield "$enddefinitions $end"
 
-    def change(self, number: int, value: int | str) -> str | None:
-        """The line of a change, or None where the signal has the value already."""
-        if self._signals[number].kind == TEXT:
-            line = f"s{value} {_identifier(number)}"
+    def change(self, number: int, value: Value, lines: list[str]) -> None:
+        """Adds the line of a change, where the signal does not have the value already."""
+        if self._values[number] == value:
+            return
+        self._values[number] = value
+        kind, mark = self._kinds[number], self._marks[number]
+        if kind == NUMBER:
+            lines.append(f"b{value:b} {mark}")
+        elif kind == TEXT:
+            lines.append(f"s{value} {mark}")
         else:
-            line = f"b{value:b} {_identifier(number)}"
-        if self._values[number] == line:
-            return None
-        self._values[number] = line
-        return line
+            lines.append(f"{value}{mark}")
+
+
+def save_lines(dump: str, groups: dict[str, list[Signal]]) -> Iterator[str]:
+    """Yields the lines of a save file of GTKWave, with the signals in groups."""
+    yield "[*] Open it together with its dump: gtkwave --save=THIS DUMP"
+    yield f'[dumpfile] "{dump}"'
+    yield "[timestart] 0"
+    for name, signals in groups.items():
+        yield from (OPENS_GROUP, f"-{name}")
+        for signal in signals:
+            yield from (f"@{SHOWN[signal.kind]}", signal.path)
+        yield from (CLOSES_GROUP, f"-{name}")
 
 
 def _identifier(number: int) -> str:

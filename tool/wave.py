@@ -1,186 +1,107 @@
-"""The waves of a report: what crosses each direction, how much each queue holds, and its tokens.
+"""The waves of a report: what crosses each direction, how much each queue holds, its tokens, and
+what each host has asked and was answered.
 
-The report alone is counted; the case gives the names and the number of directions and queues. An
-entry changes at most two queues: a packet leaves one and enters another. What a receiver waits for
-follows from its outcomes, and where tokens are from what is begun, accepted and moved on.
+The report alone is counted; the case gives the names and the number of parts. What a receiver waits
+for follows from its outcomes, and where tokens are from what is begun, accepted and moved on.
 """
 
 from __future__ import annotations
 
 from collections.abc import Iterable, Iterator
 
-from tool import packets, report
-from tool.case import Endpoint, ends_of
-from tool.gathering import Gathering
+from tool.case import Document, plan_of
+from tool.fit import Numbered
+from tool.queues import Queue, Queues, queues_of
+from tool.lines import Entry, Gave, Idle, Landed, Line, Passed, Sent, Took, Unlocked
+from tool.report import NotALine
 from tool.tokens import PLACES, Tokens
-from tool.vcd import TEXT, Dump
+from tool.vcd import BIT, EVENT, FLIT, NUMBER, TEXT, Dump, Signal
 
 TOP = "network"
-# A queue, by a word and numbers, as ("bank", 0, 1, 0).
-Queue = tuple
 NOTHING = "-"
+NULL = "0" * 32
 # What a receiver waits for at first, and after these outcomes; after others it stays.
 FIRST_MODE = "train"
 MODES = {"trained": "abort", "aborted": "abort", "ran clear": "good"}
+# Outcomes after which a receiver waits for the same.
+UNCHANGED = ("quiet", "gathered", "accepted")
+# What is sent only where a link goes back.
+RETRIES = ("start", "clear", "again")
+LANDINGS = (Landed, Passed, Unlocked)
+HOST_SIGNALS = ("given", "taken", "tags_out")
+AT_ONCE = 4096
 
 
-def ends_by_direction(document: dict) -> list[tuple[Endpoint, Endpoint]]:
-    """The sending and the receiving end of each direction."""
-    pairs = []
-    for link in document["links"]:
-        a, b = ends_of(link)
-        pairs += [(a, b), (b, a)]
-    return pairs
+def mode_after(mode: str, line: Line) -> str:
+    """What the receiver of a line's direction waits for after it: train, abort or good."""
+    if isinstance(line, Unlocked):
+        return mode if mode == FIRST_MODE else "abort"
+    if not isinstance(line, Landed):
+        return mode
+    outcome = "aborted" if line.outcome.startswith("aborted") else line.outcome
+    return MODES.get(outcome, mode)
 
 
-def queues_of(document: dict) -> Iterator[tuple[Queue, tuple[str, ...], str]]:
-    """Yields each queue of the network, the scopes that it is in, and its name."""
-    for direction, (sender, receiver) in enumerate(ends_by_direction(document)):
-        yield ("line", direction), (f"direction{direction}",), "line_flits"
-        yield ("output", sender), (f"direction{direction}",), "output_packets"
-        yield ("buffer", receiver), (f"direction{direction}",), "buffer_packets"
-    for number, cube in enumerate(document["cubes"]):
-        scope = f"cube{number}"
-        yield ("registers", number), (scope,), "registers"
-        yield ("answers", number, "r"), (scope,), "registers_answers"
-        for vault in range(1 << cube["vault_bits"]):
-            inner = (scope, f"vault{vault}")
-            yield ("vault", number, vault), inner, "queue"
-            yield ("answers", number, vault), inner, "answers"
-            for bank in range(1 << cube["bank_bits"]):
-                yield ("bank", number, vault, bank), inner, f"bank{bank}"
+class Side:
+    """The signals of what a direction sends, or of what lands at its end."""
 
+    def __init__(self, dump: Dump, direction: int, word: str):
+        scopes = (TOP, f"direction{direction}")
+        self._kind = dump.mark(dump.add(scopes, word, TEXT))
+        self._flit = dump.mark(dump.add(scopes, f"{word}_flit", TEXT))
+        self._bits = dump.mark(dump.add(scopes, f"{word}_bits", FLIT))
+        # The lines after which nothing is sent, or nothing lands.
+        self.quiet = f"s{NOTHING} {self._kind}\ns{NOTHING} {self._flit}\nbz {self._bits}"
 
-def mode_after(mode: str, entry: dict) -> str:
-    """What the receiver of an entry's direction waits for after it: train, abort or good."""
-    if entry["line"] == "unlocked":
-        return mode if mode == "train" else "abort"
-    outcome = entry.get("outcome", "")
-    return MODES.get("aborted" if outcome.startswith("aborted") else outcome, mode)
+    def lines(self, kind: str, flit: str) -> str:
+        """The lines of a flit of this kind. They always change, so they are not compared."""
+        bits = "0" if flit == NULL else f"{int(flit, 16):b}"
+        return f"s{kind} {self._kind}\ns{flit} {self._flit}\nb{bits} {self._bits}"
 
-
-class Queues:
-    """How much each queue holds, and how far the packet is that crosses each direction."""
-
-    def __init__(self, document: dict):
-        self.ends = ends_by_direction(document)
-        self.held: dict[Queue, int] = {queue: 0 for queue, _, _ in queues_of(document)}
-        self._left = [0] * len(self.ends)
-        self._gathering = [Gathering() for _ in self.ends]
-        self._direction_to = {end: number for number, (_, end) in enumerate(self.ends)}
-
-    def apply(self, entry: dict) -> list[Queue]:
-        """Counts an entry, and returns the queues that it changed."""
-        moves = getattr(self, f"_{entry['line']}", lambda _: [])(entry)
-        for queue, by in moves:
-            if queue not in self.held or self.held[queue] + by < 0:
-                raise report.NotALine(f"{entry['line']} does not fit this case")
-            self.held[queue] += by
-        return [queue for queue, _ in moves]
-
-    def _gave(self, entry: dict) -> list:
-        return [(("output", Endpoint(entry["host"])), 1)]
-
-    def _sent(self, entry: dict) -> list:
-        direction = entry["direction"]
-        moves = [(("line", direction), 1)]
-        if entry["what"] != "new":
-            return moves
-        if self._left[direction] == 0:
-            self._left[direction] = packets.length_of(bytes.fromhex(entry["flit"]))
-            moves.append((("output", self.ends[direction][0]), -1))
-        self._left[direction] -= 1
-        return moves
-
-    def _landed(self, entry: dict) -> list:
-        direction, outcome = entry["direction"], entry["outcome"]
-        moves = [(("line", direction), -1)]
-        is_stored = outcome in ("accepted", "poisoned") and not self._is_tret(entry)
-        if not self._gathering[direction].land(entry) and is_stored:
-            moves.append((("buffer", self.ends[direction][1]), 1))
-        return moves
-
-    def _is_tret(self, entry: dict) -> bool:
-        """Whether the flit that landed is a TRET, which is accepted and enters no buffer."""
-        if self._gathering[entry["direction"]].is_begun:
-            return False
-        packet = packets.Packet((bytes.fromhex(entry["flit"]),), 1)
-        return packet.command is not None and packet.command.word == "tret"
-
-    def _through(self, entry: dict) -> list:
-        source = self._direction_to.get(Endpoint(None, entry["cube"], entry["port"]))
-        if source is None:
-            raise report.NotALine(f"{entry['line']} does not fit this case")
-        self._left[entry["direction"]] = self._gathering[source].go_on()
-        return []
-
-    def _unlocked(self, entry: dict) -> list:
-        self._gathering[entry["direction"]].end()
-        return []
-
-    def _passed(self, entry: dict) -> list:
-        return [(("line", entry["direction"]), -1)]
-
-    def _shifted(self, entry: dict) -> list:
-        cube, to = entry["cube"], entry["to"]
-        queue = ("registers", cube) if to == "r" else ("vault", cube, int(to[1:]))
-        if to[0] == "p":
-            queue = ("output", Endpoint(None, cube, int(to[1:])))
-        return [*self._dropped(entry), (queue, 1)]
-
-    def _dropped(self, entry: dict) -> list:
-        return [(("buffer", Endpoint(None, entry["cube"], entry["port"])), -1)]
-
-    def _spread(self, entry: dict) -> list:
-        cube, vault = entry["cube"], entry["vault"]
-        return [(("vault", cube, vault), -1), (("bank", cube, vault, entry["bank"]), 1)]
-
-    def _executed(self, entry: dict) -> list:
-        cube, vault = entry["cube"], entry["vault"]
-        queue = ("registers", cube) if vault == "r" else ("bank", cube, vault, entry["bank"])
-        is_answered = entry["answer"]["kind"] != "silent"
-        return [(queue, -1)] + [(("answers", cube, vault), 1)] * is_answered
-
-    def _lifted(self, entry: dict) -> list:
-        port = Endpoint(None, entry["cube"], entry["port"])
-        return [(("answers", entry["cube"], entry["from"]), -1), (("output", port), 1)]
-
-    def _took(self, entry: dict) -> list:
-        return [(("buffer", Endpoint(entry["host"])), -1)]
-
-    _discarded = _took
+    def line(self, kind: str) -> str:
+        """The line of what happens without a flit."""
+        return f"s{kind} {self._kind}"
 
 
 class Wave:
     """The dump of a report."""
 
-    def __init__(self, document: dict):
+    def __init__(self, document: Document):
+        self.document = document
         self._queues = Queues(document)
         self._tokens = Tokens(document)
         self._dump = Dump()
+        self._step = self._dump.mark(self._dump.add((TOP,), "step"))
         self._entry = self._dump.add((TOP,), "entry", TEXT)
-        self._places = {
-            queue: self._dump.add((TOP, *scopes), name)
-            for queue, scopes, name in queues_of(document)
-        }
         directions = range(len(self._queues.ends))
-        self._flits = [self._flit_signals(n) for n in directions]
+        self._sent = [Side(self._dump, number, "sent") for number in directions]
+        self._landed = [Side(self._dump, number, "landed") for number in directions]
+        # The side at which the last entry has set a flit, for that step alone.
+        self._set: Side | None = None
         self._modes = [FIRST_MODE for _ in directions]
-        self._mode_places = [
-            self._dump.add((TOP, f"direction{n}"), "receiver", TEXT) for n in directions
-        ]
+        self._receivers = [self._add(f"direction{n}", "receiver", TEXT) for n in directions]
+        retries = [self._add(f"direction{n}", "retry", EVENT) for n in directions]
+        self._retries = [f"1{self._dump.mark(number)}" for number in retries]
         self._token_places = [
-            {name: self._dump.add((TOP, f"direction{n}"), f"tokens_{name}") for name in PLACES}
-            for n in directions
+            [self._add(f"direction{n}", f"tokens_{place}") for place in PLACES] for n in directions
         ]
-        # The signals of flits that the last entry has set.
-        self._set: list[int] = []
+        queues = list(queues_of(document))
+        self._places = [
+            self._dump.mark(self._dump.add((TOP, *scopes), name)) for _, scopes, name in queues
+        ]
+        self._busy = [
+            self._dump.add((TOP, *scopes), f"{name}_busy", BIT) if it[0] == "bank" else None
+            for it, scopes, name in queues
+        ]
+        self.hosts = [dict.fromkeys(HOST_SIGNALS, 0) for _ in range(plan_of(document).hosts)]
+        self._host_places = [
+            [self._add(f"host{host}", name) for name in HOST_SIGNALS]
+            for host in range(len(self.hosts))
+        ]
 
-    def _flit_signals(self, direction: int) -> dict[str, int]:
-        """The signals of what a direction sends and of what lands."""
-        scopes = (TOP, f"direction{direction}")
-        names = {"sent": TEXT, "landed": TEXT, "sent_flit": TEXT, "landed_flit": TEXT}
-        return {name: self._dump.add(scopes, name, kind) for name, kind in names.items()}
+    def _add(self, scope: str, name: str, kind: str = NUMBER) -> int:
+        """Adds a signal of a part of the network."""
+        return self._dump.add((TOP, scope), name, kind)
 
     def held(self) -> dict[Queue, int]:
         """How much each queue holds after the last entry."""
@@ -190,74 +111,123 @@ class Wave:
         """The tokens of each direction after the last entry, by their places."""
         return self._tokens.counts
 
-    def lines(self, lines: Iterable[str]) -> Iterator[str]:
-        """Yields the lines of the dump."""
-        yield from self._dump.head()
-        yield "#0"
-        yield from self._changes([(place, 0) for place in self._places.values()])
-        yield from self._changes(self._quiet())
-        yield from self._changes([(place, FIRST_MODE) for place in self._mode_places])
-        yield from self._changes(self._of_tokens(range(len(self._token_places))))
-        last = 0
-        for entry in report.read_report(lines):
-            if "entry" not in entry:
-                break
-            last = entry["entry"]
-            yield f"#{last}"
-            yield from self._changes(self._of_entry(entry))
-        yield f"#{last + 1}"
+    def groups(self) -> dict[str, list[Signal]]:
+        """The signals for a save file, by the part of the network that they are of."""
+        groups: dict[str, list[Signal]] = {}
+        for signal in self._dump.signals:
+            part = signal.scopes[1] if len(signal.scopes) > 1 else "steps"
+            groups.setdefault(self._title(part), []).append(signal)
+        return groups
 
-    def _changes(self, changes: list[tuple[int, int | str]]) -> Iterator[str]:
-        lines = [self._dump.change(number, value) for number, value in changes]
-        return (line for line in lines if line is not None)
+    def _title(self, part: str) -> str:
+        """The name of a group: of a direction also its ends."""
+        number = part.removeprefix("direction")
+        if number == part:
+            return part
+        sender, receiver = self._queues.ends[int(number)]
+        return f"direction {number}: {sender} to {receiver}"
 
-    def _quiet(self) -> list[tuple[int, int | str]]:
-        """The signals of entry and flits, where nothing happens."""
-        signals = [number for signals in self._flits for number in signals.values()]
-        return [(number, NOTHING) for number in (self._entry, *signals)]
+    def pieces(self, lines: Iterable[Numbered]) -> Iterator[bytes]:
+        """Yields the dump, some lines at a time."""
+        out = [*self._dump.head(), "#0"]
+        self._first_values(out)
+        last, step, was_idle = 0, self._step, False
+        for number, line, _ in lines:
+            if not isinstance(line, Entry):
+                continue
+            last = number
+            out.append(f"#{number}\nb{number:b} {step}")
+            is_idle = type(line) is Idle
+            if not (is_idle and was_idle):
+                try:
+                    self._entry_lines(line, out)
+                except NotALine as error:
+                    raise NotALine(f"line {number}: {error}") from error
+            was_idle = is_idle
+            if len(out) > AT_ONCE:
+                yield _text(out)
+                out.clear()
+        out.append(f"#{last + 1}")
+        yield _text(out)
 
-    def _of_entry(self, entry: dict) -> list[tuple[int, int | str]]:
-        """The changes of one entry: a signal of a flit has its value for this step alone."""
-        values: dict[int, int | str] = dict.fromkeys(self._set, NOTHING)
-        values[self._entry] = entry["line"]
-        flit = self._of_flit(entry)
-        values |= self._of_mode(entry)
-        self._set = list(flit)
-        for queue in self._queues.apply(entry):
-            values[self._places[queue]] = self._queues.held[queue]
-        values |= self._of_tokens(self._tokens.apply(entry))
-        return list({**values, **flit}.items())
+    def _first_values(self, out: list[str]) -> None:
+        """Adds the values before the first step."""
+        change = self._dump.change
+        out.append(f"b0 {self._step}")
+        change(self._entry, NOTHING, out)
+        out += [side.quiet for side in (*self._sent, *self._landed)]
+        for receiver in self._receivers:
+            change(receiver, FIRST_MODE, out)
+        out += [f"b0 {mark}" for mark in self._places]
+        for number in [*self._busy, *(it for places in self._host_places for it in places)]:
+            if number is not None:
+                change(number, 0, out)
+        for direction in range(len(self._sent)):
+            self._token_lines(direction, out)
 
-    def _of_tokens(self, directions: Iterable[int]) -> list[tuple[int, int | str]]:
-        """The signals of the tokens of these directions."""
-        return [
-            (self._token_places[direction][name], number)
-            for direction in directions
-            for name, number in self._tokens.counts[direction].items()
-        ]
+    def _entry_lines(self, line: Entry, out: list[str]) -> None:
+        """Adds the changes of one entry."""
+        self._dump.change(self._entry, line.line, out)
+        side: Side | None = None
+        if isinstance(line, Sent):
+            side = self._sent[line.direction]
+        elif isinstance(line, LANDINGS):
+            side = self._landed[line.direction]
+        # A flit is there for its step alone; where one follows at once, it is not quiet between.
+        if self._set is not None and (side is not self._set or isinstance(line, Unlocked)):
+            out.append(self._set.quiet)
+        self._set = side
+        for queue in self._queues.apply(line):
+            held = self._queues.counts[queue]
+            out.append(f"b{held:b} {self._places[queue]}")
+            busy = self._busy[queue]
+            if busy is not None:
+                self._dump.change(busy, int(held > 0), out)
+        for direction in self._tokens.apply(line):
+            self._token_lines(direction, out)
+        if isinstance(line, Sent):
+            out.append(self._sent[line.direction].lines(line.what, line.flit))
+            if line.what in RETRIES:
+                out.append(self._retries[line.direction])
+        elif isinstance(line, LANDINGS):
+            self._landing_lines(line, out)
+        elif isinstance(line, (Gave, Took)):
+            self._host_lines(line, out)
 
-    def _of_flit(self, entry: dict) -> dict[int, int | str]:
-        """The signals of a flit that is sent or that lands, and of a receiver that is unlocked."""
-        line = entry["line"]
-        if line == "sent":
-            signals = self._flits_of(entry["direction"])
-            return {signals["sent"]: entry["what"], signals["sent_flit"]: entry["flit"]}
-        if line not in ("landed", "passed", "unlocked"):
-            return {}
-        signals = self._flits_of(entry["direction"])
-        word = entry["outcome"].replace(" ", "_") if line == "landed" else line
-        flit = {signals["landed_flit"]: entry["flit"]} if "flit" in entry else {}
-        return {signals["landed"]: word, **flit}
+    def _token_lines(self, direction: int, out: list[str]) -> None:
+        """Adds the changes of the tokens of a direction."""
+        counts = self._tokens.counts[direction].values()
+        for place, count in zip(self._token_places[direction], counts):
+            self._dump.change(place, count, out)
 
-    def _of_mode(self, entry: dict) -> dict[int, int | str]:
-        """The signal of what a receiver waits for, where the entry is one of a receiver."""
-        if entry["line"] not in ("landed", "unlocked"):
-            return {}
-        direction = entry["direction"]
-        self._modes[direction] = mode_after(self._modes[direction], entry)
-        return {self._mode_places[direction]: self._modes[direction]}
+    def _landing_lines(self, line: Landed | Passed | Unlocked, out: list[str]) -> None:
+        """Adds the changes of a flit that lands, or of a receiver that is unlocked."""
+        direction = line.direction
+        side = self._landed[direction]
+        if isinstance(line, Landed) and line.outcome in UNCHANGED:
+            out.append(side.lines(line.outcome, line.flit))
+            return
+        if isinstance(line, Unlocked):
+            out += [side.line(line.line), self._retries[direction]]
+        elif isinstance(line, Passed):
+            out.append(side.lines(line.line, line.flit))
+        else:
+            out.append(side.lines(line.outcome.replace(" ", "_"), line.flit))
+            if line.outcome.startswith("aborted"):
+                out.append(self._retries[direction])
+        self._modes[direction] = mode_after(self._modes[direction], line)
+        self._dump.change(self._receivers[direction], self._modes[direction], out)
 
-    def _flits_of(self, direction: int) -> dict[str, int]:
-        if direction >= len(self._flits):
-            raise report.NotALine(f"direction {direction} is not one of this case")
-        return self._flits[direction]
+    def _host_lines(self, line: Gave | Took, out: list[str]) -> None:
+        """Adds the changes of a host that gives a request or takes an answer."""
+        counts = self.hosts[line.host]
+        is_given = isinstance(line, Gave)
+        counts["given" if is_given else "taken"] += 1
+        if line.tag is not None:
+            counts["tags_out"] += 1 if is_given else -1
+        for place, count in zip(self._host_places[line.host], counts.values()):
+            self._dump.change(place, count, out)
+
+
+def _text(lines: list[str]) -> bytes:
+    return ("\n".join(lines) + "\n").encode()

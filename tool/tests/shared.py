@@ -34,9 +34,10 @@ def require_program() -> None:
 
 def output_of(*words: str) -> str:
     """What the tool writes to standard output, run in this process."""
-    with redirect_stdout(io.StringIO()) as written:
+    written = io.BytesIO()
+    with redirect_stdout(io.TextIOWrapper(written, encoding="utf-8", write_through=True)):
         cli.main(list(words))
-    return written.getvalue()
+        return written.getvalue().decode()
 
 
 def bad_cases() -> list[tuple[list[str], str, str]]:

@@ -2,6 +2,7 @@
 
 import os
 import shutil
+import signal
 import subprocess
 import sys
 import tempfile
@@ -12,35 +13,57 @@ from pathlib import Path
 from tool.tests.shared import TOP
 
 # It writes a program that answers with the text of its source, or fails as the file `fails` says.
+# Its `try` has the program linked by the linker of the kit, in which folder that may be.
 KIT = """\
 #!/bin/sh
-if [ "$1" = try ]; then
-  cat >/dev/null
-  [ -e fails ] && { echo "error: refused" >&2; exit 1; }
-  echo "state drained"
-  echo "run=ended status=4 runners=1 proved=no" >&2
-  exit 4
-fi
-echo "rt: chose --jobs 4 for hmc_prog" >&2
-[ -e fails ] && { echo "error: not proved" >&2; exit 1; }
-[ -e waits ] && { echo $$ >pid.new; mv pid.new pid; exec sleep 60; }
-[ -e edits ] && echo edited >>src/main.rt
-mkdir -p out
-{
+here=$(dirname "$0")
+[ "$1" = version ] && { echo "${KIT_NAME:-pretend-kit logic 0123}"; exit 0; }
+echo "$1" >>builds
+wait_for_signal() {
+  echo $$ >pid.new
+  mv pid.new pid
+  exec sleep 60
+}
+write_program() {
   echo '#!/bin/sh'
   echo 'case=$(cat)'
   echo '[ -z "$case" ] && { echo "bad top 0 missing"; exit 6; }'
   echo "cat <<END"
   cat src/main.rt
   echo END
-} >out/hmc_prog
+}
+if [ "$1" = try ]; then
+  cat >/dev/null
+  [ -e fails ] && { echo "error: refused" >&2; exit 1; }
+  [ -e waits ] && wait_for_signal
+  work=$(mktemp -d)
+  write_program >$work/input
+  "$here/../toolchain/bin/ld.lld" -o $work/program $work/input
+  chmod +x $work/program
+  $work/program </dev/null
+  echo "run=ended status=6 runners=1 proved=no" >&2
+  rm -r $work
+  exit 6
+fi
+echo "rt: chose --jobs 4 for hmc_prog" >&2
+[ -e fails ] && { echo "error: not proved" >&2; exit 1; }
+[ -e waits ] && wait_for_signal
+[ -e slow ] && sleep 1
+[ -e edits ] && echo edited >>src/main.rt
+mkdir -p out
+write_program >out/hmc_prog
 chmod +x out/hmc_prog
 exec out/hmc_prog </dev/null
+"""
+LINKER = """\
+#!/bin/sh
+cp "$3" "$2"
+chmod +x "$2"
 """
 
 
 class Build(unittest.TestCase):
-    def setUp(self):
+    def setUp(self) -> None:
         self._folder = tempfile.TemporaryDirectory()
         self.addCleanup(self._folder.cleanup)
         self.top = Path(self._folder.name)
@@ -52,35 +75,50 @@ class Build(unittest.TestCase):
         (self.crate / "src").mkdir(parents=True)
         self.source = self.crate / "src" / "main.rt"
         self.source.write_text("first\n", encoding="utf-8")
-        kit = self.top / "bin" / "rt"
-        kit.parent.mkdir()
-        kit.write_text(KIT, encoding="utf-8")
-        kit.chmod(0o755)
+        for name, text in (("bin/rt", KIT), ("toolchain/bin/ld.lld", LINKER)):
+            path = self.top / "kit" / name
+            path.parent.mkdir(parents=True)
+            path.write_text(text, encoding="utf-8")
+            path.chmod(0o755)
+        named = "(`rt version`: pretend-kit, logic 0123)\n"
+        (self.top / "README.md").write_text(named, encoding="utf-8")
 
-    def tool(self, *words: str, with_kit: bool = True) -> subprocess.CompletedProcess[str]:
-        path = f"{self.top / 'bin'}:{os.environ['PATH']}" if with_kit else "/usr/bin:/bin"
+    def environment(self, with_kit: bool = True, **more: str) -> dict[str, str]:
+        """The environment of the tool, with the kit on the path or without it."""
+        path = f"{self.top / 'kit' / 'bin'}:{os.environ['PATH']}" if with_kit else "/usr/bin:/bin"
+        return {**os.environ, "PATH": path, **more}
+
+    def tool(
+        self, *words: str, with_kit: bool = True, **more: str
+    ) -> subprocess.CompletedProcess[str]:
+        """Runs the copy of the tool."""
         return subprocess.run(
             [sys.executable, str(self.top / "zehimbado"), *words],
             input="a case\n",
-            env={**os.environ, "PATH": path},
+            env=self.environment(with_kit, **more),
             capture_output=True,
             text=True,
             timeout=60,
+            check=False,
         )
 
-    def test_a_program_is_built_once(self):
+    def builds(self) -> list[str]:
+        """What the kit was asked to build."""
+        return (self.crate / "builds").read_text("utf-8").split()
+
+    def test_a_program_is_built_once(self) -> None:
         first, second = self.tool("run"), self.tool("run", with_kit=False)
         self.assertEqual((first.returncode, first.stdout), (0, "first\n"))
         self.assertEqual((second.returncode, second.stdout), (0, "first\n"))
         self.assertIn("proving hmc_prog; at most 0 of 1 crates are left", first.stderr)
         self.assertEqual(second.stderr, "")
 
-    def test_an_edit_is_built(self):
+    def test_an_edit_is_built(self) -> None:
         self.tool("run")
         self.source.write_text("second\n", encoding="utf-8")
         self.assertEqual(self.tool("run").stdout, "second\n")
 
-    def test_a_failed_build_leaves_no_older_program_in_use(self):
+    def test_a_failed_build_leaves_no_older_program_in_use(self) -> None:
         self.tool("run")
         self.source.write_text("second\n", encoding="utf-8")
         (self.crate / "fails").touch()
@@ -91,49 +129,91 @@ class Build(unittest.TestCase):
         self.source.write_text("first\n", encoding="utf-8")
         self.assertEqual(self.tool("run").returncode, 69)
 
-    def test_another_program_in_its_place_is_not_used(self):
+    def test_another_program_in_its_place_is_not_used(self) -> None:
         self.tool("run")
         program = self.crate / "out" / "hmc_prog"
         program.write_text("#!/bin/sh\necho other\n", encoding="utf-8")
         self.assertEqual(self.tool("run").stdout, "first\n")
 
-    def test_an_edit_during_a_build(self):
+    def test_an_edit_during_a_build(self) -> None:
         (self.crate / "edits").touch()
         ran = self.tool("run")
         self.assertEqual((ran.returncode, ran.stdout), (69, ""))
         self.assertIn("the sources changed", ran.stderr)
 
-    def test_a_build_ends_with_the_script(self):
+    def test_a_build_ends_with_the_script(self) -> None:
         """Where the script is asked to end, the kit that it started ends too."""
         (self.crate / "waits").touch()
         number = self.crate / "pid"
-        command = [sys.executable, str(self.top / "zehimbado"), "build"]
-        path = f"{self.top / 'bin'}:{os.environ['PATH']}"
-        how = {"env": {**os.environ, "PATH": path}, "stderr": subprocess.DEVNULL}
-        with subprocess.Popen(command, **how) as running:
-            until = time.monotonic() + 30
-            while not number.exists() and time.monotonic() < until:
-                time.sleep(0.05)
-            running.terminate()
-        self.assertEqual(running.returncode, 143)
-        with self.assertRaises(ProcessLookupError):
-            os.kill(int(number.read_text("utf-8")), 0)
+        rows = (("build", signal.SIGTERM), ("try", signal.SIGTERM), ("try", signal.SIGHUP))
+        for word, ending in rows:
+            number.unlink(missing_ok=True)
+            command = [sys.executable, str(self.top / "zehimbado"), word]
+            null = subprocess.DEVNULL
+            with subprocess.Popen(
+                command, env=self.environment(), stdin=null, stderr=null
+            ) as running:
+                until = time.monotonic() + 30
+                while not number.exists() and time.monotonic() < until:
+                    time.sleep(0.05)
+                running.send_signal(ending)
+            self.assertEqual(running.returncode, 128 + ending)
+            with self.assertRaises(ProcessLookupError):
+                os.kill(int(number.read_text("utf-8")), 0)
 
-    def test_without_the_kit(self):
+    def test_two_builds_at_once(self) -> None:
+        """The second one waits, and uses the program of the first."""
+        (self.crate / "slow").touch()
+        command = [sys.executable, str(self.top / "zehimbado"), "build"]
+        how = {"stdout": subprocess.PIPE, "stderr": subprocess.PIPE, "env": self.environment()}
+        running = [subprocess.Popen(command, **how) for _ in range(2)]
+        ended = [process.communicate(timeout=60) for process in running]
+        self.assertEqual([process.returncode for process in running], [0, 0])
+        self.assertEqual(ended[0][0], ended[1][0])
+        self.assertEqual(self.builds(), ["run"])
+        self.assertEqual(sum(b"another build" in said for _, said in ended), 1)
+
+    def test_another_kit(self) -> None:
+        for words in (["run"], ["try"], ["--version"]):
+            ran = self.tool(*words, KIT_NAME="other-kit logic 4567")
+            said = ran.stderr + ran.stdout
+            self.assertIn("this kit is `other-kit logic 4567`, and README.md names `pret", said)
+        self.assertNotIn("README.md names", self.tool("run").stderr)
+        said = self.tool("--version").stdout
+        self.assertIn("pretend-kit logic 0123, which README.md names", said)
+
+    def test_version_says_which_programs_are_built(self) -> None:
+        before, _, after = self.tool("--version"), self.tool("run"), self.tool("--version")
+        self.assertIn("the proved program of these sources is not built", before.stdout)
+        self.assertIn("the proved program of these sources is built", after.stdout)
+        self.assertIn("zehimbado 0.1, sources ", after.stdout)
+
+    def test_without_the_kit(self) -> None:
         ran = self.tool("run", with_kit=False)
         self.assertEqual(ran.returncode, 69)
         self.assertIn("rt is not on the path", ran.stderr)
 
-    def test_the_path_of_the_program(self):
+    def test_the_path_of_the_program(self) -> None:
         ran = self.tool("build")
         self.assertEqual(ran.stdout, f"{self.crate.resolve() / 'out' / 'hmc_prog'}\n")
 
-    def test_try(self):
-        ran = self.tool("try")
-        self.assertEqual((ran.returncode, ran.stdout), (4, "state drained\n"))
-        self.assertIn("without proofs", ran.stderr)
+    def test_try(self) -> None:
+        """The program is built once, and then used without the kit while its sources are these."""
+        first, second = self.tool("try"), self.tool("try", with_kit=False)
+        self.assertEqual((first.returncode, first.stdout), (0, "first\n"))
+        self.assertIn("without proofs", first.stderr)
+        self.assertEqual((second.returncode, second.stdout, second.stderr), (0, "first\n", ""))
+        self.source.write_text("second\n", encoding="utf-8")
+        self.assertEqual(self.tool("try").stdout, "second\n")
+        self.assertEqual(self.builds(), ["try", "try"])
+        self.assertEqual(self.tool("run", with_kit=False).returncode, 69)
 
-    def test_a_try_that_is_refused(self):
+    def test_a_try_of_a_long_report(self) -> None:
+        """A report may have more than 1 MiB, of which the kit's own try has none."""
+        self.source.write_text("a line of a report\n" * 100_000, encoding="utf-8")
+        self.assertEqual(len(self.tool("try").stdout), 1_900_000)
+
+    def test_a_try_that_is_refused(self) -> None:
         (self.crate / "fails").touch()
         ran = self.tool("try")
         self.assertEqual((ran.returncode, ran.stdout), (69, ""))

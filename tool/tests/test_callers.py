@@ -40,17 +40,17 @@ def functions(contracts: str) -> list[str]:
 
 
 class Callers(unittest.TestCase):
-    def test_the_caller_is_the_file(self):
+    def test_the_caller_is_the_file(self) -> None:
         for crate, name in PAGES.items():
             source = (CALLERS / "src" / f"{name}.rt").read_text(encoding="utf-8")
             self.assertEqual(blocks(page_of(crate), "rust"), [source], crate)
 
-    def test_the_unit_is_the_file(self):
+    def test_the_unit_is_the_file(self) -> None:
         page = (TOP / "docs" / "units.md").read_text(encoding="utf-8")
         source = (CALLERS / "src" / "units.rt").read_text(encoding="utf-8")
         self.assertEqual(blocks(page, "rust"), [source])
 
-    def test_the_contracts_are_those_of_the_crate(self):
+    def test_the_contracts_are_those_of_the_crate(self) -> None:
         """Each stands in a file of the crate, whole: the body follows the last clause."""
         for crate in PAGES:
             files = (TOP / "crates" / crate / "src").glob("*.rt")
@@ -61,7 +61,7 @@ class Callers(unittest.TestCase):
                 count = sum(source.count(f"{function} {{") for source in sources)
                 self.assertEqual(count, 1, f"{crate}: {function}")
 
-    def test_lines_are_short(self):
+    def test_lines_are_short(self) -> None:
         for crate in PAGES:
             for line in page_of(crate).splitlines():
                 self.assertLessEqual(len(line), MOST_COLUMNS, line)

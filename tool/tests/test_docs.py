@@ -9,6 +9,7 @@ import unittest
 from pathlib import Path
 
 from tool.tests.shared import CASES, EXAMPLES, TOP, require_program, tool
+from tool.verbs import COMMANDS
 
 DOCS = sorted([*(TOP / "docs").glob("*.md"), *TOP.glob("crates/*/CALLING.md")])
 # The line of a report that another report has otherwise.
@@ -38,22 +39,22 @@ class Docs(unittest.TestCase):
             text = path.read_text(encoding="utf-8")
             self.assertIn(anchor, anchors(text), f"{page.name}: {target}")
 
-    def test_links(self):
+    def test_links(self) -> None:
         for page in (TOP / "README.md", *DOCS):
             for target, anchor in LINK.findall(page.read_text(encoding="utf-8")):
                 if not target.startswith("http"):
                     self.check_link(page, target, anchor)
 
-    def test_each_page_is_in_the_index(self):
+    def test_each_page_is_in_the_index(self) -> None:
         index = (TOP / "docs" / "README.md").read_text(encoding="utf-8")
         named = {(TOP / "docs" / target).resolve() for target, _ in LINK.findall(index)}
         self.assertEqual(set(DOCS) - named, {TOP / "docs" / "README.md"})
 
-    def test_the_readme_is_short(self):
+    def test_the_readme_is_short(self) -> None:
         words = (TOP / "README.md").read_text(encoding="utf-8").split()
         self.assertLessEqual(len(words), MOST_WORDS)
 
-    def test_the_example_of_the_readme(self):
+    def test_the_example_of_the_readme(self) -> None:
         """Its lines are those of a case and a report of examples/, in their order."""
         text = (TOP / "README.md").read_text(encoding="utf-8")
         text = text[text.index("## An example") : text.index("## Documents")]
@@ -68,7 +69,7 @@ class Docs(unittest.TestCase):
                 at = stored.index(line, at) + 1
         self.assertGreater(len(shown), 20)
 
-    def test_each_case_is_in_the_index(self):
+    def test_each_case_is_in_the_index(self) -> None:
         """Each case of examples/ is in docs/examples.md, and a comment says what it shows."""
         index = (TOP / "docs" / "examples.md").read_text(encoding="utf-8")
         named = set(re.findall(r"[a-z-]+\.toml", index)) - {"bad-cases-base.toml"}
@@ -76,20 +77,29 @@ class Docs(unittest.TestCase):
         for path in EXAMPLES.glob("*.toml"):
             self.assertRegex(path.read_text(encoding="utf-8"), r"(?m)^# [A-Z]", path.name)
 
-    def test_only_cases_and_reports_are_examples(self):
+    def test_only_cases_and_reports_are_examples(self) -> None:
         """Beside them are the reports of cases that are made from a number."""
         made = set(EXAMPLES.glob("make-*.report"))
         names = {path.with_suffix(".toml").name for path in {*EXAMPLES.iterdir()} - made}
         self.assertEqual(names, {path.name for path in CASES})
 
-    def test_examples(self):
+    def test_examples(self) -> None:
         """The commands that need no program write what the page has."""
         tried = []
         for words, text in examples():
             if not words.startswith(("run ", "make ")):
                 self.assertEqual(self.written(words), text, words)
                 tried.append(words.split(" ")[0])
-        self.assertEqual(tried, ["explain", "explain", "json", "diff", "show", "show"])
+        wanted = ["lint", *["explain"] * 3, "json", "diff", *["show"] * 4]
+        self.assertEqual(tried, wanted)
+
+    def test_each_command_has_a_section(self) -> None:
+        """It shows how the command is called; `help` has its name too."""
+        text = (TOP / "docs" / "tool.md").read_text(encoding="utf-8")
+        for name in COMMANDS:
+            section = text[text.index(f"\n## {name}\n") :]
+            self.assertTrue(section.split("\n")[3].startswith(f"    ./zehimbado {name}"), name)
+            self.assertIn(f"usage: ./zehimbado {name}", tool("help", name).stdout.decode())
 
     def written(self, words: str) -> str:
         """What a command writes where the files that the page names are."""
@@ -106,7 +116,7 @@ class Docs(unittest.TestCase):
             ran = subprocess.run(command, shell=True, cwd=folder, capture_output=True, text=True)
         return ran.stdout
 
-    def test_the_examples_of_run_and_make(self):
+    def test_the_examples_of_run_and_make(self) -> None:
         require_program()
         for (words, text), command in zip(examples(), ("run ", "make ")):
             self.assertTrue(words.startswith(command))

@@ -13,7 +13,7 @@ ONE = Plan(1, 2, [CubeParts(1, 1, (0,))])
 
 
 class Tables(unittest.TestCase):
-    def test_bad_cases(self):
+    def test_bad_cases(self) -> None:
         rows = bad_cases()
         self.assertGreaterEqual(len(rows), 193)
         for _, text, wanted in rows:
@@ -27,14 +27,14 @@ class Tables(unittest.TestCase):
                 found = f"{fault.line} {fault.kind}" if fault else "good"
                 self.assertEqual(found, wanted)
 
-    def test_scripts(self):
+    def test_scripts(self) -> None:
         self.check_texts("script-faults.txt", script, TWO)
 
-    def test_schedules(self):
+    def test_schedules(self) -> None:
         self.check_texts("schedule-faults.txt", schedule, TWO)
         self.check_texts("schedule-faults-small.txt", schedule, ONE)
 
-    def test_examples_have_none(self):
+    def test_examples_have_none(self) -> None:
         self.assertGreaterEqual(len(CASES), 10)
         for path in CASES:
             self.assertIsNone(case.read(path.read_bytes())[1])
@@ -45,7 +45,7 @@ class Explain(unittest.TestCase):
         """What is explained of a case, past the meaning of the line."""
         return explain_fault.explain_in_case(wanted, text.encode(), "case.toml")
 
-    def test_each_bad_case_is_explained(self):
+    def test_each_bad_case_is_explained(self) -> None:
         for _, text, wanted in bad_cases():
             with self.subTest(wanted=wanted, case=text):
                 self.assertEqual(len(explain_fault.meaning_of(wanted)), 2)
@@ -54,7 +54,7 @@ class Explain(unittest.TestCase):
                 self.assertNotIn("another one", lines[0])
                 self.assertGreaterEqual(len(lines), 2)
 
-    def test_the_line_shown_is_one_that_was_changed(self):
+    def test_the_line_shown_is_one_that_was_changed(self) -> None:
         """A value at fault is in a line that the table put there."""
         shown = 0
         for added, text, wanted in bad_cases():
@@ -68,7 +68,7 @@ class Explain(unittest.TestCase):
                 self.assertRegex(lines[0], r"line [0-9]+ of the (script|schedule)|toml:[0-9]+:1$")
         self.assertGreaterEqual(shown, 40)
 
-    def test_a_caret_under_the_value(self):
+    def test_a_caret_under_the_value(self) -> None:
         text = CASES[-1].read_text(encoding="utf-8").replace("tokens = 34", "tokens = 16")
         lines = self.lines_of("bad link 0 range", text)
         number = 1 + text.split("\n").index("tokens = 16")
@@ -76,7 +76,7 @@ class Explain(unittest.TestCase):
         self.assertEqual(lines[1:3], ["    tokens = 16", "             ^^"])
         self.assertEqual(lines[3], "`tokens` is 17 to 1,024")
 
-    def test_a_caret_in_a_script(self):
+    def test_a_caret_in_a_script(self) -> None:
         """The script begins on the line after its opening, so its lines are those of the file."""
         text = CASES[-1].read_text(encoding="utf-8").replace("0 rd16 0 0x40", "0 rd17 0 0x40")
         number = 1 + text.split("\n").index("0 rd17 0 0x40")
@@ -89,7 +89,7 @@ class Explain(unittest.TestCase):
         text = (EXAMPLES / name).read_text(encoding="utf-8").replace(old, new, 1)
         return self.lines_of(str(case.read(text.encode())[1]), text)[-1]
 
-    def test_what_profile_two_allows(self):
+    def test_what_profile_two_allows(self) -> None:
         def said(old: str, new: str) -> str:
             return self.advice_on("two-profiles.toml", old, new)
 
@@ -100,7 +100,7 @@ class Explain(unittest.TestCase):
         self.assertEqual(said("retry = 64", "retry = 300"), of_one)
         self.assertEqual(said("profile = 1", "profile = 3"), "`profile` is 1 or 2")
 
-    def test_what_profile_one_allows(self):
+    def test_what_profile_one_allows(self) -> None:
         def said(old: str, new: str) -> str:
             return self.advice_on("chain-of-three.toml", old, new)
 
@@ -109,15 +109,15 @@ class Explain(unittest.TestCase):
         self.assertIn("ports of one cube", said('b = "c1.0"', 'b = "c0.2"'))
         self.assertIn("an earlier link", said('a = "c0.1"', 'a = "c0.0"'))
 
-    def test_another_fault(self):
+    def test_another_fault(self) -> None:
         text = CASES[-1].read_text(encoding="utf-8").replace("tokens = 34", "tokens = 16")
         self.assertIn("another one: bad link 0 range", self.lines_of("bad net 0 hosts", text)[0])
 
-    def test_no_fault(self):
+    def test_no_fault(self) -> None:
         text = CASES[-1].read_text(encoding="utf-8")
         self.assertIn("no such fault", self.lines_of("bad net 0 hosts", text)[0])
 
-    def test_the_command(self):
+    def test_the_command(self) -> None:
         with tempfile.TemporaryDirectory() as folder:
             path = Path(folder) / "case.toml"
             path.write_text("profile = 3\n", encoding="utf-8")
@@ -126,7 +126,7 @@ class Explain(unittest.TestCase):
         self.assertEqual(quoted, spread)
         self.assertIn("`profile` is 1 or 2\n", quoted)
 
-    def test_a_line_that_the_program_does_not_write(self):
+    def test_a_line_that_the_program_does_not_write(self) -> None:
         self.assertEqual(tool("explain", "bad link 0 colour").returncode, 65)
 
 

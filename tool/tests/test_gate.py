@@ -7,12 +7,12 @@ from tool.tests.shared import TOP
 
 
 class Gate(unittest.TestCase):
-    def test_the_last_line(self):
+    def test_the_last_line(self) -> None:
         self.assertEqual(gate.count("7 passed, 0 failed", "0"), "7 passed, 0 failed")
         self.assertEqual(gate.count("7 passed, 0 failed", "1"), "7 passed, 1 failed")
         self.assertEqual(gate.count("", "0"), "0 passed, 1 failed")
 
-    def test_no_file_is_long(self):
+    def test_no_file_is_long(self) -> None:
         files = [TOP / "zehimbado", *(TOP / "tool").rglob("*.py")]
         for path in files:
             lines = path.read_text(encoding="utf-8").splitlines()

@@ -93,7 +93,7 @@ def chain_of_eight() -> bytes:
 
 class Long(unittest.TestCase):
     @classmethod
-    def setUpClass(cls):
+    def setUpClass(cls) -> None:
         require_program()
 
     def check(self, case: bytes, digest: str) -> list[str]:
@@ -105,19 +105,19 @@ class Long(unittest.TestCase):
         self.assertEqual(hashlib.sha256(ran.stdout).hexdigest(), digest, lines[-3:])
         return lines
 
-    def test_writes_and_reads_with_noise(self):
+    def test_writes_and_reads_with_noise(self) -> None:
         lines = self.check(
             writes_and_reads(), "411d41db1f2581f6d3db7915ede7b6133f79fca6b1a27a0079ada15b45ad3694"
         )
         self.assertEqual(lines[-3:], ["host 0 2000 2000 0", "cube 0 2000 0", "state drained"])
         self.assertEqual([changed_flits(lines, direction) for direction in "01"], [276, 275])
 
-    def test_pointers_that_wrap(self):
+    def test_pointers_that_wrap(self) -> None:
         self.check(
             pointers_wrap(), "054519a4a5cefaa95de798522f60f798931dee0fa1266a9acd052b8f33beb9c3"
         )
 
-    def test_a_chain_of_eight_cubes(self):
+    def test_a_chain_of_eight_cubes(self) -> None:
         lines = self.check(
             chain_of_eight(), "3b98f70cdfcad1a3789204a93fc605235b36a49b1ef37c20e9fdd3965825f05f"
         )

@@ -36,11 +36,11 @@ def shown_fields(text: str) -> dict[str, list[str]]:
 
 
 class Check(unittest.TestCase):
-    def test_worked_examples(self):
+    def test_worked_examples(self) -> None:
         for last, value in ((1, 0x741B8CD7), (2, 0xE83719AE), (4, 0xA475BF8B)):
             self.assertEqual(packets.crc(bytes(11) + bytes([last])), value)
 
-    def test_equals_long_division(self):
+    def test_equals_long_division(self) -> None:
         chance = random.Random(1)
         for length in range(0, 273, 7):
             data = chance.randbytes(length)
@@ -62,7 +62,7 @@ class Vectors(unittest.TestCase):
         for name, value in columns.items():
             self.assertEqual(found.get(name, 0), int(value, 0), f"{command} {name}")
 
-    def test_both_profiles(self):
+    def test_both_profiles(self) -> None:
         for name, profile in (("packets-one.txt", 1), ("packets-two.txt", 2)):
             rows = list(vectors(name))
             self.assertEqual(len(rows), 72)
@@ -70,13 +70,13 @@ class Vectors(unittest.TestCase):
                 with self.subTest(name=name, command=row[0]):
                     self.check_row(row, profile)
 
-    def test_every_command_has_a_vector(self):
+    def test_every_command_has_a_vector(self) -> None:
         seen = {row[0] for row in vectors("packets-one.txt")}
         self.assertEqual(seen | {"null"}, set(BY_WORD))
 
 
 class Explain(unittest.TestCase):
-    def test_the_packet_of_the_readme(self):
+    def test_the_packet_of_the_readme(self) -> None:
         text = output_of(
             "explain", "08010040000000000001020304050607", "08090a0b0c0d0e0f000404000158a362"
         )
@@ -90,7 +90,7 @@ class Explain(unittest.TestCase):
         self.assertIn("payload  000102030405060708090a0b0c0d0e0f\n", text)
         self.assertTrue(text.endswith("reads as: a packet\n"))
 
-    def test_a_poisoned_packet(self):
+    def test_a_poisoned_packet(self) -> None:
         text = output_of(
             "explain", "0801004001000000ffffffffffffffff", "ffffffffffffffff000a0c007f06d87c"
         )
@@ -98,12 +98,12 @@ class Explain(unittest.TestCase):
         self.assertIn(f"inverted: the right one is 0x{right:08x}", text)
         self.assertIn("reads as: a poisoned packet", text)
 
-    def test_a_changed_bit(self):
+    def test_a_changed_bit(self) -> None:
         text = output_of("explain", "b000004001000000021014009b965748")
         self.assertIn("wrong: the right one is 0x4957969b", text)
         self.assertTrue(text.endswith("reads as: refused, test Crc\n"))
 
-    def test_the_first_test_that_fails(self):
+    def test_the_first_test_that_fails(self) -> None:
         # An LNG of 0, a part of a packet, an unknown code, a rd16 of two flits, and bit 21 set.
         rows = (
             (["10000000000000000000000000000000"], "Length"),
@@ -115,22 +115,22 @@ class Explain(unittest.TestCase):
         for flits, test in rows:
             self.assertIn(f"reads as: refused, test {test}", output_of("explain", *flits))
 
-    def test_flits_that_are_no_packets(self):
+    def test_flits_that_are_no_packets(self) -> None:
         self.assertIn("NULL", output_of("explain", "0" * 32))
         self.assertIn("the training flit", output_of("explain", "5a" * 16))
 
-    def test_profile_two(self):
+    def test_profile_two(self) -> None:
         text = output_of("explain", "--profile", "2", "8200000000000000008832a0d18fd6e5")
         fields = shown_fields(text)
         self.assertEqual(fields["FRP"], ["21..11", "1617"])
         self.assertEqual(fields["RTC"], ["31..29", "5", "tokens", "returned:", "16"])
 
-    def test_two_packets(self):
+    def test_two_packets(self) -> None:
         text = output_of("explain", "0" * 32, "b900000000000000050204002ff19e1d")
         self.assertIn("NULL", text)
         self.assertIn("wr_rs: a response", text)
 
-    def test_a_word_that_is_no_flit(self):
+    def test_a_word_that_is_no_flit(self) -> None:
         self.assertEqual(tool("explain", "0102").returncode, 64)
 
 

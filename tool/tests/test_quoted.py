@@ -20,7 +20,7 @@ def quoted_lines():
 
 
 class Quoted(unittest.TestCase):
-    def test_the_lines_of_reports(self):
+    def test_the_lines_of_reports(self) -> None:
         count = 0
         for name, number, line in quoted_lines():
             lines = (EXAMPLES / name).read_text(encoding="utf-8").splitlines()

@@ -35,10 +35,10 @@ def changed_lines(text: str):
 
 class Run(unittest.TestCase):
     @classmethod
-    def setUpClass(cls):
+    def setUpClass(cls) -> None:
         require_program()
 
-    def test_each_example(self):
+    def test_each_example(self) -> None:
         for path in CASES:
             with self.subTest(path.name):
                 ran = tool("run", str(path))
@@ -48,7 +48,7 @@ class Run(unittest.TestCase):
                 self.assertEqual(ran.returncode, status)
                 self.assertEqual(b"status 7: " in ran.stderr, status == 7)
 
-    def test_made_cases(self):
+    def test_made_cases(self) -> None:
         """The final lines of the cases of some numbers, and words that the program refuses."""
         for number in ("0", "1", "2", "3"):
             ran = tool("make", number)
@@ -59,20 +59,20 @@ class Run(unittest.TestCase):
             self.assertEqual((ran.returncode, ran.stdout), (2, b""), number)
             self.assertIn(b"status 2: ", ran.stderr)
 
-    def test_the_end_of_a_report_that_passed(self):
+    def test_the_end_of_a_report_that_passed(self) -> None:
         """It has no final lines: `--quiet` shows the landing."""
         ran = tool("run", "--quiet", str(EXAMPLES / "passed-null.toml"))
         wanted = kept("passed-null", lambda line: line.startswith(b"passed "))
         self.assertEqual((ran.returncode, ran.stdout), (7, wanted))
         self.assertTrue(wanted)
 
-    def test_standard_input(self):
+    def test_standard_input(self) -> None:
         given = WRITE_THEN_READ.read_bytes()
         for words in (("run",), ("run", "-")):
             wanted = WRITE_THEN_READ.with_suffix(".report").read_bytes()
             self.assertEqual(tool(*words, given=given).stdout, wanted)
 
-    def test_a_file_for_the_report(self):
+    def test_a_file_for_the_report(self) -> None:
         with tempfile.TemporaryDirectory() as folder:
             path = Path(folder) / "out.report"
             ran = tool("run", str(WRITE_THEN_READ), "-o", str(path))
@@ -80,14 +80,14 @@ class Run(unittest.TestCase):
             wanted = WRITE_THEN_READ.with_suffix(".report").read_bytes()
             self.assertEqual(path.read_bytes(), wanted)
 
-    def test_the_case_is_not_overwritten(self):
+    def test_the_case_is_not_overwritten(self) -> None:
         with tempfile.TemporaryDirectory() as folder:
             path = Path(folder) / "case.toml"
             path.write_bytes(WRITE_THEN_READ.read_bytes())
             self.assertEqual(tool("run", str(path), "-o", str(path)).returncode, 64)
             self.assertEqual(path.read_bytes(), WRITE_THEN_READ.read_bytes())
 
-    def test_lines_that_are_asked_for(self):
+    def test_lines_that_are_asked_for(self) -> None:
         first_words = (b"memory", b"register", b"tokens", b"counters", b"host", b"cube", b"state")
         rows = (
             (["--no-idle"], lambda line: not line.startswith(b"idle")),
@@ -101,13 +101,13 @@ class Run(unittest.TestCase):
                 self.assertEqual(ran.stdout, kept("write-then-read", test))
                 self.assertEqual(ran.returncode, 0)
 
-    def test_faults(self):
+    def test_faults(self) -> None:
         for _, text, wanted in bad_cases()[::12]:
             ran = tool("run", "--quiet", given=text.encode())
             self.assertEqual((ran.returncode, ran.stdout.decode()), (6, f"{wanted}\n"))
             self.assertIn(b"status 6: ", ran.stderr)
 
-    def test_the_place_of_a_fault_is_shown(self):
+    def test_the_place_of_a_fault_is_shown(self) -> None:
         text = WRITE_THEN_READ.read_text(encoding="utf-8").replace("tokens = 34", "tokens = 16")
         with tempfile.TemporaryDirectory() as folder:
             path = Path(folder) / "case.toml"
@@ -116,7 +116,7 @@ class Run(unittest.TestCase):
         self.assertEqual((ran.returncode, ran.stdout), (6, b"bad link 0 range\n"))
         self.assertIn(b"    tokens = 16\n             ^^\n", ran.stderr)
 
-    def test_a_second_reader_agrees(self):
+    def test_a_second_reader_agrees(self) -> None:
         """The program and the reader of tool/case.py find the same first fault in changed cases."""
         for name in ("write-then-read", "each-kind-of-step"):
             text = (EXAMPLES / f"{name}.toml").read_text(encoding="utf-8")
@@ -126,14 +126,14 @@ class Run(unittest.TestCase):
                 said = ran.stdout if ran.returncode == 6 else b""
                 self.assertEqual(said.decode(), f"{fault}\n" if fault else "", changed)
 
-    def test_an_input_that_is_too_long(self):
+    def test_an_input_that_is_too_long(self) -> None:
         ran = tool("run", given=b"#" * 4_194_305)
         self.assertEqual((ran.returncode, ran.stdout), (5, b""))
         self.assertIn(b"status 5: ", ran.stderr)
 
 
 class WrongWords(unittest.TestCase):
-    def test_statuses(self):
+    def test_statuses(self) -> None:
         rows = (
             ((), 64),
             (("jump",), 64),
@@ -151,7 +151,7 @@ class WrongWords(unittest.TestCase):
                 self.assertEqual(ran.returncode, status)
                 self.assertEqual(ran.stdout, b"")
 
-    def test_a_terminal_without_a_file(self):
+    def test_a_terminal_without_a_file(self) -> None:
         """At a terminal the script does not wait for a case."""
         ours, terminal = pty.openpty()
         self.addCleanup(os.close, ours)
@@ -161,13 +161,13 @@ class WrongWords(unittest.TestCase):
         self.assertEqual((ran.returncode, ran.stdout), (64, b""))
         self.assertIn(b"a terminal", ran.stderr)
 
-    def test_help(self):
+    def test_help(self) -> None:
         for words in (("help",), ("--help",), ("-h",), ("help", "run"), ("run", "--help")):
             ran = tool(*words)
             self.assertEqual((ran.returncode, ran.stderr), (0, b""))
             self.assertIn(b"usage: ./zehimbado", ran.stdout)
 
-    def test_version(self):
+    def test_version(self) -> None:
         ran = tool("--version")
         self.assertEqual((ran.returncode, ran.stderr), (0, b""))
         self.assertIn(b"sources ", ran.stdout)

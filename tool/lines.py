@@ -1,0 +1,334 @@
+"""The lines of a report as frozen records, with the fields of docs/grammar-report.md."""
+
+from __future__ import annotations
+
+from dataclasses import dataclass, fields
+from typing import Any, ClassVar
+
+REGISTERS = "r"
+
+
+@dataclass(frozen=True, slots=True)
+class Request:
+    """A request as a script prints it, without its host."""
+
+    poisoned: bool
+    command: str
+    cube: int
+    address: int
+    bytes: str | None = None
+    value: int | None = None
+
+
+@dataclass(frozen=True, slots=True)
+class Answer:
+    """An answer: its first word, and what it carries."""
+
+    kind: str
+    flag: bool | None = None
+    bytes: str | None = None
+    value: int | None = None
+    error: int | None = None
+
+
+class Line:
+    """A line of a report. `line` is its first word."""
+
+    __slots__ = ()
+    line: ClassVar[str] = ""
+
+
+class Entry(Line):
+    """The line of a step. `step` is the step as a schedule has it, without a mask."""
+
+    __slots__ = ()
+
+    @property
+    def step(self) -> str:
+        """The words of the step."""
+        raise NotImplementedError
+
+
+@dataclass(frozen=True, slots=True)
+class Gave(Entry):
+    host: int
+    tag: int | None
+    request: Request
+    line: ClassVar[str] = "gave"
+
+    @property
+    def step(self) -> str:
+        return f"give {self.host}"
+
+
+@dataclass(frozen=True, slots=True)
+class Sent(Entry):
+    direction: int
+    what: str
+    flit: str
+    line: ClassVar[str] = "sent"
+
+    @property
+    def step(self) -> str:
+        return f"send {self.direction}"
+
+
+@dataclass(frozen=True, slots=True)
+class Landed(Entry):
+    direction: int
+    flit: str
+    outcome: str
+    line: ClassVar[str] = "landed"
+
+    @property
+    def step(self) -> str:
+        return f"land {self.direction}"
+
+
+@dataclass(frozen=True, slots=True)
+class Passed(Entry):
+    direction: int
+    flit: str
+    line: ClassVar[str] = "passed"
+
+    @property
+    def step(self) -> str:
+        return f"land {self.direction}"
+
+
+@dataclass(frozen=True, slots=True)
+class Shifted(Entry):
+    cube: int
+    port: int
+    to: str
+    line: ClassVar[str] = "shifted"
+
+    @property
+    def step(self) -> str:
+        return f"shift {self.cube} {self.port}"
+
+
+@dataclass(frozen=True, slots=True)
+class Dropped(Entry):
+    cube: int
+    port: int
+    line: ClassVar[str] = "dropped"
+
+    @property
+    def step(self) -> str:
+        return f"shift {self.cube} {self.port}"
+
+
+@dataclass(frozen=True, slots=True)
+class Spread(Entry):
+    cube: int
+    vault: int
+    bank: int
+    line: ClassVar[str] = "spread"
+
+    @property
+    def step(self) -> str:
+        return f"spread {self.cube} {self.vault}"
+
+
+@dataclass(frozen=True, slots=True)
+class Executed(Entry):
+    cube: int
+    vault: int | str
+    bank: int | None
+    host: int
+    tag: int | None
+    request: Request
+    answer: Answer
+    line: ClassVar[str] = "executed"
+
+    @property
+    def step(self) -> str:
+        if self.vault == REGISTERS:
+            return f"registers {self.cube}"
+        return f"bank {self.cube} {self.vault} {self.bank}"
+
+
+@dataclass(frozen=True, slots=True)
+class Lifted(Entry):
+    cube: int
+    from_: int | str
+    port: int
+    line: ClassVar[str] = "lifted"
+
+    @property
+    def step(self) -> str:
+        return f"lift {self.cube} {self.from_}"
+
+
+@dataclass(frozen=True, slots=True)
+class Took(Entry):
+    host: int
+    tag: int
+    answer: Answer
+    line: ClassVar[str] = "took"
+
+    @property
+    def step(self) -> str:
+        return f"take {self.host}"
+
+
+@dataclass(frozen=True, slots=True)
+class Discarded(Entry):
+    host: int
+    line: ClassVar[str] = "discarded"
+
+    @property
+    def step(self) -> str:
+        return f"take {self.host}"
+
+
+@dataclass(frozen=True, slots=True)
+class Through(Entry):
+    cube: int
+    port: int
+    direction: int
+    line: ClassVar[str] = "through"
+
+    @property
+    def step(self) -> str:
+        return f"through {self.cube} {self.port}"
+
+
+@dataclass(frozen=True, slots=True)
+class Unlocked(Entry):
+    direction: int
+    line: ClassVar[str] = "unlocked"
+
+    @property
+    def step(self) -> str:
+        return f"unlock {self.direction}"
+
+
+@dataclass(frozen=True, slots=True)
+class Retired(Entry):
+    slot: int
+    line: ClassVar[str] = "retired"
+
+    @property
+    def step(self) -> str:
+        return f"retire {self.slot}"
+
+
+@dataclass(frozen=True, slots=True)
+class Idle(Entry):
+    idle_step: str
+    cause: str
+    line: ClassVar[str] = "idle"
+
+    @property
+    def step(self) -> str:
+        return self.idle_step
+
+
+@dataclass(frozen=True, slots=True)
+class Memory(Line):
+    cube: int
+    address: int
+    bytes: str
+    line: ClassVar[str] = "memory"
+
+
+@dataclass(frozen=True, slots=True)
+class Register(Line):
+    cube: int
+    register: int
+    value: int
+    line: ClassVar[str] = "register"
+
+
+@dataclass(frozen=True, slots=True)
+class Tokens(Line):
+    direction: int
+    held: int
+    transit: int
+    used: int
+    due: int
+    returning: int
+    advertised: int
+    line: ClassVar[str] = "tokens"
+
+
+@dataclass(frozen=True, slots=True)
+class Counters(Line):
+    direction: int
+    sent: int
+    landed: int
+    changed: int
+    accepted: int
+    repeats: int
+    aborts: int
+    line: ClassVar[str] = "counters"
+
+
+@dataclass(frozen=True, slots=True)
+class Host(Line):
+    host: int
+    given: int
+    taken: int
+    out: int
+    line: ClassVar[str] = "host"
+
+
+@dataclass(frozen=True, slots=True)
+class Cube(Line):
+    cube: int
+    executed: int
+    dropped: int
+    line: ClassVar[str] = "cube"
+
+
+@dataclass(frozen=True, slots=True)
+class State(Line):
+    state: str
+    line: ClassVar[str] = "state"
+
+
+@dataclass(frozen=True, slots=True)
+class Bad(Line):
+    section: str
+    number: int
+    kind: str
+    line: ClassVar[str] = "bad"
+
+
+# Fields that a record may lack. A tag that it lacks is `null`.
+OPTIONAL = ("bank", "bytes", "value", "flag", "error")
+# Fields whose name in JSON is taken here.
+RENAMED = {"from_": "from", "idle_step": "step"}
+_NAMES = {
+    kind: [(field.name, RENAMED.get(field.name, field.name)) for field in fields(kind)]
+    for kind in (Request, Answer, *Entry.__subclasses__(), *Line.__subclasses__())
+    if kind is not Entry
+}
+
+
+def json_fields(record: Any) -> str:
+    """The fields of a record as the inside of a JSON object."""
+    shown = []
+    for name, written in _NAMES[type(record)]:
+        value = getattr(record, name)
+        if value is not None or name not in OPTIONAL:
+            shown.append(f'"{written}": {_json_value(value)}')
+    return ", ".join(shown)
+
+
+def _json_value(value: Any) -> str:
+    """A value of a field in JSON. Its words are lower-case letters, digits, `-` and blanks."""
+    if isinstance(value, str):
+        return f'"{value}"'
+    if value is None:
+        return "null"
+    if isinstance(value, bool):
+        return "true" if value else "false"
+    return str(value) if isinstance(value, int) else f"{{{json_fields(value)}}}"
+
+
+def json_line(line: Line) -> str:
+    """A line as the inside of a JSON object, without the number of an entry."""
+    return f'"line": "{line.line}", {json_fields(line)}'

@@ -1,0 +1,61 @@
+"""Writes a random case. The same seed and the same words give the same case. With --count the cases
+of so many seeds, from SEED on, are written to the folder that -o names."""
+
+from __future__ import annotations
+
+import os
+from argparse import Namespace
+
+from tool import files, samples
+from tool.trouble import NO_OUTPUT, USAGE, Trouble
+from tool.verbs import Parser
+
+FEATURES = "; ".join(f"{name}: {text}" for name, text in samples.FEATURES.items())
+
+
+def add_words(parser: Parser) -> None:
+    """Adds the words that the command takes."""
+    parser.add_argument("seed", type=int, metavar="SEED")
+    parser.add_argument("-o", dest="output", metavar="CASE", help="write it to a file, or a folder")
+    parser.add_argument("--count", type=int, metavar="N", help="write N cases")
+    parser.add_argument("--cubes", type=int, default=0, choices=range(1, 9), metavar="1..8")
+    parser.add_argument("--hosts", type=int, default=0, choices=range(1, 9), metavar="1..8")
+    parser.add_argument("--requests", type=int, default=0, metavar="N")
+    parser.add_argument("--shape", choices=samples.SHAPES, default=samples.SHAPES[0])
+    usual = ",".join(samples.USUAL)
+    feature_help = f"those wanted, with commas between; {usual} if none are named. {FEATURES}"
+    parser.add_argument("--features", default=usual, metavar="NAMES", help=feature_help)
+
+
+def run(words: Namespace) -> int:
+    """Writes the case or the cases."""
+    wish = wish_of(words)
+    if words.count is None:
+        files.write_lines(samples.sample(words.seed, wish).splitlines(), words.output)
+        return 0
+    if files.is_standard(words.output):
+        raise Trouble(USAGE, "--count needs -o and a folder")
+    try:
+        os.makedirs(words.output, exist_ok=True)
+    except OSError as error:
+        raise Trouble(NO_OUTPUT, f"cannot write {words.output}: {error.strerror}") from error
+    for seed in range(words.seed, words.seed + words.count):
+        path = os.path.join(words.output, f"case-{seed:04}.toml")
+        files.write_lines(samples.sample(seed, wish).splitlines(), path)
+    return 0
+
+
+def wish_of(words: Namespace) -> samples.Wish:
+    """The sizes and features that the words ask for."""
+    features = tuple(sorted(name for name in words.features.split(",") if name))
+    unknown = [name for name in features if name not in samples.FEATURES]
+    if unknown:
+        raise Trouble(USAGE, f"{unknown[0]} is not a feature: {', '.join(samples.FEATURES)} are")
+    is_ring = words.shape == "ring" and words.cubes > 2
+    ports = 4 * words.cubes - 2 * (words.cubes - 1) - 2 * is_ring
+    if words.shape == "star" and words.cubes > 4:
+        raise Trouble(USAGE, "a star has at most 4 cubes: a cube has four ports, one for host 0")
+    if words.hosts and (not words.cubes or words.hosts > ports):
+        need = "name --cubes too" if not words.cubes else f"so many cubes have {ports} free ports"
+        raise Trouble(USAGE, f"{words.hosts} hosts: {need}")
+    return samples.Wish(words.cubes, words.hosts, words.requests, words.shape, features)

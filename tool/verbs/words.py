@@ -1,0 +1,39 @@
+"""Words that several commands take."""
+
+from __future__ import annotations
+
+from tool import case, files
+from tool.case import Document
+from tool.trouble import BAD_DATA, USAGE, Trouble
+from tool.verbs import Parser
+
+
+def add_run_words(parser: Parser) -> None:
+    """The words of `run` and `try`."""
+    parser.add_argument("file", nargs="?", metavar="FILE", help="a case; - is standard input")
+    parser.add_argument("-o", dest="output", metavar="REPORT", help="write the report to a file")
+    parser.add_argument("--no-idle", action="store_true", help="leave out steps that did nothing")
+    parser.add_argument("--only", metavar="PATTERN", help="lines with this regular expression")
+    parser.add_argument("--quiet", action="store_true", help="the final lines alone")
+
+
+def add_profile(parser: Parser) -> None:
+    """The profile of links, where no case says it."""
+    parser.add_argument(
+        "--profile", type=int, choices=(1, 2), default=1, help="of the links: 1, or 2"
+    )
+
+
+def read_case(name: str) -> Document:
+    """The document of a valid case."""
+    document, fault = case.read(files.read_bytes(name))
+    if fault:
+        shown = files.shown_name(name)
+        raise Trouble(BAD_DATA, f"{shown} is not a valid case: {fault}; ./zehimbado lint shows it")
+    return document
+
+
+def refuse_two_standard(*names: str | None) -> None:
+    """Refuses that two inputs are both standard input."""
+    if names.count(files.STANDARD) > 1:
+        raise Trouble(USAGE, "only one input can be standard input")
