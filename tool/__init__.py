@@ -1,17 +1,21 @@
 """The tool that people meet: it builds and runs the program, and reads what it writes.
 
-cli has the words of the command line. Below it are
+cli finds the command that is called; verbs has a file for each command, and their table. Below are
 
-- build, run: the program, proved or not, and what is shown of its report
-- packets, commands, explain: flits, and their fields in words
-- case, script, schedule, texts: a reader of cases that gives the first fault, as the program does
-- places, explain_fault: where that fault is in the file, and what it means
-- report, jsonl, diff: the lines of reports
-- wave, vcd, show: waves and pictures
-- gate: what .ci/run needs; sample_cases: cases for docs/many-cases.md; counts: those of
-  docs/PROOFS.md
+- files, processes, trouble: what is read and written, children, and what can go wrong
+- kit, build, trial, run: the kit, the program, proved or not, and what is shown of its report
+- packets, commands, pasted, explain, decode: flits, and their fields in words
+- case, script, schedule, texts: a reader of cases that gives all faults, the program's one first
+- places, nearest, explain_fault: where a fault is in the file, and what it means
+- lines, report, fit: the lines of reports as records, their reader, and whether they fit a case
+- jsonl, diff, subjects: reports as JSON, and where two differ
+- wave, queues, tokens, gathering, vcd: waves, and what is counted for them
+- show, routes: pictures of networks, and ways through them
+- observed, convert, documents: from a bench's log to a case
+- samples, shrink: random cases, and small ones that fail
+- gate: what .ci/run needs; counts: those of docs/PROOFS.md
 
 What cases may have is in few places: the ranges at the top of case, STEPS of schedule, and LINES of
-report. The gate compares this reader with the program and with the tables
-of hmc_faults, so a limit that moves in one of them shows there.
+report. The gate compares this reader with the program and with the tables of hmc_faults, so a limit
+that moves in one of them shows there.
 """

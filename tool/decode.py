@@ -82,7 +82,7 @@ def fields_of(packet: Packet) -> Fields:
         return fields
     header = packets.values_of(packets.header_fields(command), packet.header)
     if command.family != FLOW:
-        fields |= {HEADER_FIELDS[it]: header[it] for it in HEADER_FIELDS if it in header}
+        fields |= {name: header[it] for it, name in HEADER_FIELDS.items() if it in header}
     if packet.is_whole:
         tail = packets.values_of(packets.tail_fields(command, packet.profile), packet.tail)
         is_error = command.word == "error"

@@ -2,7 +2,10 @@
 
 from __future__ import annotations
 
+import os
 import re
+import shutil
+import subprocess
 import sys
 import unittest
 
@@ -11,12 +14,32 @@ from tool import build
 COUNT = re.compile(r"([0-9]+) passed, ([0-9]+) failed(.*)")
 
 
+# What reads the sources of the script, with the words that it takes.
+CHECKERS = {
+    "mypy": ("--strict", f"--cache-dir={os.devnull}", "tool"),
+    "pylint": ("--rcfile=tool/pylintrc", "--score=n", "tool"),
+}
+
+
+def checks() -> bool:
+    """Whether each checker of Python that is here accepts the script. One that is not is named."""
+    are_well = True
+    for name, words in CHECKERS.items():
+        if shutil.which(name) is None:
+            print(f"zehimbado: {name} is not here, so it checks nothing: apt-get install {name}")
+            continue
+        are_well &= subprocess.run([name, *words], check=False).returncode == 0
+    return are_well
+
+
 def tests() -> int:
-    """Runs the tests of the script, and returns 0 where all pass. One that is skipped fails."""
+    """Runs the checkers and the tests of the script, and returns 0 where all pass. A test that is
+    skipped fails."""
+    is_clean = checks()
     suite = unittest.defaultTestLoader.discover("tool/tests", top_level_dir=".")
     result = unittest.TextTestRunner(stream=sys.stdout).run(suite)
     is_well = result.wasSuccessful() and not result.skipped and result.testsRun > 0
-    return 0 if is_well else 1
+    return 0 if is_well and is_clean else 1
 
 
 def count(line: str, status: str) -> str:

@@ -56,11 +56,11 @@ class Tokens:
 
     def apply(self, line: Line) -> list[int]:
         """Counts an entry, and returns the directions whose tokens it may have moved."""
-        move = _MOVES.get(type(line))
-        if move is None:
+        apply = _MOVES.get(type(line))
+        if apply is None:
             return []
         try:
-            moved: list[int] = move(self, line)
+            moved: list[int] = apply(self, line)
         except (IndexError, KeyError) as error:
             raise NotALine(f"`{line.line}` does not fit this case") from error
         for direction in moved:

@@ -38,8 +38,7 @@ class Signal:
     @property
     def path(self) -> str:
         """The name with its scopes, as save files have it."""
-        width = DECLARED[self.kind][1]
-        bits = f"[{width - 1}:0]" if self.kind in (NUMBER, FLIT) else ""
+        bits = f"[{DECLARED[FLIT][1] - 1}:0]" if self.kind == FLIT else ""
         return ".".join([*self.scopes, self.name]) + bits
 
 
@@ -76,7 +75,7 @@ class Dump:
             yield from _scope_lines(open_scopes, signal.scopes)
             open_scopes = signal.scopes
             word, width = DECLARED[signal.kind]
-            bits = f" [{width - 1}:0]" if signal.kind in (NUMBER, FLIT) else ""
+            bits = f" [{width - 1}:0]" if signal.kind == FLIT else ""
             yield f"$var {word} {width} {self._marks[number]} {signal.name}{bits} $end"
         yield from _scope_lines(open_scopes, ())
         yield "$enddefinitions $end"

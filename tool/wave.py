@@ -137,7 +137,7 @@ class Wave:
                 continue
             last = number
             out.append(f"#{number}\nb{number:b} {step}")
-            is_idle = type(line) is Idle
+            is_idle = isinstance(line, Idle)
             if not (is_idle and was_idle):
                 try:
                     self._entry_lines(line, out)

@@ -165,8 +165,10 @@ class Build(unittest.TestCase):
         """The second one waits, and uses the program of the first."""
         (self.crate / "slow").touch()
         command = [sys.executable, str(self.top / "zehimbado"), "build"]
-        how = {"stdout": subprocess.PIPE, "stderr": subprocess.PIPE, "env": self.environment()}
-        running = [subprocess.Popen(command, **how) for _ in range(2)]
+        pipe, environment = subprocess.PIPE, self.environment()
+        running = [
+            subprocess.Popen(command, stdout=pipe, stderr=pipe, env=environment) for _ in range(2)
+        ]
         ended = [process.communicate(timeout=60) for process in running]
         self.assertEqual([process.returncode for process in running], [0, 0])
         self.assertEqual(ended[0][0], ended[1][0])

@@ -9,7 +9,7 @@ from tool.case import Document
 from tool.convert import preamble, returns_of
 from tool.observed import events_of
 from tool.queues import ends_by_direction
-from tool.tests.shared import EXAMPLES, TOP, output_of, require_program, tool
+from tool.tests.shared import EXAMPLES, TOP, require_program, tool
 from tool.trouble import Trouble
 
 PAGE = TOP / "docs" / "observations.md"
@@ -29,7 +29,6 @@ def run(document: Document) -> list[str]:
 def log_of(report: list[str], document: Document, has_flow: bool) -> list[str]:
     """What a bench sees of a report: requests, flits at ends, and answers, by the step's number."""
     ends = ends_by_direction(document)
-    trained = {direction: False for direction in range(len(ends))}
     log = []
     for number, line in enumerate(report, start=1):
         words = line.split(" ")
@@ -39,7 +38,6 @@ def log_of(report: list[str], document: Document, has_flow: bool) -> list[str]:
             direction = int(words[1])
             end = ends[direction][0 if words[0] == "sent" else 1]
             kind = kind_of(words)
-            trained[direction] |= kind == "packet"
             word = "out" if words[0] == "sent" else "in"
             if kind == "packet" or has_flow and kind == "tret":
                 log.append(f"{number} {word} {end}{'' if kind == 'packet' else ' flow'}")
@@ -70,7 +68,8 @@ class Preamble(unittest.TestCase):
                 for link in document["links"]:
                     link["tokens"] = tokens
                 lines = preamble(document)
-                for text, is_enough in ((lines, True), (lines[: -4 * len(document["links"])], False)):
+                shorter = lines[: -4 * len(document["links"])]
+                for text, is_enough in ((lines, True), (shorter, False)):
                     document |= {"script": "", "schedule": "".join(f"{it}\n" for it in text)}
                     rows = [it.split() for it in run(document) if it.startswith("tokens ")]
                     held = {row[2] == row[7] == str(tokens) for row in rows}
@@ -90,9 +89,9 @@ class Convert(unittest.TestCase):
                 log = log_of(stored, document, has_flow)
                 if has_flow:
                     # The TRETs of training are those that the preamble has.
-                    first = next(n for n, line in enumerate(log) if " request " not in line
-                                 and "flow" not in line)
-                    log = [it for n, it in enumerate(log) if n >= first or "flow" not in it]
+                    rows = list(enumerate(log))
+                    first = next(n for n, it in rows if " out " in it and "flow" not in it)
+                    log = [it for n, it in rows if n >= first or "flow" not in it]
                 found = convert.converted(events_of(log, document, False), document, True)
                 report = run(found)
                 idle = [line for line in report if line.startswith("idle ")]
@@ -118,7 +117,7 @@ class Convert(unittest.TestCase):
         self.assertTrue(all(row[2] == row[7] for row in tokens), tokens)
 
     def test_events_of_one_cycle(self) -> None:
-        """Each part acts on what was there before: an answer is taken first, a request comes last."""
+        """Each part acts on what was there before: an answer comes first, a request last."""
         lines = ["5 request 0 rd16 0 0", "5 out h0", "5 in c0.0", "5 answer 0"]
         events = events_of(lines, document_of("fence"), by_cycle=True)
         self.assertEqual([it.word for it in events], ["answer", "in", "out", "request"])

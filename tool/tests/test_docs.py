@@ -32,7 +32,7 @@ def examples() -> list[tuple[str, str]]:
 
 
 class Docs(unittest.TestCase):
-    def check_link(self, page, target: str, anchor: str):
+    def check_link(self, page: Path, target: str, anchor: str) -> None:
         path = (page.parent / target) if target else page
         self.assertTrue(path.exists(), f"{page.name}: {target}")
         if anchor:

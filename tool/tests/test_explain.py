@@ -38,7 +38,8 @@ class Pasted(unittest.TestCase):
         turned = "".join(FIRST[at : at + 2] for at in range(30, -2, -2))
         self.assertEqual(flits_in(turned, is_reversed=True), [bytes.fromhex(FIRST)])
         plain = output_of("explain", FIRST, LAST)
-        self.assertEqual(output_of("explain", "--reversed", turned, LAST[::1])[:20], plain[:20])
+        first = output_of("explain", "--reversed", turned).splitlines()[0]
+        self.assertEqual(first, plain.splitlines()[0])
 
     def test_what_is_no_flit(self) -> None:
         for text in ("", "0102", FIRST[:-1], f"{FIRST}0", f"{FIRST[:-1]}g", "gave"):
@@ -64,7 +65,8 @@ class Reports(unittest.TestCase):
             self.assertIn(f": {line}  ", row)
         wrong = [row for row in rows if " new " in row and row.endswith("check wrong")]
         self.assertEqual(wrong, [])
-        self.assertTrue(any("rd_rs, flit 2 of 2, tag 3, cube 0, SLID 0, FRP" in row for row in rows))
+        tail = "rd_rs, flit 2 of 2, tag 3, cube 0, SLID 0, FRP"
+        self.assertTrue(any(tail in row for row in rows))
 
     def test_json_with_the_fields_of_flits(self) -> None:
         """By the worked packet of docs/tool.md: the second flit has the tail."""
@@ -122,9 +124,11 @@ class Lint(unittest.TestCase):
 
     def test_all_faults_at_once(self) -> None:
         """A fault in each part of a case; those of the texts at their lines of the file."""
-        text = BASE.replace("profile = 1", "profile = 1\ncolour = 2").replace("rows = 4", "rows = 0")
+        text = BASE.replace("profile = 1", "profile = 1\ncolour = 2")
+        text = text.replace("rows = 4", "rows = 0")
         text = text.replace("tokens = 34", "tokens = 16").replace('"c0.0"', '"c4.0"')
-        text = text.replace("0 rd16 0 0x40", "0 rd17 0 0x40\n9 rd16 0 0x40").replace("round", "sound")
+        text = text.replace("0 rd16 0 0x40", "0 rd17 0 0x40\n9 rd16 0 0x40")
+        text = text.replace("round", "sound")
         with tempfile.TemporaryDirectory() as folder:
             path = Path(folder) / "case.toml"
             path.write_text(text, encoding="utf-8")

@@ -3,6 +3,7 @@
 import tempfile
 import unittest
 from pathlib import Path
+from types import ModuleType
 
 from tool import case, explain_fault, schedule, script
 from tool.tests.shared import CASES, EXAMPLES, bad_cases, output_of, text_rows, tool
@@ -20,7 +21,7 @@ class Tables(unittest.TestCase):
             with self.subTest(wanted=wanted, case=text):
                 self.assertEqual(str(case.read(text.encode())[1]), wanted)
 
-    def check_texts(self, name: str, reader, plan: Plan):
+    def check_texts(self, name: str, reader: ModuleType, plan: Plan) -> None:
         for text, wanted in text_rows(name):
             with self.subTest(text=text):
                 fault = reader.first_fault(text, plan)
@@ -48,7 +49,7 @@ class Explain(unittest.TestCase):
     def test_each_bad_case_is_explained(self) -> None:
         for _, text, wanted in bad_cases():
             with self.subTest(wanted=wanted, case=text):
-                self.assertEqual(len(explain_fault.meaning_of(wanted)), 2)
+                self.assertEqual(len(explain_fault.meaning_of(wanted) or []), 2)
                 lines = self.lines_of(wanted, text)
                 self.assertTrue(lines[0].startswith("case.toml"))
                 self.assertNotIn("another one", lines[0])

@@ -64,8 +64,8 @@ class Outputs(unittest.TestCase):
                 self.assertEqual(self.case.read_bytes(), CASE.read_bytes(), words)
         ran = tool("wave", str(self.report), str(self.case), "-o", str(self.report))
         self.assertEqual((ran.returncode, self.report.read_bytes()), (64, REPORT.read_bytes()))
-        ran = shell(f"zehimbado run -o {self.case} < {self.case}")
-        self.assertEqual((ran.returncode, self.case.read_bytes()), (64, CASE.read_bytes()))
+        status = shell(f"zehimbado run -o {self.case} < {self.case}").returncode
+        self.assertEqual((status, self.case.read_bytes()), (64, CASE.read_bytes()))
 
     def test_an_old_file_stays_where_the_new_one_is_not_whole(self) -> None:
         target = self.folder / "old"

@@ -3,6 +3,7 @@ worked examples of docs/crc.md and README.md, and a division that uses no table.
 
 import random
 import unittest
+from collections.abc import Iterator
 
 from tool import packets
 from tool.commands import BY_WORD
@@ -20,8 +21,11 @@ def divided(data: bytes) -> int:
         rest ^= divisor << (rest.bit_length() - 33)
     return rest
 
+# Its command, its columns, whether it is poisoned, its return pointer, and its flits.
+Row = tuple[str, dict[str, str], str, str, list[str]]
 
-def vectors(name: str):
+
+def vectors(name: str) -> Iterator[Row]:
     """Yields the rows of a table of packets."""
     for line in (DATA / name).read_text(encoding="utf-8").splitlines():
         if not line.startswith("#"):
@@ -48,11 +52,11 @@ class Check(unittest.TestCase):
 
 
 class Vectors(unittest.TestCase):
-    def check_row(self, row, profile: int):
+    def check_row(self, row: Row, profile: int) -> None:
         command, columns, poisoned, rrp, flits = row
         packet = packets.Packet(tuple(map(bytes.fromhex, flits)), profile)
         self.assertIsNone(packets.failed_test(packet))
-        self.assertEqual(packet.command.word, command)
+        self.assertEqual(packet.command, BY_WORD[command])
         state = "inverted" if poisoned == "1" else "right"
         self.assertEqual(packet.check_state, state)
         header = packets.values_of(packets.header_fields(packet.command), packet.header)

@@ -2,6 +2,7 @@
 
 import re
 import unittest
+from collections.abc import Iterator
 
 from tool.tests.shared import EXAMPLES, TOP
 
@@ -9,7 +10,7 @@ PAGE = TOP / "docs" / "retry-example.md"
 QUOTED = re.compile(r"`examples/([a-z-]+\.report)`|^ {4} *([0-9]+)  (.*)$", re.MULTILINE)
 
 
-def quoted_lines():
+def quoted_lines() -> Iterator[tuple[str, int, str]]:
     """Yields each quoted line: the report that was named last before it, its number, the line."""
     name = ""
     for found in QUOTED.finditer(PAGE.read_text(encoding="utf-8")):

@@ -70,7 +70,7 @@ class Json(unittest.TestCase):
         self.assertEqual(tool("json", given=b"state idle\n").returncode, 65)
 
 
-def spelled(fields: dict) -> str:
+def spelled(fields: dict[str, Any]) -> str:
     """A line from its fields, by the tables of docs/report.md."""
     words = []
     for name, value in fields.items():
@@ -79,7 +79,7 @@ def spelled(fields: dict) -> str:
     return " ".join(words)
 
 
-def spelled_value(line: str, name: str, value) -> str:
+def spelled_value(line: str, name: str, value: Any) -> str:
     """The words of one field."""
     if name == "request":
         return spelled_request(value)
@@ -96,7 +96,7 @@ def spelled_value(line: str, name: str, value) -> str:
     return "-" if value is None else str(value)
 
 
-def spelled_request(fields: dict) -> str:
+def spelled_request(fields: dict[str, Any]) -> str:
     """The words of a request."""
     words = ["poison"] if fields["poisoned"] else []
     words += [fields["command"], str(fields["cube"]), f"0x{fields['address']:x}"]

@@ -6,6 +6,7 @@ import subprocess
 import sys
 import tempfile
 import unittest
+from collections.abc import Callable, Iterator
 from pathlib import Path
 
 from tool import build, case
@@ -14,7 +15,7 @@ from tool.tests.shared import CASES, EXAMPLES, TOP, bad_cases, require_program, 
 WRITE_THEN_READ = EXAMPLES / "write-then-read.toml"
 
 
-def kept(name: str, test) -> bytes:
+def kept(name: str, test: Callable[[bytes], bool]) -> bytes:
     """The lines of a stored report that a test keeps."""
     lines = (EXAMPLES / f"{name}.report").read_bytes().splitlines(keepends=True)
     return b"".join(line for line in lines if test(line))
@@ -25,11 +26,12 @@ def is_passed(report: bytes) -> bool:
     return report.splitlines()[-1].startswith(b"passed ")
 
 
-def changed_lines(text: str):
+def changed_lines(text: str) -> Iterator[bytes]:
     """Yields the text without each of its lines, and without the last word of each."""
     lines = text.split("\n")
     for number, line in enumerate(lines):
-        for instead in ([], [line.rpartition(" ")[0]]):
+        shorter = [line.rpartition(" ")[0]]
+        for instead in (lines[:0], shorter):
             yield "\n".join([*lines[:number], *instead, *lines[number + 1 :]]).encode()
 
 

@@ -80,7 +80,8 @@ class Shrink(unittest.TestCase):
         """The command reads the case: by its path, or as its input."""
         path = str(EXAMPLES / "write-then-read.toml")
         find = "import sys; sys.exit(3 if 'rd16' in open({}).read() else 0)"
-        for source, words in (("sys.argv[1]", ["{}"]), ("0", [])):
+        rows: list[tuple[str, list[str]]] = [("sys.argv[1]", ["{}"]), ("0", [])]
+        for source, words in rows:
             command = [sys.executable, "-c", find.replace("{}", source), *words]
             ran = tool("shrink", path, "--", *command)
             document, fault = case.read(ran.stdout)

@@ -4,13 +4,14 @@ import re
 import unittest
 
 from tool import case, show
+from tool.case import Document
 from tool.routes import route
 from tool.tests.shared import EXAMPLES, FAULTS, output_of, tool
 
 CUBE = {"vault_bits": 1, "bank_bits": 2, "rows": 16, "queue": 4}
-LINK = {"line": 8, "tokens": 34, "retry": 64, "output": 4}
+LINK: Document = {"line": 8, "tokens": 34, "retry": 64, "output": 4}
 # Two cubes and two hosts.
-NETWORK = {
+NETWORK: Document = {
     "cubes": [CUBE, {**CUBE, "rows": 1}],
     "links": [
         {"a": "h0", "b": "c0.0", **LINK},
@@ -77,7 +78,7 @@ class Show(unittest.TestCase):
             self.assertEqual((ran.returncode, ran.stdout), (64, b""), place)
 
     def test_the_box_is_even(self) -> None:
-        lines = [line for line in show.text_lines(NETWORK)[:6]]
+        lines = show.text_lines(NETWORK)[:6]
         self.assertEqual(len({len(line) for line in lines}), 1)
 
     def test_the_graph(self) -> None:

@@ -28,7 +28,6 @@ def run(words: Namespace) -> int:
     names = (files.shown_name(words.first), files.shown_name(words.second))
     how = diff.How(names, words.profile, words.context, words.start, words.all)
     with files.rereadable(words.first) as first, files.rereadable(words.second) as second:
-        readers = [partial(files.lines_of, name) for name in (first, second)]
-        lines = diff.compare(*readers, how)
+        lines = diff.compare(partial(files.lines_of, first), partial(files.lines_of, second), how)
     files.write_lines(lines)
     return 1 if lines else 0
