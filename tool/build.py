@@ -16,7 +16,7 @@ from pathlib import Path
 
 from tool import kit, processes
 from tool.kit import TOP
-from tool.trouble import UNAVAILABLE, Trouble, note, say
+from tool.trouble import NO_OUTPUT, UNAVAILABLE, Trouble, note, say
 
 CRATE = TOP / "crates" / "hmc_prog"
 OUT = CRATE / "out"
@@ -102,8 +102,7 @@ def build() -> None:
     """Proves and builds the program, and records the sources."""
     rt, _ = kit.require()
     sources = digest()
-    OUT.mkdir(exist_ok=True)
-    RECORD.unlink(missing_ok=True)
+    make_out(RECORD)
     note("proving and building the program; the first time takes up to half an hour")
     result = prove([rt, "run", "--", "run"])
     if result != OF_NOTHING:
@@ -112,6 +111,15 @@ def build() -> None:
     if digest() != sources:
         raise Trouble(UNAVAILABLE, "the sources changed while the program was built: run it again")
     record(sources)
+
+
+def make_out(old: Path) -> None:
+    """Makes the folder for what is built, and removes what was recorded of an older program."""
+    try:
+        OUT.mkdir(exist_ok=True)
+        old.unlink(missing_ok=True)
+    except OSError as error:
+        raise Trouble(NO_OUTPUT, f"cannot write {OUT}: {error.strerror}") from error
 
 
 def prove(words: list[str]) -> tuple[int, bytes]:

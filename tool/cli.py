@@ -2,6 +2,7 @@
 
 from __future__ import annotations
 
+import gc
 import sys
 
 from tool import build, files, kit, processes, trial
@@ -93,6 +94,8 @@ def before_dashes(words: list[str]) -> list[str]:
 
 def main(words: list[str]) -> int:
     """Does what the words say. States what went wrong on standard error."""
+    # Millions of records come and go, and none of them is in a cycle.
+    gc.disable()
     files.keep_streams()
     processes.end_at_signals()
     try:

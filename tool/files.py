@@ -8,12 +8,14 @@ one of the inputs is refused.
 from __future__ import annotations
 
 import contextlib
+import io
 import os
 import shutil
 import sys
 import tempfile
 from collections.abc import Iterable, Iterator, Sequence
 from contextlib import contextmanager
+from itertools import chain
 from typing import BinaryIO
 
 from tool.trouble import (
@@ -97,9 +99,21 @@ def blocks_of(name: str) -> Iterator[list[bytes]]:
 
 def lines_of(name: str) -> Iterator[str]:
     """Yields the lines of a text file. A byte that is not UTF-8 is a lone surrogate."""
-    for lines in blocks_of(name):
-        for line in lines:
-            yield line.decode("utf-8", errors="surrogateescape")
+    return chain.from_iterable(_text_blocks(name))
+
+
+def _text_blocks(name: str) -> Iterator[list[str]]:
+    """Yields the lines of a text file, some at a time."""
+    with opened_to_read(name) as file:
+        text = io.TextIOWrapper(file, "utf-8", errors="surrogateescape", newline="\n")
+        try:
+            while lines := text.readlines(BLOCK):
+                yield lines
+        except OSError as error:
+            raise _unread(name, error) from error
+        finally:
+            # The file is closed, or standard input stays open, where it was opened.
+            text.detach()
 
 
 def _unread(name: str, error: OSError) -> Trouble:

@@ -17,6 +17,8 @@ from tool.lines import Entry, Gave, Landed, Line, Passed, Sent
 from tool.report import NotALine
 
 Numbered = tuple[int, Line, str]
+# The lines that end a report.
+ENDS = (*report.FINAL, "passed")
 LEFT_OUT = "lines of steps are left out"
 NO_IDLE = "no line before it begins with `idle`. If no step was idle, name the case (--case)"
 
@@ -142,29 +144,28 @@ class Whole:
 
     def __init__(self) -> None:
         self._counts: Counter[tuple[str, int]] = Counter()
-        self._steps = 0
-        self._idle = 0
 
     def lines(self, numbered: Iterable[Numbered]) -> Iterator[Numbered]:
         """Yields the lines, each after it was compared with those before it."""
-        counts = self._counts
-        for number, line, text in numbered:
+        counts, has_idle, first_end = self._counts, False, 0
+        for row in numbered:
+            number, line, _ = row
             kind = line.line
             if kind == "idle":
-                self._idle += 1
+                has_idle = True
             elif kind in _COUNTED_BY:
                 counts[kind, getattr(line, _COUNTED_BY[kind])] += 1
-            elif not isinstance(line, Entry) or kind == "passed":
-                self._compare(number, line)
-            self._steps += isinstance(line, Entry)
-            yield number, line, text
+            elif kind in ENDS:
+                # Where this is the first line, the report has no lines of steps at all.
+                first_end = first_end or number
+                if first_end > 1 and not has_idle:
+                    raise NotALine(f"line {number}: {LEFT_OUT}: {NO_IDLE}")
+                if first_end > 1:
+                    self._compare(number, line)
+            yield row
 
     def _compare(self, number: int, line: Line) -> None:
-        """Compares the numbers of a final line, where the report has lines of steps at all."""
-        if not self._steps:
-            return
-        if not self._idle:
-            raise NotALine(f"line {number}: {LEFT_OUT}: {NO_IDLE}")
+        """Compares the numbers of a final line with the lines that show them."""
         for (word, field), (counted, of) in COUNTED.items():
             if word == line.line:
                 found = sum(self._counts[kind, getattr(line, of)] for kind in counted)

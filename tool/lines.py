@@ -308,8 +308,24 @@ _NAMES = {
 }
 
 
+def _template_of(kind: type) -> str:
+    """The fields of a record that has only numbers and words, to be formatted; else nothing."""
+    marks = {"int": "{{0.{}}}", "str": '"{{0.{}}}"'}
+    rows = [(field.name, marks.get(str(field.type))) for field in fields(kind)]
+    if any(mark is None for _, mark in rows):
+        return ""
+    names = dict(_NAMES[kind])
+    return ", ".join(f'"{names[name]}": {(mark or "").format(name)}' for name, mark in rows)
+
+
+_TEMPLATES = {kind: _template_of(kind) for kind in _NAMES}
+
+
 def json_fields(record: Any) -> str:
     """The fields of a record as the inside of a JSON object."""
+    template = _TEMPLATES[type(record)]
+    if template:
+        return template.format(record)
     shown = []
     for name, written in _NAMES[type(record)]:
         value = getattr(record, name)

@@ -50,8 +50,7 @@ def _build() -> None:
     """Builds the program without proofs, and keeps it."""
     rt, _ = kit.require()
     sources = build.digest()
-    build.OUT.mkdir(exist_ok=True)
-    RECORD.unlink(missing_ok=True)
+    build.make_out(RECORD)
     note("building the program without proofs, in about a minute; `run` proves it first")
     with tempfile.TemporaryDirectory(prefix="zehimbado-") as name:
         folder, kept = Path(name) / "kit", Path(name) / "program"

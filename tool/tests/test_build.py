@@ -190,6 +190,14 @@ class Build(unittest.TestCase):
         self.assertIn("the proved program of these sources is built", after.stdout)
         self.assertIn("zehimbado 0.1, sources ", after.stdout)
 
+    def test_a_checkout_that_cannot_be_written(self) -> None:
+        """As one that is read-only: a file is where the folder of the program has to be."""
+        (self.crate / "out").write_text("", encoding="utf-8")
+        for word in ("build", "try"):
+            ran = self.tool(word)
+            self.assertEqual((ran.returncode, ran.stdout), (73, ""))
+            self.assertRegex(ran.stderr, "^zehimbado: cannot write /.*/crates/hmc_prog/out: .*\n$")
+
     def test_without_the_kit(self) -> None:
         ran = self.tool("run", with_kit=False)
         self.assertEqual(ran.returncode, 69)

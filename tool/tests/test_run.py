@@ -82,6 +82,15 @@ class Run(unittest.TestCase):
             wanted = WRITE_THEN_READ.with_suffix(".report").read_bytes()
             self.assertEqual(path.read_bytes(), wanted)
 
+    def test_a_closed_pipe(self) -> None:
+        """It ends quietly, also where the program writes to the pipe itself."""
+        path = EXAMPLES / "row-of-eight.toml"
+        for words in ("", "--only ."):
+            line = f"{sys.executable} {TOP}/zehimbado run {words} {path} | head -1"
+            command = ["bash", "-c", f"{line}; echo ${{PIPESTATUS[0]}}"]
+            ran = subprocess.run(command, capture_output=True, text=True)
+            self.assertEqual((ran.stdout.splitlines()[1:], ran.stderr), (["141"], ""))
+
     def test_the_case_is_not_overwritten(self) -> None:
         with tempfile.TemporaryDirectory() as folder:
             path = Path(folder) / "case.toml"
