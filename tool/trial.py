@@ -30,6 +30,7 @@ while [ $# -gt 1 ]; do
   shift
 done
 """
+OTHER_KIT = "the program of this kit's try cannot be kept: try needs the kit that README.md names"
 # How the kit says that a program that it tried has ended.
 ENDED = re.compile(rb"^run=ended status=([0-9]+)", re.MULTILINE)
 SECONDS = "600"
@@ -49,16 +50,18 @@ def program() -> Path:
 def _build() -> None:
     """Builds the program without proofs, and keeps it."""
     rt, _ = kit.require()
+    whole = Path(rt).resolve().parent.parent
+    if not (whole / "bin" / "rt").is_file() or not (whole / LINKER).is_file():
+        raise Trouble(UNAVAILABLE, OTHER_KIT)
     sources = build.digest()
     build.make_out(RECORD)
     note("building the program without proofs, in about a minute; `run` proves it first")
     with tempfile.TemporaryDirectory(prefix="zehimbado-") as name:
         folder, kept = Path(name) / "kit", Path(name) / "program"
-        _copy_kit(Path(rt).resolve().parent.parent, folder, kept)
+        _copy_kit(whole, folder, kept)
         _try(folder / "bin" / "rt")
         if not kept.is_file():
-            said = "the kit's try left no program: this needs the kit that README.md names"
-            raise Trouble(UNAVAILABLE, said)
+            raise Trouble(UNAVAILABLE, OTHER_KIT)
         if build.digest() != sources:
             said = "the sources changed while the program was built: try it again"
             raise Trouble(UNAVAILABLE, said)

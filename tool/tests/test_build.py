@@ -218,6 +218,12 @@ class Build(unittest.TestCase):
         self.assertEqual(self.builds(), ["try", "try"])
         self.assertEqual(self.tool("run", with_kit=False).returncode, 69)
 
+    def test_a_try_with_a_kit_of_another_form(self) -> None:
+        (self.top / "kit" / "toolchain" / "bin" / "ld.lld").unlink()
+        ran = self.tool("try")
+        self.assertEqual((ran.returncode, ran.stdout), (69, ""))
+        self.assertIn("try needs the kit that README.md names", ran.stderr)
+
     def test_a_try_of_a_long_report(self) -> None:
         """A report may have more than 1 MiB, of which the kit's own try has none."""
         self.source.write_text("a line of a report\n" * 100_000, encoding="utf-8")
