@@ -89,7 +89,12 @@ PLACE = Words(
 )
 PORT = Words("p[0-3]", "a port, as p0", lambda word: int(word[1:]))
 UNIT = Words(f"{_NUMBER} {_NUMBER}|r", "a vault and a bank, or r")
-STEP = Words("[a-z]+(?: [0-9a-z]+)*", "a step")
+STEP = Words(
+    f"(?:give|take|send|land|unlock|retire|registers) {_NUMBER}"
+    f"|(?:shift|spread|through) {_NUMBER} {_NUMBER}|bank {_NUMBER} {_NUMBER} {_NUMBER}"
+    f"|lift {_NUMBER} (?:{_NUMBER}|r)",
+    "a step",
+)
 CAUSE = Words("ended|fence|tags|full|empty|starved|nopacket|busy", "a cause, as empty or full")
 STATE = Words("drained|busy", "drained or busy")
 WORD = Words("[a-z]+", "a word")
@@ -164,23 +169,38 @@ LINES: dict[str, tuple[Callable[..., Line], tuple[Words, ...]]] = {
     "state": (State, (STATE,)),
     "bad": (Bad, (WORD, NUMBER, WORD)),
 }
-_PATTERNS = {
-    first: re.compile("".join([first, *(f" ({words.pattern})" for words in form)]))
-    for first, (_, form) in LINES.items()
+
+
+class Form(NamedTuple):
+    """How the lines with one first word are read: their pattern, and the values of its groups."""
+
+    pattern: re.Pattern[str]
+    make: Callable[..., Line]
+    # None for words that are kept as they are.
+    converts: tuple[Callable[[str], Any] | None, ...]
+
+
+_FORMS = {
+    first: Form(
+        re.compile("".join([first, *(f" ({words.pattern})" for words in form)])),
+        make,
+        tuple(None if words.convert is str else words.convert for words in form),
+    )
+    for first, (make, form) in LINES.items()
 }
 
 
 def read_line(text: str) -> Line:
     """The record of a line, which has no line feed."""
     first = text.partition(" ")[0]
-    pattern = _PATTERNS.get(first)
-    if pattern is None:
+    form = _FORMS.get(first)
+    if form is None:
         raise NotALine(f"no line begins with `{first}`")
-    found = pattern.fullmatch(text)
-    make, form = LINES[first]
+    found = form.pattern.fullmatch(text)
     if found is None:
-        raise NotALine(_fault_of(text[len(first) :], form))
-    return make(*[words.convert(it) for words, it in zip(form, found.groups())])
+        raise NotALine(_fault_of(text[len(first) :], LINES[first][1]))
+    pairs = zip(form.converts, found.groups())
+    return form.make(*[convert(it) if convert else it for convert, it in pairs])
 
 
 def _fault_of(text: str, form: tuple[Words, ...]) -> str:
@@ -202,7 +222,6 @@ class Reader:
 
     def __init__(self) -> None:
         self._known: dict[str, Line] = {}
-        self._last: Line | None = None
 
     def read(self, text: str) -> Line:
         """The record of the next line, with or without its line feed."""

@@ -59,10 +59,22 @@ class Json(unittest.TestCase):
         self.assertEqual(json.loads(read), wanted)
 
     def test_lines_that_no_report_has(self) -> None:
-        rows = ("", "jumped 0", "took 0 0", "took 0 0 done 2", "sent 0 new 00", "state idle")
-        for line in rows:
-            with self.assertRaises(report.NotALine, msg=line):
+        rows = {
+            "": "no line begins with ``",
+            "jumped 0": "no line begins with `jumped`",
+            "took 0 0": "a word is missing: an answer is expected",
+            "took 0 0 done 2": "unexpected `done`: an answer is expected",
+            "took 0 00 done 0": "unexpected `00`: a number is expected",
+            "took 0 0 done 0 0": "unexpected `0`: the line ends before it",
+            "sent 0 new 00": "unexpected `00`: a flit of 32 digits is expected",
+            "idle jump 0 full": "unexpected `jump`: a step is expected",
+            "gave 0 0 wr16 0 0x0 00": "wr16 carries 32 digits, and here are 2",
+            "state idle": "unexpected `idle`: drained or busy is expected",
+        }
+        for line, said in rows.items():
+            with self.assertRaises(report.NotALine, msg=line) as caught:
                 report.read_line(line)
+            self.assertEqual(str(caught.exception), said)
         self.assertEqual(tool("json", given=b"state idle\n").returncode, 65)
 
 
