@@ -2,6 +2,8 @@
 
 from __future__ import annotations
 
+import math
+
 from tool import texts
 from tool.case import Document, Endpoint, bytes_of, ends_of
 from tool.routes import Hop, hops_from, ring_of
@@ -9,6 +11,10 @@ from tool.routes import Hop, hops_from, ring_of
 SIZES = ("line", "tokens", "retry", "output", "profile")
 # A gap between two cubes of a ring, as wide as the widest pair of directions.
 GAP = 9
+# Where a ring is drawn: its radius, and how far outside of it hosts are, in inches and radians.
+INCHES_A_CUBE = 0.75
+INCHES_TO_HOST = 3
+HOST_ANGLE = 0.4
 ON_ROUTE = ', color="#c03030", fontcolor="#c03030", penwidth=2'
 
 
@@ -111,23 +117,46 @@ def route_lines(way: list[Hop], start: str, goal: str) -> list[str]:
 
 def dot_lines(document: Document, way: list[Hop]) -> list[str]:
     """The graph in Graphviz's language, with an arrow for each direction."""
-    layout = "layout=circo;" if ring_of(document) else "rankdir=LR;"
-    lines = ["digraph network {", f"  {layout}"]
+    places = ring_places(document)
+    lines = ["digraph network {", "  layout=neato;" if places else "  rankdir=LR;"]
     lines.append('  node [shape=box, fontname="sans-serif"];')
     edges = 'fontname="sans-serif", fontsize=10, minlen=2, labelangle=35, labeldistance=2'
     lines.append(f"  edge [{edges}];")
     for number, cube in enumerate(document["cubes"]):
         label = rf"cube {number}\n" + parts_of(cube).replace(", ", r"\n")
-        lines.append(f'  c{number} [label="{label}"];')
+        lines.append(f'  c{number} [label="{label}"{places.get(f"c{number}", "")}];')
     ends = [end for link in document["links"] for end in ends_of(link)]
     for end in ends:
         if end.host is not None:
-            lines.append(f'  h{end.host} [label="host {end.host}", shape=ellipse];')
+            place = places.get(f"h{end.host}", "")
+            lines.append(f'  h{end.host} [label="host {end.host}", shape=ellipse{place}];')
     crossed = {hop.direction for hop in way}
     for hop in sorted(hops_from(document).values(), key=lambda it: it.direction):
         link = document["links"][hop.direction // 2]
         lines.append(edge_line(hop, link, hop.direction in crossed))
     return [*lines, "}"]
+
+
+def ring_places(document: Document) -> dict[str, str]:
+    """Where Graphviz puts the cubes of a ring, and outside of it their hosts; else nothing."""
+    ring = ring_of(document)
+    radius = len(ring) * INCHES_A_CUBE
+    places = {}
+    for number, cube in enumerate(ring):
+        angle = math.pi / 2 - 2 * math.pi * number / len(ring)
+        places[f"c{cube}"] = _place(radius, angle)
+        ports = [Endpoint(None, cube, port) for port in range(texts.PORTS)]
+        found = [hop.end.host for port, hop in hops_from(document).items() if port in ports]
+        hosts = [host for host in found if host is not None]
+        for at, host in enumerate(hosts):
+            turned = angle + HOST_ANGLE * (at - (len(hosts) - 1) / 2)
+            places[f"h{host}"] = _place(radius + INCHES_TO_HOST, turned)
+    return places
+
+
+def _place(radius: float, angle: float) -> str:
+    """A fixed place in inches, by its distance from the middle and its angle."""
+    return f', pos="{radius * math.cos(angle):.2f},{radius * math.sin(angle):.2f}!"'
 
 
 def edge_line(hop: Hop, link: Document, is_crossed: bool) -> str:

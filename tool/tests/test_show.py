@@ -1,5 +1,6 @@
 """Tests of `show`: the picture names the ends that the case names."""
 
+import math
 import re
 import unittest
 
@@ -54,8 +55,11 @@ class Show(unittest.TestCase):
         lower = re.sub(" ?-+ ?", " ", text.split("\n")[2])
         self.assertEqual(lower, "c7 15/14 c6 13/12 c5 11/10 c4")
         graph = output_of("show", "--dot", str(EXAMPLES / "ring-of-eight.toml"))
-        self.assertIn("layout=circo", graph)
-        self.assertNotIn("layout=circo", output_of("show", "--dot", str(EXAMPLES / "star.toml")))
+        # Its cubes are drawn at equal distances from the middle.
+        places = re.findall(r'c[0-7] \[.*pos="([-.0-9]+),([-.0-9]+)!"', graph)
+        radii = {round(math.hypot(float(x), float(y)), 1) for x, y in places}
+        self.assertEqual((len(places), radii), (8, {6.0}))
+        self.assertNotIn("pos=", output_of("show", "--dot", str(EXAMPLES / "star.toml")))
 
     def test_routes_are_those_of_reports(self) -> None:
         """The packets of the first requests go on through the ports that `--route` names."""
