@@ -1,5 +1,5 @@
 -- The report of a case, from the network after the case's steps.
-use Rattle.std.proofs.Common.{◌≡◌, ◌∙◌, ℕ, Bool, true, false, List, [], ◌∷◌, ◌++◌, Result, Ok, Err, IsErrAnd, if◌then◌else◌, arith, refl, sym, ap, subst, append-nil, append_assoc}
+use Rattle.std.proofs.Common.{◌≡◌, ◌∙◌, ℕ, Bool, true, false, List, [], ◌∷◌, ◌++◌, Option, Result, Ok, Err, IsErrAnd, if◌then◌else◌, arith, refl, sym, ap, subst, append-nil, append_assoc}
 use Rattle.hmc_entries.specs.declared.entry.Entry.{Entry}
 use Rattle.hmc_entries.specs.declared.entry.Entry.TheVariants.{Passed}
 use Rattle.hmc_journal.specs.Final.{final_lines_of}
@@ -18,10 +18,12 @@ use Rattle.hmc_outside.specs.declared.counts.Failed.{Failed}
 use Rattle.hmc_outside.proofs.LinesLemmas.{WritesLines-none, WritesLines-after, BreaksOff-after, BreaksOff-more}
 use Rattle.hmc_report.specs.Final.{final_lines, ending_lines}
 use Rattle.hmc_replay.specs.Output.{WritesReport, DeliversReport}
-use Rattle.hmc_replay.specs.Report.{passes, lines_unless, report_of, last_line, short_lines, short_report_of, report_status}
+use Rattle.hmc_units.specs.Unit.{UnitFields}
+use Rattle.hmc_replay.specs.Report.{passes, lines_unless, report_of, last_line, short_lines, short_report_of, lines_in, report_status}
 use Rattle.hmc_replay.specs.Reported.{EndsAtPass, IsReport}
 use Rattle.hmc_replay.specs.Answered.{IsAnswered, IsCutOff}
 use Rattle.hmc_replay.specs.Steps.{TookAll}
+use Rattle.hmc_replay.specs.declared.extent.Extent.{Extent}
 use Rattle.hmc_replay.proofs.Passes.{passes_is}
 
 -- ---- lines that are made one after another
@@ -174,3 +176,24 @@ due_report setup lines guarantees = by_passed (passes setup) refl
 pub cut_off : (setup : Setup) (lines : List (List ℕ)) (a b : SinkView) → Guarantees setup (journal_of setup) → FailsToHandOn a b lines → IsCutOff (IsReport setup lines) a b
 cut_off setup lines a b guarantees failed =
     record { status = report_status setup; lines = lines; due = due_report setup lines guarantees; written = failed }
+
+-- ---- the report of a case with other slots that are the same
+
+module _ (extent : Extent) (setup_at : List (Option UnitFields) → Setup) (there slots : List (Option UnitFields)) (result : Result Bool Failed) where
+  abbrev Delivered : (a b : SinkView) → Type 0
+  Delivered a b = DeliversReport result (lines_in extent (setup_at there)) (passes (setup_at there)) a b
+
+  abbrev Due : List (Option UnitFields) → ℕ → List (List ℕ) → Type 0
+  Due s = IsReport (setup_at s) (lines_in extent (setup_at s))
+
+  pub delivered_passed : (a b : SinkView) → there ≡ slots → result ≡ Ok true → Delivered a b → Guarantees (setup_at there) (journal_of (setup_at there)) → IsAnswered (Due slots) 7 a b
+  delivered_passed a b same is delivers guarantees =
+      let setup = setup_at there in
+      let wrote = subst (λ (r : Result Bool Failed). DeliversReport r (lines_in extent setup) (passes setup) a b) is delivers in
+      subst (λ (s : List (Option UnitFields)). IsAnswered (Due s) 7 a b) same (reported setup (lines_in extent setup) true a b (sym wrote.1) guarantees wrote.0)
+
+  pub delivered_cut : (failed : Failed) (a b : SinkView) → there ≡ slots → result ≡ Err failed → Delivered a b → Guarantees (setup_at there) (journal_of (setup_at there)) → IsCutOff (Due slots) a b
+  delivered_cut failed a b same is delivers guarantees =
+      let setup = setup_at there in
+      let cut = subst (λ (r : Result Bool Failed). DeliversReport r (lines_in extent setup) (passes setup) a b) is delivers in
+      subst (λ (s : List (Option UnitFields)). IsCutOff (Due s) a b) same (cut_off setup (lines_in extent setup) a b guarantees cut)
