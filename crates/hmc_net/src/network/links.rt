@@ -20,6 +20,7 @@ use hmc_kept::{Pipes, goes_on, note_landed, note_sent};
 use hmc_link::LinkLanded;
 use hmc_links::LinkList;
 use hmc_packet::Landed;
+use hmc_schedule::Step;
 use hmc_units::Workbench;
 
 impl<B: Workbench> Network<B> {
