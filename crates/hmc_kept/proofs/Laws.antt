@@ -1,12 +1,10 @@
 -- What lawful journals keep, by hmc_laws and hmc_delivery.
-use Rattle.std.proofs.Common.{◌≡◌, List, true}
+use Rattle.std.proofs.Common.{List}
 use Rattle.hmc_entries.specs.declared.entry.Entry.{Entry}
-use Rattle.hmc_journal.specs.Drained.{IsDrained, is_drained}
 use Rattle.hmc_journal.specs.Lawful.{Lawful}
 use Rattle.hmc_journal.specs.Network.{IsNetwork}
 use Rattle.hmc_journal.specs.Setup.{Setup}
 use Rattle.hmc_delivery.proofs.Awaited.{awaits_answers}
-use Rattle.hmc_laws.proofs.DrainedTest.{drained_by_test}
 use Rattle.hmc_delivery.proofs.ForwardedKept.{forwarded_kept}
 use Rattle.hmc_laws.proofs.QueueInvariant.{queue_invariant}
 use Rattle.hmc_kept.proofs.ForwardedLaw.{onward_seen, forwarded_seen}
@@ -23,4 +21,3 @@ law_bound setup past network lawful =
       onward = λ direction there. onward_seen setup past direction forwarded;
       forwarded = λ direction onto there is. forwarded_seen setup past direction onto (queues.links direction there).receiver (forwarded.forwarded direction onto there is);
     }
-

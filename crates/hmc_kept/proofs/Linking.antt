@@ -1,7 +1,5 @@
 -- The calls of a link make entries.
-use Rattle.std.proofs.Common.{◌≡◌, ◌<◌, ◌&&◌, ℕ, zero, suc, Bool, true, false, Some, List, [], ◌∷◌, length, drop, refl, ap, arith, lt-ltb}
-use Rattle.std.specs.Prelude.{slice_get, nat_lt}
-use Rattle.std.proofs.lemmas.Bool.Decides.{nat_tests}
+use Rattle.std.proofs.Common.{◌≡◌, true, Some, List, ◌∷◌, refl, ap, lt-ltb}
 use Rattle.std.proofs.lemmas.Bool.{and_from}
 use Rattle.hmc_codes.specs.Link.{LinkFields}
 use Rattle.hmc_packet.specs.Packet.{PacketFields}

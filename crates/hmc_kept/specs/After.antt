@@ -2,7 +2,6 @@
 -- entries of the links.
 use Rattle.std.specs.Prelude.{ℕ, List, [], Option, Some, None}
 use Rattle.hmc_codes.specs.declared.place.Place.TheVariants as places
-use Rattle.hmc_codes.specs.declared.unit.Unit.TheVariants as units
 use Rattle.hmc_packet.specs.Transactions.{request_packet}
 use Rattle.hmc_units.specs.Unit.{UnitFields}
 use Rattle.hmc_units.specs.Bench.{retired_slots}
