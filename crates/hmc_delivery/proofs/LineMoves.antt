@@ -78,26 +78,26 @@ pub buffer_hop : (topology : Topology) (d : ℕ) → Wired topology → d < dire
     hop_queue topology (landing_buffer topology d) ≡ hops.Buffer d
 buffer_hop topology d wires less =
     buffer_hop_at topology (end_of topology d)
-        ∙ ap hops.Buffer (arriving_is topology (end_of topology d) wires
-        (record { direction = d; inside = less; ends = refl }))
+    ∙ ap hops.Buffer (arriving_is topology (end_of topology d) wires
+    (record { direction = d; inside = less; ends = refl }))
 
 -- the packet enters the buffer, unless it only returns tokens
 landed_new : (topology : Topology) (d : ℕ) (q : QueueId) (p : PacketFields) (token : Bool) →
     Wired topology → d < directions_in topology → IsReal topology q → is_token p ≡ token
     → map (seen topology) (arrived q (arrival_of (landing_buffer topology d)
-        (filter is_token (p ∷ [])))) ≡ hop_if
-        (is_at_hop (after_line token d) (hop_queue topology q)) (seen topology p)
+    (filter is_token (p ∷ [])))) ≡ hop_if
+    (is_at_hop (after_line token d) (hop_queue topology q)) (seen topology p)
 landed_new topology d q p true wires less real is =
     ap (λ (b : Bool). map (seen topology)
-        (arrived q (arrival_of (landing_buffer topology d) (if b then p ∷ [] else [])))) is
+    (arrived q (arrival_of (landing_buffer topology d) (if b then p ∷ [] else [])))) is
     ∙ if_seen topology (same_queue (landing_buffer topology d) q) (λ _. p)
     ∙ ap (λ (b : Bool). hop_if b (seen topology p))
-        (same_hops topology (landing_buffer topology d) q wires
-        (buffer_real topology (end_of topology d) d less refl) real
-        ∙ ap (λ a. same_hop a (hop_queue topology q)) (buffer_hop topology d wires less))
+    (same_hops topology (landing_buffer topology d) q wires
+    (buffer_real topology (end_of topology d) d less refl) real
+    ∙ ap (λ a. same_hop a (hop_queue topology q)) (buffer_hop topology d wires less))
 landed_new topology d q p false wires less real is =
     ap (λ (b : Bool). map (seen topology)
-        (arrived q (arrival_of (landing_buffer topology d) (if b then p ∷ [] else [])))) is
+    (arrived q (arrival_of (landing_buffer topology d) (if b then p ∷ [] else [])))) is
 
 no_line_after : (token : Bool) (d e : ℕ) → is_at_hop (after_line token d) (hops.Line e) ≡ false
 no_line_after true d e = refl
@@ -125,7 +125,7 @@ agrees_held topology m journal moved held = record { queues = held.queues; lines
 pub lines_same : (topology : Topology) (m : Map) (entry : Entry) (past : List Entry)
     (moved : List Move) → ((e : ℕ) → known_on topology e (entry ∷ past) ≡ known_on topology e past)
     → Held topology m (contents topology (entry ∷ past)) (left_on topology entry past) moved →
-        Agrees topology m (entry ∷ past) moved
+    Agrees topology m (entry ∷ past) moved
 lines_same topology m entry past moved same held = record {
   queues = held.queues;
   lines = λ e. ap (λ l. map (seen topology) (drop (length (accepted topology e (entry ∷ past))) l))
@@ -153,45 +153,45 @@ pub line_left : (topology : Topology) (d e : ℕ) (flit : List ℕ) (outcome : O
     (past : List Entry) (same : Bool) (landed : List PacketFields) → (d == e) ≡ same →
     IsKept (sizes_on topology d) (entries_on topology d (Landed d flit outcome ∷ past))
     → known_on topology d (Landed d flit outcome ∷ past) ≡ known_on topology d past →
-        landed_packets topology d flit outcome past ≡ landed
+    landed_packets topology d flit outcome past ≡ landed
     → map (seen topology) (left_on topology (Landed d flit outcome) past e)
-        ≡ without_if (same && some_in landed) 0 (map (seen topology) (line_on topology e past))
+    ≡ without_if (same && some_in landed) 0 (map (seen topology) (line_on topology e past))
 line_left topology d e flit outcome past false landed is keeps known landed_is =
     ap (λ (l : List PacketFields). map (seen topology) (drop (length l) (known_on topology e past)))
     (accepted_off topology e d flit outcome past is)
 line_left topology d e flit outcome past true landed is keeps known landed_is =
     let n = length (accepted topology d (Landed d flit outcome ∷ past)) in
     let parts : line_on topology d past ≡ landed
-        ++ left_on topology (Landed d flit outcome) past d =
-        underway-landed topology d flit outcome past keeps known
-        ∙ ap₂ (λ (a b : List PacketFields). a ++ b) landed_is (ap (drop n) known) in
+    ++ left_on topology (Landed d flit outcome) past d =
+    underway-landed topology d flit outcome past keeps known
+    ∙ ap₂ (λ (a b : List PacketFields). a ++ b) landed_is (ap (drop n) known) in
     let few = subst (λ l. length l ≤ 1) landed_is (few_landed topology d flit outcome past) in
     let here =
-        line_by topology (line_on topology d past) (left_on topology (Landed d flit outcome) past d)
-        landed parts few in
+    line_by topology (line_on topology d past) (left_on topology (Landed d flit outcome) past d)
+    landed parts few in
     subst (λ (k : ℕ). map (seen topology) (left_on topology (Landed d flit outcome) past k)
-        ≡ without_if (some_in landed) 0 (map (seen topology) (line_on topology k past)))
-        (eqb-true d e is) here
+    ≡ without_if (some_in landed) 0 (map (seen topology) (line_on topology k past)))
+    (eqb-true d e is) here
 
 pub landed_held : (setup : Setup) (m : Map) (past : List Entry) (moved : List Move) (d : ℕ)
     (flit : List ℕ) (outcome : Outcome) (landed : List PacketFields) → Wired setup.topology →
     Kept setup past → Kept setup (Landed d flit outcome ∷ past) → Agrees setup.topology m past moved
     → EntryRule setup past (Landed d flit outcome) →
-        goes_on outcome (forwarded_onto setup.topology d past) ≡ false →
-        known_on setup.topology d (Landed d flit outcome ∷ past) ≡ known_on setup.topology d past →
-        landed_packets setup.topology d flit outcome past ≡ landed → length landed ≤ 1
+    goes_on outcome (forwarded_onto setup.topology d past) ≡ false →
+    known_on setup.topology d (Landed d flit outcome ∷ past) ≡ known_on setup.topology d past →
+    landed_packets setup.topology d flit outcome past ≡ landed → length landed ≤ 1
     → Held setup.topology m (contents setup.topology (Landed d flit outcome ∷ past))
-        (left_on setup.topology (Landed d flit outcome) past)
-        (lands setup.topology d landed ++ moved)
+    (left_on setup.topology (Landed d flit outcome) past)
+    (lands setup.topology d landed ++ moved)
 unfolding entering enters leaves hop_contents
 landed_held setup m past moved d flit outcome [] wires keeps now agrees right stays known is few =
     let t = setup.topology in record {
       queues = λ q real.
           queue-more setup (Landed d flit outcome) past q false []
-              (hop_contents m moved (hop_queue t q)) right tt keeps.within refl
+          (hop_contents m moved (hop_queue t q)) right tt keeps.within refl
           (ap₂ (λ (b : Bool) (l : List PacketFields). map (seen t)
-              (arrived q (arrival_of (landing_buffer t d) (unless_gone b (filter is_token l)))))
-              stays is) (agrees.queues q real)
+          (arrived q (arrival_of (landing_buffer t d) (unless_gone b (filter is_token l)))))
+          stays is) (agrees.queues q real)
           ∙ append-nil (hop_contents m moved (hop_queue t q));
       lines = λ e. line_left t d e flit outcome past (d == e) [] refl (now.links (d / 2)) known is
           ∙ ap (λ (b : Bool). without_if b 0 (map (seen t) (line_on t e past))) (and-false (d == e))
@@ -202,24 +202,24 @@ landed_held setup m past moved d flit outcome (p ∷ []) wires keeps now agrees 
     let t = setup.topology in
     let less = landed-real setup past d flit outcome right keeps in
     let next_is : next_queue m (hops.Line d) (seen t p) ≡ after_line (is_token p) d =
-        ap (λ (b : Bool). after_line b d) (token_seen t p) in record {
+    ap (λ (b : Bool). after_line b d) (token_seen t p) in record {
       queues = λ q real.
           queue-more setup (Landed d flit outcome) past q (same_hop (hops.Line d) (hop_queue t q))
-              (hop_if (is_at_hop (next_queue m (hops.Line d) (seen t p)) (hop_queue t q))
-              (seen t p)) (hop_contents m moved (hop_queue t q)) right tt keeps.within
+          (hop_if (is_at_hop (next_queue m (hops.Line d) (seen t p)) (hop_queue t q))
+          (seen t p)) (hop_contents m moved (hop_queue t q)) right tt keeps.within
           (sym (line_off t q d))
           (ap₂ (λ (b : Bool) (l : List PacketFields). map (seen t)
-              (arrived q (arrival_of (landing_buffer t d) (unless_gone b (filter is_token l)))))
-              stays is ∙ landed_new t d q p (is_token p) wires less real refl
+          (arrived q (arrival_of (landing_buffer t d) (unless_gone b (filter is_token l)))))
+          stays is ∙ landed_new t d q p (is_token p) wires less real refl
           ∙ ap (λ o. hop_if (is_at_hop o (hop_queue t q)) (seen t p)) (sym next_is))
-              (agrees.queues q real);
+          (agrees.queues q real);
       lines = λ e.
           line_left t d e flit outcome past (d == e) (p ∷ []) refl (now.links (d / 2)) known is
           ∙ ap₂ (λ (b : Bool) (l : List Packet). without_if b 0 l) (and-true (d == e))
-              (agrees.lines e)
+          (agrees.lines e)
           ∙ sym (ap (λ (b : Bool). without_if (d == e) 0 (hop_contents m moved (hops.Line e))
-              ++ hop_if b (seen t p)) (ap (λ o. is_at_hop o (hops.Line e)) next_is
-              ∙ no_line_after (is_token p) d e)
+          ++ hop_if b (seen t p)) (ap (λ o. is_at_hop o (hops.Line e)) next_is
+          ∙ no_line_after (is_token p) d e)
           ∙ append-nil (without_if (d == e) 0 (hop_contents m moved (hops.Line e))));
     }
 landed_held setup m past moved d flit outcome (p ∷ q ∷ rest) wires keeps now agrees right stays
@@ -240,17 +240,17 @@ pub comes_held : (topology : Topology) (m : Map) (inside : QueueId → List Pack
     (line longer : ℕ → List PacketFields) (moved : List Move) (onto : ℕ) (copy : PacketFields) →
     Held topology m inside line moved
     → ((e : ℕ) → longer e ≡ line e ++ copy_if (onto == e) copy) →
-        Held topology m inside longer (Comes (hops.Line onto) (seen topology copy) ∷ moved)
+    Held topology m inside longer (Comes (hops.Line onto) (seen topology copy) ∷ moved)
 unfolding hop_contents
 comes_held topology m inside line longer moved onto copy held more = record {
   queues = λ q real.
       held.queues q real ∙ sym (ap (λ (b : Bool). hop_contents m moved (hop_queue topology q)
-          ++ hop_if b (seen topology copy)) (line_off topology q onto)
-          ∙ append-nil (hop_contents m moved (hop_queue topology q)));
+      ++ hop_if b (seen topology copy)) (line_off topology q onto)
+      ∙ append-nil (hop_contents m moved (hop_queue topology q)));
   lines = λ e.
       ap (map (seen topology)) (more e) ∙ map-append (seen topology) (line e)
-          (copy_if (onto == e) copy) ∙ ap₂ (λ (l k : List Packet). l ++ k) (held.lines e)
-          (seen_if topology (onto == e) copy);
+      (copy_if (onto == e) copy) ∙ ap₂ (λ (l k : List Packet). l ++ k) (held.lines e)
+      (seen_if topology (onto == e) copy);
 }
 
 -- the lines after the end of a gathering
@@ -258,14 +258,14 @@ pub copy_lines : (topology : Topology) (entry : Entry) (past : List Entry) (onto
     (copy : PacketFields) (e : ℕ) (here : Bool) → (onto == e) ≡ here →
     known_on topology onto (entry ∷ past) ≡ known_on topology onto past ++ copy ∷ []
     → ((k : ℕ) → (onto == k) ≡ false → known_on topology k (entry ∷ past)
-        ≡ known_on topology k past) → length (accepted topology onto (entry ∷ past)) ≤ length
-        (known_on topology onto past)
+    ≡ known_on topology k past) → length (accepted topology onto (entry ∷ past)) ≤ length
+    (known_on topology onto past)
     → line_on topology e (entry ∷ past) ≡ left_on topology entry past e ++ copy_if here copy
 copy_lines topology entry past onto copy e true at known others within =
     let n = length (accepted topology onto (entry ∷ past)) in
     subst (λ (k : ℕ). line_on topology k (entry ∷ past) ≡ left_on topology entry past k
-        ++ copy ∷ []) (eqb-true onto e at) (ap (drop n) known
-        ∙ drop-append-le n (known_on topology onto past) (copy ∷ []) within)
+    ++ copy ∷ []) (eqb-true onto e at) (ap (drop n) known
+    ∙ drop-append-le n (known_on topology onto past) (copy ∷ []) within)
 copy_lines topology entry past onto copy e false at known others within =
     ap (drop (length (accepted topology e (entry ∷ past)))) (others e at)
-        ∙ sym (append-nil (left_on topology entry past e))
+    ∙ sym (append-nil (left_on topology entry past e))

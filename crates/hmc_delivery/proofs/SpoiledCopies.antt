@@ -29,21 +29,21 @@ landing_spoils setup past d onto flit outcome wires keeps right forwarded ends =
     let t = setup.topology in
     let entry = Landed d flit outcome in
     let is : ForwardedPacket t past d onto =
-        forwarded_packet setup past d onto wires keeps
-        (landed-real setup past d flit outcome right keeps) forwarded in
+    forwarded_packet setup past d onto wires keeps
+    (landed-real setup past d flit outcome right keeps) forwarded in
     let came = is.pipe.pipe.came ++ flit ∷ [] in
     let pipe : pipe_onto t onto (entry ∷ past) ≡ Some (piped_with is.pipe came (Some false)) =
     pipe_landed t onto d flit outcome past
-        ∙ change_pipe t past d onto (with_landing flit outcome) is
-        ∙ ap (λ (x : PipeFields). Some (record { from = is.pipe.from; pipe = x }))
-        (ends (piped_with is.pipe is.pipe.pipe.came None).pipe) in
+    ∙ change_pipe t past d onto (with_landing flit outcome) is
+    ∙ ap (λ (x : PipeFields). Some (record { from = is.pipe.from; pipe = x }))
+    (ends (piped_with is.pipe is.pipe.pipe.came None).pipe) in
     let known : CopyKnown t onto (entry ∷ past) past
-        (copy_on t onto is.pipe came false is.up.numbers) =
-        copy_known t onto (entry ∷ past) past is.pipe is.pipe.pipe.came came false is.up is.some
-        is.is pipe (places_landed t onto entry past tt) in
+    (copy_on t onto is.pipe came false is.up.numbers) =
+    copy_known t onto (entry ∷ past) past is.pipe is.pipe.pipe.came came false is.up is.some
+    is.is pipe (places_landed t onto entry past tt) in
     ap (λ (x : PacketFields). x.poisoned) known.last
-        ∙ copy-poisoned (profile_of t onto) is.pipe.pipe.flits is.pipe.pipe.profile came false
-        is.up.numbers
+    ∙ copy-poisoned (profile_of t onto) is.pipe.pipe.flits is.pipe.pipe.profile came false
+    is.up.numbers
 
 pub unlock_spoils : (setup : Setup) (past : List Entry) (d onto : ℕ) → Wired setup.topology →
     Kept setup past → d < directions_in setup.topology → forwarded_onto setup.topology d past
@@ -52,17 +52,17 @@ unlock_spoils setup past d onto wires keeps inside forwarded =
     let t = setup.topology in
     let entry = Unlocked d in
     let is : ForwardedPacket t past d onto =
-        forwarded_packet setup past d onto wires keeps inside forwarded in
+    forwarded_packet setup past d onto wires keeps inside forwarded in
     let came = is.pipe.pipe.came in
     let pipe : pipe_onto t onto (entry ∷ past) ≡ Some (piped_with is.pipe came (Some false)) =
-        pipe_unlocked t onto d past ∙ change_pipe t past d onto with_unlock is in
+    pipe_unlocked t onto d past ∙ change_pipe t past d onto with_unlock is in
     let known : CopyKnown t onto (entry ∷ past) past
-        (copy_on t onto is.pipe came false is.up.numbers) =
-        copy_known t onto (entry ∷ past) past is.pipe came came false is.up is.some is.is pipe
-        (places_landed t onto entry past tt) in
+    (copy_on t onto is.pipe came false is.up.numbers) =
+    copy_known t onto (entry ∷ past) past is.pipe came came false is.up is.some is.is pipe
+    (places_landed t onto entry past tt) in
     ap (λ (x : PacketFields). x.poisoned) known.last
-        ∙ copy-poisoned (profile_of t onto) is.pipe.pipe.flits is.pipe.pipe.profile came false
-        is.up.numbers
+    ∙ copy-poisoned (profile_of t onto) is.pipe.pipe.flits is.pipe.pipe.profile came false
+    is.up.numbers
 
 -- a landing leaves what is known on its own direction
 pub known_here : (setup : Setup) (past : List Entry) (d : ℕ) (flit : List ℕ) (outcome : Outcome) →
@@ -79,6 +79,6 @@ known_here setup past d flit outcome wires keeps right =
         ∙ idle_pipe setup past d d (with_landing flit outcome) keeps forwarded)
     by_onto (Some onto) forwarded =
         let is : ForwardedPacket setup.topology past d onto =
-            forwarded_packet setup past d onto wires keeps
-            (landed-real setup past d flit outcome right keeps) forwarded in
+        forwarded_packet setup past d onto wires keeps
+        (landed-real setup past d flit outcome right keeps) forwarded in
         other_known setup past d onto d flit outcome keeps forwarded (back_false d onto is.apart)

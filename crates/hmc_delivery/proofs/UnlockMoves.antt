@@ -28,7 +28,7 @@ use Rattle.hmc_delivery.proofs.LandingMoves.{change_pipe, other_pipe, idle_pipe,
 unlock_held : (setup : Setup) (m : Map) (past : List Entry) (moved : List Move) (d : ℕ) →
     Kept setup past → Agrees setup.topology m past moved
     → Held setup.topology m (contents setup.topology (Unlocked d ∷ past))
-        (left_on setup.topology (Unlocked d) past) moved
+    (left_on setup.topology (Unlocked d) past) moved
 unfolding entering enters leaves
 unlock_held setup m past moved d keeps agrees =
     let t = setup.topology in record {
@@ -60,38 +60,38 @@ spoiled_unlock : (setup : Setup) (m : Map) (past : List Entry) (moved : List Mov
     Wired setup.topology → Kept setup past → Agrees setup.topology m past moved →
     d < directions_in setup.topology → forwarded_onto setup.topology d past ≡ Some onto
     → Agrees setup.topology m (Unlocked d ∷ past)
-        (copy_comes setup.topology (Unlocked d ∷ past) onto ++ moved)
+    (copy_comes setup.topology (Unlocked d ∷ past) onto ++ moved)
 spoiled_unlock setup m past moved d onto wires keeps agrees inside forwarded =
     let t = setup.topology in
     let entry = Unlocked d in
     let is : ForwardedPacket t past d onto =
-        forwarded_packet setup past d onto wires keeps inside forwarded in
+    forwarded_packet setup past d onto wires keeps inside forwarded in
     let came = is.pipe.pipe.came in
     let pipe : pipe_onto t onto (entry ∷ past) ≡ Some (piped_with is.pipe came (Some false)) =
-        pipe_unlocked t onto d past ∙ change_pipe t past d onto with_unlock is in
+    pipe_unlocked t onto d past ∙ change_pipe t past d onto with_unlock is in
     let copy = copy_on t onto is.pipe came false is.up.numbers in
     let known : CopyKnown t onto (entry ∷ past) past copy =
-        copy_known t onto (entry ∷ past) past is.pipe came came false is.up is.some is.is pipe
-        (places_landed t onto entry past tt) in
+    copy_known t onto (entry ∷ past) past is.pipe came came false is.up is.some is.is pipe
+    (places_landed t onto entry past tt) in
     let within : length (accepted t onto (entry ∷ past)) ≤ length (known_on t onto past) =
     subst (λ l. length l ≤ length (known_on t onto past)) (sym (accepted-same t onto entry past tt))
-        (accepted_within t onto past (keeps.links (onto / 2))) in
+    (accepted_within t onto past (keeps.links (onto / 2))) in
     subst (λ (x : PacketFields). Agrees t m (entry ∷ past)
-        (Comes (hops.Line onto) (seen t x) ∷ moved)) (sym known.last)
+    (Comes (hops.Line onto) (seen t x) ∷ moved)) (sym known.last)
     (agrees_held t m (entry ∷ past) (Comes (hops.Line onto) (seen t copy) ∷ moved)
     (comes_held t m (contents t (entry ∷ past)) (left_on t entry past)
-        (λ e. line_on t e (entry ∷ past)) moved onto copy
-        (unlock_held setup m past moved d keeps agrees)
+    (λ e. line_on t e (entry ∷ past)) moved onto copy
+    (unlock_held setup m past moved d keeps agrees)
     (λ e. copy_lines t entry past onto copy e (onto == e) refl known.known
-        (λ k off. known_unlocked setup past d k
-        (other_pipe setup past d onto k with_unlock keeps forwarded off)) within)))
+    (λ k off. known_unlocked setup past d k
+    (other_pipe setup past d onto k with_unlock keeps forwarded off)) within)))
 
 there_unlock : (setup : Setup) (m : Map) (past : List Entry) (moved : List Move) (d : ℕ)
     (onto : Option ℕ) → Wired setup.topology → Kept setup past →
     Agrees setup.topology m past moved → d < directions_in setup.topology →
     forwarded_onto setup.topology d past ≡ onto
     → Agrees setup.topology m (Unlocked d ∷ past)
-        (unlocks setup.topology (Unlocked d ∷ past) onto ++ moved)
+    (unlocks setup.topology (Unlocked d ∷ past) onto ++ moved)
 there_unlock setup m past moved d None wires keeps agrees inside forwarded =
     idle_unlock setup m past moved d keeps agrees
     (λ e. idle_pipe setup past d e with_unlock keeps forwarded)
@@ -102,8 +102,8 @@ pub unlocked_step : (setup : Setup) (m : Map) (past : List Entry) (moved : List 
     (there : Bool) → Wired setup.topology → Kept setup past → Agrees setup.topology m past moved →
     nat_lt d (directions_in setup.topology) ≡ there
     → Agrees setup.topology m (Unlocked d ∷ past)
-        (unlocks setup.topology (Unlocked d ∷ past)
-        (if_there there (forwarded_onto setup.topology d past)) ++ moved)
+    (unlocks setup.topology (Unlocked d ∷ past)
+    (if_there there (forwarded_onto setup.topology d past)) ++ moved)
 unlocked_step setup m past moved d true wires keeps agrees at =
     there_unlock setup m past moved d (forwarded_onto setup.topology d past) wires keeps agrees
     (ltb-true d (directions_in setup.topology) at) refl
