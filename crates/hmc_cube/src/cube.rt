@@ -258,7 +258,8 @@ impl Cube {
 
     /// The number of packets in all queues.
     pub fn held(&self) -> u32
-        ensures { result ≡ held_in_cube self.now }
+        ensures held { result ≡ held_in_cube self.now }
+        ensures few { result < 2 ^ 21 }
     {
         held_in(&self.vaults) + self.register_queue.used() + self.answers.used()
     }

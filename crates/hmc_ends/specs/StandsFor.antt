@@ -90,13 +90,14 @@ pub record AreEnds (s l : EndFields) : Type 0 where
   pub past : List LinkEntry
   pub stand : EndsStandFor link d s l past
 
--- what each end keeps: its queue and its line are no longer than they may be, and what waits in the
--- queue may be sent
+-- what each end keeps: its queue and its line are no longer than they may be, what waits in the queue
+-- may be sent, and the packets in its buffer are counted
 pub record IsEnd (e : EndFields) (queue_size buffer_size capacity : ℕ)
-    (packet_cost : PacketFields → ℕ) : Type 0 where
+    (packet_cost : PacketFields → ℕ) (stored : ℕ) : Type 0 where
   pub output : queue_size ≡ e.setup.output
   pub fronts : All (IsTaken e.setup.profile) e.queue
   pub reserved : e.setup.line ≤ capacity
   pub line : length e.line ≤ e.setup.line
   pub buffer : buffer_size ≡ e.setup.tokens
   pub cost : packet_cost ≡ flits_of
+  pub count : stored ≡ length e.buffer

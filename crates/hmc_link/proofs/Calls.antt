@@ -1,5 +1,5 @@
 -- A packet that is handed to the end that sends in a direction.
-use Rattle.std.proofs.Common.{◌≡◌, ◌<◌, ◌+◌, ◌-◌, [], ◌∷◌, ◌++◌, length, sym, subst}
+use Rattle.std.proofs.Common.{◌≡◌, ◌<◌, [], ◌∷◌, ◌++◌, length, sym, subst}
 use Rattle.hmc_packet.specs.Packet.{PacketFields, IsPacket}
 use Rattle.hmc_send.specs.Given.{IsTaken}
 use Rattle.hmc_send.specs.LinkCalls.{LinkCall}

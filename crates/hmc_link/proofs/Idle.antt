@@ -1,5 +1,5 @@
 -- What the calls leave that had no flit to send or to land. The clauses `idle` cite it.
-use Rattle.std.proofs.Common.{◌≡◌, ◌∙◌, ◌-◌, ℕ, Bool, true, false, not, List, [], ◌∷◌, Option, Some, None, length, drop, refl, sym, ap, arith}
+use Rattle.std.proofs.Common.{◌≡◌, ◌∙◌, ◌-◌, ℕ, Bool, true, not, List, [], ◌∷◌, None, length, drop, refl, sym, ap, arith}
 use Rattle.std.specs.Prelude.{slice_get}
 use Rattle.hmc_ends.specs.End.{EndFields}
 use Rattle.hmc_link.specs.Held.{LinkHeld}

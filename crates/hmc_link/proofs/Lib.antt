@@ -1,4 +1,5 @@
 pub mod Joins
+mod Stored
 pub mod Calls
 pub mod LinkLandings
 pub mod Numbers

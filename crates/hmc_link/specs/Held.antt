@@ -1,5 +1,5 @@
 -- What a link holds, as the contracts see it.
-use Rattle.std.specs.Prelude.{ℕ, ◌-◌, Bool}
+use Rattle.std.specs.Prelude.{◌+◌, length, ℕ, Bool}
 use Rattle.hmc_send.specs.declared.toward.Toward.{Toward}
 use Rattle.hmc_send.specs.declared.toward.Toward.TheVariants.{Forth, Back}
 use Rattle.hmc_ends.specs.End.{EndFields}
@@ -27,3 +27,7 @@ landing_end Back held = held.a
 abbrev pub listed_at : Toward → LinkHeld → ℕ
 listed_at Forth held = held.forth
 listed_at Back held = held.back
+
+-- the number of packets that a link holds: in the lists of both directions, and in both buffers
+abbrev pub held_on : LinkHeld → ℕ
+held_on held = held.forth + held.back + length held.a.buffer + length held.b.buffer

@@ -1,5 +1,5 @@
 -- Which lists of entries a link stands for, by what it holds.
-use Rattle.std.specs.Prelude.{◌≡◌, ◌-◌, true, List, length}
+use Rattle.std.specs.Prelude.{◌≡◌, true, List, length}
 use Rattle.hmc_codes.specs.Link.{LinkFields, IsLinkSetup}
 use Rattle.hmc_send.specs.LinkEntries.{LinkEntry}
 use Rattle.hmc_send.specs.declared.toward.Toward.TheVariants.{Forth, Back}

@@ -29,10 +29,11 @@ pub struct End<I: Intake> {
     line: HeapCircularBuffer<Flit>,
     transit: u32,
     // Of the direction that lands here: the receiver, whether one of the flits that it has
-    // gathered is changed, and the buffer.
+    // gathered is changed, and the buffer with the number of its packets.
     receiver: Receiver,
     changed: bool,
     intake: I,
+    stored: u32,
     account: Account,
 }
 
@@ -65,7 +66,7 @@ impl<I: Intake> Model for End<I> {
       changed = e.changed;
       buffer = I.packets e.intake;
       account = e.account;
-    }) (size_of e.queue) (I.size e.intake) e.line.capacity (I.cost e.intake) };
+    }) (size_of e.queue) (I.size e.intake) e.line.capacity (I.cost e.intake) e.stored };
 }
 
 #[tactic(auto, using(hmc_tokens::specs::Queue::all_cost_one))]
@@ -117,6 +118,7 @@ impl<I: Intake> End<I> {
             receiver: Receiver::new(setup.profile),
             changed: false,
             intake,
+            stored: 0,
             account: Account::new(setup.tokens),
         })
     }
@@ -152,6 +154,7 @@ impl<I: Intake> End<I> {
         ensures left { self.new ≡ after_taken result self.old }
     {
         let packet = self.intake.take_out()?;
+        self.stored = self.stored.saturating_sub(1);
         self.account.owe(packet.flits());
         Some(packet)
     }
@@ -171,6 +174,13 @@ impl<I: Intake> End<I> {
     {
         self.receiver.unlock();
         self.changed = false;
+    }
+
+    /// The number of packets in the buffer.
+    pub fn stored(&self) -> u32
+        ensures { result ≡ length self.now.buffer }
+    {
+        self.stored
     }
 
     /// Whether the buffer holds a packet.
@@ -288,6 +298,9 @@ impl<I: Intake> End<I> {
     {
         if let Some(packet) = arriving(landed) {
             store(&mut self.intake, &mut self.account, &packet);
+            if is_token(&packet) {
+                self.stored += 1;
+            }
         }
     }
 

@@ -14,7 +14,7 @@ ghost use Rattle.hmc_send.specs.LinkCalls.{LinkCall, has_room, is_full, may_pass
 ghost use Rattle.hmc_send.specs.LinkEntries.{LinkEntry, receiver_entries};
 ghost use Rattle.hmc_send.specs.LinkLines.{line};
 ghost use Rattle.hmc_send.specs.LinkSenders.{sender_entries, tokens};
-ghost use Rattle.hmc_link.specs.Held.{sending_end, landing_end};
+ghost use Rattle.hmc_link.specs.Held.{held_on, sending_end, landing_end};
 ghost use Rattle.hmc_ends.specs.End.{row_held, is_ready, flits_seen, IsQuiet};
 ghost use Rattle.hmc_ends.specs.Answers.{after_call, front_in, link_sent, sends_none};
 ghost use Rattle.hmc_ends.specs.Landings.{link_landed, landing_passed, lands_none, is_out_of_order, removed, IsUntouched};
@@ -291,6 +291,15 @@ impl<A: Intake, B: Intake> Link<A, B> {
             Toward::Forth => self.forth,
             Toward::Back => self.back,
         }
+    }
+
+    /// The number of packets that the link holds: those in the lists of both directions, and those in
+    /// both buffers.
+    pub fn held(&self) -> u64
+        ensures { result ≡ held_on self.now }
+    {
+        let listed = u64::from(self.forth) + u64::from(self.back);
+        listed + u64::from(self.a.stored()) + u64::from(self.b.stored())
     }
 
     /// The place, from 0, of the next flit of a packet that is forwarded and unfinished in a

@@ -18,6 +18,11 @@ overflow_add-result-2 c =
     let last : c.used-2.result ≤ 255 = few_used c.self.inside.answers c.used-2.result c.used-2.ensures (omega (arith, c.self.invariant.answers_size, c.self.invariant.small)) in
     omega (arith, few_used c.self.inside.register_queue c.used.result c.used.ensures c.self.invariant.small, c.held_in.ensures.few)
 
-pub returns : goal.returns
-returns c =
+pub returns-clause-held : goal.returns-clause-held
+returns-clause-held c =
     omega (arith, all_cost_one (packets_of c.self.inside.register_queue), all_cost_one (packets_of c.self.inside.answers), c.used.ensures, c.used-2.ensures, c.held_in.ensures.held, ap (sum_by held_by) c.deref.ensures.value, ap held_in_cube c.self.view_is)
+
+pub returns-clause-few : goal.returns-clause-few
+returns-clause-few c =
+    let last : c.used-2.result ≤ 255 = few_used c.self.inside.answers c.used-2.result c.used-2.ensures (omega (arith, c.self.invariant.answers_size, c.self.invariant.small)) in
+    omega (arith, few_used c.self.inside.register_queue c.used.result c.used.ensures c.self.invariant.small, c.held_in.ensures.few)

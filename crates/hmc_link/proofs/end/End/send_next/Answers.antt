@@ -35,6 +35,7 @@ invariant_of-self-in-Out g c =
       line = line-more _ _ _ _ c.append.ensures.items room;
       buffer = is.buffer;
       cost = is.cost;
+      count = is.count;
     }
 
 pub returns-in-Out-clause-stands : goal.returns-in-Out-clause-stands
