@@ -13,4 +13,6 @@ mod WorkedThrough
 mod Worked
 mod Edges
 mod WorkedHops
+mod WorkedUnderWay
+mod WorkedSettled
 pub mod DirectionEnds

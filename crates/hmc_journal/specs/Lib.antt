@@ -31,6 +31,9 @@ pub mod Filters
 pub mod Carried
 pub mod Delivered
 pub mod Drained
+-- How many packets are under way, and when a link is settled: the drain bound speaks of both.
+pub mod UnderWay
+pub mod Settled
 pub mod Counts
 pub mod Final
 pub mod Guarantees
