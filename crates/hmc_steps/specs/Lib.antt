@@ -1,0 +1,4 @@
+pub mod SideIn
+pub mod Doings
+pub mod SideIs
+pub mod Drains
