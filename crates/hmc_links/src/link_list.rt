@@ -1,12 +1,13 @@
 //! The links of a network, called by the numbers of directions: link i has the direction 2i, which
 //! goes Forth, and 2i + 1, which goes Back.
 
-ghost use Rattle.std.specs.Prelude.{◌≡◌, ◌<◌, ◌≤◌, ◌/◌, ◌↔◌, [], ℕ, List, All, IfOk, IsTrue, false, true, length, slice_get, option_map};
+ghost use Rattle.std.specs.Prelude.{◌^◌, sum_by, ◌≡◌, ◌<◌, ◌≤◌, ◌/◌, ◌↔◌, [], ℕ, List, All, IfOk, IsTrue, false, true, length, slice_get, option_map};
 ghost use Rattle.hmc_codes.specs.Limits.{most_links};
 ghost use Rattle.hmc_case.specs.declared.setup.LinkRow.{LinkRow};
 ghost use Rattle.hmc_journal.specs.Links.{toward};
 ghost use Rattle.hmc_ends.specs.Answers.{link_sent, sends_none};
 ghost use Rattle.hmc_ends.specs.Landings.{link_landed, landing_passed, lands_none};
+ghost use Rattle.hmc_link.specs.Held.{held_on};
 ghost use Rattle.hmc_link.specs.StandsFor.{LinkStandsFor};
 ghost use Rattle.hmc_packet.specs.Head.{head_in};
 ghost use Rattle.hmc_send.specs.Choice.{choice};
@@ -235,12 +236,30 @@ impl LinkList {
         self.links[usize::from(direction / 2)].mode(toward_of(direction))
     }
 
+    /// The number of packets that all links hold.
+    pub fn held(&self) -> u64
+        ensures { sum_by held_on self.now < 2 ^ 64 → result ≡ sum_by held_on self.now }
+    {
+        held_in(&self.links)
+    }
+
     /// Whether no link holds a packet, and each packet that was begun was accepted.
     pub fn are_quiet(&self) -> bool
         ensures { IsTrue result ↔ All IsQuietLink self.now }
     {
         self.links.iter().all(|link| link.is_quiet())
     }
+}
+
+// The number of packets that these links hold.
+fn held_in(links: &[NetLink]) -> u64
+    ensures { sum_by held_on links.now < 2 ^ 64 → result ≡ sum_by held_on links.now }
+{
+    let mut held: u64 = 0;
+    for link in links {
+        held = held.saturating_add(link.held());
+    }
+    held
 }
 
 // A link that did nothing.

@@ -23,4 +23,5 @@ pub mod Telling
 pub mod Still
 pub mod Sizes
 pub mod FinalStands
+pub mod HeldIs
 mod Worked

@@ -1,17 +1,24 @@
 //! The network and its journal.
 
-ghost use Rattle.std.specs.Prelude.{◌≡◌, ◌<◌, ◌*◌, ◌^◌, [], ◌∷◌, IfOk, false, length, reverse};
+ghost use Rattle.std.specs.Prelude.{◌≡◌, ◌<◌, ◌≤◌, ◌+◌, ◌*◌, ◌^◌, ℕ, List, [], ◌∷◌, ◌++◌, IfOk, true, false, length, reverse};
+ghost use Rattle.hmc_bound.specs.Bound.{drain_bound};
+ghost use Rattle.hmc_bound.specs.Ends.{IsDrainedBy};
 ghost use Rattle.hmc_host.specs.Tags.{number_out};
 ghost use Rattle.hmc_journal.specs.Counts.{token_counts};
 ghost use Rattle.hmc_journal.specs.Drained.{is_drained};
 ghost use Rattle.hmc_journal.specs.Lawful.{has_passed};
 ghost use Rattle.hmc_journal.specs.Next.{next};
 ghost use Rattle.hmc_journal.specs.Setup.{Setup, setup_of};
+ghost use Rattle.hmc_entries.specs.declared.entry.Entry.{Entry};
+ghost use Rattle.hmc_rounds.specs.Single.{IsSingle};
+ghost use Rattle.hmc_rounds.specs.Rounds.{RoundsFollow};
+ghost use Rattle.hmc_journal.specs.UnderWay.{under_way};
 ghost use Rattle.hmc_net.specs.Journaled.{journaled_of, NetStandsFor, IsNetNext};
 ghost use Rattle.hmc_net.specs.NetState.{net_of, cube_in, host_in};
 ghost use Rattle.hmc_net.specs.Went.{went_of};
 
 use crate::{Network, Went};
+use hmc_bound::drains;
 use hmc_case::Case;
 use hmc_codes::{Memory, TokenRow};
 use hmc_cube::Cube;
@@ -82,13 +89,42 @@ impl<B: Workbench> Net<B> {
         went
     }
 
-    /// Whether nothing is on its way. After a landing that passed this says nothing.
+    /// Whether nothing is on its way. With one cube and one link it is so after enough whole rounds
+    /// without noise. After a landing that passed this says nothing.
     pub fn drained(&self) -> bool
-        ensures { (setup : Setup) → NetStandsFor (journaled_of B.slots self.now) setup →
+        ensures value { (setup : Setup) → NetStandsFor (journaled_of B.slots self.now) setup →
             has_passed self.now.journal.past ≡ false →
             result ≡ is_drained setup.topology self.now.journal.past }
+        ensures bound { (setup : Setup) → NetStandsFor (journaled_of B.slots self.now) setup →
+            has_passed self.now.journal.past ≡ false →
+            IsDrainedBy setup self.now.journal.past result }
     {
+        drains();
         self.network.drained()
+    }
+
+    /// The number of requests and responses under way. After a landing that passed it says nothing.
+    pub fn under_way(&self) -> u32
+        ensures { (setup : Setup) → NetStandsFor (journaled_of B.slots self.now) setup →
+            has_passed self.now.journal.past ≡ false →
+            result ≡ under_way setup.topology self.now.journal.past }
+    {
+        self.network.under_way()
+    }
+
+    /// So many whole rounds without noise drain a network of one cube and one link. After a landing
+    /// that passed it says nothing.
+    pub fn drain_bound(&self) -> u64
+        ensures value { (setup : Setup) → NetStandsFor (journaled_of B.slots self.now) setup →
+            has_passed self.now.journal.past ≡ false →
+            result ≡ drain_bound setup.topology self.now.journal.past }
+        ensures drains { (setup : Setup) → NetStandsFor (journaled_of B.slots self.now) setup →
+            has_passed self.now.journal.past ≡ false → IsSingle setup.topology →
+            (later : List Entry) (n : ℕ) →
+            RoundsFollow setup self.now.journal.past later n → result ≤ n →
+            is_drained setup.topology (later ++ self.now.journal.past) ≡ true }
+    {
+        self.network.drain_bound()
     }
 
     /// The five numbers of the tokens of a direction: link i has the directions 2i and 2i + 1.

@@ -1,8 +1,11 @@
 //! The network.
 
-ghost use Rattle.std.specs.Prelude.{◌≡◌, ◌≤◌, ◌<◌, ◌*◌, ◌↔◌, List, [], ◌∷◌, IfOk, IsTrue, false, length};
+ghost use Rattle.std.specs.Prelude.{ℕ, ◌++◌, true, ◌+◌, ◌^◌, sum_by, ◌≡◌, ◌≤◌, ◌<◌, ◌*◌, ◌↔◌, List, [], ◌∷◌, IfOk, IsTrue, false, length};
 ghost use Rattle.std.specs.List.{All};
+ghost use Rattle.hmc_bound.specs.Bound.{drain_bound};
 ghost use Rattle.hmc_codes.specs.Limits.{most_hosts};
+ghost use Rattle.hmc_cube.specs.Cube.{held_in_cube};
+ghost use Rattle.hmc_cube.specs.Parts.{AreParts};
 ghost use Rattle.hmc_host.specs.Tags.{number_out};
 ghost use Rattle.hmc_journal.specs.Counts.{token_counts};
 ghost use Rattle.hmc_entries.specs.declared.entry.Entry.{Entry};
@@ -11,6 +14,9 @@ ghost use Rattle.hmc_journal.specs.Drained.{is_drained};
 ghost use Rattle.hmc_journal.specs.Lawful.{has_passed};
 ghost use Rattle.hmc_journal.specs.Next.{next};
 ghost use Rattle.hmc_journal.specs.Setup.{Setup, setup_of, hosts_in};
+ghost use Rattle.hmc_journal.specs.UnderWay.{under_way};
+ghost use Rattle.hmc_rounds.specs.Rounds.{RoundsFollow};
+ghost use Rattle.hmc_rounds.specs.Single.{IsSingle};
 ghost use Rattle.hmc_net.specs.Apply.{DoesStep};
 ghost use Rattle.hmc_net.specs.NetState.{net_of, cube_in, host_in};
 ghost use Rattle.hmc_net.specs.Opening.{IsOpening};
@@ -23,6 +29,7 @@ ghost use Rattle.hmc_wiring.specs.Wiring.{IsLaidOut};
 
 use crate::Went;
 use crate::went::went_of;
+use hmc_bound::{drains, under_way_by_parts};
 use hmc_case::{Case, CubeSetup, LinkRow};
 use hmc_codes::{Memory, TokenRow};
 use hmc_cube::Cube;
@@ -228,6 +235,35 @@ impl<B: Workbench> Network<B> {
         links && cubes
     }
 
+    /// The number of requests and responses under way. After a landing that passed it says nothing.
+    pub fn under_way(&self) -> u32
+        ensures { (setup : Setup) (past : List Entry) →
+            StandsFor (net_of B.slots self.now) setup past →
+            has_passed past ≡ false → result ≡ under_way setup.topology past }
+    {
+        under_way_by_parts();
+        are_cubes(&self.cubes);
+        let links = self.links.held();
+        let cubes = held_in(&self.cubes);
+        narrow(links.saturating_add(cubes))
+    }
+
+    /// So many whole rounds without noise drain a network of one cube and one link. After a landing
+    /// that passed it says nothing.
+    pub fn drain_bound(&self) -> u64
+        ensures value { (setup : Setup) (past : List Entry) →
+            StandsFor (net_of B.slots self.now) setup past → has_passed past ≡ false →
+            result ≡ drain_bound setup.topology past }
+        ensures drains { (setup : Setup) (past : List Entry) →
+            StandsFor (net_of B.slots self.now) setup past → has_passed past ≡ false →
+            IsSingle setup.topology → (later : List Entry) (n : ℕ) →
+            RoundsFollow setup past later n → result ≤ n →
+            is_drained setup.topology (later ++ past) ≡ true }
+    {
+        drains();
+        4000 + 2000 * (u64::from(self.under_way()) + 1)
+    }
+
     /// The five numbers of the tokens of a direction: link i has the directions 2i and 2i + 1.
     /// After a landing that passed they say nothing.
     pub fn tokens(&self, direction: u8) -> TokenRow
@@ -254,6 +290,38 @@ impl<B: Workbench> Network<B> {
         ensures { result ≡ number_out (host_in self.now.hosts number).tags }
     {
         self.hosts[usize::from(number)].out()
+    }
+}
+
+// The number of packets in these cubes.
+fn held_in(cubes: &[Cube]) -> u64
+    ensures { length cubes.now ≤ 8 →
+        (result ≡ sum_by held_in_cube cubes.now) × (result ≤ 2 ^ 24) }
+{
+    let mut held: u64 = 0;
+    for cube in cubes {
+        held = held.saturating_add(u64::from(cube.held()));
+    }
+    held
+}
+
+// Does nothing. Each cube keeps what every cube keeps.
+fn are_cubes(cubes: &[Cube])
+    ensures { All AreParts cubes.now }
+{
+    for cube in cubes {
+        cube.invariant();
+    }
+}
+
+// A count that a u32 holds.
+fn narrow(count: u64) -> u32
+    ensures { count < 2 ^ 32 → result ≡ count }
+{
+    if count < 1 << 32 {
+        count as u32
+    } else {
+        u32::MAX
     }
 }
 
