@@ -29,7 +29,8 @@ use Rattle.hmc_delivery.proofs.Agreeing.{pop, contents-more}
 use Rattle.hmc_laws.proofs.Buffers.{IsBuffer, coming}
 use Rattle.hmc_journal.proofs.EntryRule.{entry_rule, lawful_past}
 use Rattle.hmc_journal.proofs.Moves.{begins_off, arrived_first, entering}
-use Rattle.hmc_laws.proofs.Sound.{kept, has_begun}
+use Rattle.hmc_laws.proofs.Sound.{kept}
+use Rattle.hmc_laws.proofs.SoundSends.{has_begun}
 
 abbrev pub IsCubeRoom : QueueId → Type 0
 IsCubeRoom (Vault cube vault) = Unit {0}

@@ -44,7 +44,8 @@ use Rattle.hmc_journal.specs.Network.{IsNetwork}
 use Rattle.hmc_journal.specs.Next.{next, choice}
 use Rattle.hmc_journal.specs.Queues.{QueueId, contents, output_from, goal_queue}
 use Rattle.hmc_journal.specs.Queues.QueueId.{Output, Port, Host, Vault, Bank, Registers, Answers}
-use Rattle.hmc_journal.specs.Setup.{Setup, Topology, no_link, no_cube, shape_of, graph_of, hosts_in, cubes_in, cube_setup, link_of}
+use Rattle.hmc_journal.specs.Setup.{Setup, Topology, no_link, shape_of, graph_of, hosts_in, cubes_in, cube_setup, link_of}
+use Rattle.hmc_journal.specs.Setup.{no_setup}
 use Rattle.hmc_journal.specs.StepView.{view_of}
 use Rattle.hmc_journal.specs.Waiting.{is_filled, lacks_room, with_front, unless_full}
 use Rattle.hmc_laws.proofs.Entering.{contents_stand}
@@ -105,7 +106,7 @@ pub some_queue : (setup : Setup) (j : Joined setup.topology) → IsNetwork setup
     1 ≤ (cube_setup setup.topology 0).queue
 some_queue setup j network =
     let is : (cube_setup setup.topology 0).queue ≡ j.cube.queue =
-    ap (λ (cs : List CubeSetupFields). (slice_index_or cs 0 no_cube).queue) j.cubes in
+    ap (λ (cs : List CubeSetupFields). (slice_index_or cs 0 no_setup).queue) j.cubes in
     let sizes = All-head IsCubeSetup j.cube [] (subst (All IsCubeSetup) j.cubes network.cubes) in
     subst (λ (n : ℕ). 1 ≤ n) (sym is) sizes.some_queue
 
