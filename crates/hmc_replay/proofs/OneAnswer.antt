@@ -10,7 +10,8 @@ use Rattle.hmc_replay.specs.Report.{passes, report_of, report_status}
 use Rattle.hmc_replay.specs.Reported.{IsReport}
 use Rattle.hmc_replay.specs.Top.{NoneOf}
 use Rattle.hmc_replay.specs.declared.form.Form.{Form}
-use Rattle.hmc_replay.specs.declared.form.Form.TheVariants.{Run, Make}
+use Rattle.hmc_replay.proofs.TraceAnswers.{trace_is_one, trace_status}
+use Rattle.hmc_replay.specs.declared.form.Form.TheVariants.{Run, Make, Trace}
 
 report_is_one : (setup : Setup) (report : List (List ℕ)) (one other : ℕ) (first second : List (List ℕ)) → IsReport setup report one first → IsReport setup report other second → (one ≡ other) × (first ≡ second)
 report_is_one setup report one other first second a b = (a.status_is ∙ sym b.status_is, a.lines_are ∙ sym b.lines_are)
@@ -33,6 +34,8 @@ answer_is_one Run slots input one other first second (inr a) (inl b) = absurd (c
 answer_is_one Run slots input one other first second (inr a) (inr b) =
     (a.refusal.status_is ∙ sym b.refusal.status_is, a.refusal.lines_are ∙ ap (λ (f : Fault). bad_line f ∷ []) (same_fault_of (case_of input) a.fault b.fault a.is_fault b.is_fault) ∙ sym b.refusal.lines_are)
 answer_is_one (Make number) slots input one other first second a b = report_is_one _ _ one other first second a b
+answer_is_one Trace slots input one other first second a b =
+    trace_is_one input one other first second a b
 
 pub by_passes : (setup : Setup) (status : ℕ) → status ≡ report_status setup → (passed : Bool) → passes setup ≡ passed → status ≡ (if passed then 7 else 0)
 by_passes setup status is passed passed_is = is ∙ ap (λ (p : Bool). if p then 7 else 0) passed_is
@@ -49,3 +52,4 @@ pub answer_status : (form : Form) (slots : List (Option UnitFields)) (input : Li
 answer_status Run slots input status lines (inl a) = report_ends _ _ status lines a.report
 answer_status Run slots input status lines (inr a) = let six : status ≡ 6 = a.refusal.status_is in λ one. grind (arith, six, one)
 answer_status (Make number) slots input status lines a = report_ends _ _ status lines a
+answer_status Trace slots input status lines a = trace_status input status lines a

@@ -11,6 +11,7 @@ pub mod RunAnswer
 pub mod Runs
 pub mod Steps
 pub mod Top
+pub mod TraceAnswer
 pub mod Units
 pub mod Words
 pub mod Complete

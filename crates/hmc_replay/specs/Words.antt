@@ -3,15 +3,17 @@ use Rattle.std.specs.Prelude.{◌≡◌, ℕ, if◌then◌else◌, List, [], ◌
 use Rattle.std.specs.Option.{option_map}
 use Rattle.hmc_make.specs.Word.{case_number}
 use Rattle.hmc_replay.specs.declared.form.Form.{Form}
-use Rattle.hmc_replay.specs.declared.form.Form.TheVariants.{Run, Make}
+use Rattle.hmc_replay.specs.declared.form.Form.TheVariants.{Run, Make, Trace}
 
 -- `make` with this word, if it is the number of a case
 abbrev pub make_form : List ℕ → Option Form
 make_form word = option_map Make (case_number word)
 
--- what the words ask for: `run`, or `make` and the number of a case
+-- what the words ask for: `run` or `trace`, or `make` and the number of a case
 abbrev pub form_of : List (List ℕ) → Option Form
-form_of (word ∷ []) = if bytes_eq word (codes "run") then Some Run else None
+form_of (word ∷ []) =
+    if bytes_eq word (codes "run") then Some Run
+    else if bytes_eq word (codes "trace") then Some Trace else None
 form_of (word ∷ number ∷ []) = if bytes_eq word (codes "make") then make_form number else None
 form_of _ = None
 

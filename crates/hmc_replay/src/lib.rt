@@ -17,6 +17,7 @@ mod report;
 mod run;
 mod steps;
 mod top;
+mod trace;
 
 pub use extent::Extent;
 pub use form::is_form;

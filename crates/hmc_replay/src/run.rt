@@ -38,7 +38,7 @@ pub enum RunError {
     WriteFault,
     /// The source has more bytes than an input may have.
     TooLong,
-    /// The input is not a valid case.
+    /// The input is not a valid case, or not a valid trace.
     BadCase,
     /// A landing passed: a check succeeded over flits that a mask changed.
     Passed,
@@ -64,8 +64,8 @@ impl From<Memory> for RunError {
     }
 }
 
-// Writes a line, and hands it on.
-fn write_only<O: Sink>(sink: &mut O, line: &str) -> Result<(), Failed>
+/// Writes a line, and hands it on.
+pub fn write_only<O: Sink>(sink: &mut O, line: &str) -> Result<(), Failed>
     requires { 0 < length line.now }
     ensures { Delivers result (O.shows sink.old) (O.shows sink.new) (line.now ∷ []) }
 {

@@ -11,6 +11,7 @@ ghost use Rattle.hmc_replay.specs.declared.form.Form.{Form};
 
 use crate::form::{Form, form_of};
 use crate::run::{RunError, run, run_made};
+use crate::trace::run_trace;
 use hmc_outside::{Sink, Source};
 use hmc_units::LogicUnit;
 use std::alloc::Global;
@@ -44,17 +45,20 @@ fn replay_with<S: Source, O: Sink, U: LogicUnit>(
     match form_of(words) {
         Some(Form::Run) => status_of(run(alloc, source, sink, units)),
         Some(Form::Make(number)) => status_of(run_made(alloc, sink, number, units)),
+        Some(Form::Trace) => status_of(run_trace(alloc, source, sink)),
         None => 2,
     }
 }
 
-/// Replays a case with logic units, and writes its report to the sink, each line by one write.
-/// After the last line the sink is finished, once. `words` are those after the program's name:
+/// Does what the words ask for, with logic units, and writes the lines of its answer to the sink,
+/// each by one write. After the last line the sink is finished, once. `words` are those after the
+/// program's name:
 ///
-/// | Words | Case | Report |
+/// | Words | Input | Lines |
 /// |---|---|---|
-/// | `run` | what the source gives | the line of each step, and all final lines |
-/// | `make N` | that of the number N | the final lines from those of tokens on |
+/// | `run` | a case | its report: the line of each step, and all final lines |
+/// | `make N` | none | the final lines of the case of the number N, from those of tokens on |
+/// | `trace` | a trace of loads and stores | its script, a line for each request |
 ///
 /// N has one to twenty decimal digits and is below 2^64, and `make` reads nothing. There are at
 /// most eight units: the one at place i is in slot i.
@@ -63,17 +67,17 @@ fn replay_with<S: Source, O: Sink, U: LogicUnit>(
 /// memory do; standard input and output don't. What is said of bytes holds where they are shown.
 ///
 /// Gives the exit status, 0 to 7. `make` gives 0, 1, 4 or 7, and with 7 it writes the line of the
-/// landing that passed alone.
+/// landing that passed alone. `trace` doesn't use the units, and never gives 7.
 ///
 /// | Status | Meaning | Written |
 /// |---|---|---|
-/// | 0 | the report is whole | the report |
+/// | 0 | the answer is whole | the report, or the script |
 /// | 1 | out of memory | nothing |
 /// | 2 | the words are no defined form | nothing, and nothing is read |
 /// | 3 | the source failed | nothing |
 /// | 4 | the sink failed: a write, or the finish | whole lines, and a prefix of the next; or all |
 /// | 5 | the input is longer than 4,194,304 bytes | nothing |
-/// | 6 | the input is not a valid case | a line with its first fault |
+/// | 6 | the input is not a valid case, or trace | a line with its first fault |
 /// | 7 | a check succeeded over flits that masks changed | the lines up to there, or the last |
 ///
 /// specs/Top has the contract, `Replayed`, with a comment for each promise: what is read, and what is
