@@ -18,7 +18,8 @@ use Rattle.hmc_journal.specs.Delivered.{IsPrefix, said}
 use Rattle.hmc_journal.specs.Filters.{TaggedRequest, ScriptRequest, same_tag, given_by, answers_under}
 use Rattle.hmc_journal.specs.Lawful.{Lawful}
 use Rattle.hmc_journal.specs.Network.{IsNetwork}
-use Rattle.hmc_journal.specs.Setup.{Setup, Topology, shapes_of, shape_of, cubes_in, no_cube}
+use Rattle.hmc_journal.specs.Setup.{Setup, Topology, shapes_of, shape_of, cubes_in}
+use Rattle.hmc_journal.specs.Setup.{no_setup}
 use Rattle.hmc_journal.specs.StepView.{opening_of}
 use Rattle.hmc_laws.proofs.Order.{is_scripted}
 use Rattle.hmc_trace.specs.declared.load.Load.{Load}
@@ -170,7 +171,7 @@ plain_items count shape_at (x ∷ xs) all =
 
 -- ---- the cubes of the network are the trace's
 
-shape_map : (cubes : List CubeSetupFields) (c : ℕ) → (slice_index_or cubes c no_cube).shape
+shape_map : (cubes : List CubeSetupFields) (c : ℕ) → (slice_index_or cubes c no_setup).shape
     ≡ slice_index_or (map (λ (cube : CubeSetupFields). cube.shape) cubes) c no_shape
 shape_map [] c = refl
 shape_map (cube ∷ cubes) zero = refl
