@@ -99,13 +99,13 @@ bound_drains setup network single n enough off idle =
     let all = with_rounds setup n in
     let is = before_is setup n off in
     let ends : EndsWithRounds all n =
-        record {
-          before = setup.schedule;
-          is = refl;
-          idle = λ host. idle host ∙ ap (λ (j : List Entry). given_count host j) (sym is);
-          unpassed = off;
-        } in
+    record {
+      before = setup.schedule;
+      is = refl;
+      idle = λ host. idle host ∙ ap (λ (j : List Entry). given_count host j) (sym is);
+      unpassed = off;
+    } in
     let many : AreEnough all (before_rounds all n) n =
-        inr (subst (λ (j : List Entry). 4000 + 2000 * (under_way setup.topology j + 1) ≤ n)
-        (sym is) enough) in
+    inr (subst (λ (j : List Entry). 4000 + 2000 * (under_way setup.topology j + 1) ≤ n)
+    (sym is) enough) in
     ends_drained all (still_network setup n network) single n ends many
