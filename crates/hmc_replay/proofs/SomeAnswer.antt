@@ -16,7 +16,8 @@ use Rattle.hmc_replay.specs.Report.{report_of, short_report_of, report_status}
 use Rattle.hmc_replay.specs.Reported.{IsReport}
 use Rattle.hmc_replay.specs.RunAnswer.{IsRunAnswer}
 use Rattle.hmc_replay.specs.declared.form.Form.{Form}
-use Rattle.hmc_replay.specs.declared.form.Form.TheVariants.{Run, Make}
+use Rattle.hmc_replay.specs.declared.form.Form.TheVariants.{Run, Make, Trace}
+use Rattle.hmc_replay.proofs.TraceAnswers.{trace_is_answered}
 use Rattle.hmc_replay.proofs.Reports.{due_report}
 
 -- a report of these lines is due
@@ -42,3 +43,4 @@ module _ (read : (bytes : List ℕ) (case : CaseFields) → case_of bytes ≡ Ok
   is_answered (Make number) slots input =
       let setup = made_setup slots number in
       (report_status setup, short_report_of setup, make_is_answered slots number (guaranteed setup (network_of (case_of_number number) slots (made number))))
+  is_answered Trace slots input = trace_is_answered input

@@ -31,7 +31,7 @@ use Rattle.hmc_replay.specs.RunAnswer.{IsRunAnswer, IsReported, IsRefused}
 use Rattle.hmc_replay.specs.Top.{OneOf, NoneOf, IsRead, ReadsNothing, Writes, Replays, Replayed}
 use Rattle.hmc_replay.specs.Words.{form_of}
 use Rattle.hmc_replay.specs.declared.form.Form.{Form}
-use Rattle.hmc_replay.specs.declared.form.Form.TheVariants.{Run, Make}
+use Rattle.hmc_replay.specs.declared.form.Form.TheVariants.{Run, Make, Trace}
 use Rattle.hmc_replay.proofs.Complete.{one_or_none, complete, excess, made_complete}
 use Rattle.hmc_replay.proofs.OneAnswer.{by_passes}
 use Rattle.hmc_replay.proofs.Reports.{report_passed}
@@ -261,6 +261,9 @@ module _ {S O : Type 0} (source_view : S → SourceView) (sink_view : O → Sink
 answer_few : (form : Form) (slots : List (Option UnitFields)) (input : List ℕ) (status : ℕ) (lines : List (List ℕ)) → IsAnswer form slots input status lines → status ≤ 7
 answer_few Run slots input status lines (inl a) = subst (λ (n : ℕ). n ≤ 7) (sym a.report.status_is) (few_status (setup_of a.case slots) (passes (setup_of a.case slots)) refl)
 answer_few Run slots input status lines (inr a) = let six = a.refusal.status_is in omega (arith, six)
+answer_few Trace slots input status lines (inl a) = let six = a.refusal.status_is in omega (arith, six)
+answer_few Trace slots input status lines (inr (text, inl a)) = let six = a.refusal.status_is in omega (arith, six)
+answer_few Trace slots input status lines (inr (text, inr a)) = let zero = a.script.status_is in omega (arith, zero)
 answer_few (Make number) slots input status lines a = subst (λ (n : ℕ). n ≤ 7) (sym a.status_is) (few_status (made_setup slots number) (passes (made_setup slots number)) refl)
 
 module _ {S O : Type 0} (source_view : S → SourceView) (sink_view : O → SinkView) (words : List (List ℕ)) (slots : List (Option UnitFields)) (source source' : S) (sink sink' : O) (status : ℕ)
