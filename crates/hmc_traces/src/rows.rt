@@ -1,0 +1,100 @@
+//! The rows of the table, and what they are compared with.
+
+use hmc_entries::Entry;
+use hmc_trace::{Compiled, compile, value, values};
+use std::alloc::{AllocError, Global};
+
+/// A row: a trace and its report, how many lines of the report are read, and the values of the
+/// loads then, in hexadecimal digits, or `unknown`.
+#[derive(Clone, Copy)]
+pub struct Row<'a> {
+    pub name: &'a str,
+    pub lines: usize,
+    pub values: &'a str,
+}
+
+/// The row of a line `NAME LINES = VALUES`, if it is one.
+pub fn row_of(line: &str) -> Option<Row<'_>> {
+    let (head, values) = line.split_once(" = ")?;
+    let (name, lines) = head.split_once(" ")?;
+    let lines = lines.parse::<usize>().ok()?;
+    Some(Row {
+        name,
+        lines,
+        values,
+    })
+}
+
+/// The entries of the first lines of a report.
+pub fn known_entries(alloc: Global, report: &str, most: usize) -> Result<Vec<Entry>, AllocError> {
+    let mut journal = Vec::new(alloc);
+    for (place, line) in report.lines().enumerate() {
+        if place >= most {
+            return Ok(journal);
+        }
+        let Some(entry) = Entry::parse(line) else {
+            continue;
+        };
+        append(&mut journal, entry)?;
+    }
+    Ok(journal)
+}
+
+fn append<T: Copy>(items: &mut Vec<T>, item: T) -> Result<(), AllocError> {
+    items.push(item)?;
+    Ok(())
+}
+
+// The digits of a value, or `unknown`.
+fn value_text(alloc: Global, found: &Option<Vec<u8>>) -> Result<String, AllocError> {
+    match found {
+        Some(bytes) => hex::encode(alloc, bytes.as_slice()),
+        None => String::from_str(alloc, "unknown"),
+    }
+}
+
+// Whether the value that is found for one load alone has these digits.
+fn is_value(
+    alloc: Global,
+    compiled: &Compiled,
+    load: u32,
+    journal: &[Entry],
+    text: &str,
+) -> Result<bool, AllocError> {
+    if load as usize >= compiled.loads().len() {
+        return Ok(false);
+    }
+    match value(alloc, compiled, load, journal) {
+        Ok(found) => Ok(value_text(alloc, &found)?.as_str() == text),
+        Err(_) => Ok(false),
+    }
+}
+
+// The values of all loads, each with a semicolon after it, or `differs` where `value` gives another
+// one for a load.
+fn all_values(alloc: Global, compiled: &Compiled, journal: &[Entry]) -> Result<String, AllocError> {
+    let mut text = String::new(alloc);
+    let Ok(found) = values(alloc, compiled, journal) else {
+        return String::from_str(alloc, "memory");
+    };
+    let mut load = 0_u32;
+    for one in found.iter() {
+        let digits = value_text(alloc, one)?;
+        if is_value(alloc, compiled, load, journal, digits.as_str())? {
+            text.push_str(digits.as_str())?;
+        } else {
+            text.push_str("differs")?;
+        }
+        text.push_str(";")?;
+        load = load.saturating_add(1);
+    }
+    Ok(text)
+}
+
+/// The values of the loads of a trace by a journal, each with a semicolon after it.
+pub fn values_text(alloc: Global, trace: &str, journal: &[Entry]) -> Result<String, AllocError> {
+    match compile(alloc, trace) {
+        Ok(compiled) => all_values(alloc, &compiled, journal),
+        Err(_) => String::from_str(alloc, "no trace"),
+    }
+}
