@@ -4,11 +4,14 @@ use Rattle.hmc_case.specs.Case.{CaseFields, case_of}
 use Rattle.hmc_case.specs.Reading.{Fault}
 use Rattle.hmc_case.specs.declared.fault.CaseKind.{CaseKind}
 use Rattle.hmc_case.specs.declared.fault.Section.{Section}
-use Rattle.hmc_journal.specs.Setup.{setup_of}
+use Rattle.hmc_bound.specs.Appended.{BoundDrains}
+use Rattle.hmc_journal.specs.Setup.{Setup, setup_of}
+use Rattle.hmc_rounds.specs.Single.{IsSingle}
 use Rattle.hmc_outside.specs.Views.{SinkView}
 use Rattle.hmc_units.specs.Unit.{UnitFields}
 use Rattle.hmc_replay.specs.Answered.{IsAnswered, IsCutOff, Answers}
-use Rattle.hmc_replay.specs.Report.{report_of}
+use Rattle.hmc_replay.specs.BoundAnswer.{IsNotSingle, IsCaseBounded, IsBoundAnswer}
+use Rattle.hmc_replay.specs.Report.{report_of, bound_report_of}
 use Rattle.hmc_replay.specs.Reported.{IsReport}
 use Rattle.hmc_replay.specs.RunAnswer.{IsRefusal, IsRunAnswer}
 use Rattle.hmc_replay.specs.declared.run.RunError.{RunError}
@@ -36,7 +39,44 @@ pub answers_case : {O : Type 0} (view : O → SinkView) (old new : O) (slots : L
 answers_case view old new slots input case result is answer =
     answers_so (IsReport (setup_of case slots) (report_of (setup_of case slots))) (IsRunAnswer slots input) (λ status lines due. inl (record { case = case; is_case = is; report = due })) view old new result answer
 
+-- so is the bound of a case
+pub bounds_case : {O : Type 0} (view : O → SinkView) (old new : O)
+    (slots : List (Option UnitFields)) (input : List ℕ) (case : CaseFields)
+    (result : Result (Unit {0}) RunError) → case_of input ≡ Ok case →
+    Answers (IsCaseBounded (setup_of case slots)) result view old new →
+    Answers (IsBoundAnswer slots input) result view old new
+bounds_case view old new slots input case result is answer =
+    answers_so (IsCaseBounded (setup_of case slots)) (IsBoundAnswer slots input)
+    (λ status lines due. inl (record { case = case; is_case = is; answer = due }))
+    view old new result answer
+
+pub bounds_single : {O : Type 0} (view : O → SinkView) (old new : O) (setup : Setup)
+    (result : Result (Unit {0}) RunError) → IsSingle setup.topology → BoundDrains setup →
+    Answers (IsReport setup (bound_report_of setup)) result view old new →
+    Answers (IsCaseBounded setup) result view old new
+bounds_single view old new setup result single drains answer =
+    answers_so (IsReport setup (bound_report_of setup)) (IsCaseBounded setup)
+    (λ status lines due. inl (record { single = single; report = due; drains = drains }))
+    view old new result answer
+
+pub bounds_more : {O : Type 0} (view : O → SinkView) (old new : O) (setup : Setup)
+    (result : Result (Unit {0}) RunError) → Answers (IsNotSingle setup) result view old new →
+    Answers (IsCaseBounded setup) result view old new
+bounds_more view old new setup result answer =
+    answers_so (IsNotSingle setup) (IsCaseBounded setup) (λ status lines due. inr due)
+    view old new result answer
+
 -- and the line of its first fault to what is no case
+pub bounds_fault : {O : Type 0} (view : O → SinkView) (old new : O)
+    (slots : List (Option UnitFields)) (input : List ℕ) (fault : Fault)
+    (result : Result (Unit {0}) RunError) → case_of input ≡ Err fault →
+    Answers (IsRefusal fault) result view old new →
+    Answers (IsBoundAnswer slots input) result view old new
+bounds_fault view old new slots input fault result is answer =
+    answers_so (IsRefusal fault) (IsBoundAnswer slots input)
+    (λ status lines due. inr (record { fault = fault; is_fault = is; refusal = due }))
+    view old new result answer
+
 pub answers_fault : {O : Type 0} (view : O → SinkView) (old new : O) (slots : List (Option UnitFields)) (input : List ℕ) (fault : Fault) (result : Result (Unit {0}) RunError) → case_of input ≡ Err fault
     → Answers (IsRefusal fault) result view old new → Answers (IsRunAnswer slots input) result view old new
 answers_fault view old new slots input fault result is answer =

@@ -11,7 +11,7 @@ use Rattle.hmc_units.specs.Unit.{UnitFields}
 use Rattle.hmc_replay.specs.Left.{AreLeft, IsLeft}
 use Rattle.hmc_replay.specs.Steps.{BreaksAt, Stepped}
 use Rattle.hmc_replay.specs.declared.extent.Extent.{Extent}
-use Rattle.hmc_replay.specs.declared.extent.Extent.TheVariants.{Whole, Short}
+use Rattle.hmc_replay.specs.declared.extent.Extent.TheVariants.{Whole, Short, Bound}
 
 slots_stand : (net : NetState) (setup : Setup) (past : List Entry) → StandsFor net setup past → AreLeft setup past net.slots
 slots_stand net setup past stands = ap (λ s. s.slots) stands.state
@@ -24,6 +24,7 @@ left_by : (result : Result Bool Failed) (extent : Extent) (net : NetState) (setu
 left_by (Ok passed) extent net setup a b stands = slots_stand net setup (journal_of setup) stands
 left_by (Err failed) Whole net setup a b far = whole_left net setup a b failed far
 left_by (Err failed) Short net setup a b stands = slots_stand net setup (journal_of setup) stands
+left_by (Err failed) Bound net setup a b stands = slots_stand net setup (journal_of setup) stands
 
 pub left_of : (result : Result Bool Failed) (extent : Extent) (net : NetState) (setup : Setup) (slots : List (Option UnitFields)) (a b : SinkView) → slots ≡ net.slots → Stepped result extent net setup a b → IsLeft result extent setup slots a b
 left_of result extent net setup slots a b is stepped = subst (λ (s : List (Option UnitFields)). IsLeft result extent setup s a b) (sym is) (left_by result extent net setup a b stepped)

@@ -7,6 +7,7 @@ pub mod Answering
 pub mod TraceAnswers
 pub mod TraceLines
 pub mod Reports
+pub mod BoundReports
 pub mod Replays
 pub mod OneAnswer
 pub mod SomeAnswer

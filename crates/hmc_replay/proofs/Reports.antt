@@ -1,5 +1,6 @@
 -- The report of a case, from the network after the case's steps.
 use Rattle.std.proofs.Common.{◌≡◌, ◌∙◌, ℕ, Bool, true, false, List, [], ◌∷◌, ◌++◌, Option, Result, Ok, Err, IsErrAnd, if◌then◌else◌, arith, refl, sym, ap, subst, append-nil, append_assoc}
+use Rattle.hmc_bound.specs.Ends.{EndsDrained}
 use Rattle.hmc_entries.specs.declared.entry.Entry.{Entry}
 use Rattle.hmc_entries.specs.declared.entry.Entry.TheVariants.{Passed}
 use Rattle.hmc_journal.specs.Final.{final_lines_of}
@@ -95,10 +96,17 @@ unfolding short_report_of
 short_by setup passed is = ap (λ (p : Bool). short_lines p setup (journal_of setup)) (sym is)
 
 -- where a landing passed, its line
-short_line : (net : NetState) (setup : Setup) (passed : Bool) (entry : Entry) → passed ≡ true → TookAll net setup passed → entry ≡ net.last → line_of entry ∷ [] ≡ short_report_of setup
+pub last_written : (net : NetState) (setup : Setup) (passed : Bool) (entry : Entry) →
+    passed ≡ true → TookAll net setup passed → entry ≡ net.last →
+    line_of entry ∷ [] ≡ last_line (journal_of setup)
+last_written net setup passed entry is took entry_is =
+    ap (λ (e : Entry). line_of e ∷ []) entry_is ∙ sym (ap last_line (took.last is).1)
+
+short_line : (net : NetState) (setup : Setup) (passed : Bool) (entry : Entry) → passed ≡ true →
+    TookAll net setup passed → entry ≡ net.last → line_of entry ∷ [] ≡ short_report_of setup
 short_line net setup passed entry is took entry_is =
-    let last = took.last is in
-    ap (λ (e : Entry). line_of e ∷ []) entry_is ∙ sym (ap last_line last.1) ∙ short_by setup true (sym took.passed_is ∙ is)
+    last_written net setup passed entry is took entry_is
+    ∙ short_by setup true (sym took.passed_is ∙ is)
 
 pub short-passed : (net : NetState) (setup : Setup) (passed : Bool) (entry : Entry) (a b : SinkView) → passed ≡ true → TookAll net setup passed → entry ≡ net.last → WritesLines a b (line_of entry ∷ []) → WritesLines a b (short_report_of setup) × (passed ≡ passes setup)
 short-passed net setup passed entry a b is took entry_is written = (subst (WritesLines a b) (short_line net setup passed entry is took entry_is) written, took.passed_is)
@@ -158,24 +166,58 @@ by_status : (setup : Setup) (passed : Bool) → passes setup ≡ passed → (if 
 by_status setup passed is = ap (λ (p : Bool). if p then 7 else 0) (sym is)
 
 -- a report that was written is the one that is due
-pub reported : (setup : Setup) (lines : List (List ℕ)) (passed : Bool) (a b : SinkView) → passes setup ≡ passed → Guarantees setup (journal_of setup) → HandsOn a b lines → IsAnswered (IsReport setup lines) (if passed then 7 else 0) a b
-reported setup lines true a b is guarantees written =
-    record { lines = lines; due = record { status_is = by_status setup true is; lines_are = refl; passed = λ _. ends_at_pass setup is; guarantees = guarantees }; written = written }
-reported setup lines false a b is guarantees written =
-    record { lines = lines; due = record { status_is = by_status setup false is; lines_are = refl; passed = λ (seven : ◌≡◌ {A = ℕ} 0 7). absurd (omega (arith, seven)); guarantees = guarantees }; written = written }
+pub reported : (setup : Setup) (lines : List (List ℕ)) (passed : Bool) (a b : SinkView) →
+    passes setup ≡ passed → Guarantees setup (journal_of setup) → EndsDrained setup →
+    HandsOn a b lines → IsAnswered (IsReport setup lines) (if passed then 7 else 0) a b
+reported setup lines true a b is guarantees drained written = record {
+  lines = lines;
+  due = record {
+    status_is = by_status setup true is;
+    lines_are = refl;
+    passed = λ _. ends_at_pass setup is;
+    guarantees = guarantees;
+    drained = drained;
+  };
+  written = written;
+}
+reported setup lines false a b is guarantees drained written = record {
+  lines = lines;
+  due = record {
+    status_is = by_status setup false is;
+    lines_are = refl;
+    passed = λ (seven : ◌≡◌ {A = ℕ} 0 7). absurd (omega (arith, seven));
+    guarantees = guarantees;
+    drained = drained;
+  };
+  written = written;
+}
 
 -- a report of these lines is due
-pub due_report : (setup : Setup) (lines : List (List ℕ)) → Guarantees setup (journal_of setup) → IsReport setup lines (report_status setup) lines
-due_report setup lines guarantees = by_passed (passes setup) refl
+pub due_report : (setup : Setup) (lines : List (List ℕ)) → Guarantees setup (journal_of setup) →
+    EndsDrained setup → IsReport setup lines (report_status setup) lines
+due_report setup lines guarantees drained = record {
+  status_is = refl;
+  lines_are = refl;
+  passed = by_passed (passes setup) refl;
+  guarantees = guarantees;
+  drained = drained;
+}
   where
-    by_passed : (passed : Bool) → passes setup ≡ passed → IsReport setup lines (report_status setup) lines
-    by_passed true is = record { status_is = refl; lines_are = refl; passed = λ _. ends_at_pass setup is; guarantees = guarantees }
-    by_passed false is = record { status_is = refl; lines_are = refl; passed = λ seven. absurd (not_seven setup is seven); guarantees = guarantees }
+    by_passed : (passed : Bool) → passes setup ≡ passed → report_status setup ≡ 7 →
+        EndsAtPass (journal_of setup)
+    by_passed true is seven = ends_at_pass setup is
+    by_passed false is seven = absurd (not_seven setup is seven)
 
 -- nor is another one cut off
-pub cut_off : (setup : Setup) (lines : List (List ℕ)) (a b : SinkView) → Guarantees setup (journal_of setup) → FailsToHandOn a b lines → IsCutOff (IsReport setup lines) a b
-cut_off setup lines a b guarantees failed =
-    record { status = report_status setup; lines = lines; due = due_report setup lines guarantees; written = failed }
+pub cut_off : (setup : Setup) (lines : List (List ℕ)) (a b : SinkView) →
+    Guarantees setup (journal_of setup) → EndsDrained setup → FailsToHandOn a b lines →
+    IsCutOff (IsReport setup lines) a b
+cut_off setup lines a b guarantees drained failed = record {
+  status = report_status setup;
+  lines = lines;
+  due = due_report setup lines guarantees drained;
+  written = failed;
+}
 
 -- ---- the report of a case with other slots that are the same
 
@@ -186,14 +228,14 @@ module _ (extent : Extent) (setup_at : List (Option UnitFields) → Setup) (ther
   abbrev Due : List (Option UnitFields) → ℕ → List (List ℕ) → Type 0
   Due s = IsReport (setup_at s) (lines_in extent (setup_at s))
 
-  pub delivered_passed : (a b : SinkView) → there ≡ slots → result ≡ Ok true → Delivered a b → Guarantees (setup_at there) (journal_of (setup_at there)) → IsAnswered (Due slots) 7 a b
-  delivered_passed a b same is delivers guarantees =
+  pub delivered_passed : (a b : SinkView) → there ≡ slots → result ≡ Ok true → Delivered a b → Guarantees (setup_at there) (journal_of (setup_at there)) → EndsDrained (setup_at there) → IsAnswered (Due slots) 7 a b
+  delivered_passed a b same is delivers guarantees drained =
       let setup = setup_at there in
       let wrote = subst (λ (r : Result Bool Failed). DeliversReport r (lines_in extent setup) (passes setup) a b) is delivers in
-      subst (λ (s : List (Option UnitFields)). IsAnswered (Due s) 7 a b) same (reported setup (lines_in extent setup) true a b (sym wrote.1) guarantees wrote.0)
+      subst (λ (s : List (Option UnitFields)). IsAnswered (Due s) 7 a b) same (reported setup (lines_in extent setup) true a b (sym wrote.1) guarantees drained wrote.0)
 
-  pub delivered_cut : (failed : Failed) (a b : SinkView) → there ≡ slots → result ≡ Err failed → Delivered a b → Guarantees (setup_at there) (journal_of (setup_at there)) → IsCutOff (Due slots) a b
-  delivered_cut failed a b same is delivers guarantees =
+  pub delivered_cut : (failed : Failed) (a b : SinkView) → there ≡ slots → result ≡ Err failed → Delivered a b → Guarantees (setup_at there) (journal_of (setup_at there)) → EndsDrained (setup_at there) → IsCutOff (Due slots) a b
+  delivered_cut failed a b same is delivers guarantees drained =
       let setup = setup_at there in
       let cut = subst (λ (r : Result Bool Failed). DeliversReport r (lines_in extent setup) (passes setup) a b) is delivers in
-      subst (λ (s : List (Option UnitFields)). IsCutOff (Due s) a b) same (cut_off setup (lines_in extent setup) a b guarantees cut)
+      subst (λ (s : List (Option UnitFields)). IsCutOff (Due s) a b) same (cut_off setup (lines_in extent setup) a b guarantees drained cut)

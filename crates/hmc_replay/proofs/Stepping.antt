@@ -17,7 +17,7 @@ use Rattle.hmc_outside.proofs.LinesLemmas.{WritesLines-none, WritesLines-after, 
 use Rattle.hmc_replay.specs.Steps.{IsAt, IsAfter, TookAll, BreaksAt, Stepped}
 use Rattle.hmc_outside.specs.declared.counts.Failed.{Failed}
 use Rattle.hmc_replay.specs.declared.extent.Extent.{Extent}
-use Rattle.hmc_replay.specs.declared.extent.Extent.TheVariants.{Whole, Short}
+use Rattle.hmc_replay.specs.declared.extent.Extent.TheVariants.{Whole, Short, Bound}
 use Rattle.hmc_replay.proofs.Passes.{passes_is}
 
 -- the step that comes next
@@ -160,9 +160,11 @@ pub stepped_on : (extent : Extent) (net : NetState) (setup : Setup) (a b : SinkV
 stepped_on extent net setup a b error (Ok passed) told far = absurd told
 stepped_on Whole net setup a b error (Err cause) told far = far
 stepped_on Short net setup a b error (Err cause) told far = far
+stepped_on Bound net setup a b error (Err cause) told far = far
 
 -- the finish failed
 pub stepped_late : (extent : Extent) (net : NetState) (setup : Setup) (a b : SinkView) (error : Failed) (result : Result Bool Failed) → IsErrAnd result (λ told. told ≡ error) → StandsFor net setup (journal_of setup) → Stepped result extent net setup a b
 stepped_late extent net setup a b error (Ok passed) told far = absurd told
 stepped_late Whole net setup a b error (Err cause) told far = inl far
 stepped_late Short net setup a b error (Err cause) told far = far
+stepped_late Bound net setup a b error (Err cause) told far = far

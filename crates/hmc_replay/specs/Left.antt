@@ -10,7 +10,7 @@ use Rattle.hmc_outside.specs.Views.{SinkView}
 use Rattle.hmc_outside.specs.declared.counts.Failed.{Failed}
 use Rattle.hmc_units.specs.Unit.{UnitFields}
 use Rattle.hmc_replay.specs.declared.extent.Extent.{Extent}
-use Rattle.hmc_replay.specs.declared.extent.Extent.TheVariants.{Whole, Short}
+use Rattle.hmc_replay.specs.declared.extent.Extent.TheVariants.{Whole, Short, Bound}
 
 -- the slots are those that a journal leaves
 abbrev pub AreLeft : Setup → List Entry → List (Option UnitFields) → Type 0
@@ -32,3 +32,4 @@ IsLeft (Ok passed) extent setup slots old new = AreLeft setup (journal_of setup)
 IsLeft (Err failed) Whole setup slots old new =
     AreLeft setup (journal_of setup) slots ⊎ AreLeftAt setup slots old new
 IsLeft (Err failed) Short setup slots old new = AreLeft setup (journal_of setup) slots
+IsLeft (Err failed) Bound setup slots old new = AreLeft setup (journal_of setup) slots

@@ -1,5 +1,7 @@
 pub mod Answer
 pub mod Answered
+pub mod BoundAnswer
+pub mod BoundLines
 pub mod Causes
 pub mod Input
 pub mod Left

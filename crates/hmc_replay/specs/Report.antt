@@ -9,8 +9,9 @@ use Rattle.hmc_entries.specs.Lines.{line_of}
 use Rattle.hmc_journal.specs.Setup.{Setup}
 use Rattle.hmc_entries.specs.Text.{lines_of}
 use Rattle.hmc_report.specs.Final.{ending_lines}
+use Rattle.hmc_replay.specs.BoundLines.{bound_lines}
 use Rattle.hmc_replay.specs.declared.extent.Extent.{Extent}
-use Rattle.hmc_replay.specs.declared.extent.Extent.TheVariants.{Whole, Short}
+use Rattle.hmc_replay.specs.declared.extent.Extent.TheVariants.{Whole, Short, Bound}
 
 -- some step is a landing that passes
 abbrev pub passes : Setup → Bool
@@ -42,11 +43,20 @@ short_lines false setup journal = ending_lines (values_of setup journal)
 unfoldable pub short_report_of : Setup → List (List ℕ)
 short_report_of setup = short_lines (passes setup) setup (journal_of setup)
 
--- one or the other
+-- what is under way at the end, and its bound; where a landing passed, its line alone
+abbrev pub bound_report : (passed : Bool) → Setup → List Entry → List (List ℕ)
+bound_report true setup journal = last_line journal
+bound_report false setup journal = bound_lines setup.topology journal
+
+unfoldable pub bound_report_of : Setup → List (List ℕ)
+bound_report_of setup = bound_report (passes setup) setup (journal_of setup)
+
+-- one of these
 abbrev pub lines_in : Extent → Setup → List (List ℕ)
 lines_in Whole setup = report_of setup
 lines_in Short setup = short_report_of setup
+lines_in Bound setup = bound_report_of setup
 
--- the status with which either ends
+-- the status with which each ends
 abbrev pub report_status : Setup → ℕ
 report_status setup = if passes setup then 7 else 0

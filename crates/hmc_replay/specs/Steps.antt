@@ -13,7 +13,7 @@ use Rattle.hmc_outside.specs.Views.{SinkView}
 use Rattle.hmc_outside.specs.declared.counts.Failed.{Failed}
 use Rattle.hmc_replay.specs.Report.{passes}
 use Rattle.hmc_replay.specs.declared.extent.Extent.{Extent}
-use Rattle.hmc_replay.specs.declared.extent.Extent.TheVariants.{Whole, Short}
+use Rattle.hmc_replay.specs.declared.extent.Extent.TheVariants.{Whole, Short, Bound}
 
 -- so many of these steps, which are those of the setup, were taken, and no landing passed
 pub record IsAt (net : NetState) (setup : Setup) (steps : List Step) (past : List Entry)
@@ -51,9 +51,11 @@ WroteAll (Ok passed) net setup old new =
 WroteAll (Err failed) net setup old new = BreaksAt net setup old new
 
 -- How far the network came, by the result: it stands for the whole journal, or a line of a step
--- broke off. A short report has no lines of steps but that of a landing that passed.
+-- broke off. Only a whole report has lines of steps, beside that of a
+-- landing that passed.
 abbrev pub Stepped : Result Bool Failed → Extent → NetState → Setup → (old new : SinkView) → Type 0
 Stepped (Ok passed) extent net setup old new = StandsFor net setup (journal_of setup)
 Stepped (Err failed) Whole net setup old new =
     StandsFor net setup (journal_of setup) ⊎ BreaksAt net setup old new
 Stepped (Err failed) Short net setup old new = StandsFor net setup (journal_of setup)
+Stepped (Err failed) Bound net setup old new = StandsFor net setup (journal_of setup)

@@ -3,17 +3,22 @@ use Rattle.std.specs.Prelude.{◌≡◌, ℕ, if◌then◌else◌, List, [], ◌
 use Rattle.std.specs.Option.{option_map}
 use Rattle.hmc_make.specs.Word.{case_number}
 use Rattle.hmc_replay.specs.declared.form.Form.{Form}
-use Rattle.hmc_replay.specs.declared.form.Form.TheVariants.{Run, Make, Trace}
+use Rattle.hmc_replay.specs.declared.form.Form.TheVariants.{Run, Make, Bound, Trace}
 
 -- `make` with this word, if it is the number of a case
 abbrev pub make_form : List ℕ → Option Form
 make_form word = option_map Make (case_number word)
 
--- what the words ask for: `run` or `trace`, or `make` and the number of a case
-abbrev pub form_of : List (List ℕ) → Option Form
-form_of (word ∷ []) =
+-- the form of a word alone
+abbrev pub word_form : List ℕ → Option Form
+word_form word =
     if bytes_eq word (codes "run") then Some Run
-    else if bytes_eq word (codes "trace") then Some Trace else None
+    else (if bytes_eq word (codes "bound") then Some Bound
+    else (if bytes_eq word (codes "trace") then Some Trace else None))
+
+-- what the words ask for: `run`, `bound` or `trace`, or `make` and the number of a case
+abbrev pub form_of : List (List ℕ) → Option Form
+form_of (word ∷ []) = word_form word
 form_of (word ∷ number ∷ []) = if bytes_eq word (codes "make") then make_form number else None
 form_of _ = None
 

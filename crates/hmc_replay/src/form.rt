@@ -12,6 +12,8 @@ pub enum Form {
     Run,
     /// The short report of the case of this number.
     Make(u64),
+    /// What is under way at the end of the case that is read, and its bound.
+    Bound,
     /// The script of the trace that is read.
     Trace,
 }
@@ -32,6 +34,7 @@ pub fn form_of(words: &[String]) -> Option<Form>
 {
     match words {
         [word] if word.as_str() == "run" => Some(Form::Run),
+        [word] if word.as_str() == "bound" => Some(Form::Bound),
         [word] if word.as_str() == "trace" => Some(Form::Trace),
         [word, number] if word.as_str() == "make" => make_form(number.as_str()),
         _ => None,

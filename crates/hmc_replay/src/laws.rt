@@ -6,6 +6,7 @@ ghost use Rattle.hmc_replay.specs.Answer.{IsAnswer};
 ghost use Rattle.hmc_replay.specs.Top.{NoneOf};
 ghost use Rattle.hmc_replay.specs.declared.form.Form.{Form};
 
+use hmc_bound::drains;
 use hmc_cases::{made_is_case, read_is_case};
 use hmc_delivery::journal_guarantees;
 
@@ -33,4 +34,5 @@ pub fn answer_exists()
     read_is_case();
     made_is_case();
     journal_guarantees();
+    drains();
 }

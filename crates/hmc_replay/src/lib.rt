@@ -1,12 +1,14 @@
 //! The top call `replay`: from words and input to a report and a status.
 //!
 //! Its contract is `Replayed` (specs/Top). What a form of words answers to an input, a status and
-//! lines, is one relation (`IsAnswer` of specs/Answer), a file for each form: specs/RunAnswer and
-//! specs/MakeAnswer. How the input is read and the lines are written is the same for all forms. The
+//! lines, is one relation (`IsAnswer` of specs/Answer), a file for each form: specs/RunAnswer,
+//! specs/MakeAnswer and specs/BoundAnswer. How the input is read and the lines are written is the same for all forms. The
 //! report of a case is `report_of` (specs/Report): the lines of the case's one journal, and those of
 //! what the journal leaves and counts. What that journal guarantees is said in hmc_journal.
 #![tactic(auto)]
 
+mod bound;
+mod bound_lines;
 mod extent;
 mod form;
 mod input;

@@ -1,6 +1,7 @@
 //! A replay with a bench of the caller's own.
 
 ghost use Rattle.std.specs.Prelude.{◌≡◌, [], IfOk, OnErr};
+ghost use Rattle.hmc_bound.specs.Ends.{EndsDrained};
 ghost use Rattle.hmc_journal.specs.Guarantees.{Guarantees};
 ghost use Rattle.hmc_journal.specs.Lawful.{journal_of};
 ghost use Rattle.hmc_journal.specs.Setup.{setup_of};
@@ -37,6 +38,7 @@ pub fn replay_on<O: Sink, B: Workbench>(
     ensures guarantees { IfOk result (λ _.
         Guarantees (setup_of case.now (B.slots bench))
         (journal_of (setup_of case.now (B.slots bench)))) }
+    ensures drained { IfOk result (λ _. EndsDrained (setup_of case.now (B.slots bench))) }
     ensures memory { OnErr result (sink.new ≡ sink.old) }
 {
     let mut network = Network::build(alloc, case, bench)?;

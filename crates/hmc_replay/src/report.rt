@@ -1,6 +1,7 @@
 //! The report of a case, in which nothing happened yet: whole or short.
 
 ghost use Rattle.std.specs.Prelude.{[]};
+ghost use Rattle.hmc_bound.specs.Ends.{EndsDrained};
 ghost use Rattle.hmc_journal.specs.Guarantees.{Guarantees};
 ghost use Rattle.hmc_journal.specs.Lawful.{journal_of};
 ghost use Rattle.hmc_journal.specs.Setup.{Setup};
@@ -12,9 +13,11 @@ ghost use Rattle.hmc_replay.specs.Report.{passes, report_of, short_report_of, li
 ghost use Rattle.hmc_replay.specs.declared.extent.Extent.TheVariants.{Whole, Short};
 ghost use Rattle.hmc_replay.specs.Steps.{IsAt, Stepped};
 
+use crate::bound_lines::write_bound;
 use crate::extent::Extent;
 use crate::output::{finish, write_line};
 use crate::steps::{take_steps, write_entry, write_steps};
+use hmc_bound::drains;
 use hmc_codes::LineText;
 use hmc_delivery::journal_guarantees;
 use hmc_net::Network;
@@ -99,6 +102,7 @@ fn write_lines<O: Sink, B: Workbench>(
     match extent {
         Extent::Whole => write_whole(sink, network, schedule),
         Extent::Short => write_short(sink, network, schedule),
+        Extent::Bound => write_bound(sink, network, schedule),
     }
 }
 
@@ -117,11 +121,14 @@ pub fn write_report<O: Sink, B: Workbench>(
     ensures guarantees { (setup : Setup) →
         IsAt (net_of B.slots network.old) setup schedule.now [] 0 →
         Guarantees setup (journal_of setup) }
+    ensures drained { (setup : Setup) →
+        IsAt (net_of B.slots network.old) setup schedule.now [] 0 → EndsDrained setup }
     ensures stepped { (setup : Setup) → IsAt (net_of B.slots network.old) setup schedule.now [] 0 →
         Stepped result extent (net_of B.slots network.new) setup
         (O.shows sink.old) (O.shows sink.new) }
 {
     journal_guarantees();
+    drains();
     let passed = write_lines(sink, extent, network, schedule)?;
     finish(sink)?;
     Ok(passed)

@@ -73,8 +73,8 @@ pub fn write_only<O: Sink>(sink: &mut O, line: &str) -> Result<(), Failed>
     finish(sink)
 }
 
-// Writes the line for what is not a valid case, and hands it on.
-fn refuse<O: Sink>(sink: &mut O, section: Section, line: u32, kind: CaseKind) -> RunError
+/// Writes the line for what is not a valid case, and hands it on.
+pub fn refuse<O: Sink>(sink: &mut O, section: Section, line: u32, kind: CaseKind) -> RunError
     ensures { Answers (IsRefusal (record { section = section; line = line; kind = kind }))
         (Err result) O.shows sink.old sink.new }
 {
@@ -86,9 +86,9 @@ fn refuse<O: Sink>(sink: &mut O, section: Section, line: u32, kind: CaseKind) ->
     }
 }
 
-// Replays a case with units, and writes its report. Out of memory it writes nothing. `Passed` where
-// a landing passed; the report then ends with its line.
-fn report<O: Sink, U: LogicUnit>(
+/// Replays a case with units, and writes its report. Out of memory it writes nothing. `Passed` where
+/// a landing passed; the report then ends with its line.
+pub fn report<O: Sink, U: LogicUnit>(
     alloc: Global,
     sink: &mut O,
     extent: Extent,

@@ -9,6 +9,7 @@ ghost use Rattle.hmc_replay.specs.Units.{slots_of};
 ghost use Rattle.hmc_replay.specs.Words.{form_of};
 ghost use Rattle.hmc_replay.specs.declared.form.Form.{Form};
 
+use crate::bound::run_bound;
 use crate::form::{Form, form_of};
 use crate::run::{RunError, run, run_made};
 use crate::trace::run_trace;
@@ -45,6 +46,7 @@ fn replay_with<S: Source, O: Sink, U: LogicUnit>(
     match form_of(words) {
         Some(Form::Run) => status_of(run(alloc, source, sink, units)),
         Some(Form::Make(number)) => status_of(run_made(alloc, sink, number, units)),
+        Some(Form::Bound) => status_of(run_bound(alloc, source, sink, units)),
         Some(Form::Trace) => status_of(run_trace(alloc, source, sink)),
         None => 2,
     }
@@ -58,6 +60,7 @@ fn replay_with<S: Source, O: Sink, U: LogicUnit>(
 /// |---|---|---|
 /// | `run` | a case | its report: the line of each step, and all final lines |
 /// | `make N` | none | the final lines of the case of the number N, from those of tokens on |
+/// | `bound` | a case of one cube and one link | how many packets are under way, and rounds to drain |
 /// | `trace` | a trace of loads and stores | its script, a line for each request |
 ///
 /// N has one to twenty decimal digits and is below 2^64, and `make` reads nothing. There are at
@@ -66,12 +69,12 @@ fn replay_with<S: Source, O: Sink, U: LogicUnit>(
 /// A source may show the bytes that are left, and a sink the pieces that were written, as those in
 /// memory do; standard input and output don't. What is said of bytes holds where they are shown.
 ///
-/// Gives the exit status, 0 to 7. `make` gives 0, 1, 4 or 7, and with 7 it writes the line of the
-/// landing that passed alone. `trace` doesn't use the units, and never gives 7.
+/// Gives the exit status, 0 to 7. `make` gives 0, 1, 4 or 7. With 7 `make` and `bound` write the line
+/// of the landing that passed alone. `trace` doesn't use the units, and never gives 7.
 ///
 /// | Status | Meaning | Written |
 /// |---|---|---|
-/// | 0 | the answer is whole | the report, or the script |
+/// | 0 | the answer is whole | the report, the two lines of the bound, or the script |
 /// | 1 | out of memory | nothing |
 /// | 2 | the words are no defined form | nothing, and nothing is read |
 /// | 3 | the source failed | nothing |

@@ -18,6 +18,15 @@ returns-clause-written g c = λ setup is. let wrote = c.in_ok-passed.ensures.wri
 pub returns-clause-guarantees : goal.returns-clause-guarantees
 returns-clause-guarantees g c = λ setup is. c.journal_guarantees.ensures setup is.stands.network
 
+pub returns-in_err-passed-clause-drained : goal.returns-in_err-passed-clause-drained
+returns-in_err-passed-clause-drained g c = λ setup is. c.drains.ensures.ends setup is.stands.network
+
+pub returns-in_err-finish-clause-drained : goal.returns-in_err-finish-clause-drained
+returns-in_err-finish-clause-drained g c = λ setup is. c.drains.ensures.ends setup is.stands.network
+
+pub returns-clause-drained : goal.returns-clause-drained
+returns-clause-drained g c = λ setup is. c.drains.ensures.ends setup is.stands.network
+
 pub returns-in_err-passed-clause-stepped : goal.returns-in_err-passed-clause-stepped
 returns-in_err-passed-clause-stepped g c = λ setup is.
     stepped_on _ _ setup _ _ c.in_err-passed.field-0.0 c.from_residual.result c.from_residual.ensures.1 (c.in_err-passed.ensures.stepped setup is)

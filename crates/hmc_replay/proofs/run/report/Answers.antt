@@ -7,9 +7,9 @@ use Rattle.hmc_replay.proofs.run.report.Goals as goal
 pub returns-in-Ok-true : goal.returns-in-Ok-true
 returns-in-Ok-true g c =
     let ended = c.in_ok-ended.ensures in
-    delivered_passed c.args.extent (setup_of c.args.case.now) _ _ c.in_ok-ended.ended _ _ c.in_ok-bench.ensures (c.in-Ok-true.is ∙ ap Ok c.in-Ok-true.field-0-test) ended.written ended.guarantees
+    delivered_passed c.args.extent (setup_of c.args.case.now) _ _ c.in_ok-ended.ended _ _ c.in_ok-bench.ensures (c.in-Ok-true.is ∙ ap Ok c.in-Ok-true.field-0-test) ended.written ended.guarantees ended.drained
 
 pub returns-in-Err : goal.returns-in-Err
 returns-in-Err g c =
     let ended = c.in_ok-ended.ensures in
-    delivered_cut c.args.extent (setup_of c.args.case.now) _ _ c.in_ok-ended.ended c.in-Err.field-0 _ _ c.in_ok-bench.ensures c.in-Err.is ended.written ended.guarantees
+    delivered_cut c.args.extent (setup_of c.args.case.now) _ _ c.in_ok-ended.ended c.in-Err.field-0 _ _ c.in_ok-bench.ensures c.in-Err.is ended.written ended.guarantees ended.drained
