@@ -23,7 +23,7 @@ use Rattle.hmc_outside.proofs.LinesLemmas.{WritesLines-none}
 use Rattle.hmc_report.specs.Final.{ending_lines}
 use Rattle.hmc_units.specs.Unit.{UnitFields}
 use Rattle.hmc_replay.specs.Answer.{IsAnswer}
-use Rattle.hmc_replay.specs.Complete.{IsComplete}
+use Rattle.hmc_replay.specs.BoundAnswer.{IsCaseBounded}
 use Rattle.hmc_replay.specs.MakeAnswer.{made_setup}
 use Rattle.hmc_replay.specs.Report.{passes, report_of, short_report_of, short_lines, last_line, report_status}
 use Rattle.hmc_replay.specs.Reported.{IsReport}
@@ -31,7 +31,7 @@ use Rattle.hmc_replay.specs.RunAnswer.{IsRunAnswer, IsReported, IsRefused}
 use Rattle.hmc_replay.specs.Top.{OneOf, NoneOf, IsRead, ReadsNothing, Writes, Replays, Replayed}
 use Rattle.hmc_replay.specs.Words.{form_of}
 use Rattle.hmc_replay.specs.declared.form.Form.{Form}
-use Rattle.hmc_replay.specs.declared.form.Form.TheVariants.{Run, Make, Trace}
+use Rattle.hmc_replay.specs.declared.form.Form.TheVariants.{Run, Make, Bound, Trace}
 use Rattle.hmc_replay.proofs.Complete.{one_or_none, complete, excess, made_complete}
 use Rattle.hmc_replay.proofs.OneAnswer.{by_passes}
 use Rattle.hmc_replay.proofs.Reports.{report_passed}
@@ -258,9 +258,15 @@ module _ {S O : Type 0} (source_view : S → SourceView) (sink_view : O → Sink
 
 -- ---- any words
 
+bounded_few : (setup : Setup) (status : ℕ) (lines : List (List ℕ)) → IsCaseBounded setup status lines → status ≤ 7
+bounded_few setup status lines (inl a) = subst (λ (n : ℕ). n ≤ 7) (sym a.report.status_is) (few_status setup (passes setup) refl)
+bounded_few setup status lines (inr a) = let six = a.status_is in omega (arith, six)
+
 answer_few : (form : Form) (slots : List (Option UnitFields)) (input : List ℕ) (status : ℕ) (lines : List (List ℕ)) → IsAnswer form slots input status lines → status ≤ 7
 answer_few Run slots input status lines (inl a) = subst (λ (n : ℕ). n ≤ 7) (sym a.report.status_is) (few_status (setup_of a.case slots) (passes (setup_of a.case slots)) refl)
 answer_few Run slots input status lines (inr a) = let six = a.refusal.status_is in omega (arith, six)
+answer_few Bound slots input status lines (inl a) = bounded_few (setup_of a.case slots) status lines a.answer
+answer_few Bound slots input status lines (inr a) = let six = a.refusal.status_is in omega (arith, six)
 answer_few Trace slots input status lines (inl a) = let six = a.refusal.status_is in omega (arith, six)
 answer_few Trace slots input status lines (inr (text, inl a)) = let six = a.refusal.status_is in omega (arith, six)
 answer_few Trace slots input status lines (inr (text, inr a)) = let zero = a.script.status_is in omega (arith, zero)
