@@ -11,5 +11,5 @@ pub returns-clause-replayed : goal.returns-clause-replayed
 returns-clause-replayed g c =
     let first = read_made own-1 (own-1.entry at-1-1) at-1-1 refl UnitFields (λ j w. j.1.meaning w) _ _ c.in_ok-new.field-0.value c.into_dyn_box.ensures.1 in
     let second = read_made own-1 (own-1.entry at-1-2) at-1-2 refl UnitFields (λ j w. j.1.meaning w) _ _ c.in_ok-new-2.field-0.value c.into_dyn_box-in_ok-new-2.ensures.1 in
-    shipped _ _ _ _ _ _ _ _ _ _ _ _ _ _ c.replay.ensures c.in_ok-push-2.ensures.items c.in_ok-push.ensures.items c.new-units.ensures.items
+    shipped _ _ _ _ _ _ _ _ _ _ _ _ _ _ c.replay.ensures.replayed c.in_ok-push-2.ensures.items c.in_ok-push.ensures.items c.new-units.ensures.items
     (first ∙ ap (λ r. reverse_unit r.cube r.code) c.in_ok-new.ensures.ok ∙ c.new.ensures) (second ∙ ap (λ r. stamp_unit r.cube r.code r.count) c.in_ok-new-2.ensures.ok ∙ c.new-3.ensures)
