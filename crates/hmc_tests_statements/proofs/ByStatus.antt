@@ -176,7 +176,7 @@ module _ {S O : Type 0} (source_view : S → SourceView) (sink_view : O → Sink
   -- 0, 6 and 7: the input was read to its end by one read, the last one, and all that is due was
   -- written
   read_whole : OneOf (0 ∷ 6 ∷ 7 ∷ []) status → IsAtEnd (source_view source').left × Stops (source_view source) (source_view source')
-  read_whole one = let all = whole (by_answer status one) in (all.1.0, all.1.1)
+  read_whole one = let all = whole (by_answer status one) in (all.1, all.2)
 
   all_lines : OneOf (0 ∷ 6 ∷ 7 ∷ []) status → HandsOn (sink_view sink) (sink_view sink') (lines_for slots (case_of p.input))
   all_lines one =
