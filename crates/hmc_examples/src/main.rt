@@ -1,5 +1,5 @@
-//! Replays each example case, runs the cases of some numbers, and compares each report with the one
-//! beside it. Those reports came from a model in another language, or were found by hand
+//! Replays each example case, runs the cases of some numbers, asks for the bounds of some cases, and
+//! compares each report with the one beside it. Those reports came from a model in another language, or were found by hand
 //! (docs/DECISIONS.md says which).
 #![tactic(auto)]
 
@@ -11,7 +11,7 @@ use std::rt::Files;
 use std::{fs, io};
 
 /// The cases of this folder whose run ends, `NAME.toml` each, with their reports, `NAME.report`.
-const NAMES: [&str; 79] = [
+const NAMES: [&str; 86] = [
     "write-then-read",
     "six-errors",
     "posted-increments",
@@ -91,6 +91,13 @@ const NAMES: [&str; 79] = [
     "through-behind-another",
     "through-few-tokens",
     "through-little-room",
+    "bound-two-requests",
+    "bound-after-masks-one",
+    "bound-after-masks-three",
+    "bound-after-masks-five",
+    "bound-after-masks-six",
+    "bound-after-masks-nine",
+    "bound-after-masks-sixteen",
 ];
 
 /// The cases whose run ends at a landing that passed.
@@ -113,8 +120,31 @@ const MADE: [(&str, &str); 6] = [
     ("18446744073709551615", "make-greatest"),
 ];
 
-/// More bytes than any of the reports has.
+/// The cases whose bound is asked for, each with the status; `NAME.bound` has what is written.
+const BOUNDS: [(&str, u8); 10] = [
+    ("bound-two-requests", 0),
+    ("bound-after-masks-one", 0),
+    ("bound-after-masks-three", 0),
+    ("bound-after-masks-five", 0),
+    ("bound-after-masks-six", 0),
+    ("bound-after-masks-nine", 0),
+    ("bound-after-masks-sixteen", 0),
+    ("no-steps", 0),
+    ("row-of-eight", 6),
+    ("passed-null", 7),
+];
+
+/// More bytes than any of the reports has, but that of the rounds that a bound asks for.
 const ROOM: usize = 1 << 20;
+
+/// More bytes than that report has.
+const LONG_ROOM: usize = 1 << 23;
+
+/// The line of its schedule in whose place these rounds come.
+const NO_ROUND: &str = "# No round follows.\n";
+
+/// The lines of its steps.
+const LONG_STEPS: usize = 120_002;
 
 fn owned(alloc: Global, words: &[&str]) -> Result<Vec<String>, io::Error> {
     let mut owned = Vec::new(alloc);
@@ -178,6 +208,53 @@ fn made_is_reported(
     has_report(alloc, &["make", number], source, 0, report.as_bytes())
 }
 
+// Whether the bound of a case is what its file says, with this status.
+fn bound_is_reported(
+    rt: &(impl Files + AllocGlobal),
+    name: &str,
+    status: u8,
+) -> Result<bool, io::Error> {
+    let alloc = rt.alloc();
+    let case = file(rt, format!(in alloc; "{name}.toml")?.as_str())?;
+    let lines = file(rt, format!(in alloc; "{name}.bound")?.as_str())?;
+    let Ok(source) = MemorySource::new(alloc, case.as_bytes(), &[]) else {
+        return Ok(false);
+    };
+    has_report(alloc, &["bound"], source, status, lines.as_bytes())
+}
+
+// Whether a case has so many lines of steps, and ends with these lines.
+fn ends_with(alloc: Global, case: &str, steps: usize, ending: &str) -> Result<bool, io::Error> {
+    let Ok(mut source) = MemorySource::new(alloc, case.as_bytes(), &[]) else {
+        return Ok(false);
+    };
+    let Ok(mut sink) = MemorySink::new(alloc, LONG_ROOM, &[]) else {
+        return Ok(false);
+    };
+    let words = owned(alloc, &["run"])?;
+    let units: Vec<Box<dyn LogicUnit>> = Vec::new(alloc);
+    let status = replay(alloc, &words, &mut source, &mut sink, units);
+    let wanted = count_lines(ending.as_bytes()).saturating_add(steps);
+    let report = sink.as_slice();
+    Ok(status == 0 && count_lines(report) == wanted && report.ends_with(ending.as_bytes()))
+}
+
+// Whether the case of two requests is drained after as many rounds as its bound says.
+fn rounds_drain(rt: &(impl Files + AllocGlobal)) -> Result<bool, io::Error> {
+    let alloc = rt.alloc();
+    let case = file(rt, "bound-two-requests.toml")?;
+    let ending = file(rt, "bound-two-requests.final")?;
+    let Some((before, after)) = case.as_str().split_once(NO_ROUND) else {
+        return Ok(false);
+    };
+    let longer = format!(in alloc; "{before}round 10000\n{after}")?;
+    ends_with(alloc, longer.as_str(), LONG_STEPS, ending.as_str())
+}
+
+fn count_lines(text: &[u8]) -> usize {
+    text.iter().filter(|byte| **byte == b'\n').count()
+}
+
 // Prints whether an example ends with this status and the report beside it.
 fn print_example(
     rt: &(impl Files + AllocGlobal + Print),
@@ -200,6 +277,17 @@ fn print_made(
     println!(rt; "make {number}: {word}")
 }
 
+// Prints whether the bound of a case is as its file says.
+fn print_bound(
+    rt: &(impl Files + AllocGlobal + Print),
+    name: &str,
+    status: u8,
+) -> Result<(), io::Error> {
+    let same = bound_is_reported(rt, name, status)?;
+    let word = if same { "as reported" } else { "differs" };
+    println!(rt; "bound of {name}: {word}")
+}
+
 fn main(rt: HostRuntime) -> Result<(), io::Error> {
     for name in NAMES {
         print_example(&rt, name, 0)?;
@@ -210,5 +298,10 @@ fn main(rt: HostRuntime) -> Result<(), io::Error> {
     for (number, name) in MADE {
         print_made(&rt, number, name)?;
     }
+    for (name, status) in BOUNDS {
+        print_bound(&rt, name, status)?;
+    }
+    let word = if rounds_drain(&rt)? { "drained" } else { "not drained" };
+    println!(rt; "10000 rounds after two requests: {word}")?;
     Ok(())
 }

@@ -42,9 +42,9 @@ fn ends_with(
     Ok(status == wanted && sink.as_slice() == text.as_bytes())
 }
 
-// Whether the program refuses a case by this line.
-fn is_refused(alloc: Global, case: &str, line: &str) -> Result<bool, io::Error> {
-    let words = words_of(alloc, " run")?;
+// Whether the program of these words refuses a case by this line.
+fn is_refused(alloc: Global, words: &str, case: &str, line: &str) -> Result<bool, io::Error> {
+    let words = words_of(alloc, words)?;
     let Ok(source) = MemorySource::new(alloc, case.as_bytes(), &[]) else {
         return Ok(false);
     };
@@ -60,7 +60,8 @@ fn is_not_a_form(alloc: Global, words: &str) -> Result<bool, io::Error> {
     ends_with(alloc, &words, source, USAGE, "")
 }
 
-// Whether the base case with this change is reported as this fault.
+// Whether the base case with this change is reported as this fault, by `run` and by `bound`: a case
+// that is not single has every other fault first.
 fn fault_is_reported(
     alloc: Global,
     base: &str,
@@ -69,7 +70,8 @@ fn fault_is_reported(
 ) -> Result<bool, io::Error> {
     let case = changed(alloc, base, change)?;
     let line = format!(in alloc; "{fault}\n")?;
-    is_refused(alloc, case.as_str(), line.as_str())
+    Ok(is_refused(alloc, " run", case.as_str(), line.as_str())?
+        && is_refused(alloc, " bound", case.as_str(), line.as_str())?)
 }
 
 // How many faults of the table are reported as it says, and which is the first that isn't.
