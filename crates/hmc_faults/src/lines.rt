@@ -63,8 +63,8 @@ pub fn wide(alloc: Global) -> Result<Plan, AllocError> {
     })
 }
 
-// The bytes that the text of a row is for.
-fn unescaped(alloc: Global, text: &str) -> Result<String, AllocError> {
+/// The bytes that the text of a row is for.
+pub fn unescaped(alloc: Global, text: &str) -> Result<String, AllocError> {
     let text = text.replace(alloc, "\\n", "\n")?;
     let text = text.replace(alloc, "\\r", "\r")?;
     text.replace(alloc, "\\t", "\t")

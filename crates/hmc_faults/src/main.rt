@@ -1,10 +1,12 @@
 //! Reads the faulty inputs of the tables in `data/`, and compares the first fault of each with that
-//! of its row. Bad cases are replayed, and scripts and schedules are read. The program is run with
-//! words that are not a form. The faults of the tables were found by hand (docs/DECISIONS.md).
+//! of its row. Bad cases are replayed, scripts and schedules are read, and traces are given to the
+//! program. It is run with words that are not a form. The faults of the tables were found by hand
+//! (docs/DECISIONS.md).
 #![tactic(auto)]
 
 mod faults;
 mod lines;
+mod traces;
 mod words;
 
 use faults::changed;
@@ -15,6 +17,7 @@ use lines::{Texts, rows_reported, small, wide};
 use std::alloc::Global;
 use std::rt::Files;
 use std::{fs, io};
+use traces::{bytes_are_refused, faults_answered, scripts_answered};
 use words::words_of;
 
 /// The status of words that are not a form.
@@ -23,8 +26,8 @@ const USAGE: u8 = 2;
 /// The status of a bad case.
 const BAD_CASE: u8 = 6;
 
-/// More bytes than the line of a fault has.
-const ROOM: usize = 64;
+/// More bytes than the line of a fault or a script of a table has.
+const ROOM: usize = 4_096;
 
 // Whether the program, without logic units, ends with this status and has written this text.
 fn ends_with(
@@ -145,6 +148,25 @@ fn print_texts(
     print_count(rt, name, reported)
 }
 
+// Gives each trace of the tables to the program, and prints how many are answered as they say.
+fn print_traces(rt: &(impl Files + AllocGlobal + Print)) -> Result<(), io::Error> {
+    let alloc = rt.alloc();
+    let faults = fs::read_to_string(rt, "trace-faults.txt")?;
+    print_count(rt, "trace faults", faults_answered(alloc, faults.as_str())?)?;
+    let scripts = fs::read_to_string(rt, "trace-scripts.txt")?;
+    print_count(
+        rt,
+        "scripts of traces",
+        scripts_answered(alloc, scripts.as_str())?,
+    )?;
+    let word = if bytes_are_refused(alloc)? {
+        "refused"
+    } else {
+        "differ"
+    };
+    println!(rt; "traces, bytes that are no text: {word}")
+}
+
 // Runs the program with the words of each row, and prints how many are refused.
 fn print_words(rt: &(impl Files + AllocGlobal + Print)) -> Result<(), io::Error> {
     let table = fs::read_to_string(rt, "words.txt")?;
@@ -158,6 +180,7 @@ fn main(rt: HostRuntime) -> Result<(), io::Error> {
     let wide = Texts::Schedules(wide(rt.alloc())?);
     let small = Texts::Schedules(small(rt.alloc())?);
     print_texts(&rt, "script faults", "script-faults.txt", &Texts::Scripts)?;
+    print_traces(&rt)?;
     print_texts(&rt, "schedule faults", "schedule-faults.txt", &wide)?;
     print_texts(
         &rt,
