@@ -301,7 +301,11 @@ fn main(rt: HostRuntime) -> Result<(), io::Error> {
     for (name, status) in BOUNDS {
         print_bound(&rt, name, status)?;
     }
-    let word = if rounds_drain(&rt)? { "drained" } else { "not drained" };
+    let word = if rounds_drain(&rt)? {
+        "drained"
+    } else {
+        "not drained"
+    };
     println!(rt; "10000 rounds after two requests: {word}")?;
     Ok(())
 }

@@ -73,8 +73,10 @@ fn fault_is_reported(
 ) -> Result<bool, io::Error> {
     let case = changed(alloc, base, change)?;
     let line = format!(in alloc; "{fault}\n")?;
-    Ok(is_refused(alloc, " run", case.as_str(), line.as_str())?
-        && is_refused(alloc, " bound", case.as_str(), line.as_str())?)
+    Ok(
+        is_refused(alloc, " run", case.as_str(), line.as_str())?
+            && is_refused(alloc, " bound", case.as_str(), line.as_str())?,
+    )
 }
 
 // How many faults of the table are reported as it says, and which is the first that isn't.
