@@ -88,7 +88,7 @@ class Show(unittest.TestCase):
     def test_the_graph(self) -> None:
         """Each direction is an arrow that has its number; those of a route are red."""
         lines = show.dot_lines(NETWORK, route(NETWORK, "h1", "c0"))
-        edges = [line.split(" [")[0].strip() for line in lines if " -> " in line]
+        edges = [line.partition(" [")[0].strip() for line in lines if " -> " in line]
         arrows = ["h0 -> c0", "c0 -> h0", "c0 -> c1", "c1 -> c0", "c1 -> h1", "h1 -> c1"]
         self.assertEqual(edges, arrows)
         for number, line in enumerate(line for line in lines if " -> " in line):
