@@ -13,6 +13,8 @@ cli finds the command that is called; verbs has a file for each command, and the
 - show, routes: pictures of networks, and ways through them
 - observed, convert, documents: from a bench's log to a case
 - samples, shrink: random cases, and small ones that fail
+- traces, trace_formats, trace_case, trace_values: loads and stores, those of other tools, a case
+  around them, and what the loads give
 - gate: what .ci/run needs; counts: those of docs/PROOFS.md
 
 What cases may have is in few places: the ranges at the top of case, STEPS of schedule, and LINES of

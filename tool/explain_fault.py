@@ -4,15 +4,18 @@ from __future__ import annotations
 
 import re
 
-from tool import case, schedule, texts
+from tool import case, schedule, texts, traces
 from tool.case import Document, Fault, net_advice
 from tool.commands import BY_WORD, REQUEST
 from tool.nearest import nearest
 from tool.places import Places, Span
 
-LINE = re.compile(r"bad (toml|top|cube|net|link|script|schedule) ([0-9]+) ([a-z]+)")
+LINE = re.compile(r"bad (toml|top|cube|net|link|script|schedule|trace) ([0-9]+) ([a-z]+)")
 CASE_PAGE = "docs/case.md#faults"
 TEXT_PAGE = {"script": "docs/script.md#faults", "schedule": "docs/schedule.md#faults"}
+TRACE, TRACE_PAGE = "trace", "docs/trace.md#faults"
+# So many characters of a line of a trace are shown at most.
+MOST_SHOWN = 90
 
 # What each kind says, by its section.
 MEANINGS = {
@@ -69,6 +72,20 @@ MEANINGS = {
         "mask": "the word is not 32 hexadecimal digits",
         "steps": f"with this line there are more than {texts.MOST_STEPS:,} steps",
     },
+    "trace": {
+        "text": "the bytes are not UTF-8",
+        "word": "the word is none that a trace has there, or it is `cube` after a load or a store",
+        "words": "a word is missing, or words are left over",
+        "number": "a word is not a number where one is required",
+        "cube": "the word is not the number of a cube of the trace",
+        "hex": "the word is not whole pairs of hexadecimal digits",
+        "length": f"there is no byte, or there are more than {traces.MOST_LENGTH:,}",
+        "range": "a number is not within its limits, or there are bytes past the end of the cube",
+        "cubes": f"there are more than {traces.MOST_CUBES} cubes, or none before a load or a store "
+        "or before the end",
+        "capacity": f"all cubes together have more than {texts.MOST_BYTES:,} bytes",
+        "toomany": f"there are more than {texts.MOST_REQUESTS:,} requests",
+    },
 }
 # The words that a word at fault may have been meant to be.
 KNOWN_WORDS = {
@@ -81,6 +98,7 @@ COUNTED = {
     "link": "link {}",
     "script": "line {} of the script",
     "schedule": "line {} of the schedule",
+    "trace": "line {}",
 }
 
 
@@ -94,7 +112,7 @@ def meaning_of(line: str) -> list[str] | None:
     if meaning is None:
         return None
     where = COUNTED.get(section, "").format(number)
-    page = TEXT_PAGE.get(section, CASE_PAGE)
+    page = TRACE_PAGE if section == TRACE else TEXT_PAGE.get(section, CASE_PAGE)
     return [f"{line}: {where + ': ' if where else ''}{meaning}", f"see {page}"]
 
 
@@ -107,6 +125,20 @@ def explain_in_case(line: str, data: bytes, name: str) -> list[str]:
     if str(fault) != line:
         lines.append(f"{name}: the first fault here is another one: {fault}")
     return lines + shown(fault, document, data, name)
+
+
+def explain_in_trace(line: str, data: bytes, name: str) -> list[str]:
+    """Where the fault of the line is in the trace that these bytes were to be."""
+    fault = traces.first_fault(data)
+    if fault is None:
+        return [f"{name}: no such fault was found here"]
+    lines = []
+    if str(fault) != line:
+        lines.append(f"{name}: the first fault here is another one: {fault}")
+    rows = texts.lines_of(data.decode("utf-8", errors="replace"))
+    if 1 <= fault.line <= len(rows):
+        return [*lines, f"{name}:{fault.line}", f"    {rows[fault.line - 1][:MOST_SHOWN]}"]
+    return [*lines, f"{name}: the trace as a whole"]
 
 
 def lint(data: bytes, name: str) -> list[str]:

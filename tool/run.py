@@ -51,7 +51,7 @@ def run_case(options: Options, program: Callable[[], Path]) -> int:
     """Replays a case by a program, and returns its exit status."""
     keep = keep_of(options)
     with opened_case(options) as source:
-        status = _run(["run"], source, options, keep, program)
+        status = write_answer(["run"], source, options, program, keep)
     explain_status(status, options)
     return status
 
@@ -59,30 +59,30 @@ def run_case(options: Options, program: Callable[[], Path]) -> int:
 def run_made(number: str, output: str | None, program: Callable[[], Path]) -> int:
     """Runs the case of a number by a program, and returns its exit status."""
     options = Options(output=output)
-    status = _run(["make", number], subprocess.DEVNULL, options, None, program)
+    status = write_answer(["make", number], subprocess.DEVNULL, options, program)
     explain_status(status, options)
     return status
 
 
 @contextmanager
 def opened_case(options: Options) -> Iterator[BinaryIO]:
-    """The case, open for reading."""
+    """The case, or what else is run on, open for reading."""
     if options.file is None and sys.stdin is not None and sys.stdin.isatty():
-        said = "no FILE is given, and standard input is a terminal: name a case"
+        said = "no FILE is given, and standard input is a terminal: name a file"
         raise Trouble(USAGE, said)
     files.refuse_inputs(options.output or files.STANDARD, [options.file])
     with files.opened_to_read(options.file or files.STANDARD) as source:
         yield source
 
 
-def _run(
+def write_answer(
     words: list[str],
     source: BinaryIO | int,
     options: Options,
-    keep: Keep | None,
     program: Callable[[], Path],
+    keep: Keep | None = None,
 ) -> int:
-    """Runs a program, and writes what is kept of its report."""
+    """Runs a program with these words, and writes what is kept of its answer."""
     status = WRITE_FAULT
     try:
         with files.written(options.output, [options.file]) as sink:

@@ -4,9 +4,11 @@ from __future__ import annotations
 
 from dataclasses import dataclass
 
-from tool.texts import MOST_STEPS, CubeParts, Plan
-from tool.traces import Trace
-from tool.trouble import USAGE, Trouble
+from tool import case, documents, explain_fault
+from tool.case import Document
+from tool.texts import INPUT_BYTES, MOST_ROUNDS, MOST_STEPS
+from tool.traces import Shape, Trace
+from tool.trouble import BAD_DATA, USAGE, Trouble
 
 # Rounds until every link of a chain is open, and those that a request or its answer waits at most
 # on a link that loses nothing.
@@ -27,50 +29,53 @@ class Sizes:
     rounds: int | None = None
 
 
-def case_of(trace: Trace, script: str, sizes: Sizes) -> str:
-    """The case, as a TOML document."""
-    rounds = sizes.rounds if sizes.rounds is not None else rounds_of(trace)
-    steps = rounds * plan_of(trace).round_steps
+def text_of(trace: Trace, sizes: Sizes) -> str:
+    """The case as a TOML document. It is valid."""
+    rounds = rounds_of(trace) if sizes.rounds is None else sizes.rounds
+    document = document_of(trace, sizes, rounds)
+    refuse_rounds(document, rounds)
+    fault = case.first_fault(document)
+    if fault:
+        raise Trouble(USAGE, explain_fault.advice(fault, document))
+    text = documents.text_of(document)
+    if len(text) > INPUT_BYTES:
+        said = f"the case has {len(text):,} bytes, and may have {INPUT_BYTES:,}"
+        raise Trouble(BAD_DATA, f"{said}: give a shorter trace")
+    return text
+
+
+def document_of(trace: Trace, sizes: Sizes, rounds: int) -> Document:
+    """The case with so many rounds."""
+    return {
+        "profile": 1,
+        "script": "".join(f"{request}\n" for request in trace.requests),
+        "schedule": f"round {rounds}\n",
+        "cubes": [cube_of(shape, sizes) for shape in trace.shapes],
+        "links": [link_of(number, sizes) for number in range(len(trace.shapes))],
+    }
+
+
+def cube_of(shape: Shape, sizes: Sizes) -> Document:
+    """A cube with this shape."""
+    bits = {"vault_bits": shape.vault_bits, "bank_bits": shape.bank_bits}
+    return {**bits, "rows": shape.rows, "queue": sizes.queue}
+
+
+def link_of(number: int, sizes: Sizes) -> Document:
+    """The link that ends at port 0 of the cube with this number."""
+    ends = {"a": f"c{number - 1}.1" if number else "h0", "b": f"c{number}.0"}
+    numbers = {"line": sizes.line, "tokens": sizes.tokens}
+    return {**ends, **numbers, "retry": sizes.retry, "output": sizes.output}
+
+
+def refuse_rounds(document: Document, rounds: int) -> None:
+    """Refuses so many rounds if a schedule has no room for them."""
+    if not 1 <= rounds <= MOST_ROUNDS:
+        raise Trouble(USAGE, f"{rounds:,} rounds: a schedule has 1 to {MOST_ROUNDS:,} of them")
+    steps = rounds * case.plan_of(document).round_steps
     if steps > MOST_STEPS:
-        said = f"{rounds} rounds have {steps} steps, and a schedule has at most {MOST_STEPS}"
+        said = f"{rounds:,} rounds have {steps:,} steps, and a schedule has at most {MOST_STEPS:,}"
         raise Trouble(USAGE, f"{said}: give a shorter trace, smaller cubes or --rounds")
-    parts = [f"profile = 1\nscript = '''\n{script}'''\nschedule = '''\nround {rounds}\n'''\n"]
-    parts += [cube_table(shape, sizes) for shape in cube_numbers(trace)]
-    parts += [link_table(number, sizes) for number in range(len(trace.shapes))]
-    return "\n".join(parts)
-
-
-def cube_numbers(trace: Trace) -> list[tuple[int, int, int]]:
-    """The vault bits, bank bits and rows of each cube."""
-    return [(shape.vault_bits, shape.bank_bits, shape.rows) for shape in trace.shapes]
-
-
-def cube_table(numbers: tuple[int, int, int], sizes: Sizes) -> str:
-    """The table of a cube."""
-    vault_bits, bank_bits, rows = numbers
-    return (
-        f"[[cubes]]\nvault_bits = {vault_bits}\nbank_bits = {bank_bits}\nrows = {rows}\n"
-        f"queue = {sizes.queue}\n"
-    )
-
-
-def link_table(number: int, sizes: Sizes) -> str:
-    """The table of the link that ends at port 0 of a cube."""
-    start = "h0" if number == 0 else f"c{number - 1}.1"
-    return (
-        f'[[links]]\na = "{start}"\nb = "c{number}.0"\nline = {sizes.line}\n'
-        f"tokens = {sizes.tokens}\nretry = {sizes.retry}\noutput = {sizes.output}\n"
-    )
-
-
-def plan_of(trace: Trace) -> Plan:
-    """What a schedule may name of the network."""
-    last = len(trace.shapes) - 1
-    cubes = [
-        CubeParts(1 << shape.vault_bits, 1 << shape.bank_bits, (0, 1) if number < last else (0,))
-        for number, shape in enumerate(trace.shapes)
-    ]
-    return Plan(1, 2 * len(trace.shapes), cubes)
 
 
 def rounds_of(trace: Trace) -> int:

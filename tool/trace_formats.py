@@ -17,9 +17,9 @@ from tool.trouble import BAD_DATA, Trouble
 
 # A line of a cache, which DRAMSim and Ramulator load and store.
 CACHE_LINE = 64
-DRAMSIM = re.compile(r"0x([0-9a-fA-F]+)\s+(R|W|READ|WRITE|P_MEM_RD|P_MEM_WR)(?:\s+\d+)?")
+DRAMSIM = re.compile(r"0x([0-9a-fA-F]+)\s+(R|W|READ|WRITE|P_MEM_RD|P_MEM_WR)(?:\s+[0-9]+)?")
 # Valgrind's lackey: I is a fetch of an instruction, M is a load and a store.
-LACKEY = re.compile(r"(I | [LSM]) ([0-9a-fA-F]+),(\d+)")
+LACKEY = re.compile(r"(I | [LSM]) ([0-9a-fA-F]+),([0-9]{1,4})")
 LACKEY_VERBS = {"I ": (), " L": ("load",), " S": ("store",), " M": ("load", "store")}
 
 # The line in the file, `load` or `store`, the address and the bytes.

@@ -5,10 +5,19 @@ from __future__ import annotations
 from collections import defaultdict, deque
 from collections.abc import Iterable
 
+from tool.fit import LEFT_OUT
+from tool.lines import Answer, Gave, Host, Took
+from tool.report import NotALine, Reader, request_of
 from tool.traces import Load, Trace
 
-HOST = "0"
-NO_TAG = "-"
+HOST = 0
+
+
+class NotThisTrace(NotALine):
+    """A request that is not the next one of the trace."""
+
+    def __init__(self, number: int, said: str):
+        super().__init__(f"line {number} is not one of this trace: {said}")
 
 
 def values_of(trace: Trace, lines: Iterable[str]) -> list[bytes | None]:
@@ -17,35 +26,53 @@ def values_of(trace: Trace, lines: Iterable[str]) -> list[bytes | None]:
     The answer to the n-th request of host 0 is found by its tag: as many requests with the tag come
     before it as answers under the tag before its own.
     """
-    answers = answers_of(lines)
+    answers = answers_of(trace, lines)
     return [value_of(trace, load, answers) for load in trace.loads]
 
 
-def answers_of(lines: Iterable[str]) -> list[bytes | None]:
+def answers_of(trace: Trace, lines: Iterable[str]) -> list[bytes | None]:
     """What the answers to the requests of host 0 read, in the order of the requests."""
-    tags: list[str] = []
-    taken: defaultdict[str, deque[bytes | None]] = defaultdict(deque)
-    for line in lines:
-        words = line.split()
-        if words[:2] == ["gave", HOST]:
-            tags.append(words[2])
-        elif words[:2] == ["took", HOST]:
-            taken[words[2]].append(bytes_read(words[3:]))
+    tags: list[int | None] = []
+    taken: defaultdict[int, deque[bytes | None]] = defaultdict(deque)
+    count = 0
+    for number, line, _ in Reader().numbered(lines):
+        if isinstance(line, Gave) and line.host == HOST:
+            compare(number, line, trace, len(tags))
+            tags.append(line.tag)
+        elif isinstance(line, Took) and line.host == HOST:
+            taken[line.tag].append(bytes_read(line.answer))
+            count += 1
+        elif isinstance(line, Host) and line.host == HOST:
+            compare_counts(number, line, (len(tags), count))
     return [next_answer(taken, tag) for tag in tags]
 
 
-def next_answer(taken: defaultdict[str, deque[bytes | None]], tag: str) -> bytes | None:
+def compare(number: int, line: Gave, trace: Trace, place: int) -> None:
+    """Refuses a request that is not the one at this place of the trace."""
+    if place >= len(trace.requests):
+        raise NotThisTrace(number, f"the trace has {place} requests, and here is one more")
+    wanted = trace.requests[place].text
+    if request_of(wanted) != line.request:
+        raise NotThisTrace(number, f"its next request is `{wanted}`")
+
+
+def compare_counts(number: int, line: Host, found: tuple[int, int]) -> None:
+    """Refuses a report without some of the requests and answers that a final line counts."""
+    if (line.given, line.taken) != found:
+        said = f"it counts {line.given} requests and {line.taken} answers, and lines show"
+        raise NotALine(f"line {number}: {LEFT_OUT}: {said} {found[0]} and {found[1]}")
+
+
+def next_answer(taken: defaultdict[int, deque[bytes | None]], tag: int | None) -> bytes | None:
     """The next answer under a tag, if it was taken."""
-    if tag == NO_TAG or not taken[tag]:
+    if tag is None or not taken[tag]:
         return None
     return taken[tag].popleft()
 
 
-def bytes_read(words: list[str]) -> bytes | None:
+def bytes_read(answer: Answer) -> bytes | None:
     """The bytes of an answer, if it is one of a read."""
-    if len(words) != 3 or words[0] != "read":
-        return None
-    return bytes.fromhex(words[2])
+    return bytes.fromhex(answer.bytes) if answer.kind == "read" and answer.bytes else None
 
 
 def value_of(trace: Trace, load: Load, answers: list[bytes | None]) -> bytes | None:

@@ -10,7 +10,8 @@ from __future__ import annotations
 import re
 from dataclasses import dataclass, field
 
-from tool.texts import MOST_BYTES, MOST_REQUESTS, lines_of, number_of, words_of
+from tool.texts import INPUT_BYTES, MOST_BYTES, MOST_REQUESTS, lines_of, number_of, words_of
+from tool.trouble import BAD_DATA, Trouble
 
 MOST_CUBES = 8
 MOST_LENGTH = 4_096
@@ -61,9 +62,14 @@ class Request:
     address: int
     payload: bytes = b""
 
-    def __str__(self) -> str:
-        words = f"0 {self.command} {self.cube} {self.address:#x}"
+    @property
+    def text(self) -> str:
+        """The request as a report has it, without its host."""
+        words = f"{self.command} {self.cube} {self.address:#x}"
         return f"{words} {self.payload.hex()}" if self.payload else words
+
+    def __str__(self) -> str:
+        return f"0 {self.text}"
 
 
 @dataclass(frozen=True)
@@ -90,7 +96,29 @@ class BadTrace(Exception):
     """The first fault of a trace: the line, from 1, and the kind."""
 
     def __init__(self, line: int, kind: str):
-        super().__init__(f"bad trace {min(line, MOST_LINE)} {kind}")
+        self.line = min(line, MOST_LINE)
+        self.kind = kind
+        super().__init__(f"bad trace {self.line} {kind}")
+
+
+def first_fault(data: bytes) -> BadTrace | None:
+    """The first fault of a trace, or None."""
+    try:
+        read(data)
+    except BadTrace as fault:
+        return fault
+    return None
+
+
+def trace_of(data: bytes, name: str) -> Trace:
+    """The trace of a file."""
+    if len(data) > INPUT_BYTES:
+        said = f"{name} has {len(data):,} bytes, and a trace has at most {INPUT_BYTES:,}"
+        raise Trouble(BAD_DATA, said)
+    try:
+        return read(data)
+    except BadTrace as fault:
+        raise Trouble(BAD_DATA, f"{name} is not a trace: {fault}") from fault
 
 
 def read(data: bytes) -> Trace:

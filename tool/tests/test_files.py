@@ -137,7 +137,8 @@ class Streams(unittest.TestCase):
         self.assertEqual((ran.stdout, ran.stderr), ("141\n", ""))
 
     def test_a_closed_input(self) -> None:
-        rows = ("json", "run", "try", "explain -", "lint -", f"wave - {CASE}", f"diff - {REPORT}")
+        rows = ["json", "run", "try", "explain -", "lint -", f"wave - {CASE}", f"diff - {REPORT}"]
+        rows += ["trace", "trace --case", f"values - {REPORT}"]
         for words in rows:
             self.check(f"zehimbado {words} <&-", 66, "standard input: it is closed")
 
@@ -160,6 +161,9 @@ class Streams(unittest.TestCase):
             f"try {name}",
             f"explain bad top 0 range {name}",
             f"convert {name} {CASE}",
+            f"trace {name}",
+            f"trace --case {name}",
+            f"values {name} {REPORT}",
             f"shrink {name} -- true",
             "lint /",
         )

@@ -81,6 +81,8 @@ COMMANDS = {
         Command("convert LOG CASE", "a test bench's log of events as a schedule", "convert"),
         Command("sample SEED", "a random case, by its seed", "sample"),
         Command("shrink CASE -- ..", "the smallest case for which a command still fails", "shrink"),
+        Command("trace [TRACE]", "loads and stores of bytes as a script, or as a case", "trace"),
+        Command("values TRACE REPORT", "the values of the loads of a trace", "values"),
         Command("build", "prove and build the program, and print its path", "build"),
     )
 }

@@ -1,8 +1,8 @@
-"""Explains flits, a line `bad ..` that names a fault of a case, or each flit of a report.
+"""Explains flits, a line `bad ..` that names a fault of a case or trace, or each flit of a report.
 
 WORDS are the digits of flits, the first flit of a packet first: they may have 0x in front,
-underscores and blanks. Or they are a line of a report, a line `bad ..` and perhaps its case, or the
-name of a report. With - flits are read from standard input.
+underscores and blanks. Or they are a line of a report, a line `bad ..` and perhaps its case or
+trace, or the name of a report. With - flits are read from standard input.
 """
 
 from __future__ import annotations
@@ -48,18 +48,20 @@ def run(words: Namespace) -> int:
 
 
 def explain_line(words: list[str], given: list[str]) -> int:
-    """Explains a line that names a fault, in a case if one is given."""
+    """Explains a line that names a fault, in a case or a trace if one is given."""
     line, names = " ".join(words[:BAD_WORDS]), given[1:]
     if given[0] == BAD:
         names = given[BAD_WORDS:]
     if len(names) > 1:
-        raise Trouble(USAGE, "the line of a fault, and at most one case")
+        raise Trouble(USAGE, "the line of a fault, and at most one file")
     meaning = explain_fault.meaning_of(line)
     if meaning is None:
         raise Trouble(BAD_DATA, f"{line} is not a line of the program")
     if names:
         data = files.read_bytes(names[0])
-        meaning += explain_fault.explain_in_case(line, data, files.shown_name(names[0]))
+        is_trace = words[1] == explain_fault.TRACE
+        explained = explain_fault.explain_in_trace if is_trace else explain_fault.explain_in_case
+        meaning += explained(line, data, files.shown_name(names[0]))
     files.write_lines(meaning)
     return 0
 
