@@ -13,6 +13,8 @@ from tool.places import Places, Span
 LINE = re.compile(r"bad (toml|top|cube|net|link|script|schedule|trace) ([0-9]+) ([a-z]+)")
 CASE_PAGE = "docs/case.md#faults"
 TEXT_PAGE = {"script": "docs/script.md#faults", "schedule": "docs/schedule.md#faults"}
+# The fault that a case has for `bound` alone.
+SINGLE = "bad net 0 single"
 TRACE, TRACE_PAGE = "trace", "docs/trace.md#faults"
 # So many characters of a line of a trace are shown at most.
 MOST_SHOWN = 90
@@ -39,6 +41,7 @@ MEANINGS = {
         "capacity": f"all cubes together have more than {texts.MOST_BYTES:,} bytes",
         "hosts": "there is no host, or hosts are not numbered from 0 without a gap",
         "parted": "from some cube no path over links leads to some other cube",
+        "single": "there is more than one cube or link, and `bound` needs one of each",
     },
     "link": {
         "kind": "the link is not a table, or a key's value has another type",
@@ -119,12 +122,25 @@ def meaning_of(line: str) -> list[str] | None:
 def explain_in_case(line: str, data: bytes, name: str) -> list[str]:
     """Where the fault of the line is in the case that these bytes were to be."""
     document, fault = case.read(data)
+    if fault is None and line == SINGLE and not is_single(document):
+        return [f"{name}: {counted(document, 'cube')} and {counted(document, 'link')}"]
     if fault is None:
         return [f"{name}: no such fault was found here"]
     lines = []
     if str(fault) != line:
         lines.append(f"{name}: the first fault here is another one: {fault}")
     return lines + shown(fault, document, data, name)
+
+
+def is_single(document: Document) -> bool:
+    """Whether a case has one cube and one link."""
+    return len(document["cubes"]) == len(document["links"]) == 1
+
+
+def counted(document: Document, part: str) -> str:
+    """How many cubes or links a case has."""
+    count = len(document[f"{part}s"])
+    return f"1 {part}" if count == 1 else f"{count} {part}s"
 
 
 def explain_in_trace(line: str, data: bytes, name: str) -> list[str]:

@@ -87,7 +87,7 @@ class Docs(unittest.TestCase):
         """The commands that need no program write what the page has."""
         tried = []
         for words, text in examples():
-            if not words.startswith(("run ", "make ")):
+            if not words.startswith(("run ", "make ", "bound ")):
                 self.assertEqual(self.written(words), text, words)
                 tried.append(words.split(" ")[0])
         wanted = ["lint", *["explain"] * 3, "json", "diff", *["show"] * 4]
@@ -116,9 +116,9 @@ class Docs(unittest.TestCase):
             ran = subprocess.run(command, shell=True, cwd=folder, capture_output=True, text=True)
         return ran.stdout
 
-    def test_the_examples_of_run_and_make(self) -> None:
+    def test_the_examples_of_the_program(self) -> None:
         require_program()
-        for (words, text), command in zip(examples(), ("run ", "make ")):
+        for (words, text), command in zip(examples(), ("run ", "make ", "bound ")):
             self.assertTrue(words.startswith(command))
             self.assertEqual(tool(*shlex.split(words)).stdout.decode(), text)
 

@@ -138,7 +138,7 @@ class Streams(unittest.TestCase):
 
     def test_a_closed_input(self) -> None:
         rows = ["json", "run", "try", "explain -", "lint -", f"wave - {CASE}", f"diff - {REPORT}"]
-        rows += ["trace", "trace --case", f"values - {REPORT}"]
+        rows += ["bound", "trace", "trace --case", f"values - {REPORT}"]
         for words in rows:
             self.check(f"zehimbado {words} <&-", 66, "standard input: it is closed")
 
@@ -159,6 +159,7 @@ class Streams(unittest.TestCase):
             f"lint {name}",
             f"run {name}",
             f"try {name}",
+            f"bound {name}",
             f"explain bad top 0 range {name}",
             f"convert {name} {CASE}",
             f"trace {name}",
