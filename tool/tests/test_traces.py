@@ -364,6 +364,16 @@ class Program(unittest.TestCase):
             ran = subprocess.run([build.PROGRAM, "trace"], input=data, capture_output=True)
             self.assertEqual((ran.returncode, ran.stdout.decode()), read_by_tool(data), data)
 
+    def test_the_case_around_a_trace(self) -> None:
+        """Its report gives all loads the values of plain bytes."""
+        require_program()
+        for data in [it for it in given_traces() if traces.first_fault(it) is None][-10:]:
+            trace = traces.read(data)
+            text = trace_case.text_of(trace, trace_case.Sizes())
+            ran = subprocess.run([build.PROGRAM, "run"], input=text.encode(), capture_output=True)
+            values = trace_values.values_of(trace, ran.stdout.decode().splitlines())
+            self.assertEqual(values, traces.plain_values(trace), data)
+
     def test_the_place_of_a_fault_is_shown(self) -> None:
         require_program()
         with tempfile.TemporaryDirectory() as folder:
