@@ -228,11 +228,11 @@ module _ (extent : Extent) (setup_at : List (Option UnitFields) → Setup) (ther
   abbrev Due : List (Option UnitFields) → ℕ → List (List ℕ) → Type 0
   Due s = IsReport (setup_at s) (lines_in extent (setup_at s))
 
-  pub delivered_passed : (a b : SinkView) → there ≡ slots → result ≡ Ok true → Delivered a b → Guarantees (setup_at there) (journal_of (setup_at there)) → EndsDrained (setup_at there) → IsAnswered (Due slots) 7 a b
-  delivered_passed a b same is delivers guarantees drained =
+  pub delivered : (passed : Bool) (a b : SinkView) → there ≡ slots → result ≡ Ok passed → Delivered a b → Guarantees (setup_at there) (journal_of (setup_at there)) → EndsDrained (setup_at there) → IsAnswered (Due slots) (if passed then 7 else 0) a b
+  delivered passed a b same is delivers guarantees drained =
       let setup = setup_at there in
       let wrote = subst (λ (r : Result Bool Failed). DeliversReport r (lines_in extent setup) (passes setup) a b) is delivers in
-      subst (λ (s : List (Option UnitFields)). IsAnswered (Due s) 7 a b) same (reported setup (lines_in extent setup) true a b (sym wrote.1) guarantees drained wrote.0)
+      subst (λ (s : List (Option UnitFields)). IsAnswered (Due s) (if passed then 7 else 0) a b) same (reported setup (lines_in extent setup) passed a b (sym wrote.1) guarantees drained wrote.0)
 
   pub delivered_cut : (failed : Failed) (a b : SinkView) → there ≡ slots → result ≡ Err failed → Delivered a b → Guarantees (setup_at there) (journal_of (setup_at there)) → EndsDrained (setup_at there) → IsCutOff (Due slots) a b
   delivered_cut failed a b same is delivers guarantees drained =
