@@ -29,9 +29,14 @@ def refusal(lines: list[str], name: str | None) -> str:
 
 class Foreign(unittest.TestCase):
     def test_each_report_fits_its_case(self) -> None:
+        """Without its case a report in which no step was idle is refused: the case is asked for."""
         for path in CASES:
-            self.assertEqual(refusal(lines_of(path.stem), path.stem), "")
-            self.assertEqual(refusal(lines_of(path.stem), None), "", path.stem)
+            lines = lines_of(path.stem)
+            self.assertEqual(refusal(lines, path.stem), "")
+            has_idle = any(line.startswith("idle ") for line in lines)
+            said = "" if has_idle or lines[0].startswith("tokens ") else "name the case (--case)"
+            self.assertTrue(refusal(lines, None).endswith(said), path.stem)
+            self.assertEqual(refusal(lines, None) == "", said == "", path.stem)
 
     def test_no_report_fits_another_case(self) -> None:
         """The examples' cases differ, and so no report is one of two of them."""

@@ -30,15 +30,18 @@ class Wave(unittest.TestCase):
         return waves, b"".join(waves.pieces(lines)).decode().splitlines()
 
     def test_drained_queues_are_empty(self) -> None:
-        """Where a report says `state drained`, and nowhere else, no queue but a line is filled."""
+        """Where a report says `state drained`, and nowhere else, no queue but a line is filled and no
+        packet crosses a link."""
         for path in CASES:
             if lines_of(path.stem)[-1].startswith("passed "):
                 continue
             waves, _ = self.dump_of(path)
             held = {queue for queue, number in waves.held().items() if number}
-            is_drained = lines_of(path.stem)[-1] == "state drained"
+            lines = lines_of(path.stem)
             packets = {queue for queue in held if queue[0] != "line"}
-            self.assertEqual(packets == set(), is_drained, path.name)
+            crosses = any(line.split()[3] != "0" for line in lines if line.startswith("tokens "))
+            is_drained = lines[-1] == "state drained"
+            self.assertEqual(packets == set() and not crosses, is_drained, path.name)
 
     def test_tokens_end_as_the_report_says(self) -> None:
         """The last values of each direction are those of its line `tokens`."""
