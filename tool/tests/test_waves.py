@@ -30,8 +30,8 @@ class Wave(unittest.TestCase):
         return waves, b"".join(waves.pieces(lines)).decode().splitlines()
 
     def test_drained_queues_are_empty(self) -> None:
-        """Where a report says `state drained`, and nowhere else, no queue but a line is filled and no
-        packet crosses a link."""
+        """Where a report says `state drained`, and nowhere else, no queue but a line is filled, and
+        no packet crosses a link."""
         for path in CASES:
             if lines_of(path.stem)[-1].startswith("passed "):
                 continue
