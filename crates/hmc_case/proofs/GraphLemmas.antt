@@ -1,6 +1,6 @@
 -- Links that are read one after another are a graph.
 use Rattle.std.proofs.Common.{◌≡◌, ◌∙◌, ◌==◌, ◌&&◌, ◌||◌, Bool, true, false, not, ℕ, List, [], ◌∷◌, ◌++◌, refl, sym, ap}
-use Rattle.std.proofs.lemmas.Bool.{and_parts, and_from}
+use Rattle.std.proofs.lemmas.Bool.{and_parts, and_from, not-true, or_parts}
 use Rattle.std.proofs.lemmas.List.Elements.{All-nil, All-cons, All-append}
 use Rattle.std.specs.List.{list_any, list_all}
 use Rattle.hmc_codes.specs.Link.{IsLinkSetup}
@@ -53,17 +53,12 @@ all-two test (z ∷ zs) x y all is_x is_y =
     let both = and_parts (test z) (list_all test zs) all in
     and_from (test z) (list_all test (zs ++ x ∷ y ∷ [])) both.0 (all-two test zs x y both.1 is_x is_y)
 
--- a sum that is false has no true part
-pub neither : (p q : Bool) → (p || q) ≡ false → (p ≡ false) × (q ≡ false)
-neither true q off = absurd (let clash : ⊥ = cc in clash)
-neither false q off = (refl, off)
-
 -- no end is a place that is free
 pub free-ends : (links : List LinkRow) (place : Place) → is_taken links place ≡ false → list_any (λ end. same_place end place) (ends_of (joins_of links)) ≡ false
 free-ends [] place free = refl
 free-ends (link ∷ links) place free =
-    let (here, rest) = neither (same_place link.join.a place || same_place link.join.b place) (is_taken links place) free in
-    let (a, b) = neither (same_place link.join.a place) (same_place link.join.b place) here in
+    let (here, rest) = or_parts (same_place link.join.a place || same_place link.join.b place) (is_taken links place) free in
+    let (a, b) = or_parts (same_place link.join.a place) (same_place link.join.b place) here in
     let later = free-ends links place rest in
     cc
 
@@ -71,7 +66,7 @@ free-ends (link ∷ links) place free =
 any-two : (place a b : Place) (ends : List Place) → list_any (same_place place) ends ≡ false → same_place place a ≡ false → same_place place b ≡ false → list_any (same_place place) (ends ++ a ∷ b ∷ []) ≡ false
 any-two place a b [] none not_a not_b = cc
 any-two place a b (end ∷ ends) none not_a not_b =
-    let (here, rest) = neither (same_place place end) (list_any (same_place place) ends) none in
+    let (here, rest) = or_parts (same_place place end) (list_any (same_place place) ends) none in
     let later = any-two place a b ends rest not_a not_b in
     cc
 
@@ -79,15 +74,11 @@ pub distinct-more : (ends : List Place) (a b : Place) → are_distinct ends ≡ 
 distinct-more [] a b distinct no_a no_b two = cc
 distinct-more (end ∷ ends) a b distinct no_a no_b two =
     let (alone, rest) = and_parts (not (list_any (same_place end) ends)) (are_distinct ends) distinct in
-    let (not_a, later_a) = neither (same_place end a) (list_any (λ e. same_place e a) ends) no_a in
-    let (not_b, later_b) = neither (same_place end b) (list_any (λ e. same_place e b) ends) no_b in
+    let (not_a, later_a) = or_parts (same_place end a) (list_any (λ e. same_place e a) ends) no_a in
+    let (not_b, later_b) = or_parts (same_place end b) (list_any (λ e. same_place e b) ends) no_b in
     and_from (not (list_any (same_place end) (ends ++ a ∷ b ∷ []))) (are_distinct (ends ++ a ∷ b ∷ []))
-    (ap not (any-two end a b ends (off (list_any (same_place end) ends) alone) not_a not_b))
+    (ap not (any-two end a b ends (not-true (list_any (same_place end) ends) alone) not_a not_b))
     (distinct-more ends a b rest later_a later_b two)
-  where
-    off : (b : Bool) → not b ≡ true → b ≡ false
-    off true is = absurd (let no : ⊥ = cc in no)
-    off false is = refl
 
 -- no link
 pub no-links : (cubes : ℕ) → AreLinks cubes []

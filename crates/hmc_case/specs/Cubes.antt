@@ -1,20 +1,20 @@
 -- Cubes.
 use Rattle.std.specs.Prelude.{ℕ, List, [], length, codes, Result, Ok}
 use Rattle.toml.specs.Data.{Data, Items, Members}
-use Rattle.hmc_codes.specs.Limits.{most_vault_bits, most_bank_bits, most_rows, most_queue}
+use Rattle.hmc_codes.specs.Limits.{most_vault_bits, most_bank_bits, most_block, most_rows, most_queue}
 use Rattle.hmc_codes.specs.Shape.{is_block}
 use Rattle.hmc_codes.specs.declared.profile.Profile.{Profile}
 use Rattle.hmc_codes.specs.declared.profile.Profile.TheVariants.{One, Two}
 use Rattle.hmc_case.specs.Keys.{table_of, number_at}
 use Rattle.hmc_text.specs.Reading.{◌>>=◌}
-use Rattle.hmc_case.specs.Setup.{CubeSetupFields, most_block}
+use Rattle.hmc_case.specs.Setup.{CubeSetupFields}
 use Rattle.hmc_case.specs.Reading.{Fault, or_refuse, in_section, in_turn}
 use Rattle.hmc_case.specs.declared.fault.CaseKind.{CaseKind}
 use Rattle.hmc_case.specs.declared.fault.CaseKind.TheVariants as kinds
 use Rattle.hmc_case.specs.declared.fault.Section.TheVariants.{Cube}
 use Rattle.hmc_case.specs.declared.keys.Part.TheVariants as parts
 
--- the bytes of a cube's block, which a case of profile 2 states
+-- the bytes of a cube's block: stated in a case of profile 2, and the most in one of profile 1
 unfoldable pub block_of : Profile → Members → Result ℕ CaseKind
 block_of One table = Ok most_block
 block_of Two table = do

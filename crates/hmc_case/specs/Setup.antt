@@ -3,10 +3,6 @@ use Rattle.std.specs.Prelude.{ℕ, ◌≤◌}
 use Rattle.hmc_codes.specs.Limits.{most_queue}
 use Rattle.hmc_codes.specs.Shape.{ShapeFields, IsShape}
 
--- the bytes of the largest block, which each cube has in a case of profile 1
-abbrev pub most_block : ℕ
-most_block = 256
-
 -- a cube of a case: its shape, and the packets that each of its queues holds
 pub record CubeSetupFields : Type 0 where
   pub shape : ShapeFields

@@ -12,9 +12,10 @@ ghost use Rattle.hmc_case.specs.Setup.{IsCubeSetup};
 use crate::fault::{in_section, refuse_unless};
 use crate::keys::{Part, number_at, table_of};
 use crate::rows::append;
-use crate::setup::MOST_BLOCK;
 use crate::{CaseFault, CaseKind, CubeSetup, Section};
-use hmc_codes::{MOST_BANK_BITS, MOST_QUEUE, MOST_ROWS, MOST_VAULT_BITS, Profile, Shape};
+use hmc_codes::{
+    MOST_BANK_BITS, MOST_BLOCK, MOST_QUEUE, MOST_ROWS, MOST_VAULT_BITS, Profile, Shape,
+};
 use std::alloc::Global;
 use toml::value::Array;
 use toml::{Table, Value};

@@ -1,7 +1,7 @@
 //! Where links end.
 
 ghost use Rattle.std.specs.Prelude.{◌≡◌, ◌<◌, [], ◌∷◌, true, false, IsTrue, IfSome, IfOk, OnOk};
-ghost use Rattle.hmc_codes.specs.Places.{is_host, same_place};
+ghost use Rattle.hmc_codes.specs.Places.{is_host};
 ghost use Rattle.hmc_routes.specs.WellFormed.{is_there, may_be_joined};
 ghost use Rattle.hmc_case.specs.Places.{digit_of, place_of, is_same_cube, is_taken, ends_of, may_join};
 
@@ -80,28 +80,13 @@ fn is_same_cube(place: Place, other: Place) -> bool
     }
 }
 
-// Whether the two are one host or one port.
-fn same_place(place: Place, other: Place) -> bool
-    ensures { result ≡ same_place place other }
-{
-    match (place, other) {
-        (Place::Host(host), Place::Host(other)) => host == other,
-        (
-            Place::Port { cube, port },
-            Place::Port {
-                cube: other,
-                port: other_port,
-            },
-        ) => cube == other && port == other_port,
-        _ => false,
-    }
-}
-
 /// Whether one of the links ends there.
 pub fn is_taken(links: &[LinkRow], place: Place) -> bool
     ensures { result ≡ is_taken links.now place }
 {
-    links.iter().any(|link| same_place(link.join.a, place) || same_place(link.join.b, place))
+    links
+        .iter()
+        .any(|link| link.join.a.is(place) || link.join.b.is(place))
 }
 
 /// The ends with these names, a before b.

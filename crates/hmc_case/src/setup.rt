@@ -1,12 +1,7 @@
 //! What a case states of a cube and of a link.
 
-ghost use Rattle.hmc_case.specs.Setup.{IsCubeSetup};
-
 use hmc_codes::{Join, LinkSetup, Shape};
 use std::marker::Model;
-
-// The bytes of the largest block, which each cube has in a case of profile 1.
-pub(crate) const MOST_BLOCK: u16 = 256;
 
 /// A cube of a case.
 #[derive(Clone, Copy, Debug, PartialEq, Eq)]
@@ -27,15 +22,6 @@ impl Model for CubeSetup {
     ghost invariant = { λ s. IsCubeSetup (record { shape = s.shape; queue = s.queue }) };
 
     ghost inverse = { λ s. record { shape = s.shape; queue = s.queue } };
-}
-
-impl CubeSetup {
-    /// Nothing is done: what every cube of a case keeps is the contract.
-    pub fn invariant(&self)
-        ensures { IsCubeSetup self.now }
-    {
-        let _ = &self.queue;
-    }
 }
 
 /// A link of a case.

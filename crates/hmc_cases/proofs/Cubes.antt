@@ -3,13 +3,13 @@ use Rattle.std.proofs.Common.{◌≡◌, true, List, [], ◌∷◌, ◌++◌, le
 use Rattle.std.proofs.lemmas.List.Elements.{All-nil, All-cons, All-append}
 use Rattle.std.specs.List.{All}
 use Rattle.toml.specs.Data.{Data, Items, Members}
-use Rattle.hmc_codes.specs.Limits.{most_vault_bits, most_bank_bits, most_rows, most_queue}
+use Rattle.hmc_codes.specs.Limits.{most_vault_bits, most_bank_bits, most_block, most_rows, most_queue}
 use Rattle.hmc_codes.specs.Shape.{is_block}
 use Rattle.hmc_codes.specs.declared.profile.Profile.{Profile}
 use Rattle.hmc_codes.specs.declared.profile.Profile.TheVariants.{One, Two}
 use Rattle.hmc_case.specs.Cubes.{block_of, cube_setup_of, next_cube, cubes_of}
 use Rattle.hmc_case.specs.Keys.{table_of, number_at, count_of}
-use Rattle.hmc_case.specs.Setup.{CubeSetupFields, IsCubeSetup, most_block}
+use Rattle.hmc_case.specs.Setup.{CubeSetupFields, IsCubeSetup}
 use Rattle.hmc_case.specs.declared.fault.CaseKind.TheVariants as kinds
 use Rattle.hmc_case.specs.declared.fault.Section.TheVariants as sections
 use Rattle.hmc_case.specs.declared.keys.Part.TheVariants as parts

@@ -1,5 +1,6 @@
 -- Each link that is read is one of a case, given the links before it.
-use Rattle.std.proofs.Common.{◌≡◌, ◌≤◌, ℕ, nat_le, Bool, true, false, not, ◌&&◌, ◌||◌, List, [], ◌∷◌, ◌++◌, length, codes, refl, leb-true}
+use Rattle.std.proofs.Common.{◌≡◌, ◌≤◌, ℕ, nat_le, true, not, ◌&&◌, ◌||◌, List, [], ◌∷◌, ◌++◌, length, codes, refl, leb-true}
+use Rattle.std.proofs.lemmas.Bool.{not-true, or_parts}
 use Rattle.toml.specs.Data.{Data, Items, Members}
 use Rattle.hmc_codes.specs.Limits.{most_queue, most_line, most_tokens, least_flits}
 use Rattle.hmc_codes.specs.Link.{IsLinkSetup}
@@ -10,7 +11,7 @@ use Rattle.hmc_codes.specs.declared.profile.Profile.{Profile}
 use Rattle.hmc_codes.specs.declared.profile.Profile.TheVariants.{One, Two}
 use Rattle.hmc_routes.specs.WellFormed.{is_there}
 use Rattle.hmc_text.specs.Reading.{or_fault}
-use Rattle.hmc_case.proofs.GraphLemmas.{apart_from, neither, no-links, links-more}
+use Rattle.hmc_case.proofs.GraphLemmas.{apart_from, no-links, links-more}
 use Rattle.hmc_case.specs.Graph.{AreLinks}
 use Rattle.hmc_case.specs.Keys.{table_of, text_at, count_of, profile_at}
 use Rattle.hmc_case.specs.Links.{link_profile_of, sizes_of, link_of, next_link, links_of}
@@ -67,10 +68,6 @@ ends_known cubes a b =
     after (tested kinds.NoCube (is_there cubes second)) (λ done at_second.
     value (record { a = at_first; b = at_second })))))
 
-off : (test : Bool) → not test ≡ true → test ≡ false
-off true is = cc
-off false is = refl
-
 join_known : (cubes : ℕ) (links : List LinkRow) (join : Join) → AreThere cubes join
     → IfRead (may_join links join) (λ done. IsNewJoin cubes links join)
 unfolding may_join
@@ -81,11 +78,11 @@ join_known cubes links join there =
     after (tested kinds.Hosts (not hosts)) (λ done no_hosts.
     after (tested kinds.SelfJoined (not itself)) (λ done not_itself.
     so (tested kinds.Taken (not taken)) (λ done free.
-    let each_free = neither (is_taken links join.a) (is_taken links join.b) (off taken free) in
+    let each_free = or_parts (is_taken links join.a) (is_taken links join.b) (not-true taken free) in
     record {
       a = there.a;
       b = there.b;
-      apart = apart_from join.a join.b (off hosts no_hosts) (off itself not_itself);
+      apart = apart_from join.a join.b (not-true hosts no_hosts) (not-true itself not_itself);
       a_free = each_free.0;
       b_free = each_free.1;
     })))

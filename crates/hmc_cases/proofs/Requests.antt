@@ -1,11 +1,10 @@
 -- Each request that words name keeps what every request keeps.
-use Rattle.std.proofs.Common.{◌≡◌, ◌≤◌, ◌<◌, ◌^◌, ◌==◌, ℕ, zero, suc, false, true, Option, Some, None, IfSome, option_map, List, replicate, refl, arith}
+use Rattle.std.proofs.Common.{◌≡◌, ◌≤◌, ◌<◌, ◌^◌, ◌==◌, ℕ, false, Option, Some, None, IfSome, option_map, List, replicate, refl, arith}
 use Rattle.std.proofs.lemmas.Bool.{cond_both, eqb-true}
-use Rattle.std.specs.Int.{w32, to_le_bytes, bytes_low_first, byte_at}
+use Rattle.std.specs.Int.{w32, to_le_bytes}
 use Rattle.std.specs.Result.{result_ok}
 use Rattle.hex.specs.Hex.{decode_sized}
-use Rattle.hmc_codes.proofs.BytesLemmas.{IsBytes-[], IsBytes-append, IsBytes-zeros}
-use Rattle.hmc_codes.specs.Bytes.{IsBytes}
+use Rattle.hmc_codes.proofs.BytesLemmas.{IsBytes-append, IsBytes-zeros, IsBytes-low}
 use Rattle.hmc_codes.specs.Commands.{family_of, payload_len_of}
 use Rattle.hmc_codes.specs.Limits.{most_cubes}
 use Rattle.hmc_codes.specs.Request.{RequestFields, IsRequest}
@@ -16,7 +15,7 @@ use Rattle.hmc_codes.specs.declared.family.Family.TheVariants as families
 use Rattle.hmc_text.specs.Number.{below, number_of}
 use Rattle.hmc_text.specs.Reading.{next_word, no_word}
 use Rattle.hmc_script.proofs.CommandLemmas.{command_of_asks}
-use Rattle.hmc_script.proofs.PayloadLemmas.{IsPayload-[], payload_of_another, payload_of_mdwr, payload_of_value}
+use Rattle.hmc_script.proofs.PayloadLemmas.{is_mdwr-only, IsPayload-[], payload_of_another, payload_of_mdwr, payload_of_value}
 use Rattle.hmc_script.specs.Commands.{command_of}
 use Rattle.hmc_script.specs.Meaning.{number_word, command_word, request_of}
 use Rattle.hmc_script.specs.Payload.{IsPayload, value_bytes, payload_of, no_payload, some_payload, payload_word}
@@ -27,25 +26,12 @@ use Rattle.hmc_cases.proofs.Reading.{IfRead, value, after, after_any, either, so
 
 -- the payload of a value
 
-byte_small : (i n : ℕ) → byte_at i n < 256
-byte_small zero n = omega arith
-byte_small (suc i) n = omega arith
-
-low_bytes : (i k n : ℕ) → IsBytes (bytes_low_first i k n)
-low_bytes i zero n at = IsBytes-[] at
-low_bytes i (suc k) n zero = byte_small i n
-low_bytes i (suc k) n (suc at) = low_bytes (suc i) k n at
-
 value_fits : (number : Option ℕ) → IfSome (option_map value_bytes number) (IsPayload Mdwr)
 value_fits None = tt
 value_fits (Some number) =
-    let low = low_bytes 0 4 number in
+    let low = IsBytes-low 0 4 number in
     payload_of_value number (Some (value_bytes number)) refl
     (IsBytes-append (to_le_bytes w32 number) (replicate 12 0) low (IsBytes-zeros 12))
-
-mdwr_only : (command : Command) → is_mdwr command ≡ true → command ≡ Mdwr
-mdwr_only Mdwr is = refl
-mdwr_only _ is = cc
 
 -- the payload of digits
 digits_fit : (command : Command) (payload : Option (List ℕ)) → is_mdwr command ≡ false
@@ -63,7 +49,7 @@ payload_fits command word =
     let digits = result_ok (decode_sized word (payload_len_of command)) in
     cond_both (is_mdwr command) value digits
     (λ (payload : Option (List ℕ)). IfSome payload (IsPayload command))
-    (λ is. payload_of_mdwr command value (mdwr_only command is) (value_fits number))
+    (λ is. payload_of_mdwr command value (is_mdwr-only command is) (value_fits number))
     (λ other. digits_fit command digits other (digits_known word (payload_len_of command)))
 
 payload_known : (command : Command) (words : List (List ℕ))

@@ -6,7 +6,7 @@ use Rattle.std.specs.List.{All}
 use Rattle.std.specs.Result.{result_ok}
 use Rattle.std.specs.Str.{bytes_eq}
 use Rattle.hex.specs.Hex.{decode_sized}
-use Rattle.hmc_codes.proofs.BytesLemmas.{IsBytes-zeros}
+use Rattle.hmc_codes.proofs.BytesLemmas.{zero_is_flit}
 use Rattle.hmc_codes.specs.Flit.{IsFlit, zero_flit}
 use Rattle.hmc_codes.specs.Limits.{ports, most_steps}
 use Rattle.hmc_text.specs.Lines.{lines_of}
@@ -82,10 +82,6 @@ mask_known word = some_value kinds.Mask digits (by digits (digits_known word 16)
     by : (bytes : Option (List ℕ)) → IfSome bytes (AreBytes 16) → IfSome bytes IsFlit
     by (Some bytes) are = record { bytes = are.bytes; long = are.long }
     by None are = tt
-
-zero_is_flit : IsFlit zero_flit
-unfolding zero_flit
-zero_is_flit = record { bytes = IsBytes-zeros 16; long = refl }
 
 masks_known : (words : Words) → IfRead (mask_words words) (λ mask. IsFlit mask.0)
 unfolding mask_words

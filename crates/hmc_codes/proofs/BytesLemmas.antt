@@ -1,8 +1,10 @@
 -- Lists of bytes stay so when they are joined and cut.
-use Rattle.std.proofs.Common.{◌≡◌, ◌-◌, ◌∙◌, ℕ, zero, suc, List, [], ◌∷◌, ◌++◌, length, take, drop, ap, lit<}
+use Rattle.std.proofs.Common.{◌≡◌, ◌<◌, ◌-◌, ◌∙◌, ℕ, zero, suc, List, [], ◌∷◌, ◌++◌, length, take, drop, ap, refl, lit<, arith}
 use Rattle.std.specs.Prelude.{replicate}
+use Rattle.std.specs.Int.{byte_at, bytes_low_first}
 use Rattle.std.proofs.lemmas.List.{drop-replicate}
 use Rattle.hmc_codes.specs.Bytes.{IsBytes, padded_bytes}
+use Rattle.hmc_codes.specs.Flit.{IsFlit, zero_flit}
 
 pub IsBytes-[] : IsBytes []
 IsBytes-[] k = lit< tt
@@ -27,6 +29,21 @@ pub IsBytes-zeros : (n : ℕ) → IsBytes (replicate n 0)
 IsBytes-zeros zero k = lit< tt
 IsBytes-zeros (suc n) zero = lit< tt
 IsBytes-zeros (suc n) (suc k) = IsBytes-zeros n k
+
+pub zero_is_flit : IsFlit zero_flit
+unfolding zero_flit
+zero_is_flit = record { bytes = IsBytes-zeros 16; long = refl }
+
+-- the bytes of a number
+
+pub byte_at-small : (i n : ℕ) → byte_at i n < 256
+byte_at-small zero n = omega arith
+byte_at-small (suc i) n = omega arith
+
+pub IsBytes-low : (i k n : ℕ) → IsBytes (bytes_low_first i k n)
+IsBytes-low i zero n at = IsBytes-[] at
+IsBytes-low i (suc k) n zero = byte_at-small i n
+IsBytes-low i (suc k) n (suc at) = IsBytes-low (suc i) k n at
 
 pub IsBytes-padded : (size : ℕ) (xs : List ℕ) → IsBytes xs → IsBytes (padded_bytes size xs)
 unfolding padded_bytes

@@ -3,4 +3,6 @@ pub mod BytesLemmas
 pub mod Blocks
 pub mod Digits
 pub mod Words
+pub mod General
+pub mod Places
 mod Worked

@@ -29,6 +29,11 @@ most_rows = 1024
 abbrev pub most_memory : ℕ
 most_memory = 16777216
 
+-- the bytes of a block of the address map
+
+abbrev pub most_block : ℕ
+most_block = 256
+
 -- packets in a queue of a cube or in an output queue, and flits on a line
 
 abbrev pub most_queue : ℕ
@@ -60,3 +65,8 @@ most_steps = 1000000
 
 abbrev pub most_input : ℕ
 most_input = 4194304
+
+-- bytes of an input of `check`, a case and a report
+
+abbrev pub most_check_input : ℕ
+most_check_input = 67108864

@@ -1,5 +1,7 @@
--- The ends of links.
+-- The ends of links, and the queues that answers are lifted from.
 use Rattle.std.specs.Prelude.{ℕ, Bool, true, false, ◌==◌, ◌&&◌, Option, Some, None}
+use Rattle.hmc_codes.specs.declared.lift.Lift.{Lift}
+use Rattle.hmc_codes.specs.declared.lift.Lift.TheVariants as lifts
 use Rattle.hmc_codes.specs.declared.place.Place.{Place}
 use Rattle.hmc_codes.specs.declared.place.Place.TheVariants.{Host, Port}
 
@@ -23,3 +25,9 @@ abbrev pub same_place : Place → Place → Bool
 same_place (Host host) (Host other) = host == other
 same_place (Port cube port) (Port other other_port) = cube == other && port == other_port
 same_place _ _ = false
+
+-- the queue of one vault, or that of the registers
+abbrev pub same_lift : Lift → Lift → Bool
+same_lift (lifts.Vault v) (lifts.Vault w) = v == w
+same_lift lifts.Registers lifts.Registers = true
+same_lift _ _ = false

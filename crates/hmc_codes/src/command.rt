@@ -1,9 +1,11 @@
 //! The commands of packets.
 
-ghost use Rattle.std.specs.Prelude.{◌≡◌, IfSome, Some};
+ghost use Rattle.std.specs.Prelude.{◌≡◌, IfSome, IsTrue, Some};
 ghost use Rattle.hmc_codes.specs.declared.command.Command.{Command};
+ghost use Rattle.hmc_codes.specs.declared.command.Command.TheVariants.{Mdwr};
 ghost use Rattle.hmc_codes.specs.Codes.{command_of};
 ghost use Rattle.hmc_codes.specs.Commands.{code_of, word_of, layout_of, family_of, reply_of, permits, allows_of, is_posted, payload_len_of};
+ghost use Rattle.hmc_codes.specs.Text.{is_mdwr};
 
 use crate::{Family, Layout, Length, table};
 
@@ -143,6 +145,14 @@ impl Command {
         ensures { result ≡ is_posted self }
     {
         self.layout() == Layout::Ask && self.reply().is_none()
+    }
+
+    /// Whether it writes a register: then a script has its value in decimal, and no payload.
+    pub fn is_mdwr(self) -> bool
+        ensures value { result ≡ is_mdwr self }
+        ensures only { IsTrue result → self ≡ Mdwr }
+    {
+        matches!(self, Command::Mdwr)
     }
 
     /// Whether the table permits packets of this many flits, with header and tail.

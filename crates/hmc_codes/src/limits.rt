@@ -25,6 +25,12 @@ pub const MOST_ROWS: u16 = 1024;
 /// The bytes of all cubes together.
 pub const MOST_MEMORY: u64 = 16_777_216;
 
+/// The bytes of a block of the address map.
+pub const MOST_BLOCK: u16 = 256;
+
+/// The bytes of a flit, and of a piece of memory that is read or written at once.
+pub const PIECE: usize = 16;
+
 /// The packets of a queue in a cube, and of an output queue.
 pub const MOST_QUEUE: u8 = 64;
 
@@ -48,3 +54,6 @@ pub const MOST_STEPS: u32 = 1_000_000;
 
 /// The bytes of an input.
 pub const MOST_INPUT: usize = 4_194_304;
+
+/// The bytes of an input of `check`: a case and a report.
+pub const MOST_CHECK_INPUT: usize = 67_108_864;

@@ -1,5 +1,7 @@
 //! The ends of links.
 
+ghost use Rattle.std.specs.Prelude.{◌≡◌};
+
 /// An end of a link.
 #[derive(Clone, Copy, Debug, PartialEq, Eq)]
 pub enum Place {
@@ -12,6 +14,27 @@ pub enum Place {
         /// The port's number, below 4.
         port: u8,
     },
+}
+
+impl Place {
+    ghost use Rattle.hmc_codes.specs.Places.{same_place};
+
+    /// Whether the two are one host or one port.
+    pub fn is(self, other: Place) -> bool
+        ensures { result ≡ same_place self other }
+    {
+        match (self, other) {
+            (Place::Host(host), Place::Host(other)) => host == other,
+            (
+                Place::Port { cube, port },
+                Place::Port {
+                    cube: other,
+                    port: other_port,
+                },
+            ) => cube == other && port == other_port,
+            _ => false,
+        }
+    }
 }
 
 /// What a link joins. Its direction forth goes from `a` to `b`, its direction back from `b` to `a`.

@@ -10,14 +10,6 @@ use crate::pieces::{LineText, append_bytes, append_hex_number, append_spaced};
 use crate::{Answer, Command, Memory, Payload, Request};
 use std::alloc::Global;
 
-impl Command {
-    fn is_mdwr(self) -> bool
-        ensures { result ≡ is_mdwr self }
-    {
-        matches!(self, Command::Mdwr)
-    }
-}
-
 impl Payload {
     // The number in the first four bytes.
     fn value(&self) -> u32

@@ -1,6 +1,7 @@
 -- Chains of 1 to 4 cubes are nets.
 use Rattle.std.proofs.Common.{◌≡◌, ◌≤◌, ◌∙◌, ◌==◌, ◌||◌, ℕ, ◌+◌, ◌*◌, zero, suc, List, [], ◌∷◌, length, map, replicate, false, nat_lt, refl, sym, ap, arith, lit≤, Result, Ok, Err, IfOk}
 use Rattle.std.proofs.lemmas.Bool.Decides.{nat_tests}
+use Rattle.std.proofs.lemmas.List.{length-replicate}
 use Rattle.std.proofs.lemmas.List.Elements.{All-nil, All-cons, All-replicate, All-map}
 use Rattle.std.proofs.lemmas.List.FromFn.{length-map-range_with_len}
 use Rattle.std.specs.List.{All, list_any, range_with_len}
@@ -36,10 +37,6 @@ same-list items (Err e) xs ys same is = tt
 pub cubes-alike : (x : CubeSetupFields) (a n : ℕ) → map (λ number. x) (range_with_len a n) ≡ replicate n x
 cubes-alike x a zero = refl
 cubes-alike x a (suc n) = ap (λ (xs : List CubeSetupFields). x ∷ xs) (cubes-alike x (a + 1) n)
-
-pub length-cubes : (n : ℕ) → length (replicate n cube) ≡ n
-length-cubes zero = refl
-length-cubes (suc n) = ap suc (length-cubes n)
 
 pub length-links : (n : ℕ) → length (links_of n) ≡ n
 length-links n = length-map-range_with_len (λ cube. link (joined_to cube) (Port cube 0)) 0 n
@@ -142,4 +139,4 @@ pub net_of_parts : (n : ℕ) (cubes : List CubeSetupFields) (links : List LinkRo
 net_of_parts n cubes links some few are joined = rw (are, joined) (chain-net n some few)
 
 pub script_of_parts : (n : ℕ) (cubes : List CubeSetupFields) (links : List LinkRow) (script : List ItemFields) → 1 ≤ n → n ≤ 4 → cubes ≡ replicate n cube → links ≡ links_of n → All (IsWithin 1 n) script → All (IsWithin (host_count links) (length cubes)) script
-script_of_parts n cubes links script some few are joined within = rw (are, joined, one_host n some few, length-cubes n) within
+script_of_parts n cubes links script some few are joined within = rw (are, joined, one_host n some few, length-replicate n cube) within

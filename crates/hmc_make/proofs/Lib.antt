@@ -2,5 +2,4 @@ pub mod Four
 pub mod ChainLemmas
 pub mod RequestLemmas
 pub mod StepsLemmas
-pub mod WordLemmas
 mod Worked

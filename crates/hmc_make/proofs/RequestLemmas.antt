@@ -1,8 +1,8 @@
 -- Draws and requests one after another.
 use Rattle.std.proofs.Common.{◌≡◌, ◌≤◌, ◌<◌, ◌∙◌, ℕ, ◌+◌, ◌-◌, ◌*◌, zero, suc, List, [], ◌∷◌, ◌++◌, length, length-append, refl, subst, sym, ap, arith, lit<, append_assoc, append-nil}
-use Rattle.std.specs.Int.{w32, to_le_bytes, bytes_low_first, byte_at}
+use Rattle.std.specs.Int.{w32, to_le_bytes}
 use Rattle.hmc_codes.specs.Bytes.{IsBytes}
-use Rattle.hmc_codes.proofs.BytesLemmas.{IsBytes-[], IsBytes-append}
+use Rattle.hmc_codes.proofs.BytesLemmas.{IsBytes-[], IsBytes-append, IsBytes-low}
 use Rattle.std.specs.List.{All}
 use Rattle.std.proofs.lemmas.List.Elements.{All-nil, All-cons}
 use Rattle.hmc_make.specs.Draws.{next, drawn, after, drawn_bytes}
@@ -27,15 +27,6 @@ after-more n i state now whole small went so_far =
     rw (went, ← step) so_far
 
 -- the bytes of a draw
-
-byte_at-small : (i n : ℕ) → byte_at i n < 256
-byte_at-small zero n = omega arith
-byte_at-small (suc i) n = omega arith
-
-IsBytes-low : (i k n : ℕ) → IsBytes (bytes_low_first i k n)
-IsBytes-low i zero n at = IsBytes-[] at
-IsBytes-low i (suc k) n zero = byte_at-small i n
-IsBytes-low i (suc k) n (suc at) = IsBytes-low (suc i) k n at
 
 bytes-are : (n state : ℕ) → IsBytes (drawn_bytes n state)
 unfolding drawn_bytes

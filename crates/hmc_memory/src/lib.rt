@@ -8,3 +8,4 @@ mod bank;
 mod banks;
 
 pub use banks::Banks;
+pub use hmc_codes::Shape;

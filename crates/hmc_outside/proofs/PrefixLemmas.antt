@@ -1,6 +1,6 @@
 -- What is appended by a write in several parts, of which the last may have failed.
-use Rattle.std.proofs.Common.{◌≡◌, ℕ, ◌+◌, ◌≤◌, List, Option, ◌++◌, take, drop, ap, ◌∙◌, sym, subst, take-append-drop, arith}
-use Rattle.std.proofs.lemmas.List.{take-take, drop-take}
+use Rattle.std.proofs.Common.{ℕ, ◌+◌, List, Option, take, drop, sym, subst, take-append-drop}
+use Rattle.std.proofs.Math.Seq.{take-add}
 use Rattle.std.specs.Io.KnownBytes.{Appends, Keeps}
 use Rattle.std.proofs.KnownBytes.{Appends-trans, Appends-kept}
 use Rattle.hmc_outside.specs.Prefix.{AppendsPrefix}
@@ -8,12 +8,6 @@ use Rattle.hmc_outside.specs.Prefix.{AppendsPrefix}
 -- the first bytes are a prefix
 AppendsPrefix-take : (a b : Option (List ℕ)) (n : ℕ) (bytes : List ℕ) → Appends a b (take n bytes) → AppendsPrefix a b bytes
 AppendsPrefix-take a b n bytes p = record { prefix = take n bytes; rest = drop n bytes; parts = sym (take-append-drop n bytes); appended = p }
-
-take-add : (i n : ℕ) (bytes : List ℕ) → take (i + n) bytes ≡ take i bytes ++ take n (drop i bytes)
-take-add i n bytes =
-    let le : i ≤ i + n = omega arith in
-    sym (take-append-drop i (take (i + n) bytes)) ∙ ap (λ l. l ++ drop i (take (i + n) bytes)) (take-take i (i + n) bytes le)
-    ∙ ap (λ l. take i bytes ++ l) (drop-take i n bytes)
 
 -- the first i bytes, and then n more
 pub Appends-piece : (a b c : Option (List ℕ)) (i n : ℕ) (bytes : List ℕ) → Appends a b (take i bytes) → Appends b c (take n (drop i bytes)) → Appends a c (take (i + n) bytes)

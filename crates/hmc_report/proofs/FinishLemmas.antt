@@ -1,11 +1,8 @@
 -- Lines that are appended to a text one after another.
 use Rattle.std.proofs.Common.{◌≡◌, ◌∙◌, ℕ, List, [], ◌∷◌, ◌++◌, sym, ap, append_assoc, append-nil}
 use Rattle.std.specs.List.{concat}
+use Rattle.hmc_codes.proofs.General.{concat-more}
 use Rattle.hmc_report.specs.Final.{AppendsSome}
-
-concat-more : (lines : List (List ℕ)) (line : List ℕ) → concat (lines ++ line ∷ []) ≡ concat lines ++ line
-concat-more [] line = append-nil line
-concat-more (l ∷ lines) line = ap (λ t. l ++ t) (concat-more lines line) ∙ sym (append_assoc l (concat lines) line)
 
 -- one line more was taken from those that are left, and appended
 pub lines_more : (all whole left left' : List (List ℕ)) (line : List ℕ) → all ≡ whole ++ left → left ≡ line ∷ left' → all ≡ (whole ++ line ∷ []) ++ left'

@@ -22,14 +22,14 @@ ghost use Rattle.hmc_report.specs.Lines.{is_zero, memory_line, register_line, ad
 pub use finished::Finished;
 pub use finishing::finish;
 use hmc_codes::{
-    Counters, CubeCounts, HostCounts, LineText, TokenRow, append_bytes, append_hex_number,
+    Counters, CubeCounts, HostCounts, LineText, PIECE, TokenRow, append_bytes, append_hex_number,
     append_sixteen, append_spaced,
 };
 pub use lines::Lines;
 pub use part::Part;
 
 /// How many bytes a line of memory has.
-pub const BLOCK: u64 = 16;
+pub const LINE_BYTES: u64 = PIECE as u64;
 
 /// The first register that can be written.
 pub const FIRST_SCRATCH: u64 = 4;
@@ -52,7 +52,7 @@ pub fn memory_line(into: &mut LineText, cube: u8, block: u64, bytes: &[u8; 16])
     ensures text { into.new.bytes ≡ memory_line cube block bytes.now }
     ensures short { length into.new.bytes < 2048 }
 {
-    let place = BLOCK * block;
+    let place = LINE_BYTES * block;
     into.push_str("memory");
     append_spaced(into, u64::from(cube));
     into.push_str(" ");

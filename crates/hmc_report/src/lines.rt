@@ -8,7 +8,7 @@ ghost use Rattle.hmc_report.specs.Left.{blocks_left, values_left, block_bytes, m
 use crate::finished::Finished;
 use crate::part::Part;
 use crate::{
-    BLOCK, FIRST_SCRATCH, SCRATCH_REGISTERS, counter_line, cube_line, host_line, is_zero,
+    FIRST_SCRATCH, LINE_BYTES, SCRATCH_REGISTERS, counter_line, cube_line, host_line, is_zero,
     memory_line, register_line, state_line, token_line,
 };
 use hmc_codes::LineText;
@@ -54,9 +54,9 @@ fn next_block<N: Finished>(net: &N, cube: u8, from: u64) -> Option<u64>
     ensures none { IfNone result
         (blocks_left cube ((N.final_values net.now).memory cube) from ≡ []) }
 {
-    let blocks = net.capacity(cube) / BLOCK;
+    let blocks = net.capacity(cube) / LINE_BYTES;
     'scan: for block in from..blocks {
-        let bytes = net.get16(cube, BLOCK * block);
+        let bytes = net.get16(cube, LINE_BYTES * block);
         if !is_zero(&bytes) {
             return Some(block);
         }
@@ -145,7 +145,7 @@ fn block_step<N: Finished>(net: &N, cube: u8, from: u64, into: &mut LineText) ->
     let _cubes = net.cubes();
     match next_block(net, cube, from) {
         Some(found) => {
-            let bytes = net.get16(cube, BLOCK * found);
+            let bytes = net.get16(cube, LINE_BYTES * found);
             memory_line(into, cube, found, &bytes);
             let block = found + 1;
             Step::Line(Cursor::Block { cube, block })

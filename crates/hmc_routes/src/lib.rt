@@ -17,4 +17,5 @@ mod routes;
 mod table;
 
 pub use fault::RouteFault;
+pub use hmc_codes::{Graph, Join, Place};
 pub use routes::Routes;

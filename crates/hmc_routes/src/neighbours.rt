@@ -2,43 +2,21 @@
 
 ghost use Rattle.std.specs.Prelude.{◌≡◌};
 ghost use Rattle.std.specs.List.{find};
-ghost use Rattle.hmc_codes.specs.Places.{same_place};
 ghost use Rattle.hmc_routes.specs.Neighbours.{ends_at, far_end, joined_to, cube_number, neighbour};
 
 use hmc_codes::{Graph, Join, Place};
 
-// Whether the two are one host or one port.
-fn same_place(place: Place, other: Place) -> bool
-    ensures { result ≡ same_place place other }
-{
-    match (place, other) {
-        (Place::Host(host), Place::Host(other)) => host == other,
-        (
-            Place::Port { cube, port },
-            Place::Port {
-                cube: other,
-                port: other_port,
-            },
-        ) => cube == other && port == other_port,
-        _ => false,
-    }
-}
-
 fn ends_at(place: Place, join: Join) -> bool
     ensures { result ≡ ends_at place join }
 {
-    same_place(join.a, place) || same_place(join.b, place)
+    join.a.is(place) || join.b.is(place)
 }
 
 // The other end of a join that ends at the place.
 fn far_end(place: Place, join: Join) -> Place
     ensures { result ≡ far_end place join }
 {
-    if same_place(join.a, place) {
-        join.b
-    } else {
-        join.a
-    }
+    if join.a.is(place) { join.b } else { join.a }
 }
 
 // The join that ends at the place, if one does.

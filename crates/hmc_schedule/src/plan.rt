@@ -68,14 +68,7 @@ fn banks_in(shape: Shape) -> u8
 }
 
 impl Plan {
-    ghost use Rattle.hmc_schedule.specs.Plan.{IsPlan, is_joined, vaults_at, banks_at};
-
-    /// Does nothing. Its contract is what every plan keeps.
-    pub fn invariant(&self)
-        ensures { IsPlan self.now }
-    {
-        let _ = &self.hosts;
-    }
+    ghost use Rattle.hmc_schedule.specs.Plan.{is_joined, vaults_at, banks_at};
 
     /// The number of cubes.
     pub(crate) fn cube_count(&self) -> u8

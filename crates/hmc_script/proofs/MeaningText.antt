@@ -12,7 +12,7 @@ use Rattle.hmc_codes.specs.declared.command.Command.{Command}
 use Rattle.hmc_codes.specs.declared.command.Command.TheVariants.{Mdwr}
 use Rattle.hmc_script.proofs.NumberText.{number_of-decimal, number_of-hex, below-is}
 use Rattle.hmc_script.proofs.RequestWords.{IsWord-word_of, no_fence, no_poison, command_of-word_of, IsWord-decimal, IsWord-hex_number, IsWord-encode_lower, payload_of-value, payload_of-digits, value_in-lt}
-use Rattle.hmc_script.proofs.PayloadLemmas.{len_of_mdwr}
+use Rattle.hmc_script.proofs.PayloadLemmas.{is_mdwr-only, len_of_mdwr}
 use Rattle.hmc_script.proofs.WordsText.{AreWords, line-spaced}
 use Rattle.hmc_script.specs.declared.fault.ScriptKind.{ScriptKind}
 use Rattle.hmc_script.specs.declared.fault.ScriptKind.TheVariants as kinds
@@ -45,10 +45,6 @@ payload_word-none command none = rw none refl
 payload_word-some : (command : Command) (w payload : List ℕ) → (payload_len_of command == 0) ≡ false → payload_of command w ≡ Some payload → payload_word command (w ∷ []) ≡ Ok payload
 unfolding payload_word some_payload
 payload_word-some command w payload some is = rw (some, is) refl
-
-is_mdwr-only : (command : Command) → is_mdwr command ≡ true → command ≡ Mdwr
-is_mdwr-only Mdwr is = refl
-is_mdwr-only _ is = cc
 
 -- the payload is read again, whichever form it has
 payload_word-operand : (command : Command) (payload : List ℕ) (mdwr : Bool) → is_mdwr command ≡ mdwr → length payload ≡ payload_len_of command → IsBytes payload → (command ≡ Mdwr → drop 4 payload ≡ replicate 12 0) → payload_word command (option_to_list (operand_of mdwr payload)) ≡ Ok payload

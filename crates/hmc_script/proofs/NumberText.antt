@@ -1,5 +1,6 @@
 -- Numbers that are printed are read again.
-use Rattle.std.proofs.Common.{◌≡◌, ◌∙◌, ◌<◌, ◌≤◌, ℕ, zero, suc, ◌+◌, ◌*◌, ◌/◌, ◌%◌, ◌^◌, Bool, true, false, Some, List, [], ◌∷◌, length, option_and_then, nat_le, nat_eq, ◌==◌, ◌&&◌, codes, refl, ap, arith, cond}
+use Rattle.std.proofs.Common.{◌≡◌, ◌∙◌, ◌<◌, ◌≤◌, ℕ, zero, suc, ◌+◌, ◌*◌, ◌/◌, ◌%◌, ◌^◌, Bool, true, false, Some, List, [], ◌∷◌, length, option_and_then, nat_le, nat_eq, ◌==◌, codes, refl, ap, arith, cond}
+use mathlib.Core.Bool.{and-false}
 use Rattle.std.specs.Char.{digit_value}
 use Rattle.std.specs.Fmt.{decimal, digits, digits_onto, digit_glyph}
 use Rattle.std.specs.List.{starts_with}
@@ -31,18 +32,14 @@ number_in-numeral base n ds small numeral few is =
     let fits : nat_le (length ds) 20 ≡ true = grind (arith, nat_tests) in
     rw (some, fits) (number_after-digits base 0 ds small numeral.1 ∙ ap Some is)
 
-and_false : (b : Bool) → (b && false) ≡ false
-and_false true = refl
-and_false false = refl
-
 no_x : (d : ℕ) → digit_value d < 10 → nat_eq 120 d ≡ false
 no_x d digit = grind (arith, nat_tests)
 
 -- a decimal number doesn't begin with 0x
 pub no_prefix : (ds : List ℕ) → AllDigits 10 ds → starts_with nat_eq ds (codes "0x") ≡ false
 no_prefix [] all = refl
-no_prefix (c ∷ []) all = and_false (nat_eq 48 c)
-no_prefix (c ∷ d ∷ ds) all = rw (no_x d all.1.0) (and_false (nat_eq 48 c))
+no_prefix (c ∷ []) all = and-false (nat_eq 48 c)
+no_prefix (c ∷ d ∷ ds) all = rw (no_x d all.1.0) (and-false (nat_eq 48 c))
 
 pub number_of-decimal : (n : ℕ) → n < 2 ^ 64 → number_of (decimal n) ≡ Some n
 unfolding number_of

@@ -1,5 +1,5 @@
 -- What the payload of each command is.
-use Rattle.std.proofs.Common.{◌≡◌, ◌≤◌, ℕ, false, Option, Some, None, IfSome, Result, Ok, Err, IfOk, List, [], length, refl, sym, ap, arith, lit≤, lit<}
+use Rattle.std.proofs.Common.{◌≡◌, ◌≤◌, ℕ, true, false, Option, Some, None, IfSome, Result, Ok, Err, IfOk, List, [], length, refl, sym, ap, arith, lit≤, lit<}
 use Rattle.hmc_codes.specs.Bytes.{IsBytes}
 use Rattle.hmc_codes.specs.Table.{table_line}
 use Rattle.hmc_codes.specs.Commands.{payload_len_of}
@@ -8,6 +8,10 @@ use Rattle.hmc_codes.specs.declared.command.Command.{Command}
 use Rattle.hmc_codes.specs.declared.command.Command.TheVariants.{Null, Mdwr}
 use Rattle.hmc_script.specs.declared.fault.ScriptKind.{ScriptKind}
 use Rattle.hmc_script.specs.Payload.{IsPayload, value_bytes}
+
+pub is_mdwr-only : (command : Command) → is_mdwr command ≡ true → command ≡ Mdwr
+is_mdwr-only Mdwr is = refl
+is_mdwr-only _ is = cc
 
 pub payload_len_of-le : (command : Command) → payload_len_of command ≤ 256
 unfolding table_line

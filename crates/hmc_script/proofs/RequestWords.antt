@@ -1,5 +1,6 @@
 -- The words of a request, each of which is read again.
 use Rattle.std.proofs.Common.{◌≡◌, ◌∙◌, ◌<◌, ◌≤◌, ℕ, zero, suc, ◌/◌, ◌%◌, ◌^◌, true, false, Some, List, [], ◌∷◌, ◌++◌, length, take, drop, codes, replicate, slice_index, refl, sym, ap, arith, take-append-drop, length-take}
+use Rattle.std.proofs.lemmas.Bool.{and_parts}
 use Rattle.std.specs.Char.{digit_value}
 use Rattle.std.specs.Fmt.{decimal, digits}
 use Rattle.std.specs.List.{list_all}
@@ -20,7 +21,7 @@ use Rattle.hmc_codes.specs.Text.{hex_number, is_mdwr, value_in}
 use Rattle.hmc_codes.specs.declared.family.Family.TheVariants as families
 use Rattle.hmc_codes.specs.declared.command.Command.{Command}
 use Rattle.hmc_codes.specs.declared.command.Command.TheVariants.{Null, Pret, Tret, Irtry, RdRs, WrRs, MdRdRs, MdWrRs, Error}
-use Rattle.hmc_script.proofs.WordsText.{is_letter, IsWord, first_passes, second_passes}
+use Rattle.hmc_script.proofs.WordsText.{is_letter, IsWord}
 use Rattle.hmc_script.proofs.NumberText.{number_of-decimal, below-is}
 use Rattle.hmc_script.specs.Commands.{requests, command_of}
 use Rattle.hmc_text.specs.Number.{number_of}
@@ -77,8 +78,8 @@ IsWord-hex_number n small =
 
 letter_at : (xs : List ℕ) (k : ℕ) → list_all is_letter xs ≡ true → is_letter (slice_index xs k) ≡ true
 letter_at [] k all = refl
-letter_at (x ∷ xs) zero all = first_passes (is_letter x) (list_all is_letter xs) all
-letter_at (x ∷ xs) (suc k) all = letter_at xs k (second_passes (is_letter x) (list_all is_letter xs) all)
+letter_at (x ∷ xs) zero all = (and_parts (is_letter x) (list_all is_letter xs) all).0
+letter_at (x ∷ xs) (suc k) all = letter_at xs k (and_parts (is_letter x) (list_all is_letter xs) all).1
 
 hex_letters : (bytes : List ℕ) → list_all is_letter (encode_with lower_digits bytes) ≡ true
 unfolding encode_with

@@ -14,7 +14,7 @@ use Rattle.hmc_text.specs.Number.{number_of}
 use Rattle.hmc_words.specs.Taking.{◌>>=◌, take_number}
 use Rattle.hmc_script.proofs.NumberText.{number_of-decimal, number_of-hex, below-is}
 use Rattle.hmc_script.proofs.RequestWords.{command_of-word_of, payload_of-value, payload_of-digits}
-use Rattle.hmc_script.proofs.PayloadLemmas.{len_of_mdwr, IsPayload-[]}
+use Rattle.hmc_script.proofs.PayloadLemmas.{is_mdwr-only, len_of_mdwr, IsPayload-[]}
 use Rattle.hmc_script.proofs.MeaningText.{request_words}
 use Rattle.hmc_script.specs.Commands.{command_of}
 use Rattle.hmc_script.specs.Payload.{IsPayload, payload_of}
@@ -40,14 +40,10 @@ take_payload-none : (command : Command) (ws : List (List ℕ)) → payload_len_o
 unfolding take_payload
 take_payload-none command ws none = rw none refl
 
-only_mdwr : (command : Command) → is_mdwr command ≡ true → command ≡ Mdwr
-only_mdwr Mdwr is = refl
-only_mdwr _ is = cc
-
 -- the payload is taken back, whichever form it has
 take_payload-operand : (command : Command) (payload : List ℕ) (mdwr : Bool) (ws : List (List ℕ)) → is_mdwr command ≡ mdwr → length payload ≡ payload_len_of command → IsBytes payload → (command ≡ Mdwr → drop 4 payload ≡ replicate 12 0) → take_payload command (option_to_list (operand_of mdwr payload) ++ ws) ≡ Some (payload, ws)
 take_payload-operand command payload true ws is long bytes zeros =
-    let only = only_mdwr command is in
+    let only = is_mdwr-only command is in
     let sixteen : payload_len_of command ≡ 16 = ap payload_len_of only ∙ len_of_mdwr in
     take_payload-some command (decimal (value_in payload)) payload ws (rw sixteen refl) (payload_of-value command payload is (long ∙ sixteen) bytes (zeros only))
 take_payload-operand command [] false ws is long bytes zeros = take_payload-none command ws (sym long)

@@ -1,11 +1,10 @@
 //! The payload of a request, as a word.
 
-ghost use Rattle.std.specs.Prelude.{◌≡◌, ◌≤◌, ◌<◌, ◌^◌, IfOk, IfSome, IsTrue, length, option_map, Some, []};
+ghost use Rattle.std.specs.Prelude.{◌≡◌, ◌≤◌, ◌<◌, ◌^◌, IfOk, IfSome, length, option_map, Some, []};
 ghost use Rattle.std.specs.Result.{result_ok};
 ghost use Rattle.hex.specs.Hex.{decode_sized};
 ghost use Rattle.hmc_codes.specs.Bytes.{IsBytes};
 ghost use Rattle.hmc_codes.specs.Commands.{payload_len_of};
-ghost use Rattle.hmc_codes.specs.Text.{is_mdwr};
 ghost use Rattle.hmc_codes.specs.declared.command.Command.TheVariants.{Mdwr};
 ghost use Rattle.hmc_text.specs.Words.{words_of};
 ghost use Rattle.hmc_text.specs.Number.{below, number_of};
@@ -18,13 +17,6 @@ use hmc_text::reading::{next_word, no_word};
 
 /// Values are below 2^32.
 const VALUES: u64 = 1 << 32;
-
-fn is_mdwr(command: Command) -> bool
-    ensures value { result ≡ is_mdwr command }
-    ensures only { IsTrue result → command ≡ Mdwr }
-{
-    matches!(command, Command::Mdwr)
-}
 
 // The payload with these bytes, each of which is a byte.
 fn made(bytes: &[u8]) -> Option<Payload>
@@ -77,7 +69,7 @@ pub fn payload(command: Command, word: &[u8]) -> Option<Payload>
     ensures value { result ≡ payload_of command word.now }
     ensures fits { IfSome result (IsPayload command) }
 {
-    if is_mdwr(command) {
+    if command.is_mdwr() {
         value_payload(word)
     } else {
         hex_payload(command.payload_len(), word)

@@ -1,10 +1,10 @@
 -- What a request leaves of a cube is a cube, and so is a new one.
 use Rattle.std.proofs.Common.{◌≡◌, ◌≤◌, ◌<◌, ◌∙◌, ◌+◌, ◌^◌, ℕ, zero, suc, Bool, true, false, if◌then◌else◌, List, [], ◌∷◌, ◌++◌, length, take, drop, Option, Some, None, refl, arith, length-append}
 use Rattle.std.specs.Prelude.{slice_index, slice_set}
-use Rattle.std.specs.Int.{w32, w64, from_le_bytes, to_le_bytes, bytes_low_first, byte_at}
+use Rattle.std.specs.Int.{w32, w64, from_le_bytes, to_le_bytes}
 use Rattle.std.proofs.lemmas.List.{length-take, length-drop, length-set, length-replicate}
 use Rattle.hmc_codes.specs.Bytes.{IsBytes, padded_bytes}
-use Rattle.hmc_codes.proofs.BytesLemmas.{IsBytes-[], IsBytes-append, IsBytes-take, IsBytes-drop, IsBytes-zeros}
+use Rattle.hmc_codes.proofs.BytesLemmas.{IsBytes-append, IsBytes-take, IsBytes-drop, IsBytes-zeros, IsBytes-low}
 use Rattle.hmc_codes.specs.Request.{RequestFields, IsRequest}
 use Rattle.hmc_codes.specs.Shape.{ShapeFields, IsShape, capacity_of}
 use Rattle.hmc_codes.specs.declared.answer.Acted.{Acted}
@@ -26,19 +26,6 @@ use Rattle.hmc_serial.specs.Perform.{unless_error, acted_at, block_at, block_sta
 use Rattle.hmc_serial.proofs.AnswerLemmas.{inside, block_inside, IsBlock-at, IsAsked, unit_address, unit_worked}
 use Rattle.hmc_serial.proofs.WorkLemmas.{IsWorked}
 use Rattle.hmc_serial.proofs.Fine.{some_bytes}
-
--- the bytes of a number
-byte_at-small : (i n : ℕ) → byte_at i n < 256
-byte_at-small zero n = omega arith
-byte_at-small (suc i) n = omega arith
-
-low_small : (i k n j : ℕ) → slice_index (bytes_low_first i k n) j < 256
-low_small i zero n j = IsBytes-[] j
-low_small i (suc k) n zero = byte_at-small i n
-low_small i (suc k) n (suc j) = low_small (suc i) k n j
-
-IsBytes-low : (i k n : ℕ) → IsBytes (bytes_low_first i k n)
-IsBytes-low i k n = low_small i k n
 
 -- memory that is written
 IsCube-written : (cube : CubeState) (address : ℕ) (new : List ℕ) → IsCube cube → IsBytes new → address + length new ≤ length cube.memory → IsCube (record cube { memory = written_bytes cube.memory address new })

@@ -1,5 +1,5 @@
 -- What is known of a request without an error.
-use Rattle.std.proofs.Common.{◌≡◌, ◌≤◌, ◌<◌, ◌+◌, ◌*◌, ◌^◌, ◌/◌, ◌%◌, ℕ, Bool, true, false, Option, Some, None, refl, arith}
+use Rattle.std.proofs.Common.{◌≡◌, ◌≤◌, ◌<◌, ◌+◌, ◌*◌, ◌^◌, ◌/◌, ◌%◌, ℕ, Bool, true, false, Option, Some, None, refl, arith, ltb-false, leb-false}
 use Rattle.std.specs.Prelude.{if◌then◌else◌, nat_lt, nat_le}
 use Rattle.std.proofs.lemmas.Bool.Decides.{nat_tests}
 use Rattle.std.proofs.lemmas.Nat.{pow_pos, mul-le, div-add-mod', mod_below}
@@ -38,17 +38,11 @@ one_test : (a : Bool) → error_of_one a ≡ None → a ≡ false
 one_test false is = refl
 one_test true is = absurd (cc)
 
-not_less : (m n : ℕ) → nat_lt m n ≡ false → n ≤ m
-not_less m n is = grind (arith, nat_tests)
-
-not_at_most : (m n : ℕ) → nat_le m n ≡ false → n < m
-not_at_most m n is = grind (arith, nat_tests)
-
 pub errorless : (shape : ShapeFields) (size : ℕ) (halves : Bool) (address : ℕ) → memory_error shape size halves address ≡ None → IsErrorless shape size halves address
 unfolding memory_error
 errorless shape size halves address is =
     let tests = three_tests (is_misaligned halves address) (nat_lt shape.block (offset_of shape address + size)) (nat_le shape.rows (row_of shape address)) is in
-    record { aligned = tests.0; fits = not_less shape.block (offset_of shape address + size) tests.1; row = not_at_most shape.rows (row_of shape address) tests.2 }
+    record { aligned = tests.0; fits = ltb-false shape.block (offset_of shape address + size) tests.1; row = leb-false shape.rows (row_of shape address) tests.2 }
 
 pub aligned_block : (address : ℕ) → is_misaligned false address ≡ false → address % 16 ≡ 0
 aligned_block address is = grind (arith, nat_tests)
@@ -78,10 +72,10 @@ inside_capacity shape size address fits row =
 
 pub register_there : (address : ℕ) → register_error address ≡ None → address < 16
 unfolding register_error
-register_there address is = not_at_most 16 address (one_test (nat_le 16 address) is)
+register_there address is = leb-false 16 address (one_test (nat_le 16 address) is)
 
 pub register_written : (address : ℕ) → register_write_error address ≡ None → (address < 16) × (4 ≤ address)
 unfolding register_write_error
 register_written address is =
     let tests = two_tests (nat_le 16 address) (nat_lt address 4) is in
-    (not_at_most 16 address tests.0, not_less address 4 tests.1)
+    (leb-false 16 address tests.0, ltb-false address 4 tests.1)

@@ -17,7 +17,7 @@ openings_from-push n [] shape = ap (λ k. opening shape k ∷ []) (omega arith)
 openings_from-push n (first ∷ shapes) shape =
     ap (λ rest. opening first n ∷ rest) (openings_from-push (n + 1) shapes shape ∙ ap (λ k. openings_from (n + 1) shapes ++ opening shape k ∷ []) (omega arith))
 
-length-openings_from : (n : ℕ) (shapes : List ShapeFields) → length (openings_from n shapes) ≡ length shapes
+pub length-openings_from : (n : ℕ) (shapes : List ShapeFields) → length (openings_from n shapes) ≡ length shapes
 length-openings_from n [] = refl
 length-openings_from n (shape ∷ shapes) = omega (arith, length-openings_from (n + 1) shapes)
 

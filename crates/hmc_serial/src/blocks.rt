@@ -1,4 +1,4 @@
-//! Bytes of a memory, in blocks of 16.
+//! Bytes of a memory, in pieces of 16.
 
 ghost use Rattle.std.specs.Prelude.{◌≡◌, ◌<◌, ◌≤◌, ◌+◌, ◌%◌, ◌^◌, ◌↔◌, false, IsNone, IfNone, IfSome, length, slice_range};
 ghost use Rattle.std.specs.List.{list_any};
@@ -9,12 +9,9 @@ ghost use Rattle.hmc_units.specs.Bench.{serves, bench_acted, worked_slots};
 ghost use Rattle.hmc_serial.specs.Perform.{acted_at, block_at, block_start};
 
 use hmc_atomics::{Atomic, act};
-use hmc_codes::{Acted, Payload, Request};
+use hmc_codes::{Acted, PIECE, Payload, Request};
 use hmc_memory::Banks;
 use hmc_units::Workbench;
-
-// The bytes of a block.
-const BLOCK: usize = 16;
 
 /// The bytes at an address.
 pub fn read(banks: &Banks, address: u64, size: usize) -> Payload
@@ -26,9 +23,9 @@ pub fn read(banks: &Banks, address: u64, size: usize) -> Payload
     ensures { result ≡ slice_range banks.now.bytes address (address + size) }
 {
     let mut bytes = [0; 256];
-    for i in 0..size / BLOCK {
-        let from = BLOCK * i;
-        bytes[from..from + BLOCK].copy_from_slice(&banks.get16(address + from as u64));
+    for i in 0..size / PIECE {
+        let from = PIECE * i;
+        bytes[from..from + PIECE].copy_from_slice(&banks.get16(address + from as u64));
     }
     Payload::from_slice(&bytes[..size]).unwrap()
 }
@@ -43,11 +40,11 @@ pub fn write(banks: &mut Banks, address: u64, bytes: &[u8])
     ensures bytes { banks.new.bytes ≡ written_bytes banks.old.bytes address bytes.now }
 {
     banks.invariant();
-    for i in 0..bytes.len() / BLOCK {
-        let from = BLOCK * i;
-        let mut block = [0; BLOCK];
-        block.copy_from_slice(&bytes[from..from + BLOCK]);
-        banks.put16(address + from as u64, block);
+    for i in 0..bytes.len() / PIECE {
+        let from = PIECE * i;
+        let mut piece = [0; PIECE];
+        piece.copy_from_slice(&bytes[from..from + PIECE]);
+        banks.put16(address + from as u64, piece);
     }
 }
 
@@ -56,7 +53,7 @@ fn operand(payload: &[u8]) -> [u8; 16]
     requires { length payload.now ≤ 16 }
     ensures { result ≡ padded_bytes 16 payload.now }
 {
-    let mut operand = [0; BLOCK];
+    let mut operand = [0; PIECE];
     operand[..payload.len()].copy_from_slice(payload);
     operand
 }

@@ -95,16 +95,10 @@ impl Plain {
         Ok(Plain { cubes })
     }
 
-    /// Does nothing. Its contract is what every machine keeps.
-    pub fn invariant(&self)
-        ensures { (slots : List (Option UnitFields)) → IsMachine (machine_of self.now slots) }
-    {
-        let _ = &self.cubes;
-    }
-
     /// The number of cubes.
     pub fn cubes(&self) -> usize
-        ensures { result ≡ length self.now }
+        ensures count { result ≡ length self.now }
+        ensures machine { (slots : List (Option UnitFields)) → IsMachine (machine_of self.now slots) }
     {
         self.cubes.len()
     }
@@ -116,6 +110,7 @@ impl Plain {
         ensures state { machine_of self.new (B.slots bench.new)
             ≡ apply (machine_of self.old (B.slots bench.old)) request.now }
         ensures answer { result ≡ answer_to (machine_of self.old (B.slots bench.old)) request.now }
+        ensures machine { IsMachine (machine_of self.old (B.slots bench.old)) }
     {
         let cube = &mut self.cubes[usize::from(request.cube)];
         let answer = cube.perform(request, bench);

@@ -55,6 +55,13 @@ fn number_in(base: u8, digits: &[u8]) -> Option<u128>
     number_after(base, digits)
 }
 
+/// The number that 1 to 20 decimal digits are, leading zeros among them.
+pub fn decimal(digits: &[u8]) -> Option<u128>
+    ensures { result ≡ number_in 10 digits.now }
+{
+    number_in(10, digits)
+}
+
 /// The number that a word is: decimal digits, or `0x` and hexadecimal digits in either case. There
 /// are 1 to 20 digits, leading zeros among them.
 #[tactic(auto, unfolding(crate::specs::Number::number_of))]

@@ -1,10 +1,10 @@
 -- The shipped kinds of units.
 use Rattle.std.specs.Prelude.{◌<◌, ℕ, zero, suc, ◌+◌, ◌%◌, ◌^◌, false, List, [], ◌∷◌, ◌++◌, take, reverse, slice_index}
-use Rattle.std.specs.Int.{w64, to_le_bytes, bytes_low_first, byte_at}
+use Rattle.std.specs.Int.{w64, to_le_bytes}
 use Rattle.std.proofs.Common.{◌∙◌, sym, subst, arith, length-append}
 use Rattle.std.proofs.lemmas.List.{length-reverse, length-take, reverse-append}
 use Rattle.hmc_codes.specs.Bytes.{IsBytes}
-use Rattle.hmc_codes.proofs.BytesLemmas.{IsBytes-[], IsBytes-append, IsBytes-take}
+use Rattle.hmc_codes.proofs.BytesLemmas.{IsBytes-[], IsBytes-append, IsBytes-take, IsBytes-low}
 use Rattle.hmc_codes.specs.declared.answer.Acted.{Acted}
 use Rattle.hmc_units.specs.Unit.{IsBlock, UnitFields}
 
@@ -38,14 +38,6 @@ IsBlock-reverse block is = record {
   sixteen = length-reverse block ∙ is.sixteen;
   are_bytes = IsBytes-reverse block is.are_bytes;
 }
-
-byte_at-small : (i n : ℕ) → byte_at i n < 256
-byte_at-small zero n = omega arith
-byte_at-small (suc i) n = omega arith
-
-IsBytes-low : (i k n : ℕ) → IsBytes (bytes_low_first i k n)
-IsBytes-low i zero n = IsBytes-[]
-IsBytes-low i (suc k) n = IsBytes-cons _ _ (byte_at-small i n) (IsBytes-low (suc i) k n)
 
 pub IsBlock-stamped : (count : ℕ) (operand : List ℕ) → IsBlock operand
     → IsBlock (stamped_block count operand)
