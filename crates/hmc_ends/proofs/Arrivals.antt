@@ -12,21 +12,16 @@ use Rattle.hmc_packet.specs.Landings.{ReceiverEntry, pending, accepted, accepted
 use Rattle.hmc_packet.specs.Landings.ReceiverEntry.{Land}
 use Rattle.hmc_packet.specs.Packet.{PacketFields}
 use Rattle.hmc_packet.specs.Reading.{read_of}
-use Rattle.hmc_packet.specs.Receptions.{LandingView, landing_view, reception_of, landed_with}
+use Rattle.hmc_packet.specs.Receptions.{LandingView, landing_view, reception_of, landed_with, is_arrival}
 use Rattle.hmc_receive.specs.StandsFor.{latest, latest_of}
 use Rattle.hmc_wire.proofs.LandingCases.{Case, case_of}
 use Rattle.hmc_ends.specs.Landings.{arrived_packets}
 
-abbrev accepts : Outcome → Bool
-accepts Accepted = true
-accepts Poisoned = true
-accepts _ = false
-
-no-irtry : (b : Bool) (kind : Kind) → accepts (if b then Ran kind else Quiet) ≡ false
+no-irtry : (b : Bool) (kind : Kind) → is_arrival (if b then Ran kind else Quiet) ≡ false
 no-irtry true kind = refl
 no-irtry false kind = refl
 
-by-case : (q : Profile) (r : LandingView) (flit : List ℕ) (x : Reception) → Case q r flit x → accepts x.outcome ≡ true → (seen : Seen) × (read_of q (r.pending ++ flit ∷ []) ≡ Ok seen)
+by-case : (q : Profile) (r : LandingView) (flit : List ℕ) (x : Reception) → Case q r flit x → is_arrival x.outcome ≡ true → (seen : Seen) × (read_of q (r.pending ++ flit ∷ []) ≡ Ok seen)
 by-case q r flit _ (Case.trained m a b) is = absurd cc
 by-case q r flit _ (Case.trains m a b) is = absurd cc
 by-case q r flit _ (Case.untrained m a) is = absurd cc
@@ -39,11 +34,11 @@ by-case q r flit _ (Case.refused m a bad b) is = absurd cc
 by-case q r flit _ (Case.whole m a seen read) is = (seen, read)
 
 -- an accepted packet was read
-read-it : (q : Profile) (past : List ReceiverEntry) (flit : List ℕ) → accepts (reception_of q past flit).outcome ≡ true → (seen : Seen) × (read_of q (pending past ++ flit ∷ []) ≡ Ok seen)
+read-it : (q : Profile) (past : List ReceiverEntry) (flit : List ℕ) → is_arrival (reception_of q past flit).outcome ≡ true → (seen : Seen) × (read_of q (pending past ++ flit ∷ []) ≡ Ok seen)
 unfolding reception_of landing_view
 read-it q past flit is = by-case q (landing_view q past) flit _ (case_of q (landing_view q past) flit) is
 
-by-outcome : (q : Profile) (past : List ReceiverEntry) (flit : List ℕ) (o : Outcome) (before : PacketFields) → (accepts o ≡ true → (seen : Seen) × (read_of q (pending past ++ flit ∷ []) ≡ Ok seen)) →
+by-outcome : (q : Profile) (past : List ReceiverEntry) (flit : List ℕ) (o : Outcome) (before : PacketFields) → (is_arrival o ≡ true → (seen : Seen) × (read_of q (pending past ++ flit ∷ []) ≡ Ok seen)) →
     accepted_by q (pending past) (Land flit o) ≡ arrived_packets (landed_with o (latest_of before (accepted_by q (pending past) (Land flit o))))
 by-outcome q past flit Quiet before read = refl
 by-outcome q past flit Trained before read = refl

@@ -4,6 +4,7 @@ use Rattle.std.specs.Prelude.{slice_get, filter}
 use Rattle.std.proofs.lemmas.List.Sums.{sum_by-append}
 use Rattle.std.proofs.Math.Nat.{sub-add-eq}
 use Rattle.std.proofs.lemmas.List.Elements.{filter-append}
+use Rattle.hmc_codes.proofs.General.{drop-one_more}
 use Rattle.hmc_codes.specs.Link.{LinkFields}
 use Rattle.hmc_packet.specs.declared.landed.Landed.{Landed}
 use Rattle.hmc_packet.specs.Landings.{accepted}
@@ -14,7 +15,8 @@ use Rattle.hmc_packet.specs.Receptions.{reception_of}
 use Rattle.hmc_send.specs.Entries.{places}
 use Rattle.hmc_send.specs.LinkCalls.{LinkCall, next_entry, landed_front}
 use Rattle.hmc_send.specs.LinkEntries.{LinkEntry, other, receiver_entries}
-use Rattle.hmc_send.specs.LinkLines.{StampedFlit, line, under_mask, changes, passes}
+use Rattle.hmc_packet.specs.Masks.{changes, under_mask}
+use Rattle.hmc_send.specs.LinkLines.{StampedFlit, line, passes}
 use Rattle.hmc_send.specs.LinkTokens.{flits_begun, flits_accepted}
 use Rattle.hmc_send.specs.Places.{is_token}
 use Rattle.hmc_send.specs.declared.toward.Toward.{Toward}
@@ -28,7 +30,7 @@ use Rattle.hmc_ends.specs.StandsFor.{EndStandsFor, EndsStandFor, flits_on}
 use Rattle.hmc_ends.proofs.Arrivals.{accepted-more}
 use Rattle.hmc_ends.proofs.Steps.{both-more, both-same}
 use Rattle.hmc_ends.proofs.LandStands.{kept-landed, next-landed}
-use Rattle.hmc_ends.proofs.Lists.{drop-one_more, map-drop, front-longer}
+use Rattle.hmc_ends.proofs.Lists.{map-drop, front-longer}
 use Rattle.hmc_ends.proofs.PartLaws.{PartLaws, part_laws}
 use Rattle.hmc_ends.proofs.Projections.{landed-here}
 

@@ -22,7 +22,8 @@ use Rattle.hmc_send.specs.Acknowledged.{entries_acknowledged}
 use Rattle.hmc_send.specs.Entries.{SenderEntry, places, taken_fronts, acked}
 use Rattle.hmc_send.specs.LinkCalls.{LinkCall, next_entry, entry_if, landed_front}
 use Rattle.hmc_send.specs.LinkEntries.{LinkEntry, other, receiver_entries, handed_packets, takes}
-use Rattle.hmc_send.specs.LinkLines.{StampedFlit, line, sent_flits, landings, is_pending_changed, under_mask, changes, changed_after, passes}
+use Rattle.hmc_packet.specs.Masks.{changes, under_mask}
+use Rattle.hmc_send.specs.LinkLines.{StampedFlit, line, sent_flits, landings, is_pending_changed, changed_after, passes}
 use Rattle.hmc_send.specs.LinkSenders.{sender_entries, landing_entries, run_entries, acknowledgement}
 use Rattle.hmc_send.specs.LinkTokens.{flits_begun, flits_accepted, flits_taken, tokens_returned, tokens_credited}
 use Rattle.hmc_send.specs.Places.{is_token}

@@ -13,10 +13,10 @@ pub mod Acknowledges
 pub mod Arrivals
 pub mod LandStands
 pub mod Landing
-pub mod MaskLemmas
 pub mod CrossLemmas
 pub mod TokenRows
 pub mod ListSteps
 pub mod ListLaws
 pub mod Throughs
+pub mod Begins
 pub mod Quiet

@@ -2,14 +2,10 @@
 use Rattle.std.proofs.Common.{◌≡◌, ◌∙◌, ◌≤◌, ◌<◌, ◌+◌, ◌-◌, ℕ, zero, suc, Bool, true, false, List, [], ◌∷◌, ◌++◌, length, take, drop, map, Some, None, refl, sym, ap, arith}
 use Rattle.std.specs.Prelude.{slice_get, filter, if◌then◌else◌}
 use Rattle.std.proofs.lemmas.List.{length-map as length-map-of, length-drop, drop-append-le, drop-map}
+use Rattle.hmc_codes.proofs.General.{drop-one_more}
 
 pub drop-push : {X : Type 0} (n : ℕ) (l : List X) (x : X) → n ≤ length l → drop n (l ++ x ∷ []) ≡ drop n l ++ x ∷ []
 drop-push n l x le = drop-append-le n l (x ∷ []) le
-
-pub drop-one_more : {X : Type 0} (n : ℕ) (l : List X) → drop (suc n) l ≡ drop 1 (drop n l)
-drop-one_more zero l = refl
-drop-one_more (suc n) [] = refl
-drop-one_more (suc n) (x ∷ l) = drop-one_more n l
 
 pub drop-add : {X : Type 0} (n m : ℕ) (l : List X) → drop n (drop m l) ≡ drop (n + m) l
 drop-add zero m l = ap (λ (k : ℕ). drop k l) (let e : m ≡ 0 + m = omega arith in e)

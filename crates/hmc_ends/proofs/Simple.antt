@@ -2,6 +2,7 @@
 use Rattle.std.proofs.Common.{◌≡◌, ◌∙◌, ◌≤◌, ◌+◌, ◌-◌, ℕ, suc, false, List, [], ◌∷◌, ◌++◌, drop, take, Some, refl, sym, ap, arith, length-append, append-nil}
 use Rattle.std.specs.Prelude.{slice_get}
 use Rattle.std.proofs.lemmas.List.Sums.{sum_by_push}
+use Rattle.hmc_codes.proofs.General.{drop-one_more}
 use Rattle.hmc_codes.specs.Link.{LinkFields}
 use Rattle.hmc_packet.specs.Landings.{ReceiverEntry, accepted}
 use Rattle.hmc_packet.specs.Landings.ReceiverEntry.{Unlock}
@@ -15,7 +16,7 @@ use Rattle.hmc_send.specs.LinkTokens.{tokens_returned, flits_taken}
 use Rattle.hmc_ends.specs.End.{EndFields}
 use Rattle.hmc_ends.specs.Parts.{EndParts, parts_handed, parts_taken, parts_unlocked, parts_lost, tokens_accepted, buffer_of}
 use Rattle.hmc_ends.specs.StandsFor.{EndStandsFor}
-use Rattle.hmc_ends.proofs.Lists.{drop-push, drop-one_more, front-longer, take-one_more}
+use Rattle.hmc_ends.proofs.Lists.{drop-push, front-longer, take-one_more}
 
 -- ---- a packet is handed
 

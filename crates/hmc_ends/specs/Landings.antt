@@ -18,7 +18,8 @@ use Rattle.hmc_receive.specs.StandsFor.{landing_of, ReceiverStandsFor, latest}
 use Rattle.hmc_send.specs.Acknowledged.{acknowledged_after, entries_acknowledged}
 use Rattle.hmc_send.specs.Entries.{SenderEntry}
 use Rattle.hmc_send.specs.LinkEntries.{LinkEntry, other, receiver_entries}
-use Rattle.hmc_send.specs.LinkLines.{StampedFlit, line, under_mask, changes, passes}
+use Rattle.hmc_packet.specs.Masks.{changes, under_mask}
+use Rattle.hmc_send.specs.LinkLines.{StampedFlit, line, passes}
 use Rattle.hmc_send.specs.LinkTokens.{tokens_credited}
 use Rattle.hmc_send.specs.Places.{is_token}
 use Rattle.hmc_send.specs.declared.state.State.{State}

@@ -13,10 +13,8 @@ mod feed;
 mod laws;
 mod link_landed;
 mod link_sent;
-mod masks;
 
 pub use feed::{feed_is_bytes, flit_is_bytes};
 pub use laws::directions_are_lists;
 pub use link_landed::LinkLanded;
 pub use link_sent::LinkSent;
-pub use masks::{changes, under_mask};

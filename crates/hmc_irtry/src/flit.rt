@@ -6,38 +6,16 @@ ghost use Rattle.hmc_packet.specs.Packet.{null_packet};
 ghost use Rattle.hmc_codes.specs.Profile.{modulus_of};
 ghost use Rattle.hmc_packet.specs.Irtry.{kind_pointer, irtry_packet, irtry_flit, irtry_by, irtry_in};
 
-use hmc_codes::{Command, Flit, Payload, Profile};
+use hmc_codes::{Command, Flit, Profile};
 use hmc_packet::{Kind, Packet, read, spell, spelling_is_as_long_as_its_packet};
-
-// The flow packet with the command IRTRY and this forward pointer.
-fn packet_with(frp: u16) -> Packet
-    requires least { 1 ≤ frp }
-    requires most { frp ≤ 2 }
-    ensures { result ≡ record null_packet { command = Irtry; frp = frp } }
-{
-    Packet {
-        command: Command::Irtry,
-        tag: 0,
-        address: 0,
-        cube: 0,
-        slid: 0,
-        flag: false,
-        errstat: 0,
-        rtc: 0,
-        seq: 0,
-        frp,
-        poisoned: false,
-        payload: Payload::empty(),
-    }
-}
 
 // An IRTRY as a packet.
 fn packet_of(kind: Kind) -> Packet
     ensures { result ≡ irtry_packet kind }
 {
     match kind {
-        Kind::Start => packet_with(1),
-        Kind::Clear => packet_with(2),
+        Kind::Start => Packet::flow(Command::Irtry, 1),
+        Kind::Clear => Packet::flow(Command::Irtry, 2),
     }
 }
 

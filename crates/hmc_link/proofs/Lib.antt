@@ -1,5 +1,4 @@
 pub mod Joins
-mod Stored
 pub mod Calls
 pub mod LinkLandings
 pub mod Numbers

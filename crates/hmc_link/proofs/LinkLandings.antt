@@ -9,7 +9,8 @@ use Rattle.hmc_packet.specs.Receptions.{reception_of, landed_with, landing_entry
 use Rattle.hmc_receive.specs.StandsFor.{latest}
 use Rattle.hmc_send.specs.LinkCalls.{LinkCall}
 use Rattle.hmc_send.specs.LinkEntries.{LinkEntry, receiver_entries}
-use Rattle.hmc_send.specs.LinkLines.{StampedFlit, line, under_mask, passes}
+use Rattle.hmc_packet.specs.Masks.{under_mask}
+use Rattle.hmc_send.specs.LinkLines.{StampedFlit, line, passes}
 use Rattle.hmc_send.specs.declared.toward.Toward.{Toward}
 use Rattle.hmc_send.specs.declared.toward.Toward.TheVariants.{Forth, Back}
 use Rattle.hmc_wire.specs.LinkLaws.{IsKept}

@@ -7,7 +7,8 @@ use Rattle.hmc_packet.specs.Packet.{PacketFields}
 use Rattle.hmc_send.specs.Given.{IsTaken}
 use Rattle.hmc_send.specs.LinkCalls.{LinkCall, with_entry, names_flits}
 use Rattle.hmc_send.specs.LinkEntries.{LinkEntry}
-use Rattle.hmc_send.specs.LinkLines.{StampedFlit, line, under_mask, passes}
+use Rattle.hmc_packet.specs.Masks.{under_mask}
+use Rattle.hmc_send.specs.LinkLines.{StampedFlit, line, passes}
 use Rattle.hmc_send.specs.declared.toward.Toward.{Toward}
 use Rattle.hmc_wire.specs.LinkLaws.{IsKept}
 use Rattle.hmc_ends.specs.declared.link_landed.LinkLanded.{LinkLanded}
@@ -21,7 +22,7 @@ use Rattle.hmc_ends.proofs.Calls.{next-handed}
 use Rattle.hmc_ends.proofs.CrossLemmas.{next-empty}
 use Rattle.hmc_ends.proofs.Steps.{Steps}
 use Rattle.hmc_ends.proofs.LandStands.{next-landed}
-use Rattle.hmc_link.proofs.LinkThroughs.{next-begun}
+use Rattle.hmc_ends.proofs.Begins.{next-begun}
 use Rattle.hmc_ends.proofs.ListLaws.{list-handed, list-through, list-gives}
 
 pub hand-list : (d toward : Toward) (now : LinkHeld) (s l s' : EndFields) (packet : PacketFields) → sending_end toward now ≡ s → length (sending_end toward now).queue < (sending_end toward now).setup.output → IsTaken (sending_end toward now).setup.profile packet → Steps d (LinkCall.hand d packet) s l s' l →

@@ -19,7 +19,8 @@ use Rattle.hmc_send.specs.Given.{IsTaken, given_only}
 use Rattle.hmc_send.specs.Sender.{view_held, room_held}
 use Rattle.hmc_send.specs.LinkCalls.{names_flits, LinkCall, next_entry, with_entry, call_of}
 use Rattle.hmc_send.specs.LinkEntries.{LinkEntry, other, accepted_packets}
-use Rattle.hmc_send.specs.LinkLines.{StampedFlit, line, under_mask, passes}
+use Rattle.hmc_packet.specs.Masks.{under_mask}
+use Rattle.hmc_send.specs.LinkLines.{StampedFlit, line, passes}
 use Rattle.hmc_send.specs.LinkSenders.{sender_entries, places_in, queue_in}
 use Rattle.hmc_send.specs.Places.{Place, flits_at, flits_in, takes_tokens}
 use Rattle.hmc_send.specs.declared.toward.Toward.{Toward}
@@ -42,7 +43,7 @@ use Rattle.hmc_ends.proofs.Fed.{sender-is}
 use Rattle.hmc_link.proofs.Joins.{Numbers}
 use Rattle.hmc_ends.proofs.LandStands.{next-landed}
 use Rattle.hmc_ends.proofs.Lists.{length-map}
-use Rattle.hmc_link.proofs.LinkThroughs.{next-begun}
+use Rattle.hmc_ends.proofs.Begins.{next-begun}
 use Rattle.hmc_ends.proofs.ListLaws.{list-handed, list-through, list-sent, list-gives, list-over}
 use Rattle.hmc_wire.proofs.LawsHold.{direction-laws}
 use Rattle.hmc_retry.proofs.Kept.{most_small}

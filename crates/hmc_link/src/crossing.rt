@@ -1,20 +1,19 @@
 //! The landing of the front of a line.
 
-ghost use Rattle.std.specs.Prelude.{◌≡◌, ◌-◌, List, length, true, false, slice_get};
+ghost use Rattle.std.specs.Prelude.{◌≡◌, ◌-◌, List, length, true, false};
 ghost use Rattle.hmc_codes.specs.Link.{LinkFields};
 ghost use Rattle.hmc_send.specs.LinkCalls.{LinkCall};
 ghost use Rattle.hmc_send.specs.LinkEntries.{LinkEntry};
-ghost use Rattle.hmc_send.specs.LinkLines.{line};
 ghost use Rattle.hmc_send.specs.declared.toward.Toward.{Toward};
 ghost use Rattle.hmc_ends.specs.Answers.{after_call};
-ghost use Rattle.hmc_ends.specs.Landings.{link_landed, landing_passed, lands_none, removed, stored, IsUntouched};
+ghost use Rattle.hmc_ends.specs.Landings.{landing_passed, lands_none, removed, stored, IsUntouched};
 ghost use Rattle.hmc_ends.specs.StandsFor.{EndsStandFor, AreEnds};
+ghost use Rattle.hmc_link_end.specs.Answers.{land_answer};
 
-use crate::arrival::{arriving, is_token};
-use crate::end::End;
 use hmc_codes::Flit;
-use hmc_ends::{LinkLanded, changes, under_mask};
-use hmc_packet::Landed;
+use hmc_ends::LinkLanded;
+use hmc_link_end::{End, arriving, is_token};
+use hmc_packet::{Landed, changes, under_mask};
 use hmc_tokens::Intake;
 
 /// Whether a change passed.
@@ -50,8 +49,7 @@ pub fn without_landed(listed: u32, landed: &LinkLanded) -> u32
 pub fn cross<S: Intake, L: Intake>(from: &mut End<S>, to: &mut End<L>, mask: &Flit) -> LinkLanded
     requires { AreEnds from.old to.old }
     ensures answer { (link : LinkFields) (d : Toward) (past : List LinkEntry) →
-        EndsStandFor link d from.old to.old past → result
-        ≡ link_landed link d past mask.now (slice_get (line link.profile d past) 0) }
+        EndsStandFor link d from.old to.old past → result ≡ land_answer link d past mask.now }
     ensures stands { (link : LinkFields) (d : Toward) (past : List LinkEntry) →
         EndsStandFor link d from.old to.old past → landing_passed result ≡ false →
         EndsStandFor link d from.new to.new (after_call link past (LinkCall.land d mask.now)) }

@@ -6,27 +6,25 @@ ghost use Rattle.hmc_packet.specs.declared.feed.Feed.TheVariants.{Waiting};
 ghost use Rattle.hmc_packet.specs.Head.{head_in};
 ghost use Rattle.hmc_packet.specs.Landings.{mode, pending};
 ghost use Rattle.hmc_packet.specs.Packet.{flits_of};
-ghost use Rattle.hmc_send.specs.Choice.{choice};
 ghost use Rattle.hmc_send.specs.Entries.{through_place, through_at};
 ghost use Rattle.hmc_send.specs.Given.{IsTaken};
 ghost use Rattle.hmc_send.specs.IsSender.{IsFed};
-ghost use Rattle.hmc_send.specs.LinkCalls.{LinkCall, has_room, is_full, may_pass_on, names_flits, view_in};
+ghost use Rattle.hmc_send.specs.LinkCalls.{LinkCall, has_room, may_pass_on, names_flits, view_in};
 ghost use Rattle.hmc_send.specs.LinkEntries.{LinkEntry, receiver_entries};
-ghost use Rattle.hmc_send.specs.LinkLines.{line};
 ghost use Rattle.hmc_send.specs.LinkSenders.{sender_entries, tokens};
 ghost use Rattle.hmc_link.specs.Held.{held_on, sending_end, landing_end};
 ghost use Rattle.hmc_ends.specs.End.{row_held, is_ready, flits_seen, IsQuiet};
-ghost use Rattle.hmc_ends.specs.Answers.{after_call, front_in, link_sent, sends_none};
-ghost use Rattle.hmc_ends.specs.Landings.{link_landed, landing_passed, lands_none, is_out_of_order, removed, IsUntouched};
+ghost use Rattle.hmc_ends.specs.Answers.{after_call, front_in, sends_none};
+ghost use Rattle.hmc_ends.specs.Landings.{landing_passed, lands_none, is_out_of_order, removed, IsUntouched};
 ghost use Rattle.hmc_ends.specs.List.{handed_list, listed_packet, listed_open};
 ghost use Rattle.hmc_link.specs.StandsFor.{LinkStandsFor};
+ghost use Rattle.hmc_link_end.specs.Answers.{land_answer, send_answer};
 
 use crate::Toward;
 use crate::crossing::{cross, has_passed, without_landed};
-use crate::end::End;
-use crate::row::token_row;
 use hmc_codes::{Flit, LinkSetup, Memory, TokenRow};
 use hmc_ends::{LinkLanded, LinkSent, feed_is_bytes, flit_is_bytes};
+use hmc_link_end::{End, token_row};
 use hmc_packet::{Feed, Mode, Packet};
 use hmc_tokens::Intake;
 use std::alloc::Global;
@@ -213,9 +211,7 @@ impl<A: Intake, B: Intake> Link<A, B> {
         requires going { self.old.going ≡ true }
         requires feed { IsFed (sending_end toward self.old).sender.under_way feed }
         ensures answer { (link : LinkFields) (past : List LinkEntry) →
-            LinkStandsFor link self.old past → result
-            ≡ link_sent (is_full link toward past)
-            (choice link.profile (view_in link toward past feed)) }
+            LinkStandsFor link self.old past → result ≡ send_answer link toward past feed }
         ensures stands { (link : LinkFields) (past : List LinkEntry) →
             LinkStandsFor link self.old past →
             LinkStandsFor link self.new (after_call link past (LinkCall.send toward feed)) }
@@ -235,9 +231,7 @@ impl<A: Intake, B: Intake> Link<A, B> {
     pub fn land(&mut self, toward: Toward, mask: Flit) -> LinkLanded
         requires { self.old.going ≡ true }
         ensures answer { (link : LinkFields) (past : List LinkEntry) →
-            LinkStandsFor link self.old past → result
-            ≡ link_landed link toward past mask
-            (slice_get (line link.profile toward past) 0) }
+            LinkStandsFor link self.old past → result ≡ land_answer link toward past mask }
         ensures stands { (link : LinkFields) (past : List LinkEntry) →
             LinkStandsFor link self.old past → landing_passed result ≡ false →
             LinkStandsFor link self.new (after_call link past (LinkCall.land toward mask)) }
@@ -293,8 +287,8 @@ impl<A: Intake, B: Intake> Link<A, B> {
         }
     }
 
-    /// The number of packets that the link holds: those in the lists of both directions, and those in
-    /// both buffers.
+    /// The number of packets that the link holds: those in the lists of both directions, and those
+    /// in both buffers.
     pub fn held(&self) -> u64
         ensures { result ≡ held_on self.now }
     {

@@ -2,9 +2,9 @@
 -- of one direction cite it.
 use Rattle.std.proofs.Common.{◌≡◌, ◌≢◌, ℕ, zero, suc, ◌+◌, ◌-◌, ◌%◌, ◌<◌, ◌≤◌, List, ◌∷◌, ◌++◌, length, ◌⊎◌, inl, inr, ⊎_elim, refl, sym, ◌∙◌, ap, subst, arith}
 use Rattle.hmc_numbers.specs.Weights.{Weight, flits_to, size, HaveValidSizes}
-use Rattle.hmc_codes.specs.Profile.{modulus_of}
+use Rattle.hmc_codes.specs.Profile.{modulus_of, window_of}
 use Rattle.hmc_codes.specs.declared.profile.Profile.{Profile}
-use Rattle.hmc_numbers.specs.Pointers.{window, pointer}
+use Rattle.hmc_numbers.specs.Pointers.{pointer}
 use Rattle.hmc_numbers.specs.Direction.{Item, Reached, Direction, begun, position}
 use Rattle.hmc_numbers.specs.Events.{Event, happens, after}
 use Rattle.hmc_numbers.specs.May.{IsGood, CanReadAs, MayAll}
@@ -58,7 +58,7 @@ next_or (suc n) zero l = inl (omega arith)
 next_or (suc n) (suc acc) l = ⊎_elim (λ q. inl (omega arith)) (λ q. inr (omega arith)) (next_or n acc (omega arith))
 
 -- what the tests show of the next packet, and of one that was accepted before
-identified_by : (p : Profile) (r : ℕ) (w : Direction) (n : ℕ) → r ≤ window p → HaveValidSizes w.first → 1 ≤ n → n ≤ begun w → flits_to w.first w.accepted < flits_to w.first n + r → (n ≡ w.accepted + 1) ⊎ (n ≤ w.accepted) → IsIdentified p w n
+identified_by : (p : Profile) (r : ℕ) (w : Direction) (n : ℕ) → r ≤ window_of p → HaveValidSizes w.first → 1 ≤ n → n ≤ begun w → flits_to w.first w.accepted < flits_to w.first n + r → (n ≡ w.accepted + 1) ⊎ (n ≤ w.accepted) → IsIdentified p w n
 identified_by p r w n l f a b d (inl q) =
     let z = size-valid w.first n f a b in
     let e : flits_to w.first (n - 1) ≡ flits_to w.first w.accepted = ap (λ i. flits_to w.first i) (omega arith) in
@@ -81,7 +81,7 @@ pub at_most_next : (r : ℕ) (w : Direction) → Order r w → (n k more : ℕ) 
 at_most_next r w o n k more xs g q = fits_front (Stands w.acked w.last w.left) w.accepted n k more xs w.line q (fits_good r w o g)
 
 -- its tests show what it is
-pub identified : (p : Profile) (r : ℕ) (w : Direction) → r ≤ window p → Order r w → (n k : ℕ) (xs : List Item) → IsGood w.far → w.line ≡ part n k 0 ∷ xs → IsIdentified p w n
+pub identified : (p : Profile) (r : ℕ) (w : Direction) → r ≤ window_of p → Order r w → (n k : ℕ) (xs : List Item) → IsGood w.far → w.line ≡ part n k 0 ∷ xs → IsIdentified p w n
 identified p r w l o n k xs g q =
     let h = near_real r w.first w.accepted n k 0 xs w.line q o.near in
     identified_by p r w n l o.valid_sizes h.0.0 h.0.1 h.1 (next_or n w.accepted (at_most_next r w o n k 0 xs g q))
@@ -114,7 +114,7 @@ compare (suc i) (suc j) = by_less (compare i j)
     by_less (inr (inl l)) = inr (inl (omega arith))
     by_less (inr (inr q)) = inr (inr (ap suc q))
 
-pub apart : (p : Profile) (r : ℕ) (w : Direction) → r ≤ window p → Order r w → (i j : ℕ) → w.acked ≤ i → i ≤ begun w → w.acked ≤ j → j ≤ begun w → pointer p w.first i ≡ pointer p w.first j → i ≡ j
+pub apart : (p : Profile) (r : ℕ) (w : Direction) → r ≤ window_of p → Order r w → (i j : ℕ) → w.acked ≤ i → i ≤ begun w → w.acked ≤ j → j ≤ begun w → pointer p w.first i ≡ pointer p w.first j → i ≡ j
 apart p r w l o i j a b c d e =
     let g : Weight → ℕ = λ s. s.flits in
     let i_low = upto-up g w.first w.acked i a in
@@ -158,7 +158,7 @@ whole r w o x xs q = behind_gathered w.far w.before x o.far (follows_front (AtEn
 pub list_step : (r : ℕ) (w : Direction) (e : Event) → Order r w → May r w e → places w ++ put_by w e ≡ taken_by w e ++ places (happens w e)
 list_step r w e o m = places_step w e o.accepted (accepts_below r w e o m)
 
-pub order_laws : (p : Profile) (r : ℕ) (w : Direction) → r ≤ window p → Order r w → Trained w → DirectionLaws p r w
+pub order_laws : (p : Profile) (r : ℕ) (w : Direction) → r ≤ window_of p → Order r w → Trained w → DirectionLaws p r w
 order_laws p r w l o t = record {
   acked = o.acked;
   accepted = o.accepted;
@@ -176,5 +176,5 @@ order_laws p r w l o t = record {
   apart = apart p r w l o;
 }
 
-pub laws_after : (p : Profile) (r : ℕ) (past : List Event) → r ≤ window p → MayAll r past → DirectionLaws p r (after past)
+pub laws_after : (p : Profile) (r : ℕ) (past : List Event) → r ≤ window_of p → MayAll r past → DirectionLaws p r (after past)
 laws_after p r past l m = order_laws p r (after past) l (order_after r past m) (trained_after r past m)

@@ -2,7 +2,7 @@
 -- of src/laws.rt that speak of two directions cite it.
 use Rattle.std.proofs.Common.{◌≡◌, ℕ, zero, suc, ◌+◌, ◌≤◌, List, ◌∷◌, inl, inr, sym, subst, arith}
 use Rattle.hmc_codes.specs.declared.profile.Profile.{Profile}
-use Rattle.hmc_numbers.specs.Pointers.{window}
+use Rattle.hmc_codes.specs.Profile.{window_of}
 use Rattle.hmc_numbers.specs.Direction.{Item, Direction, begun, front_or}
 use Rattle.hmc_numbers.specs.Events.{Reading, Event}
 use Rattle.hmc_numbers.specs.May.{IsEnd, CanReadAs}
@@ -72,7 +72,7 @@ token_laws r adv own other j i =
     let d = j.due in
     record { held = h; transit = t; used = u; due = d; returning = b; fits = omega arith; sum = omega arith }
 
-pub half_laws : (p : Profile) (r adv : ℕ) (own other : Half) → r ≤ window p → Joined r adv own other → Joined r adv other own → HalfLaws p r adv own other
+pub half_laws : (p : Profile) (r adv : ℕ) (own other : Half) → r ≤ window_of p → Joined r adv own other → Joined r adv other own → HalfLaws p r adv own other
 half_laws p r adv own other l j i =
     let t = token_laws r adv own other j i in
     record {
@@ -92,7 +92,7 @@ half_laws p r adv own other l j i =
 
 -- Pairs after a list of turns
 
-pub pair_laws : (p : Profile) (r adv : ℕ) (past : List Turn) → r ≤ window p → MayTurns r adv past → PairLaws p r adv (pair_after past)
+pub pair_laws : (p : Profile) (r adv : ℕ) (past : List Turn) → r ≤ window_of p → MayTurns r adv past → PairLaws p r adv (pair_after past)
 pair_laws p r adv past l m =
     let b = both_after r adv past m in
     let w = pair_after past in

@@ -1,12 +1,8 @@
 -- Retry pointers: numbers of flits modulo 512 or 2048, by the profile.
-use Rattle.std.specs.Prelude.{◌≡◌, ℕ, ◌+◌, ◌-◌, ◌%◌, ◌/◌, ◌<◌, List}
-use Rattle.hmc_codes.specs.Profile.{modulus_of}
+use Rattle.std.specs.Prelude.{◌≡◌, ℕ, ◌+◌, ◌-◌, ◌%◌, ◌<◌, List}
+use Rattle.hmc_codes.specs.Profile.{modulus_of, window_of}
 use Rattle.hmc_codes.specs.declared.profile.Profile.{Profile}
 use Rattle.hmc_numbers.specs.Weights.{Weight, flits_to}
-
--- half the modulus: a receiver takes a packet less than this behind for a repeat
-abbrev pub window : Profile → ℕ
-window profile = modulus_of profile / 2
 
 -- the FRP of the n-th packet: the flits up to and including it
 abbrev pub pointer : Profile → List Weight → ℕ → ℕ
@@ -19,4 +15,4 @@ IsNext p f n l frp seq = (frp ≡ (f + l) % modulus_of p) × (seq ≡ (n + 1) % 
 
 -- the test for a repeat: the FRP is less than the window behind
 abbrev pub IsBehind : Profile → (f frp : ℕ) → Type 0
-IsBehind p f frp = (f % modulus_of p + (modulus_of p - frp)) % modulus_of p < window p
+IsBehind p f frp = (f % modulus_of p + (modulus_of p - frp)) % modulus_of p < window_of p

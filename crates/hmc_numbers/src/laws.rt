@@ -13,7 +13,8 @@ ghost use Rattle.hmc_numbers.specs.Events.Reading.{as_clear, as_start};
 ghost use Rattle.hmc_numbers.specs.May.{CanReadAs, IsGood, IsShut, May};
 ghost use Rattle.hmc_numbers.specs.PairLaws.{HalfLaws, Points, Rising};
 ghost use Rattle.hmc_numbers.specs.Places.{places, put_by, taken_by};
-ghost use Rattle.hmc_numbers.specs.Pointers.{pointer, window};
+ghost use Rattle.hmc_codes.specs.Profile.{window_of};
+ghost use Rattle.hmc_numbers.specs.Pointers.{pointer};
 ghost use Rattle.hmc_numbers.specs.Tokens.{cost_accepted, cost_begun, due_tokens, held_tokens, returning_tokens, tokens_accepted, tokens_begun, transit_tokens, used_tokens};
 ghost use Rattle.hmc_numbers.specs.Turns.{MayCount, MayHere};
 ghost use Rattle.hmc_numbers.specs.Weights.{flits_to, size};
@@ -57,15 +58,15 @@ pub fn skips_no_packet()
 /// Where the retry buffer is no larger than the window, the tests of a receiver in Good show
 /// whether a packet is the next one or a repeat. So it is never out of order.
 pub fn shows_repeats()
-    ensures next { (profile : Profile) (retry n k : ℕ) (xs : List Item) → retry ≤ window profile →
+    ensures next { (profile : Profile) (retry n k : ℕ) (xs : List Item) → retry ≤ window_of profile →
         Always retry (λ w. IsGood w.far → w.line ≡ part n k 0 ∷ xs →
         n ≡ w.accepted + 1 → PassesNext profile w n) }
     ensures not_next { (profile : Profile) (retry n k : ℕ) (xs : List Item) →
-        retry ≤ window profile →
+        retry ≤ window_of profile →
         Always retry (λ w. IsGood w.far → w.line ≡ part n k 0 ∷ xs →
         n ≤ w.accepted → PassesNext profile w n → ⊥) }
     ensures repeated { (profile : Profile) (retry n k : ℕ) (xs : List Item) →
-        retry ≤ window profile →
+        retry ≤ window_of profile →
         Always retry (λ w. IsGood w.far → w.line ≡ part n k 0 ∷ xs →
         n ≤ w.accepted → PassesRepeat profile w n) }
 {}
@@ -73,7 +74,7 @@ pub fn shows_repeats()
 /// Where the retry buffer is no larger than the window, a return pointer names one number of
 /// packets between those acknowledged and those begun.
 pub fn shows_acknowledged()
-    ensures one { (profile : Profile) (retry i j : ℕ) → retry ≤ window profile →
+    ensures one { (profile : Profile) (retry i j : ℕ) → retry ≤ window_of profile →
         Always retry (λ w.
         w.acked ≤ i → i ≤ begun w → w.acked ≤ j → j ≤ begun w →
         pointer profile w.first i ≡ pointer profile w.first j → i ≡ j) }
@@ -151,12 +152,12 @@ pub fn keeps_tokens()
 
 /// All laws of a direction as one record, as the layers above cite them.
 pub fn in_order()
-    ensures laws { (profile : Profile) (retry : ℕ) → retry ≤ window profile →
+    ensures laws { (profile : Profile) (retry : ℕ) → retry ≤ window_of profile →
         Always retry (λ w. DirectionLaws profile retry w) }
 {}
 
 /// All laws of two directions as one record each, as the layers above cite them.
 pub fn joined()
-    ensures laws { (profile : Profile) (retry advertised : ℕ) → retry ≤ window profile →
+    ensures laws { (profile : Profile) (retry advertised : ℕ) → retry ≤ window_of profile →
         AlwaysBoth retry advertised (λ own other. HalfLaws profile retry advertised own other) }
 {}

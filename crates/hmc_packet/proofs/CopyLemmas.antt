@@ -1,8 +1,8 @@
 -- The copy of what came is a packet whose flits before the last are those that came, whatever came.
-use Rattle.std.proofs.Common.{◌≡◌, ◌≢◌, ◌∙◌, ◌<◌, ◌≤◌, ◌+◌, ◌-◌, ◌*◌, ◌/◌, ◌^◌, ℕ, Bool, true, false, cond, List, [], ◌++◌, length, take, drop, get_or, Option, Some, None, refl, sym, ap, subst, arith, append_assoc}
+use Rattle.std.proofs.Common.{◌≡◌, ◌≢◌, ◌∙◌, ◌≤◌, ◌+◌, ◌-◌, ◌*◌, ◌/◌, ℕ, Bool, true, false, cond, List, [], ◌++◌, length, take, drop, get_or, Option, Some, None, refl, sym, ap, subst, arith, append_assoc}
 use Rattle.std.specs.Prelude.{◌&&◌, not, option_and_then}
 use Rattle.std.specs.List.{concat}
-use Rattle.std.proofs.lemmas.Bool.{and_parts}
+use Rattle.std.proofs.lemmas.Bool.{and_parts, not-true}
 use Rattle.std.proofs.lemmas.List.{take_all, take-append-drop, length-take, length-drop, take_at, drop_at}
 use Rattle.hmc_codes.proofs.BytesLemmas.{IsBytes-append, IsBytes-take, IsBytes-drop}
 use Rattle.hmc_codes.specs.Commands.{layout_of, allows_of, is_flow}
@@ -35,8 +35,9 @@ use Rattle.hmc_packet.proofs.PoisonLemmas.{check_from, poison_in-check}
 use Rattle.hmc_packet.proofs.JudgementLemmas.{command_in-Names, Passes}
 use Rattle.hmc_packet.proofs.ReadLemmas.{IsWhole, seen_in-AreBytesOf}
 use Rattle.hmc_packet.proofs.FlitLemmas.{AreFlits, length-concat, cut-concat, concat-cut}
-use Rattle.hmc_packet.proofs.FrontLemmas.{cut-take, bytes_of-before, front-is}
+use Rattle.hmc_packet.proofs.FrontLemmas.{cut-take, bytes_of-before, front-is, not_null}
 use Rattle.hmc_packet.proofs.DraftLemmas.{take-two, length-front_bytes, last-at}
+use Rattle.hmc_packet.proofs.SpelledLemmas.{check_from-lt, kept-rrp}
 
 -- ---- what a head says of the bytes
 
@@ -53,10 +54,6 @@ kept_if : (test : Bool) (found head : Head) → cond test (some_head found) None
 kept_if true found head is = (refl, cc)
 kept_if false found head is = absurd cc
 
-not_false : (b : Bool) → not b ≡ true → b ≡ false
-not_false true is = absurd cc
-not_false false is = refl
-
 head_with-says : (c : Command) (word : ℕ) (head : Head) → head_with (layout_of c) c word ≡ Some head → (c ≡ head.command) × Says word head
 unfolding head_with
 head_with-says c word head is =
@@ -67,7 +64,7 @@ head_with-says c word head is =
     let same : c ≡ head.command = ap (λ (h : Head). h.command) kept.1 in (
       same,
       record {
-        no_flow = subst (λ (d : Command). is_flow (layout_of d) ≡ false) same (not_false (is_flow layout) parts.0);
+        no_flow = subst (λ (d : Command). is_flow (layout_of d) ≡ false) same (not-true (is_flow layout) parts.0);
         clean = subst (λ (d : Command). header_is_clean (layout_of d) word ≡ true) same parts.1;
         lng = ap (λ (h : Head). h.flits) kept.1;
       },
@@ -90,10 +87,6 @@ front-few bytes head is =
     allows_few head.command head.flits (subst (λ (n : ℕ). allows_of head.command n ≡ true) said.1.lng names.allowed)
 
 -- ---- the bytes of the copy
-
-check_from-lt : (poisoned : Bool) (right : ℕ) → right < 2 ^ 32 → check_from poisoned right < 2 ^ 32
-check_from-lt true right lt = omega arith
-check_from-lt false right lt = lt
 
 no_flow-fits : (layout : Layout) (t : Tail) → is_flow layout ≡ false → tails.TailFits layout t
 no_flow-fits layouts.Ask t no_flow = tt
@@ -126,11 +119,6 @@ kept-packet layouts.Null c h t poisoned payload no_flow none = absurd cc
 kept-packet layouts.Pret c h t poisoned payload no_flow none = absurd cc
 kept-packet layouts.Tret c h t poisoned payload no_flow none = absurd cc
 kept-packet layouts.Irtry c h t poisoned payload no_flow none = absurd cc
-
-kept-rrp : (layout : Layout) (t : Tail) → (tails.kept layout t).rrp ≡ t.rrp
-unfolding tails.kept
-kept-rrp layouts.Reply t = refl
-kept-rrp _ t = refl
 
 -- the front with a tail and a check
 abbrev with_end : List ℕ → (tail check : ℕ) → List ℕ
@@ -228,9 +216,6 @@ copied-front profile bytes head t good is after =
     ∙ sym (bytes_of-before profile q t.rrp (length bytes) (omega arith))
     ∙ ap (take (length bytes)) (sym found.bytes_are)
     ∙ with_end-front bytes tail (end_check bytes tail good)
-
-not_null : (layout : Layout) → is_flow layout ≡ false → layout ≢ layouts.Null
-not_null layout no_flow null = let clash : true ≡ false = ap is_flow (sym null) ∙ no_flow in absurd cc
 
 -- so its flits before the last are those that came
 pub copied-flits_before : (profile : Profile) (flits : List (List ℕ)) (half : List ℕ) (head : Head) (t : Tail) (good : Bool) (rrp : ℕ) → AreFlits flits → length flits ≡ head.flits - 1 →

@@ -102,15 +102,15 @@ unfolding headers.kept
 kept-slid layouts.Reply h = refl
 kept-slid _ h = refl
 
-not_flow-other : (layout : Layout) → is_flow layout ≡ false → layout ≢ layouts.Null
-not_flow-other layout no_flow null = let clash : true ≡ false = ap is_flow (sym null) ∙ no_flow in absurd cc
+pub not_null : (layout : Layout) → is_flow layout ≡ false → layout ≢ layouts.Null
+not_null layout no_flow null = let clash : true ≡ false = ap is_flow (sym null) ∙ no_flow in absurd cc
 
 -- a request's or response's first flit tells its head
 pub head_in-first : (profile : Profile) → (p : PacketFields) (rrp : ℕ) (first : List ℕ) (rest : List (List ℕ)) → IsPacket p → FitsProfile profile p rrp → is_flow (layout_of p.command) ≡ false → spelling profile p rrp ≡ first ∷ rest → head_in first ≡ Some (packet_head p)
 unfolding head_in head_with
 head_in-first profile p rrp first rest is pointer no_flow spelled =
     let layout = layout_of p.command in
-    let other = not_flow-other layout no_flow in
+    let other = not_null layout no_flow in
     let fields = IsHeader-fields p is in
     let word : header_in first ≡ header_word layout (header_fields p) = header_in-first profile p rrp first rest is other spelled ∙ header_in-bytes_of profile p rrp is in
     let clean : header_is_clean layout (header_in first) ≡ true = ap (header_is_clean layout) word ∙ headers.header_is_clean-word layout (header_fields p) fields (flow_header layout p is.layout) in

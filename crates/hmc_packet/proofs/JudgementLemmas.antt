@@ -2,7 +2,7 @@
 use Rattle.std.proofs.Common.{◌≡◌, ◌∙◌, ℕ, Bool, true, false, cond, eqb, Option, Some, None, Result, Ok, Err, List, refl, sym, ap, subst}
 use Rattle.std.specs.Prelude.{◌&&◌, not}
 use Rattle.std.specs.Option.{ok_or}
-use Rattle.std.proofs.lemmas.Bool.{eq-eqb, ne_eqb, and_parts}
+use Rattle.std.proofs.lemmas.Bool.{eq-eqb, ne_eqb, and_parts, not-true}
 use Rattle.hmc_codes.specs.declared.profile.Profile.{Profile}
 use Rattle.hmc_codes.specs.Commands.{code_of, layout_of, allows_of}
 use Rattle.hmc_codes.specs.declared.command.Command.{Command}
@@ -26,10 +26,6 @@ pub record Names (header : ℕ) (command : Command) : Type 0 where
   pub some : (code_of command ≡ 0 → ⊥)
   pub allowed : allows_of command (bits_from 7 5 header) ≡ true
 
-not_true : (b : Bool) → not b ≡ true → b ≡ false
-not_true true is = absurd cc
-not_true false is = refl
-
 kept_if : (test : Bool) (found command : Command) → cond test (Some found) None ≡ Some command → (test ≡ true) × (found ≡ command)
 kept_if true found command is = (refl, cc)
 kept_if false found command is = absurd cc
@@ -40,7 +36,7 @@ fitting-is code lng None command is = absurd cc
 fitting-is code lng (Some found) command is =
     let k = kept_if (not (eqb code 0) && allows_of found lng) found command is in
     let both = and_parts (not (eqb code 0)) (allows_of found lng) k.0 in
-    (ap Some k.1, not_true (eqb code 0) both.0, subst (λ (c : Command). allows_of c lng ≡ true) k.1 both.1)
+    (ap Some k.1, not-true (eqb code 0) both.0, subst (λ (c : Command). allows_of c lng ≡ true) k.1 both.1)
 
 pub command_in-Names : (header : ℕ) (command : Command) → command_in header ≡ Some command → Names header command
 unfolding command_in

@@ -17,6 +17,8 @@ pub mod LawLemmas
 pub mod GrowLemmas
 pub mod AloneLemmas
 pub mod CopyLemmas
+pub mod MaskLemmas
 pub mod Worked
 pub mod WorkedTwo
 pub mod WorkedLandings
+pub mod LandingRows

@@ -2,7 +2,7 @@
 use Rattle.std.proofs.Common.{◌≡◌, ◌≢◌, ◌∙◌, ◌<◌, ◌≤◌, inl, inr, lit<, ℕ, zero, suc, Bool, true, false, cond, Some, Result, Ok, Err, List, [], ◌∷◌, length, take, drop, refl, sym, ap, subst, arith}
 use Rattle.std.specs.Prelude.{◌&&◌, ◌==◌, nat_le}
 use Rattle.std.specs.List.{concat}
-use Rattle.std.proofs.lemmas.Bool.{eqb-true, and_parts, leb-true}
+use Rattle.std.proofs.lemmas.Bool.{eqb-true, and_parts, leb-true, false_from_ne_true}
 use Rattle.std.proofs.lemmas.List.{append-nil}
 use Rattle.hmc_codes.specs.declared.profile.Profile.{Profile}
 use Rattle.hmc_codes.specs.Commands.{layout_of, is_flow}
@@ -23,7 +23,7 @@ use Rattle.hmc_packet.proofs.PacketLemmas.{flits_of-few}
 use Rattle.hmc_packet.proofs.FlitLemmas.{AreFlits, length-cut, AreFlits-cut}
 use Rattle.hmc_packet.proofs.JudgementLemmas.{bytes_read-Passes}
 use Rattle.hmc_packet.proofs.SpelledLemmas.{length-bytes_of, bytes_of-Passes}
-use Rattle.hmc_packet.proofs.ReadOf.{is_null-is, is_null-null, lng_of-null, null_or_other, null-null_packet, spelling-other, spelling-null, header_in-front, lng_of-front, lng-bytes_of, read_of-spelling}
+use Rattle.hmc_packet.proofs.ReadOf.{is_null-is, is_null-null, lng_of-null, null_or_other, null-null_packet, spelling-other, spelling-null, header_in-front, lng_of-front, lng-bytes_of, read_of-spelling, seen_is, done}
 
 -- ---- as many flits as the packet has
 
@@ -88,18 +88,14 @@ named_by-first profile p rrp first rest is pointer other spelled =
 
 -- ---- what a flit reads as alone
 
-not_true : (b : Bool) → (b ≡ true → ⊥) → b ≡ false
-not_true true no_way = absurd (no_way refl)
-not_true false no_way = refl
-
 -- a flit that is no NULL reads alone as its bytes do, if its LNG is 1
 alone : (flit : List ℕ) → flit ≢ zero_flit → is_null_alone (flit ∷ []) ≡ false
 unfolding is_null_alone
-alone flit other = not_true (is_null flit) (λ is. other (is_null-is flit is))
+alone flit other = false_from_ne_true (is_null flit) (λ is. other (is_null-is flit is))
 
 long_alone : (flit : List ℕ) → lng_of flit ≢ 1 → has_length (flit ∷ []) ≡ false
 unfolding has_length
-long_alone flit many = not_true _ (λ is. many (sym (eqb-true 1 (lng_of flit) (and_parts (nat_le 1 (lng_of flit) && nat_le (lng_of flit) 17) (1 == lng_of flit) is).1)))
+long_alone flit many = false_from_ne_true _ (λ is. many (sym (eqb-true 1 (lng_of flit) (and_parts (nat_le 1 (lng_of flit) && nat_le (lng_of flit) 17) (1 == lng_of flit) is).1)))
 
 -- the first of several flits is Bad Length alone
 pub read_of-long : (profile : Profile) → (flit : List ℕ) → flit ≢ zero_flit → lng_of flit ≢ 1 → read_of profile (flit ∷ []) ≡ Err bads.Length
@@ -129,12 +125,6 @@ unfolding named_by
 named_read profile flit seen is =
     let passed = bytes_read-Passes profile flit seen is in
     passed.2.names ∙ ap (λ (c : Command). Some c) (sym (seen_in-command profile passed.0 passed.1 flit) ∙ ap (λ (s : Seen). s.packet.command) passed.3)
-
-abbrev done : Seen → Result Seen Bad
-done seen = Ok seen
-
-seen_is : (a b : Seen) → done a ≡ done b → a ≡ b
-seen_is a b is = cc
 
 null_read : (profile : Profile) → (seen : Seen) → read_of profile (zero_flit ∷ []) ≡ Ok seen → seen.packet.command ≡ Null
 unfolding read_of is_null_alone
@@ -188,14 +178,14 @@ lng_of-training = lit< tt
 too_long : (flit : List ℕ) (rest : List (List ℕ)) → 17 < lng_of flit → has_length (flit ∷ rest) ≡ false
 unfolding has_length
 too_long flit rest long =
-    not_true _ (λ is.
+    false_from_ne_true _ (λ is.
     let outer = and_parts (nat_le 1 (lng_of flit) && nat_le (lng_of flit) 17) (suc (length rest) == lng_of flit) is in
     let few = leb-true (lng_of flit) 17 (and_parts (nat_le 1 (lng_of flit)) (nat_le (lng_of flit) 17) outer.0).1 in
     omega arith)
 
 not_null_alone : (flit : List ℕ) (rest : List (List ℕ)) → flit ≢ zero_flit → is_null_alone (flit ∷ rest) ≡ false
 unfolding is_null_alone
-not_null_alone flit [] other = not_true (is_null flit) (λ is. other (is_null-is flit is))
+not_null_alone flit [] other = false_from_ne_true (is_null flit) (λ is. other (is_null-is flit is))
 not_null_alone flit (x ∷ xs) other = refl
 
 pub training-not_null : training_flit ≢ zero_flit

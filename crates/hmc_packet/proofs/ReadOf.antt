@@ -2,7 +2,7 @@
 use Rattle.std.proofs.Common.{◌≡◌, ◌≢◌, ◌∙◌, ◌≤◌, ◌*◌, ◌⊎◌, lit<, lit≤, inl, inr, ℕ, zero, suc, Bool, true, false, cond, Result, Ok, Err, List, [], ◌∷◌, ◌++◌, length, take, drop, refl, sym, ap, subst, arith}
 use Rattle.std.specs.Prelude.{◌&&◌, ◌==◌, nat_le, IfOk}
 use Rattle.std.specs.List.{concat}
-use Rattle.std.proofs.lemmas.Bool.{eqb-true, eq-eqb, and_parts, and_from, leb-true, le-leb}
+use Rattle.std.proofs.lemmas.Bool.{eqb-true, eq-eqb, and_parts, and_from, leb-true, le-leb, false_from_ne_true}
 use Rattle.std.proofs.lemmas.List.{nil_from_length, take-take, take-append-le}
 use Rattle.std.proofs.lemmas.Slice.Eq.{bytes_eq-Decides}
 use Rattle.hmc_codes.specs.declared.profile.Profile.{Profile}
@@ -99,13 +99,9 @@ pub lng_of-front : (bytes : List ℕ) → lng_of (take 16 bytes) ≡ bits_from 7
 unfolding lng_of
 lng_of-front bytes = ap (bits_from 7 5) (header_in-front bytes)
 
-not_true : (b : Bool) → (b ≡ true → ⊥) → b ≡ false
-not_true true no_way = absurd (no_way refl)
-not_true false no_way = refl
-
 not_null_alone : (flit : List ℕ) (rest : List (List ℕ)) → lng_of flit ≢ 0 → is_null_alone (flit ∷ rest) ≡ false
 unfolding is_null_alone
-not_null_alone flit [] some = not_true (is_null flit) (λ is. some (ap lng_of (is_null-is flit is) ∙ lng_of-null))
+not_null_alone flit [] some = false_from_ne_true (is_null flit) (λ is. some (ap lng_of (is_null-is flit is) ∙ lng_of-null))
 not_null_alone flit (x ∷ xs) some = refl
 
 has_its_length : (flit : List ℕ) (rest : List (List ℕ)) (n : ℕ) → lng_of flit ≡ n → suc (length rest) ≡ n → n ≤ 17 → has_length (flit ∷ rest) ≡ true
@@ -180,11 +176,11 @@ whole_bytes flits are is fits =
     let len = length-concat flits are in
     record { some = omega (arith, lng.0); size = len ∙ ap (λ (n : ℕ). 16 * n) (sym lng.2); are_bytes = fits }
 
-abbrev done : Seen → Result Seen Bad
+abbrev pub done : Seen → Result Seen Bad
 done seen = Ok seen
 
-done_is : (a b : Seen) → done a ≡ done b → a ≡ b
-done_is a b e = cc
+pub seen_is : (a b : Seen) → done a ≡ done b → a ≡ b
+seen_is a b e = cc
 
 null_fits : (profile : Profile) → FitsProfile profile null_packet 0
 null_fits One = record { below = lit< tt; forward = lit< tt; errstat = lit< tt; null = λ null. refl }
@@ -217,7 +213,7 @@ found_by : (profile : Profile) → (flits : List (List ℕ)) (seen : Seen) (null
     cond null (done (record { packet = null_packet; rrp = 0 })) (cond long (bytes_read profile (concat flits)) (Err bads.Length)) ≡ Ok seen → IsSpelled profile flits seen
 found_by profile flits seen true long are fits is-null is-long is =
     let nothing : Seen = record { packet = null_packet; rrp = 0 } in
-    subst (λ (s : Seen). IsSpelled profile flits s) (done_is nothing seen is) (null_is_spelled profile flits is-null)
+    subst (λ (s : Seen). IsSpelled profile flits s) (seen_is nothing seen is) (null_is_spelled profile flits is-null)
 found_by profile flits seen false true are fits is-null is-long is =
     other_is_spelled profile flits seen are (bytes_read-AreBytesOf profile (concat flits) seen (whole_bytes flits are is-long (fits is-null)) is)
 found_by profile flits seen false false are fits is-null is-long is = absurd cc

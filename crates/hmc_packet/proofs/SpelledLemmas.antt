@@ -60,10 +60,10 @@ packet_from-kept layouts.Irtry p rrp is = λ i. record p { flag = sym is.0.flag 
 packet_from-kept layouts.Ask p rrp is = λ i. record p { flag = sym is.0 i; errstat = sym is.1 i }
 packet_from-kept layouts.Reply p rrp is = λ i. record p { address = sym is i }
 
-rrp-kept : (layout : Layout) (t : Tail) → (tails.kept layout t).rrp ≡ t.rrp
+pub kept-rrp : (layout : Layout) (t : Tail) → (tails.kept layout t).rrp ≡ t.rrp
 unfolding tails.kept
-rrp-kept layouts.Reply t = refl
-rrp-kept _ t = refl
+kept-rrp layouts.Reply t = refl
+kept-rrp _ t = refl
 
 -- ---- the bytes
 
@@ -93,7 +93,7 @@ check_of-is : (poisoned : Bool) (bytes : List ℕ) → check_of poisoned bytes �
 unfolding check_of
 check_of-is poisoned bytes = refl
 
-check_from-lt : (poisoned : Bool) (right : ℕ) → right < 2 ^ 32 → check_from poisoned right < 2 ^ 32
+pub check_from-lt : (poisoned : Bool) (right : ℕ) → right < 2 ^ 32 → check_from poisoned right < 2 ^ 32
 check_from-lt true right lt = omega arith
 check_from-lt false right lt = lt
 
@@ -137,7 +137,7 @@ seen_in-bytes_of profile p rrp is lt =
     let payload : payload_in (bytes_of profile p rrp) ≡ p.payload = (bytes_of-HasParts profile p rrp).middle in
     let packet : packet_from layout p.command (header_of layout (header_in (bytes_of profile p rrp))) (tail_of profile layout (tail_in (bytes_of profile p rrp))) p.poisoned (payload_in (bytes_of profile p rrp)) ≡ p =
     (λ i. packet_from layout p.command (header i) (tail i) p.poisoned (payload i)) ∙ packet_from-kept layout p rrp is.layout in
-    let pointer : (tail_of profile layout (tail_in (bytes_of profile p rrp))).rrp ≡ rrp = ap (λ (t : Tail). t.rrp) tail ∙ rrp-kept layout (tail_fields p rrp) in
+    let pointer : (tail_of profile layout (tail_in (bytes_of profile p rrp))).rrp ≡ rrp = ap (λ (t : Tail). t.rrp) tail ∙ kept-rrp layout (tail_fields p rrp) in
     λ i. record { packet = packet i; rrp = pointer i }
 
 -- the bytes of a packet that is no NULL are read as it and its pointer

@@ -1,5 +1,5 @@
 -- A tail's fields and its word, both ways, in both profiles.
-use Rattle.std.proofs.Common.{◌≡◌, ◌<◌, ◌≤◌, ◌+◌, ◌*◌, ◌^◌, ◌∙◌, ℕ, zero, suc, Bool, true, refl, ap, arith, inl, inr}
+use Rattle.std.proofs.Common.{◌≡◌, ◌<◌, ◌≤◌, ◌+◌, ◌*◌, ◌^◌, ◌∙◌, ℕ, zero, suc, true, refl, ap, arith, inl, inr}
 use Rattle.std.specs.Prelude.{◌==◌, ◌&&◌}
 use Rattle.std.proofs.lemmas.Bool.{eqb-true, eq-eqb, and_parts, and_from, or_cases}
 use Rattle.hmc_codes.specs.Profile.{modulus_of}
@@ -64,15 +64,12 @@ three-fits Two n lt = (lt, lt, lt)
 
 -- ---- from the fields to the word
 
-ask_lt : (profile : Profile) (layout : Layout) (t : Tail) → IsTail profile t → tail_word profile layout t < 2 ^ 32
-unfolding tail_word
-ask_lt One layouts.Reply t is = omega arith
-ask_lt Two layouts.Reply t is = omega arith
-ask_lt One _ t is = omega arith
-ask_lt Two _ t is = omega arith
-
 pub tail_word-lt : (profile : Profile) (layout : Layout) (t : Tail) → IsTail profile t → tail_word profile layout t < 2 ^ 32
-tail_word-lt profile layout t is = ask_lt profile layout t is
+unfolding tail_word
+tail_word-lt One layouts.Reply t is = omega arith
+tail_word-lt Two layouts.Reply t is = omega arith
+tail_word-lt One _ t is = omega arith
+tail_word-lt Two _ t is = omega arith
 
 ask_one : (rrp frp seq slid rtc word : ℕ) → rrp < 512 → frp < 512 → seq < 8 → slid < 8 → rtc < 8 → word ≡ rrp + frp * 2 ^ 9 + seq * 2 ^ 18 + slid * 2 ^ 26 + rtc * 2 ^ 29 →
     (bits_from 0 9 word ≡ rrp) × (bits_from 9 9 word ≡ frp) × (bits_from 18 3 word ≡ seq) × (bits_from 26 3 word ≡ slid) × (bits_from 29 3 word ≡ rtc)
@@ -121,9 +118,6 @@ one_or_two frp is =
       | inr two ↦ let same = eqb-true frp 2 two in (omega arith, omega arith)
     ]
 
-both : (a b : Bool) → a ≡ true → b ≡ true → (a && b) ≡ true
-both a b p q = and_from a b p q
-
 -- the zeros that a layout wants, as a fact and as a test
 has_zeros-TailFits : (layout : Layout) (t : Tail) → TailFits layout t → has_zeros layout (kept layout t) ≡ true
 unfolding kept
@@ -131,11 +125,11 @@ has_zeros-TailFits layouts.Ask t fits = refl
 has_zeros-TailFits layouts.Reply t fits = refl
 has_zeros-TailFits layouts.Tret t fits = eq-eqb t.slid 0 fits
 has_zeros-TailFits layouts.Irtry t fits =
-    both _ _ (both _ _ (eq-eqb t.seq 0 fits.2) (eq-eqb t.slid 0 fits.3)) (both _ _ (eq-eqb t.rtc 0 fits.4) (start_or_clear t.frp fits.0 fits.1))
+    and_from _ _ (and_from _ _ (eq-eqb t.seq 0 fits.2) (eq-eqb t.slid 0 fits.3)) (and_from _ _ (eq-eqb t.rtc 0 fits.4) (start_or_clear t.frp fits.0 fits.1))
 has_zeros-TailFits layouts.Pret t fits =
-    both _ _ (both _ _ (eq-eqb t.frp 0 fits.0) (eq-eqb t.seq 0 fits.1)) (both _ _ (eq-eqb t.slid 0 fits.2) (eq-eqb t.rtc 0 fits.3))
+    and_from _ _ (and_from _ _ (eq-eqb t.frp 0 fits.0) (eq-eqb t.seq 0 fits.1)) (and_from _ _ (eq-eqb t.slid 0 fits.2) (eq-eqb t.rtc 0 fits.3))
 has_zeros-TailFits layouts.Null t fits =
-    both _ _ (both _ _ (eq-eqb t.rrp 0 fits.0) (eq-eqb t.frp 0 fits.1)) (both _ _ (eq-eqb t.seq 0 fits.2) (both _ _ (eq-eqb t.slid 0 fits.3) (eq-eqb t.rtc 0 fits.4)))
+    and_from _ _ (and_from _ _ (eq-eqb t.rrp 0 fits.0) (eq-eqb t.frp 0 fits.1)) (and_from _ _ (eq-eqb t.seq 0 fits.2) (and_from _ _ (eq-eqb t.slid 0 fits.3) (eq-eqb t.rtc 0 fits.4)))
 
 TailFits-has_zeros : (layout : Layout) (t : Tail) → has_zeros layout t ≡ true → TailFits layout t
 TailFits-has_zeros layouts.Ask t is = tt
@@ -163,7 +157,7 @@ pub tail_is_clean-word : (profile : Profile) (layout : Layout) (t : Tail) → Is
 unfolding tail_is_clean
 tail_is_clean-word profile layout t is fits =
     let fields = tail_of-word profile layout t is in
-    both _ _
+    and_from _ _
     (eq-eqb _ _ (ap (tail_word profile layout) fields ∙ tail_word-kept profile layout t))
     (ap (has_zeros layout) fields ∙ has_zeros-TailFits layout t fits)
 

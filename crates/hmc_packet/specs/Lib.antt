@@ -13,3 +13,6 @@ pub mod Copy
 pub mod Draft
 pub mod Landings
 pub mod Receptions
+pub mod Masks
+pub mod Rows
+pub mod LandingRows

@@ -1,8 +1,8 @@
 -- What the landing of a flit gives: its outcome, the return pointer that is taken, and whether a
 -- check succeeded. Each mode has its rows, and the first that fits is taken.
-use Rattle.std.specs.Prelude.{ℕ, ◌+◌, ◌-◌, ◌/◌, ◌%◌, Bool, true, false, ◌==◌, ◌&&◌, ◌||◌, nat_lt, nat_le, if◌then◌else◌, List, [], ◌∷◌, ◌++◌, length, Option, Some, None, Result, Ok, Err}
+use Rattle.std.specs.Prelude.{ℕ, ◌+◌, ◌-◌, ◌%◌, Bool, true, false, ◌==◌, ◌&&◌, ◌||◌, nat_lt, nat_le, if◌then◌else◌, List, [], ◌∷◌, ◌++◌, length, Option, Some, None, Result, Ok, Err}
 use Rattle.hmc_codes.specs.Commands.{layout_of}
-use Rattle.hmc_codes.specs.Profile.{modulus_of}
+use Rattle.hmc_codes.specs.Profile.{modulus_of, window_of}
 use Rattle.hmc_codes.specs.declared.layout.Layout.{Layout}
 use Rattle.hmc_codes.specs.declared.layout.Layout.TheVariants as layouts
 use Rattle.hmc_codes.specs.declared.profile.Profile.{Profile}
@@ -70,10 +70,6 @@ irtry_reception before kind rrp =
 abbrev pub abort_reception : LandingView → Option (Kind × ℕ) → Reception
 abort_reception view None = unchecked Quiet
 abort_reception view (Some irtry) = irtry_reception (view.run irtry.0) irtry.0 irtry.1
-
--- half of the modulus: how many flits behind the last accepted packet a repeat may end
-abbrev pub window_of : Profile → ℕ
-window_of profile = modulus_of profile / 2
 
 -- the packet is the next one: its pointer and its sequence number go on from the accepted packets
 abbrev pub is_next : Profile → LandingView → PacketFields → Bool
@@ -157,3 +153,9 @@ landed_with Repeat packet = words.Repeat
 landed_with (AbortedBad bad) packet = words.AbortedBad bad
 landed_with AbortedOrder packet = words.AbortedOrder
 landed_with (Ran kind) packet = words.Ran kind
+
+-- a packet arrived with this outcome, poisoned or not
+abbrev pub is_arrival : Outcome → Bool
+is_arrival Accepted = true
+is_arrival Poisoned = true
+is_arrival _ = false

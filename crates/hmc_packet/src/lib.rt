@@ -31,6 +31,7 @@ mod kind;
 mod landed;
 mod laws;
 mod link_laws;
+mod masks;
 mod outcome;
 mod packet;
 mod reading;
@@ -60,9 +61,10 @@ pub use laws::{
 };
 pub use link_laws::{
     copies_are_packets, copy_of_a_whole_packet_is_the_packet, flits_in_order_are_a_spelling,
-    irtry_is_read_alone, null_is_read_alone, numbers_and_poison_keep_a_packet,
-    packets_of_an_end_are_packets,
+    irtry_is_read_alone, landings_are_by_rows, null_is_read_alone,
+    numbers_and_poison_keep_a_packet, packets_of_an_end_are_packets,
 };
+pub use masks::{changes, under_mask};
 pub use outcome::Outcome;
 pub use packet::Packet;
 pub use reading::{header_in, is_null, lng_of, read};

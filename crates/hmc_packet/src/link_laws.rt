@@ -16,8 +16,10 @@ ghost use Rattle.hmc_packet.specs.Copy.{IsFront, IsTailAfter, copied_packet};
 ghost use Rattle.hmc_packet.specs.Draft.{front_bytes};
 ghost use Rattle.hmc_packet.specs.Irtry.{irtry_flit, irtry_in, irtry_packet};
 ghost use Rattle.hmc_packet.specs.Laws.{IsSentAs};
+ghost use Rattle.hmc_packet.specs.LandingRows.{reception_by_rows};
 ghost use Rattle.hmc_packet.specs.Packet.{PacketFields, IsPacket, flits_of, null_packet};
 ghost use Rattle.hmc_packet.specs.Reading.{read_of};
+ghost use Rattle.hmc_packet.specs.Receptions.{LandingView, reception_by};
 ghost use Rattle.hmc_packet.specs.Spelling.{spelling, training_flit};
 
 /// The flits of a packet in their order, each spelled with the return pointer of its own time, are
@@ -105,4 +107,10 @@ pub fn copy_of_a_whole_packet_is_the_packet()
         (layout_of p.command ≡ Ask → tail.slid ≡ p.slid) → tail.errstat ≡ p.errstat →
         copied_packet p.command (front_bytes p) tail good ≡
         record p { frp = tail.frp; seq = tail.seq; rtc = tail.rtc; poisoned = not good } }
+{}
+
+/// What the landing of a flit gives is what the first of its rows gives that gives something.
+pub fn landings_are_by_rows()
+    ensures { (profile : Profile) (view : LandingView) (flit : List ℕ) →
+        reception_by profile view flit ≡ reception_by_rows profile view flit }
 {}

@@ -104,12 +104,13 @@ impl Packet {
         (1 + self.payload.len() / 16) as u8
     }
 
-    /// A NULL: what a link sends where it has nothing to send.
-    pub fn null() -> Self
-        ensures { result ≡ null_packet }
+    /// A packet that has a command and a forward pointer alone: one between the ends of a link.
+    pub fn flow(command: Command, frp: u16) -> Self
+        requires { IsPacket (record null_packet { command = command; frp = frp }) }
+        ensures { result ≡ record null_packet { command = command; frp = frp } }
     {
         Packet {
-            command: Command::Null,
+            command,
             tag: 0,
             address: 0,
             cube: 0,
@@ -118,9 +119,16 @@ impl Packet {
             errstat: 0,
             rtc: 0,
             seq: 0,
-            frp: 0,
+            frp,
             poisoned: false,
             payload: Payload::empty(),
         }
+    }
+
+    /// A NULL: what a link sends where it has nothing to send.
+    pub fn null() -> Self
+        ensures { result ≡ null_packet }
+    {
+        Packet::flow(Command::Null, 0)
     }
 }

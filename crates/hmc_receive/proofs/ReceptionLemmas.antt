@@ -2,12 +2,12 @@
 use Rattle.std.proofs.Common.{◌≡◌, ◌≢◌, ◌∙◌, ◌+◌, ◌-◌, ◌%◌, ℕ, min, Bool, List, [], ◌∷◌, ◌++◌, length, Option, Some, None, Result, Ok, Err, refl, sym, ap, arith}
 use Rattle.std.specs.Prelude.{◌==◌, ◌&&◌, nat_le, nat_lt, if◌then◌else◌}
 use Rattle.std.proofs.lemmas.Grind.{common_steps}
+use Rattle.hmc_codes.proofs.General.{mod_again, eight_again}
 use Rattle.hmc_codes.specs.Commands.{layout_of}
-use Rattle.hmc_codes.specs.Profile.{modulus_of}
+use Rattle.hmc_codes.specs.Profile.{modulus_of, window_of}
 use Rattle.hmc_codes.specs.declared.layout.Layout.{Layout}
 use Rattle.hmc_codes.specs.declared.layout.Layout.TheVariants as layouts
 use Rattle.hmc_codes.specs.declared.profile.Profile.{Profile}
-use Rattle.hmc_codes.specs.declared.profile.Profile.TheVariants.{One, Two}
 use Rattle.hmc_packet.specs.declared.bad.Bad.{Bad}
 use Rattle.hmc_packet.specs.declared.bad.Bad.TheVariants as bads
 use Rattle.hmc_packet.specs.declared.kind.Kind.{Kind}
@@ -22,7 +22,7 @@ use Rattle.hmc_packet.specs.Landings.{ReceiverEntry, is_training}
 use Rattle.hmc_packet.specs.Packet.{PacketFields, flits_of}
 use Rattle.hmc_packet.specs.Parts.{lng_of}
 use Rattle.hmc_packet.specs.Reading.{is_null, read_of}
-use Rattle.hmc_packet.specs.Receptions.{LandingView, landing_view, unchecked, checked, irtry_reception, abort_reception, window_of, sequenced_outcome, packet_reception, read_reception, flits_reception, is_no_length, lng_with, good_reception, mode_reception, reception_by, reception_of}
+use Rattle.hmc_packet.specs.Receptions.{LandingView, landing_view, unchecked, checked, irtry_reception, abort_reception, sequenced_outcome, packet_reception, read_reception, flits_reception, is_no_length, lng_with, good_reception, mode_reception, reception_by, reception_of}
 use Rattle.hmc_receive.specs.Receiver.{ReceiverFields, view_of}
 use Rattle.hmc_receive.specs.StandsFor.{ReceiverStandsFor}
 
@@ -40,13 +40,6 @@ at-8 n = grind (arith, common_steps)
 irtry-min : (n : ℕ) (kind : Kind) (rrp : ℕ) → irtry_reception (min n 24) kind rrp ≡ irtry_reception n kind rrp
 irtry-min n kind rrp = λ i. checked (if at-24 n i then Ran kind else Quiet) (if from-24 n i then Some rrp else None)
 
-pub mod-add : (q : Profile) (a b : ℕ) → (a % modulus_of q + b) % modulus_of q ≡ (a + b) % modulus_of q
-mod-add One a b = omega arith
-mod-add Two a b = omega arith
-
-pub eight-add : (a b : ℕ) → (a % 8 + b) % 8 ≡ (a + b) % 8
-eight-add a b = omega arith
-
 -- ---- no landing outside Train tells two such views apart
 
 record Alike (q : Profile) (a b : LandingView) : Type 0 where
@@ -63,10 +56,10 @@ abort-alike q a b (Some irtry) like = irtry-alike q a b irtry.0 irtry.1 like
 
 sequenced-alike : (q : Profile) (a b : LandingView) (p : PacketFields) → Alike q a b → sequenced_outcome q a p ≡ sequenced_outcome q b p
 sequenced-alike q a b p like =
-    let next : (a.flits + flits_of p) % modulus_of q ≡ (b.flits + flits_of p) % modulus_of q = ap (λ (n : ℕ). (n + flits_of p) % modulus_of q) like.flits ∙ mod-add q b.flits (flits_of p) in
-    let seq : (a.packets + 1) % 8 ≡ (b.packets + 1) % 8 = ap (λ (n : ℕ). (n + 1) % 8) like.packets ∙ eight-add b.packets 1 in
+    let next : (a.flits + flits_of p) % modulus_of q ≡ (b.flits + flits_of p) % modulus_of q = ap (λ (n : ℕ). (n + flits_of p) % modulus_of q) like.flits ∙ mod_again q b.flits (flits_of p) in
+    let seq : (a.packets + 1) % 8 ≡ (b.packets + 1) % 8 = ap (λ (n : ℕ). (n + 1) % 8) like.packets ∙ eight_again b.packets 1 in
     let back : (a.flits + (modulus_of q - p.frp)) % modulus_of q ≡ (b.flits + (modulus_of q - p.frp)) % modulus_of q =
-    ap (λ (n : ℕ). (n + (modulus_of q - p.frp)) % modulus_of q) like.flits ∙ mod-add q b.flits (modulus_of q - p.frp) in
+    ap (λ (n : ℕ). (n + (modulus_of q - p.frp)) % modulus_of q) like.flits ∙ mod_again q b.flits (modulus_of q - p.frp) in
     λ i. if (p.frp == next i) && (p.seq == seq i) then (if p.poisoned then Poisoned else Accepted) else if nat_lt (back i) (window_of q) then Repeat else AbortedOrder
 
 packet-alike : (q : Profile) (a b : LandingView) (layout : Layout) (seen : Seen) → Alike q a b → packet_reception q a layout seen ≡ packet_reception q b layout seen

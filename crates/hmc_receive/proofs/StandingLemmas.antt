@@ -3,6 +3,7 @@ use Rattle.std.proofs.Common.{◌≡◌, ◌≢◌, ◌∙◌, ◌+◌, ◌%◌,
 use Rattle.std.specs.Prelude.{if◌then◌else◌}
 use Rattle.std.proofs.lemmas.List.{append-nil}
 use Rattle.std.proofs.lemmas.List.Sums.{sum_by-append, sum_by-cons}
+use Rattle.hmc_codes.proofs.General.{mod_again, eight_again}
 use Rattle.hmc_codes.specs.Profile.{modulus_of}
 use Rattle.hmc_codes.specs.declared.profile.Profile.{Profile}
 use Rattle.hmc_irtry.specs.Runs.{RunFields, run_of, after_seen}
@@ -19,7 +20,7 @@ use Rattle.hmc_packet.specs.Receptions.{landing_entry, reception_by}
 use Rattle.hmc_receive.specs.Receiver.{ReceiverFields, view_of, Accepts, Follows}
 use Rattle.hmc_receive.specs.StandsFor.{latest_of, latest, ReceiverStandsFor}
 use Rattle.hmc_receive.proofs.FollowLemmas.{train-before}
-use Rattle.hmc_receive.proofs.ReceptionLemmas.{mod-add, eight-add, reception-stands}
+use Rattle.hmc_receive.proofs.ReceptionLemmas.{reception-stands}
 
 -- ---- runs
 
@@ -89,7 +90,7 @@ pointer-more q r s xs [] same accepts is = accepts.0 ∙ is ∙ ap (λ (l : List
 pointer-more q r s xs (p ∷ rest) same accepts is =
     accepts.1
     ∙ (λ i. (is i + flits_of p) % modulus_of (same i))
-    ∙ mod-add q (flits_in xs) (flits_of p)
+    ∙ mod_again q (flits_in xs) (flits_of p)
     ∙ ap (λ (n : ℕ). (flits_in xs + n) % modulus_of q) (sym (one-flits p) ∙ ap (λ (l : List PacketFields). flits_in (p ∷ l)) (sym accepts.0))
     ∙ ap (λ (n : ℕ). n % modulus_of q) (sym (flits-append xs (p ∷ rest)))
 
@@ -98,7 +99,7 @@ count-more r s xs [] accepts is = accepts.1 ∙ is ∙ ap (λ (l : List PacketFi
 count-more r s xs (p ∷ rest) accepts is =
     accepts.2
     ∙ ap (λ (n : ℕ). (n + 1) % 8) is
-    ∙ eight-add (length xs) 1
+    ∙ eight_again (length xs) 1
     ∙ ap (λ (n : ℕ). n % 8) (sym (length-append xs (p ∷ [])))
     ∙ ap (λ (l : List PacketFields). length (xs ++ p ∷ l) % 8) (sym accepts.0)
 

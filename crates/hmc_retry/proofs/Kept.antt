@@ -6,6 +6,7 @@ use Rattle.std.specs.List.{position}
 use Rattle.std.proofs.lemmas.List.Quantifiers.{position-Some}
 use Rattle.std.proofs.Math.ListN.{get_or-append}
 use Rattle.std.proofs.Math.Seq.{get_or-append_seam}
+use Rattle.hmc_codes.proofs.General.{mod_again, mod_small}
 use Rattle.hmc_codes.specs.Profile.{modulus_of, most_retry}
 use Rattle.hmc_codes.specs.declared.profile.Profile.{Profile}
 use Rattle.hmc_codes.specs.declared.profile.Profile.TheVariants.{One, Two}
@@ -46,14 +47,6 @@ flits-more count more kept =
     take_of_take zero more kept = refl
     take_of_take (suc count) more [] = let e : suc count + more ≡ suc (count + more) = omega arith in rw e refl
     take_of_take (suc count) more (packet ∷ kept) = let e : suc count + more ≡ suc (count + more) = omega arith in rw e (ap (λ (l : List PacketFields). packet ∷ l) (take_of_take count more kept))
-
-mod_again : (profile : Profile) (a b : ℕ) → (a % modulus_of profile + b) % modulus_of profile ≡ (a + b) % modulus_of profile
-mod_again One a b = omega arith
-mod_again Two a b = omega arith
-
-mod_small : (profile : Profile) (a : ℕ) → a % modulus_of profile < modulus_of profile
-mod_small One a = omega arith
-mod_small Two a = omega arith
 
 pointer-drop : (profile : Profile) (base count : ℕ) (kept : List PacketFields) → ((place : ℕ) → place < length kept → HasPointer (modulus_of profile) base kept place)
     → (place : ℕ) → place < length (drop count kept) → HasPointer (modulus_of profile) ((base + flits_in (take count kept)) % modulus_of profile) (drop count kept) place

@@ -3,6 +3,7 @@ use Rattle.std.proofs.Common.{◌≡◌, ◌≢◌, ◌∙◌, ◌-◌, ◌⊎�
 use Rattle.std.specs.Prelude.{◌==◌, not, nat_le, if◌then◌else◌}
 use Rattle.std.proofs.lemmas.Grind.{common_steps}
 use Rattle.std.proofs.lemmas.Bool.{eqb-true, eq-eqb}
+use Rattle.hmc_codes.proofs.General.{suc-some}
 use Rattle.hmc_packet.specs.declared.kind.Kind.{Kind}
 use Rattle.hmc_packet.specs.declared.kind.Kind.TheVariants.{Start, Clear}
 use Rattle.hmc_irtry.specs.Burst.{BurstFields, next_of}
@@ -19,13 +20,6 @@ begun n left none lacks = omega arith
 
 fewer : (n left : ℕ) → left ≢ 0 → left ≡ lacking n → left - 1 ≡ lacking (suc n)
 fewer n left some lacks = omega arith
-
-some-left : (m : ℕ) → (suc m == 0) ≡ false
-some-left m = by_test (suc m == 0) refl
-  where
-    by_test : (b : Bool) → (suc m == 0) ≡ b → b ≡ false
-    by_test true is = let none : suc m ≡ 0 = eqb-true (suc m) 0 is in absurd (omega arith)
-    by_test false is = refl
 
 -- what an IRTRY of a kind makes of the counts
 abbrev pub clears_with : Kind → ℕ → ℕ
@@ -67,9 +61,9 @@ lacks-after of kind left c s is due = lacks-by (left == 0) of kind left c s refl
 -- the kind of a burst that isn't whole
 next-by : (kind : Kind) (left : ℕ) → next_of kind left ≡ (if not (left_of Clear kind left == 0) then Some Clear else if not (left_of Start kind left == 0) then Some Start else None)
 next-by Clear zero = refl
-next-by Clear (suc m) = ap (λ (b : Bool). if not b then Some Clear else if not (0 == 0) then Some Start else None) (sym (some-left m))
+next-by Clear (suc m) = ap (λ (b : Bool). if not b then Some Clear else if not (0 == 0) then Some Start else None) (sym (suc-some m))
 next-by Start zero = refl
-next-by Start (suc m) = ap (λ (b : Bool). if not b then Some Start else None) (sym (some-left m))
+next-by Start (suc m) = ap (λ (b : Bool). if not b then Some Start else None) (sym (suc-some m))
 
 pub burst-same : (kind : Kind) (left clears starts : ℕ) → Lacks kind left clears starts → next_of kind left ≡ burst_of clears starts
 burst-same kind left c s is =

@@ -6,6 +6,7 @@ use Rattle.std.proofs.lemmas.Bool.{and_parts, eqb-true}
 use Rattle.std.proofs.lemmas.Grind.{common_steps}
 use Rattle.std.proofs.lemmas.List.{append-nil, length-drop, get_or-drop, take-append-drop}
 use Rattle.std.proofs.lemmas.List.Sums.{sum_by-append}
+use Rattle.hmc_codes.proofs.General.{mod_again}
 use Rattle.hmc_codes.specs.Profile.{modulus_of}
 use Rattle.hmc_codes.specs.declared.profile.Profile.{Profile}
 use Rattle.hmc_codes.specs.declared.profile.Profile.TheVariants.{One, Two}
@@ -27,7 +28,7 @@ use Rattle.hmc_send.specs.Sender.{opening_sender, open_place, open_places, open_
 use Rattle.hmc_send.specs.StandsFor.{StandsFor}
 use Rattle.hmc_send.proofs.CopyLemmas.{head-says}
 use Rattle.hmc_send.proofs.KeptLemmas.{flits-bare, next-bare}
-use Rattle.hmc_send.proofs.Lists.{mod_again, flits-push, flits-split, flits-known, known-drop, known-take}
+use Rattle.hmc_send.proofs.Lists.{flits-push, flits-split, flits-known, known-drop, known-take}
 use Rattle.hmc_send.proofs.Parts.{stands-acknowledged}
 use Rattle.hmc_send.proofs.Steps.{IsAtEnd, at-end}
 
@@ -256,11 +257,11 @@ is-none : (u : Option UnderWay) → is_none u ≡ not (is_some u)
 is-none None = refl
 is-none (Some begun) = refl
 
-none-of : (u : Option UnderWay) → is_none u ≡ true → u ≡ None
+pub none-of : (u : Option UnderWay) → is_none u ≡ true → u ≡ None
 none-of None is = refl
 none-of (Some begun) is = absurd cc
 
-place-none : (o : Option Place) → is_none o ≡ true → o ≡ None
+pub place-none : (o : Option Place) → is_none o ≡ true → o ≡ None
 place-none None is = refl
 place-none (Some place) is = absurd cc
 

@@ -175,7 +175,7 @@ length-concat (x ∷ flits) each =
     let rest = length-concat flits (λ k lt. each (suc k) (omega arith)) in
     omega (arith, length-append x (concat flits), first, rest)
 
-errstat-fits : (profile : Profile) (layout : Layout) (errstat : ℕ) → FitsField (tail_layout profile).errstat (errstat_for profile layout errstat)
+pub errstat-fits : (profile : Profile) (layout : Layout) (errstat : ℕ) → FitsField (tail_layout profile).errstat (errstat_for profile layout errstat)
 errstat-fits One layouts.Reply errstat = omega arith
 errstat-fits Two layouts.Reply errstat = omega arith
 errstat-fits One _ errstat = omega arith

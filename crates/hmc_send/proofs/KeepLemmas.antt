@@ -1,10 +1,11 @@
 -- What each sender keeps, after a send.
-use Rattle.std.proofs.Common.{◌≡◌, ◌∙◌, ◌<◌, ◌≤◌, ◌+◌, ◌%◌, ℕ, zero, suc, min, Bool, true, false, List, [], ◌∷◌, ◌++◌, length, map, get_or, Option, Some, None, sym, ap, subst, arith}
+use Rattle.std.proofs.Common.{◌≡◌, ◌∙◌, ◌<◌, ◌≤◌, ◌+◌, ◌%◌, ℕ, zero, suc, min, List, [], ◌∷◌, ◌++◌, length, map, get_or, Option, Some, None, sym, ap, subst, arith}
 use Rattle.std.specs.Prelude.{All, nat_lt, if◌then◌else◌}
 use Rattle.std.proofs.lemmas.Grind.{common_steps}
 use Rattle.std.proofs.lemmas.List.{append-nil}
 use Rattle.std.proofs.lemmas.List.Elements.{All-append}
 use Rattle.std.proofs.lemmas.List.Sums.{sum_by_push}
+use Rattle.hmc_codes.proofs.General.{back-within}
 use Rattle.hmc_codes.specs.Profile.{modulus_of}
 use Rattle.hmc_codes.specs.declared.profile.Profile.{Profile}
 use Rattle.hmc_packet.specs.declared.kind.Kind.{Kind}
@@ -36,11 +37,6 @@ keep-quiet held shown is = record {
   others = few-others held.others;
   begun = is.begun;
 }
-
--- an IRTRY
-back-within : (b : Bool) (p n : ℕ) → p ≤ n → (if b then 0 else p) ≤ n
-back-within true p n le = omega arith
-back-within false p n le = le
 
 pub keep-irtry : (held : State) (of : Kind) (others shown : ℕ) → IsSender held → held.under_way ≡ None → others ≤ 64 → IsSender (record (with_irtry of held) { others = others; shown = shown })
 keep-irtry held of others shown is nothing few = record {

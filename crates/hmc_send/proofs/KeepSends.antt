@@ -1,9 +1,9 @@
 -- A send leaves what each sender keeps.
-use Rattle.std.proofs.Common.{◌≡◌, ◌∙◌, inl, inr, ◌<◌, ◌≤◌, ◌+◌, ◌%◌, ◌^◌, ℕ, suc, min, Bool, true, false, List, [], ◌∷◌, ◌++◌, length, map, Option, Some, None, refl, sym, ap, subst, arith, length-append}
+use Rattle.std.proofs.Common.{◌≡◌, ◌∙◌, inl, inr, ◌<◌, ◌≤◌, ◌+◌, ◌%◌, ◌^◌, ℕ, suc, min, Bool, true, false, List, [], ◌∷◌, ◌++◌, length, map, Option, Some, None, refl, sym, ap, subst, arith, length-append, leb-true}
 use Rattle.std.specs.Prelude.{nat_le, nat_lt, if◌then◌else◌}
 use Rattle.std.proofs.lemmas.Bool.{and_parts}
-use Rattle.std.proofs.lemmas.Grind.{common_steps}
 use Rattle.std.proofs.lemmas.Option.{slice_get_within}
+use Rattle.hmc_codes.proofs.General.{mod_small}
 use Rattle.hmc_codes.specs.Profile.{modulus_of}
 use Rattle.hmc_codes.specs.declared.profile.Profile.{Profile}
 use Rattle.hmc_codes.specs.declared.profile.Profile.TheVariants.{One, Two}
@@ -39,9 +39,6 @@ use Rattle.hmc_send.proofs.Lists.{length-known}
 use Rattle.hmc_send.proofs.Parts.{again-none, again-some, new-some}
 use Rattle.hmc_send.proofs.Steps.{new-none}
 
-le-of : (a b : ℕ) → nat_le a b ≡ true → a ≤ b
-le-of a b is = grind (arith, common_steps)
-
 -- a packet that is begun for the first time has its place in the buffer
 next-pointer : (held : State) (flits : ℕ) → IsSender held → held.under_way ≡ None → (held.pointer + flits) % modulus_of held.retry.profile ≡ next_pointer held.retry flits
 next-pointer held flits is nothing = (λ i. (held.pointer + flits) % modulus_of (sym is.profile i)) ∙ next-bare held flits is nothing
@@ -57,23 +54,23 @@ by_new held given flit is fit begun nothing can =
     let bare : IsBegunFit (Out flit what.New) given.front = subst (λ (u : Option UnderWay). IsTakenFit u (Out flit what.New) given.front) nothing begun in
     let few : can.packet.errstat < 2 ^ 7 = subst (IsBegunFit (Out flit what.New)) can.front bare in
     let errstat : FitsField (tail_layout q).errstat p.errstat = subst (λ (t : PacketFields). FitsField (tail_layout q).errstat t.errstat) same (errstat-taken q can.packet taken few) in
-    let room : flits_of can.packet ≤ room_of held.retry = subst (λ (n : ℕ). flits_of can.packet ≤ n) (room-bare held nothing) (le-of (flits_of can.packet) (view_held held given).room can.room) in
+    let room : flits_of can.packet ≤ room_of held.retry = subst (λ (n : ℕ). flits_of can.packet ≤ n) (room-bare held nothing) (leb-true (flits_of can.packet) (view_held held given).room can.room) in
     let fits : flits_of p ≤ room_of held.retry = subst (λ (t : PacketFields). flits_of t ≤ room_of held.retry) same room in
     let sendable : CanBeSent q (next_held held given.due p) = CanBeSent-next q held.pointer held.number (code_for given.due) p (inl mine.token) errstat in
     subst IsSender (sym (new-none held given flit nothing))
     (keep-kept held (next_held held given.due p) (part_after false flit None) _ is nothing fits (next-pointer held (flits_of p) is nothing) (omega arith) sendable
     (begun-known (after_put (next_held held given.due p) held.retry) (next_held held given.due p) (part_after false flit None) sendable))
 
-tret-errstat : (q : Profile) → FitsField (tail_layout q).errstat 0
-tret-errstat One = omega arith
-tret-errstat Two = omega arith
+pub zero-fits : (q : Profile) → FitsField (tail_layout q).errstat 0
+zero-fits One = omega arith
+zero-fits Two = omega arith
 
 by_tret : (held : State) (given : Given) (flit : List ℕ) → IsSender held → held.under_way ≡ None → may_return (view_held held given) ≡ true → IsSender (after_sent given what.Tret flit held)
 by_tret held given flit is nothing can =
     let q = held.retry.profile in
     let both = and_parts (nat_lt 0 given.due) (nat_le 1 (view_held held given).room) can in
-    let room : 1 ≤ room_of held.retry = subst (λ (n : ℕ). 1 ≤ n) (room-bare held nothing) (le-of 1 (view_held held given).room both.1) in
-    let sendable : CanBeSent q (next_held held given.due tret_packet) = CanBeSent-next q held.pointer held.number (code_for given.due) tret_packet (inr refl) (tret-errstat q) in
+    let room : 1 ≤ room_of held.retry = subst (λ (n : ℕ). 1 ≤ n) (room-bare held nothing) (leb-true 1 (view_held held given).room both.1) in
+    let sendable : CanBeSent q (next_held held given.due tret_packet) = CanBeSent-next q held.pointer held.number (code_for given.due) tret_packet (inr refl) (zero-fits q) in
     keep-kept held (next_held held given.due tret_packet) None _ is nothing room (next-pointer held 1 is nothing) (omega arith) sendable tt
 
 by_again : (held : State) (given : Given) (flit : List ℕ) (place : Place) → IsSender held → held.under_way ≡ None → (view_held held given).again ≡ Some place → IsSender (after_sent given what.Again flit held)
@@ -104,10 +101,6 @@ by_known held given flit part packet false is some same =
 copy-frp : (q : Profile) (sent : List (List ℕ)) (half : List ℕ) (slid errstat : ℕ) (good : Bool) (n : Numbers) → (copy_of q sent half slid errstat good n).frp ≡ n.frp
 unfolding copy_of copied_packet packet_from
 copy-frp q sent half slid errstat good n = refl
-
-mod_small : (q : Profile) (a : ℕ) → a % modulus_of q < modulus_of q
-mod_small One a = omega arith
-mod_small Two a = omega arith
 
 by_feed : (held : State) (given : Given) (flit head : List ℕ) (flits : ℕ) (n : Numbers) (part : Part) (feed : Feed) → IsSender held →
     held.under_way ≡ Some (record { part = part; place = Place.awaited head flits n }) → given.feed ≡ feed → IsFedAt held.retry part (Place.awaited head flits n) feed →

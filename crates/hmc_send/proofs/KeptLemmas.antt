@@ -2,25 +2,24 @@
 use Rattle.std.proofs.Common.{◌≡◌, ◌≢◌, ◌∙◌, ◌<◌, ◌≤◌, ◌+◌, ◌-◌, ◌%◌, ◌^◌, inl, inr, ℕ, zero, suc, Bool, true, false, List, [], ◌∷◌, ◌++◌, length, drop, map, get_or, Option, Some, None, refl, sym, ap, subst, arith}
 use Rattle.std.specs.Prelude.{All, slice_get, nat_le, if◌then◌else◌}
 use Rattle.std.proofs.lemmas.List.{append-nil}
-use Rattle.hmc_codes.specs.Table.{table_line}
+use Rattle.hmc_codes.proofs.General.{mod_again, mod_small}
 use Rattle.hmc_codes.specs.Profile.{modulus_of}
-use Rattle.hmc_codes.specs.declared.command.Command.{Command}
-use Rattle.hmc_codes.specs.declared.command.Command.TheVariants.{Null, Tret, Pret}
+use Rattle.hmc_codes.specs.declared.command.Command.TheVariants.{Null, Tret}
 use Rattle.hmc_codes.specs.declared.profile.Profile.{Profile}
 use Rattle.hmc_codes.specs.declared.profile.Profile.TheVariants.{One, Two}
 use Rattle.hmc_packet.specs.declared.feed.Feed.{Feed}
 use Rattle.hmc_packet.specs.Copy.{copied_packet}
 use Rattle.hmc_packet.specs.declared.feed.Feed.TheVariants.{Waiting, Whole, Last}
 use Rattle.hmc_packet.specs.Reading.{packet_from}
-use Rattle.hmc_packet.specs.Packet.{PacketFields, IsPacket, flits_of, null_packet}
+use Rattle.hmc_packet.specs.Packet.{PacketFields, IsPacket, flits_of}
 use Rattle.hmc_packet.specs.Spelling.{FitsProfile}
 use Rattle.hmc_packet.specs.Tail.{FitsField, tail_layout}
-use Rattle.hmc_packet.proofs.PacketLemmas.{IsPacket-numbered, IsPacket-tret, IsPacket-pret}
+use Rattle.hmc_packet.proofs.PacketLemmas.{IsPacket-numbered, IsPacket-tret}
 use Rattle.hmc_retry.specs.RetryBuffer.{RetryFields, IsRetryBuffer, room_of, next_pointer, pointer_after}
 use Rattle.hmc_retry.specs.RetryBuffer as retry
 use Rattle.hmc_tokens.specs.Account.{greatest_code, code_for, tokens_of_code}
 use Rattle.hmc_send.specs.declared.state.State.{State}
-use Rattle.hmc_send.specs.Given.{is_returning, IsTaken}
+use Rattle.hmc_send.specs.Given.{IsTaken}
 use Rattle.hmc_send.specs.Entries.{Part, UnderWay}
 use Rattle.hmc_send.specs.IsSender.{IsSender, IsSequenced, IsPlaceKept, IsBegunKept}
 use Rattle.hmc_send.specs.Kept.{CanBeSent, IsPartFit, copy_fed}
@@ -28,7 +27,7 @@ use Rattle.hmc_send.specs.Copies.{copy_of}
 use Rattle.hmc_send.specs.Places.{Place, flits_in, with_numbers, numbers_after}
 use Rattle.hmc_send.specs.Sender.{places_held, open_places, room_held}
 use Rattle.hmc_send.proofs.CopyLemmas.{null-flow}
-use Rattle.hmc_send.proofs.Lists.{mod_again, flits-known}
+use Rattle.hmc_send.proofs.Lists.{flits-known}
 
 pub cons-first : (l : List (List ℕ)) → 1 ≤ length l → l ≡ get_or l 0 [] ∷ drop 1 l
 cons-first [] some = absurd (omega arith)
@@ -44,10 +43,6 @@ get-at (x ∷ l) (suc n) p is = let at = get-at l n p is in let lt = at.0 in (om
 
 pub All-at : (P : PacketFields → Type 0) (l : List PacketFields) (n : ℕ) (p : PacketFields) → All P l → Some p ≡ slice_get l n → P p
 All-at P l n p all is = let at = get-at l n p is in subst P at.1 (all n p at.0)
-
-mod_small : (profile : Profile) (a : ℕ) → a % modulus_of profile < modulus_of profile
-mod_small One a = omega arith
-mod_small Two a = omega arith
 
 modulus-few : (profile : Profile) → modulus_of profile ≤ 2 ^ 11
 modulus-few One = omega arith
@@ -124,10 +119,3 @@ greatest-few (suc k) due = greatest-by k due (nat_le (tokens_of_code (suc k)) du
 pub code-few : (due : ℕ) → code_for due < 8
 unfolding code_for
 code-few due = let few = greatest-few 7 due in omega arith
-
--- the packets that return tokens or a pointer alone
-pub IsPacket-returning : (command : Command) → is_returning command ≡ true → IsPacket (record null_packet { command = command })
-unfolding table_line
-IsPacket-returning Tret is = IsPacket-tret 0 0 0 (omega arith) (omega arith) (omega arith)
-IsPacket-returning Pret is = IsPacket-pret
-IsPacket-returning _ is = absurd cc

@@ -25,3 +25,4 @@ pub mod WorkedLinkThrough
 mod WorkedLinkCalls
 mod WorkedLinkUnlock
 pub mod WorkedLinkTwo
+pub mod SendRows

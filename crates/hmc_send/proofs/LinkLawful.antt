@@ -1,6 +1,7 @@
 -- What a lawful list says of its newest entry.
 use Rattle.std.proofs.Common.{◌≡◌, ◌∙◌, ℕ, Bool, true, false, not, ◌&&◌, List, ◌∷◌, Option, Some, None, refl, sym, ap}
 use Rattle.std.specs.Prelude.{slice_get}
+use Rattle.std.proofs.lemmas.Bool.{and_parts, not-true}
 use Rattle.hmc_codes.specs.Link.{LinkFields}
 use Rattle.hmc_packet.specs.declared.feed.Feed.{Feed}
 use Rattle.hmc_packet.specs.declared.feed.Feed.TheVariants.{Waiting}
@@ -15,26 +16,18 @@ use Rattle.hmc_send.specs.Choice.{choice}
 use Rattle.hmc_send.specs.LinkCalls.{entry_if, has_room, holds_packet, is_full, view_in, sent_entry, landed_front, may_pass_on, names_flits, next_entry, IsLawful}
 use Rattle.hmc_send.specs.declared.toward.Toward.{Toward}
 use Rattle.hmc_send.specs.LinkEntries.{LinkEntry, receiver_entries}
-use Rattle.hmc_send.specs.LinkLines.{StampedFlit, line, under_mask, passes}
+use Rattle.hmc_packet.specs.Masks.{under_mask}
+use Rattle.hmc_send.specs.LinkLines.{StampedFlit, line, passes}
 use Rattle.hmc_send.specs.Places.{is_token}
 
 if_made : (b : Bool) (a e : LinkEntry) → entry_if b a ≡ Some e → b ≡ true
 if_made true a e is = refl
 if_made false a e is = absurd cc
 
-both_true : (a b : Bool) → (a && b) ≡ true → (a ≡ true) × (b ≡ true)
-both_true true true is = (refl, refl)
-both_true true false is = absurd cc
-both_true false b is = absurd cc
-
-not_true : (b : Bool) → not b ≡ true → b ≡ false
-not_true true is = absurd cc
-not_true false is = refl
-
 -- the output queue had room for the packet, which takes tokens
 pub lawful-handed : (link : LinkFields) (past : List LinkEntry) (d : Toward) (packet : PacketFields) → IsLawful link (LinkEntry.handed d packet ∷ past) → (has_room link d past ≡ true) × (is_token packet ≡ true)
 unfolding IsLawful next_entry
-lawful-handed link past d packet lawful = both_true _ _ (if_made (has_room link d past && is_token packet) (LinkEntry.handed d packet) (LinkEntry.handed d packet) lawful.0)
+lawful-handed link past d packet lawful = and_parts _ _ (if_made (has_room link d past && is_token packet) (LinkEntry.handed d packet) (LinkEntry.handed d packet) lawful.0)
 
 -- the buffer held a packet
 pub lawful-taken : (link : LinkFields) (past : List LinkEntry) (d : Toward) → IsLawful link (LinkEntry.taken d ∷ past) → holds_packet link d past ≡ true
@@ -44,7 +37,7 @@ lawful-taken link past d lawful = if_made (holds_packet link d past) (LinkEntry.
 -- a cut-through might be begun, and its head names its length
 pub lawful-through : (link : LinkFields) (past : List LinkEntry) (d : Toward) (head : List ℕ) (flits : ℕ) → IsLawful link (LinkEntry.through d head flits ∷ past) → (may_pass_on (view_in link d past Waiting) flits ≡ true) × (names_flits flits (head_in head) ≡ true)
 unfolding IsLawful next_entry
-lawful-through link past d head flits lawful = both_true _ _ (if_made (may_pass_on (view_in link d past Waiting) flits && names_flits flits (head_in head)) (LinkEntry.through d head flits) (LinkEntry.through d head flits) lawful.0)
+lawful-through link past d head flits lawful = and_parts _ _ (if_made (may_pass_on (view_in link d past Waiting) flits && names_flits flits (head_in head)) (LinkEntry.through d head flits) (LinkEntry.through d head flits) lawful.0)
 
 -- the line had room, and the flit is the choice of the sender
 pub record IsSend (link : LinkFields) (past : List LinkEntry) (d : Toward) (feed : Feed) (as_what : What) (flit : List ℕ) : Type 0 where
@@ -86,7 +79,7 @@ by_front link past d mask flit outcome (Some front) some is =
       is_front = some;
       flit_is = sym found.1;
       outcome_is = sym found.2 ∙ ap (λ (x : List ℕ). (reception_of link.profile (receiver_entries d past) x).outcome) found.1;
-      caught = ap (passes link.profile d past mask) (sym found.1) ∙ not_true (passes link.profile d past mask f) found.0;
+      caught = ap (passes link.profile d past mask) (sym found.1) ∙ not-true (passes link.profile d past mask f) found.0;
     }
 
 pub lawful-landed : (link : LinkFields) (past : List LinkEntry) (d : Toward) (mask flit : List ℕ) (outcome : Outcome) → IsLawful link (LinkEntry.landed d mask flit outcome ∷ past) → IsLanding link past d mask flit outcome

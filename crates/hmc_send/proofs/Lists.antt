@@ -1,11 +1,9 @@
 -- Lists of places.
-use Rattle.std.proofs.Common.{◌≡◌, ◌∙◌, ◌<◌, ◌≤◌, ◌+◌, ◌-◌, ◌%◌, ℕ, zero, suc, List, [], ◌∷◌, ◌++◌, length, take, drop, map, get_or, Option, Some, None, refl, sym, ap, arith}
+use Rattle.std.proofs.Common.{◌≡◌, ◌∙◌, ◌<◌, ◌≤◌, ◌+◌, ◌-◌, ℕ, zero, suc, List, [], ◌∷◌, ◌++◌, length, take, drop, map, get_or, Option, Some, None, refl, sym, ap, arith}
 use Rattle.std.specs.Prelude.{slice_get}
 use Rattle.std.proofs.lemmas.List.{take-append-drop}
 use Rattle.std.proofs.lemmas.List.Sums.{sum_by_push, sum_by-cons, sum_by-append}
 use Rattle.hmc_codes.specs.declared.profile.Profile.{Profile}
-use Rattle.hmc_codes.specs.declared.profile.Profile.TheVariants.{One, Two}
-use Rattle.hmc_codes.specs.Profile.{modulus_of}
 use Rattle.hmc_packet.specs.Packet.{PacketFields, flits_of, null_packet}
 use Rattle.hmc_packet.specs.declared.feed.Feed.TheVariants.{Waiting, Whole}
 use Rattle.hmc_retry.specs.RetryBuffer as retry
@@ -15,13 +13,6 @@ use Rattle.hmc_send.specs.Places.{Place, flits_at, flits_in, place_at, with_last
 use Rattle.hmc_send.specs.Sender.{open_places}
 
 -- ---- numbers
-
-pub mod_again : (profile : Profile) (a b : ℕ) → (a % modulus_of profile + b) % modulus_of profile ≡ (a + b) % modulus_of profile
-mod_again One a b = omega arith
-mod_again Two a b = omega arith
-
-pub eight_again : (a b : ℕ) → (a % 8 + b) % 8 ≡ (a + b) % 8
-eight_again a b = omega arith
 
 -- ---- a place more
 

@@ -20,11 +20,12 @@ use Rattle.hmc_send.specs.declared.numbers.Numbers.{Numbers}
 use Rattle.hmc_send.specs.Places.{Place, flits_at, flits_in, pointer_of, number_of, numbers_after, place_at, with_last}
 use Rattle.hmc_send.specs.Sender.{open_places, places_held, position_held, view_held, retry_fed, after_new, after_again, part_of, after_sent, after_ran, after_acknowledged, through_numbers, after_through}
 use Rattle.hmc_send.specs.StandsFor.{StandsFor, is_new}
-use Rattle.hmc_send.proofs.Lists.{mod_again, eight_again, flits-push, drop-push, take-push, length-push, place-push, last-push, last-same, last-known, length-known, get-known, known-push, open-known, fed-whole}
+use Rattle.hmc_send.proofs.Lists.{flits-push, drop-push, take-push, length-push, place-push, last-push, last-same, last-known, length-known, get-known, known-push, open-known, fed-whole}
 use Rattle.std.proofs.lemmas.Grind.{common_steps}
 use Rattle.std.proofs.lemmas.List.{drop-drop}
 use Rattle.std.proofs.lemmas.List.Sums.{sum_by-append}
 use Rattle.std.proofs.Math.Seq.{take-add}
+use Rattle.hmc_codes.proofs.General.{mod_again, eight_again}
 use Rattle.hmc_retry.specs.RetryBuffer as retry
 use Rattle.hmc_send.proofs.Lists.{drop-last, take-last, length-last, flits-split, flits-known, known-drop, known-take}
 use Rattle.hmc_send.proofs.Steps.{IsAtEnd, IsBegun, nothing-begun, some-begun, others-more, shown-same, bare-kept, position-end}

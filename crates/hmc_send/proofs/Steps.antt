@@ -3,6 +3,7 @@ use Rattle.std.proofs.Common.{◌≡◌, ◌∙◌, ◌≤◌, ◌+◌, ◌-◌,
 use Rattle.std.specs.Prelude.{◌==◌, if◌then◌else◌, is_none}
 use Rattle.std.proofs.lemmas.List.{append-nil, length-drop}
 use Rattle.std.proofs.lemmas.Bool.{eq-eqb}
+use Rattle.hmc_codes.proofs.General.{mod_again, eight_again}
 use Rattle.hmc_codes.specs.Profile.{modulus_of}
 use Rattle.hmc_packet.specs.declared.kind.Kind.{Kind}
 use Rattle.hmc_packet.specs.declared.kind.Kind.TheVariants as kind
@@ -19,7 +20,7 @@ use Rattle.hmc_send.specs.Places.{Place, flits_in, pointer_of, number_of, next_p
 use Rattle.hmc_send.specs.Sender.{open_places, places_held, position_held, view_held, with_kept, next_held, after_new, part_of, after_sent}
 use Rattle.hmc_send.specs.StandsFor.{StandsFor, is_new}
 use Rattle.hmc_send.proofs.Bursts.{lacks-after, left-none, left-some, begins-clears, one_more}
-use Rattle.hmc_send.proofs.Lists.{mod_again, eight_again, flits-push, drop-push, take-push, length-push, place-push, length-known, known-push, get-none, open-known}
+use Rattle.hmc_send.proofs.Lists.{flits-push, drop-push, take-push, length-push, place-push, length-known, known-push, get-none, open-known}
 use Rattle.hmc_send.proofs.Views.{lacks}
 
 -- ---- what is under way

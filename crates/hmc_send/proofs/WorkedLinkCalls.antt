@@ -32,7 +32,8 @@ use Rattle.hmc_send.specs.Entries.{unfinished, places, taken_fronts, acked, clea
 use Rattle.hmc_send.specs.LinkCalls.{LinkCall, next_entry, IsLawful, entries_after_calls}
 use Rattle.hmc_send.specs.LinkEntries.{LinkEntry, receiver_entries, handed_packets, takes}
 use Rattle.hmc_send.specs.declared.toward.Toward.TheVariants.{Forth, Back}
-use Rattle.hmc_send.specs.LinkLines.{under_mask, sent_flits, landings, line, is_pending_changed, passes}
+use Rattle.hmc_packet.specs.Masks.{under_mask}
+use Rattle.hmc_send.specs.LinkLines.{sent_flits, landings, line, is_pending_changed, passes}
 use Rattle.hmc_send.specs.LinkSenders.{given_after, sender_entries, tokens}
 use Rattle.hmc_send.specs.Places.{flit_of, tret_packet}
 use Rattle.hmc_send.proofs.WorkedLinkWords.{link, trained, flit_1, flit_6, flit_7, flit_14}

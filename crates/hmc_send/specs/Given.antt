@@ -1,8 +1,6 @@
 -- What a send is given, and what it leaves of it.
-use Rattle.std.specs.Prelude.{◌≡◌, ◌<◌, ◌^◌, ℕ, ◌-◌, Bool, true, false, List, slice_get, Option, Some, None, IfSome}
+use Rattle.std.specs.Prelude.{◌≡◌, ◌<◌, ◌^◌, ℕ, ◌-◌, Bool, false, List, slice_get, Option, Some, None, IfSome}
 use Rattle.hmc_codes.specs.Commands.{is_flow, layout_of}
-use Rattle.hmc_codes.specs.declared.command.Command.{Command}
-use Rattle.hmc_codes.specs.declared.command.Command.TheVariants.{Tret, Pret}
 use Rattle.hmc_codes.specs.declared.profile.Profile.{Profile}
 use Rattle.hmc_codes.specs.declared.profile.Profile.TheVariants.{Two}
 use Rattle.hmc_packet.specs.declared.feed.Feed.{Feed}
@@ -44,12 +42,6 @@ pub record IsTaken (profile : Profile) (packet : PacketFields) : Type 0 where
 abbrev pub IsFrontFit : Profile → Option PacketFields → Type 0
 IsFrontFit profile None = Unit {0}
 IsFrontFit profile (Some packet) = IsTaken profile packet
-
--- TRET and PRET
-abbrev pub is_returning : Command → Bool
-is_returning Tret = true
-is_returning Pret = true
-is_returning _ = false
 
 -- how many fronts are taken by a send of none of the cases before new packets
 abbrev pub begun_fronts : Sent → ℕ

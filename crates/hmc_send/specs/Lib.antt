@@ -14,3 +14,4 @@ pub mod LinkLines
 pub mod LinkTokens
 pub mod LinkSenders
 pub mod LinkCalls
+pub mod SendRows

@@ -12,7 +12,8 @@ use Rattle.hmc_send.specs.declared.sent.Sent.TheVariants.{Out}
 use Rattle.hmc_send.specs.Choice.{SendView, view_after, choice, may_begin, is_free}
 use Rattle.hmc_send.specs.declared.toward.Toward.{Toward}
 use Rattle.hmc_send.specs.LinkEntries.{LinkEntry, receiver_entries, accepted_packets, takes}
-use Rattle.hmc_send.specs.LinkLines.{StampedFlit, line, under_mask, passes}
+use Rattle.hmc_packet.specs.Masks.{under_mask}
+use Rattle.hmc_send.specs.LinkLines.{StampedFlit, line, passes}
 use Rattle.hmc_send.specs.LinkSenders.{sender_entries, given_in, queue_in}
 use Rattle.hmc_send.specs.Places.{is_token}
 

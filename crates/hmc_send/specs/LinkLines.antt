@@ -1,10 +1,9 @@
--- The line of each direction, what a mask changes, and which changes pass the checks.
-use Rattle.std.specs.Prelude.{ℕ, Bool, false, not, ◌&&◌, ◌||◌, if◌then◌else◌, List, [], ◌∷◌, map, length, drop, zip, bit_xor}
-use Rattle.std.specs.Str.{bytes_eq}
-use Rattle.hmc_codes.specs.Flit.{zero_flit}
+-- The line of each direction, and which changes pass the checks.
+use Rattle.std.specs.Prelude.{ℕ, Bool, false, ◌&&◌, ◌||◌, if◌then◌else◌, List, [], ◌∷◌, length, drop}
 use Rattle.hmc_codes.specs.declared.profile.Profile.{Profile}
 use Rattle.hmc_packet.specs.declared.outcome.Outcome.{Outcome}
 use Rattle.hmc_packet.specs.declared.outcome.Outcome.TheVariants.{Gathered}
+use Rattle.hmc_packet.specs.Masks.{changes}
 use Rattle.hmc_packet.specs.Receptions.{reception_of}
 use Rattle.hmc_send.specs.declared.toward.Toward.{Toward}
 use Rattle.hmc_send.specs.LinkEntries.{LinkEntry, other, same_way, push_if, count_if, receiver_entries, accepted_packets}
@@ -36,14 +35,6 @@ landings d (_ ∷ past) = landings d past
 -- the line: the flits that were sent and haven't landed
 unfoldable pub line : Profile → Toward → List LinkEntry → List StampedFlit
 line profile d past = drop (landings d past) (sent_flits profile d past)
-
--- a flit with the bits of a mask turned over
-abbrev pub under_mask : (mask flit : List ℕ) → List ℕ
-under_mask mask flit = map (λ pair. bit_xor pair.0 pair.1) (zip mask flit)
-
--- a flit is changed where its mask isn't zero
-abbrev pub changes : (mask : List ℕ) → Bool
-changes mask = not (bytes_eq mask zero_flit)
 
 -- whether a changed flit is pending, after a landing
 abbrev pub changed_after : (mask : List ℕ) → Outcome → (before : Bool) → Bool

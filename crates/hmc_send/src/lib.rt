@@ -4,7 +4,8 @@
 //! counted runs of Starts, acknowledgements, and begun cut-throughs (`specs/Entries.antt`). From
 //! that list the definitions read the places, which are the packets in the order in which they were
 //! begun for the first time, how many are acknowledged, the position, bursts, and the room.
-//! `choice` says what a send gives, as the first of ten cases that applies (`specs/Choice.antt`).
+//! `choice` says what a send gives, as the first of ten cases that applies (`specs/Choice.antt`);
+//! `specs/SendRows.antt` has the same as ten rows, and [`sends_are_by_rows`] says so.
 //!
 //! A [`Sender`] holds a retry buffer, the packet under way, a burst, and a few numbers. `StandsFor`
 //! says which lists it stands for, one fact a field: a new one for the empty list, and each call
@@ -15,6 +16,7 @@
 
 mod calls;
 mod copy;
+mod laws;
 mod numbers;
 mod sender;
 mod sent;
@@ -22,6 +24,8 @@ mod state;
 mod toward;
 mod under_way;
 
+pub use hmc_packet::{Kind, Mode, View, What};
+pub use laws::sends_are_by_rows;
 pub use numbers::Numbers;
 pub use sender::Sender;
 pub use sent::Sent;

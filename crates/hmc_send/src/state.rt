@@ -10,14 +10,12 @@ ghost use Rattle.hmc_send.specs.declared.sent.Sent.TheVariants.{Out};
 ghost use Rattle.hmc_send.specs.Choice.{irtry_due, irtry_sent, what_of, is_train};
 ghost use Rattle.hmc_send.specs.Entries.{enough_others, part_after};
 ghost use Rattle.hmc_send.specs.Kept.{AreNumbers, CanBeSent};
-ghost use Rattle.hmc_packet.specs.Packet.{null_packet};
-ghost use Rattle.hmc_send.specs.Given.{is_returning};
 ghost use Rattle.hmc_send.specs.Places.{flit_of, numbers_after, tret_packet, pret_packet};
 ghost use Rattle.hmc_send.specs.Sender.{with_irtry, others_after};
 
 use crate::under_way::{UnderWay, first_flit, flit_of};
 use crate::{Numbers, Sent};
-use hmc_codes::{Command, Flit, Payload, Profile, ZERO_FLIT};
+use hmc_codes::{Command, Flit, Profile, ZERO_FLIT};
 use hmc_irtry::{Burst, irtry};
 use hmc_packet::{Draft, Feed, Kind, Mode, Packet, TRAINING_FLIT, View, What, constant_flits};
 use hmc_retry::RetryBuffer;
@@ -543,32 +541,11 @@ pub fn is_train(mode: Mode) -> bool
     }
 }
 
-// The flow packet with a command.
-fn flow(command: Command) -> Packet
-    requires { is_returning command ≡ true }
-    ensures { result ≡ record null_packet { command = command } }
-{
-    Packet {
-        command,
-        tag: 0,
-        address: 0,
-        cube: 0,
-        slid: 0,
-        flag: false,
-        errstat: 0,
-        rtc: 0,
-        seq: 0,
-        frp: 0,
-        poisoned: false,
-        payload: Payload::empty(),
-    }
-}
-
 // The packet that returns tokens alone.
 fn tret() -> Packet
     ensures { result ≡ tret_packet }
 {
-    flow(Command::Tret)
+    Packet::flow(Command::Tret, 0)
 }
 
 // A return pointer alone, as a flit.
@@ -576,5 +553,5 @@ fn pret(profile: Profile, rrp: u16) -> Flit
     requires { rrp < modulus_of profile }
     ensures { result ≡ flit_of profile pret_packet rrp 0 }
 {
-    flit_of(profile, &flow(Command::Pret), rrp, 0)
+    flit_of(profile, &Packet::flow(Command::Pret, 0), rrp, 0)
 }

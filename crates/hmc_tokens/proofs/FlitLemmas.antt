@@ -4,7 +4,7 @@ use Rattle.std.proofs.lemmas.List.Sums.{sum_by-cons, sum_by_push}
 use Rattle.hmc_packet.specs.Packet.{PacketFields, flits_of}
 
 -- each packet has a flit
-length_within : (packets : List PacketFields) → length packets ≤ sum_by flits_of packets
+pub length_within : (packets : List PacketFields) → length packets ≤ sum_by flits_of packets
 length_within [] = omega arith
 length_within (packet ∷ rest) = omega (arith, sum_by-cons flits_of packet rest, length_within rest)
 

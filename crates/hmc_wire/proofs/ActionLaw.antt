@@ -3,7 +3,8 @@
 use Rattle.std.proofs.Common.{◌≡◌, ℕ, ◌≤◌, List, [], ◌∷◌, ◌++◌, Bool, false, refl, sym, subst, append-nil}
 use Rattle.std.specs.Prelude.{◌||◌, Option, Some, None}
 use Rattle.hmc_numbers.specs.Weights.{Weight}
-use Rattle.hmc_numbers.specs.Pointers.{window, pointer}
+use Rattle.hmc_codes.specs.Profile.{window_of}
+use Rattle.hmc_numbers.specs.Pointers.{pointer}
 use Rattle.hmc_numbers.specs.Direction.{Direction, Item, rest}
 use Rattle.hmc_numbers.specs.Events.{Event, happens}
 use Rattle.hmc_numbers.specs.Events.Event.{rests, begins_through, unlocks}
@@ -42,7 +43,7 @@ pub record Facts (G : Grammar) (s : Sent G) (r adv : ℕ) (d o : SideOf G) (c : 
   pub front : (x : Item) × ((xs : List Item) × (Lands G s r d.half.direction d.received x xs c f))
   pub stamp : (t : ℕ) × ((ts : List ℕ) × ((d.half.stamps ≡ t ∷ ts) × (c ≡ false → Carries G s (pointer G.profile o.half.direction.first t) front.0 f)))
 
-pub facts : (G : Grammar) (s : Sent G) (r adv : ℕ) (d o : SideOf G) (c : Bool) (f : G.Flit) → r ≤ window G.profile → Linked G s r adv d o → MayLand G d c f → Facts G s r adv d o c f
+pub facts : (G : Grammar) (s : Sent G) (r adv : ℕ) (d o : SideOf G) (c : Bool) (f : G.Flit) → r ≤ window_of G.profile → Linked G s r adv d o → MayLand G d c f → Facts G s r adv d o c f
 facts G s r adv d o c f b k l =
     let z = marked_front G s d.half.direction.first o.half.direction.first d.half.direction.line d.half.stamps d.flits l.sent l.others l.line k.marks in
     record {
@@ -80,7 +81,7 @@ may_land G s r adv d o c f z = by_counted (counted G d.received f) refl
     by_counted None e = h
     by_counted (Some q) e = (h, (counted_is G s r d.half.direction d.received z.front.0 z.front.1.0 c f z.front.1.1 (pointer G.profile o.half.direction.first z.stamp.0) q z.stamp.1.1.1 e).0)
 
-pub may_move : (G : Grammar) (s : Sent G) (r adv : ℕ) (d o : SideOf G) (a : Action G.Flit) → r ≤ window G.profile → Linked G s r adv d o → MayAct G s r adv d o a → MayMove r adv d.half o.half (move_of G d a)
+pub may_move : (G : Grammar) (s : Sent G) (r adv : ℕ) (d o : SideOf G) (a : Action G.Flit) → r ≤ window_of G.profile → Linked G s r adv d o → MayAct G s r adv d o a → MayMove r adv d.half o.half (move_of G d a)
 may_move G s r adv d o (action.sends e f) b k m = m.may
 may_move G s r adv d o action.starves b k m = tt
 may_move G s r adv d o (action.pipes p) b k m = m
@@ -142,7 +143,7 @@ landed_linked G s r adv d o c f k z (Some q) m = record {
   matches = (landing_done G s r adv d o c f z).matches;
 }
 
-pub own_linked : (G : Grammar) (s : Sent G) (r adv : ℕ) (d o : SideOf G) (a : Action G.Flit) → r ≤ window G.profile → Linked G s r adv d o → Joined r adv o.half d.half → MayAct G s r adv d o a → Linked G s r adv (own_side G d o a) (other_side G d o a)
+pub own_linked : (G : Grammar) (s : Sent G) (r adv : ℕ) (d o : SideOf G) (a : Action G.Flit) → r ≤ window_of G.profile → Linked G s r adv d o → Joined r adv o.half d.half → MayAct G s r adv d o a → Linked G s r adv (own_side G d o a) (other_side G d o a)
 own_linked G s r adv d o (action.sends e f) b k i m = sent_linked G s r adv d o e f k i m
 own_linked G s r adv d o action.starves b k i m = record { joined = own_moved r adv d.half o.half (moving.does rests) k.joined tt; marks = k.marks; matches = k.matches }
 own_linked G s r adv d o (action.pipes p) b k i m = piped_linked G s r adv d o p k i m
@@ -186,7 +187,7 @@ landed_other G t r adv d o c f k j (Some q) m =
       matches = acked_matches G t o.half.direction o.received _ k.matches;
     }
 
-pub other_linked : (G : Grammar) (s t : Sent G) (r adv : ℕ) (d o : SideOf G) (a : Action G.Flit) → r ≤ window G.profile → Linked G s r adv d o → Linked G t r adv o d → MayAct G s r adv d o a → Linked G t r adv (other_side G d o a) (own_side G d o a)
+pub other_linked : (G : Grammar) (s t : Sent G) (r adv : ℕ) (d o : SideOf G) (a : Action G.Flit) → r ≤ window_of G.profile → Linked G s r adv d o → Linked G t r adv o d → MayAct G s r adv d o a → Linked G t r adv (other_side G d o a) (own_side G d o a)
 other_linked G s t r adv d o (action.sends e f) b k i m =
     let x = effect r adv d.half o.half e m.may in
     record {
@@ -210,10 +211,10 @@ pub record LinkedBoth (G : Grammar) (s t : Sent G) (r adv : ℕ) (l : LinkOf G) 
   pub forth : Linked G s r adv l.forth l.back
   pub back : Linked G t r adv l.back l.forth
 
-pub both_stepped : (G : Grammar) (s t : Sent G) (r adv : ℕ) (l : LinkOf G) (e : Step G.Flit) → r ≤ window G.profile → LinkedBoth G s t r adv l → MayStep G s t r adv l e → LinkedBoth G s t r adv (stepped G l e)
+pub both_stepped : (G : Grammar) (s t : Sent G) (r adv : ℕ) (l : LinkOf G) (e : Step G.Flit) → r ≤ window_of G.profile → LinkedBoth G s t r adv l → MayStep G s t r adv l e → LinkedBoth G s t r adv (stepped G l e)
 both_stepped G s t r adv l (forth a) b k m = record { forth = own_linked G s r adv l.forth l.back a b k.forth k.back.joined m; back = other_linked G s t r adv l.forth l.back a b k.forth k.back m }
 both_stepped G s t r adv l (back a) b k m = record { forth = other_linked G t s r adv l.back l.forth a b k.back k.forth m; back = own_linked G t r adv l.back l.forth a b k.back k.forth.joined m }
 
-pub both_linked : (G : Grammar) (s t : Sent G) (r adv : ℕ) (past : List (Step G.Flit)) → r ≤ window G.profile → MaySteps G s t r adv past → LinkedBoth G s t r adv (link_after G past)
+pub both_linked : (G : Grammar) (s t : Sent G) (r adv : ℕ) (past : List (Step G.Flit)) → r ≤ window_of G.profile → MaySteps G s t r adv past → LinkedBoth G s t r adv (link_after G past)
 both_linked G s t r adv [] b m = record { forth = linked_opening G s r adv; back = linked_opening G t r adv }
 both_linked G s t r adv (e ∷ past) b m = both_stepped G s t r adv (link_after G past) e b (both_linked G s t r adv past b m.1) m.0

@@ -5,6 +5,7 @@ use Rattle.std.specs.Prelude.{nat_lt, is_none}
 use Rattle.std.proofs.lemmas.Grind.{common_steps}
 use Rattle.std.proofs.lemmas.List.{get_or_append_left}
 use Rattle.std.proofs.lemmas.Bool.{eqb-true}
+use Rattle.std.proofs.lemmas.Option.{same_Some}
 use Rattle.hmc_codes.specs.declared.profile.Profile.{Profile}
 use Rattle.hmc_packet.specs.declared.feed.Feed.{Feed}
 use Rattle.hmc_packet.specs.declared.feed.Feed.TheVariants.{Waiting, Whole, Last}
@@ -64,9 +65,6 @@ agrees-new q s given l None w known agree =
 agrees-new q s given l (Some part) w known agree =
     agrees-known q s l w (Some part) known (subst (λ (j : List Place). Agrees q s j w) (new-same q given l (Some part) part refl known) agree)
 
-some-is : (p r : Part) → Some p ≡ Some r → p ≡ r
-some-is p r e = cc
-
 -- an open place, before the last flit
 
 agrees-whole : (q : Profile) (s : Sent (grammar q)) (l : List Place) (part : Part) (flit : List ℕ) → Agrees q s l (Some (record part { sent = part.sent ++ flit ∷ [] })) → Agrees q s l (Some part)
@@ -77,7 +75,7 @@ agrees-whole q s l part flit agree n some le =
       front = a.front;
       weighs = a.weighs;
       sent = λ none p is k lt.
-          let same : part ≡ p = some-is part p is in
+          let same : part ≡ p = same_Some part p is in
           let below : k < length part.sent = subst (λ (r : Part). k < length r.sent) (sym same) lt in
           let len = length-append part.sent (flit ∷ []) in
           a.sent none (record part { sent = part.sent ++ flit ∷ [] }) refl k (omega arith) ∙ get_or_append_left part.sent (flit ∷ []) [] k below ∙ ap (λ (r : Part). get_or r.sent k []) same;
@@ -108,7 +106,7 @@ agrees-last q s before x part feed p w known none completed weighs more agree wh
             front = λ r is. absurd (let clash : None ≡ Some r = sym none ∙ is in cc);
             weighs = λ nothing. subst (Weighs x) (sym (a.packet p completed.fits.known)) weighs;
             sent = λ nothing r is k lt.
-                let same : part ≡ r = some-is part r is in
+                let same : part ≡ r = same_Some part r is in
                 let below : k < length part.sent = subst (λ (t : Part). k < length t.sent) (sym same) lt in
                 a.front p completed.fits.known k (omega arith) ∙ completed.front k below ∙ ap (λ (t : Part). get_or t.sent k []) same;
           })

@@ -1,16 +1,14 @@
 -- What a sender chooses is a send that the numbers allow, in each of its cases. Used by Ways and
 -- Joins.
-use Rattle.std.proofs.Common.{◌≡◌, ◌≢◌, ◌∙◌, ◌<◌, ◌≤◌, ◌-◌, ◌⊎◌, inl, inr, ℕ, suc, Bool, true, false, List, [], ◌∷◌, ◌++◌, length, get_or, map, Option, Some, None, refl, sym, ap, subst, arith}
+use Rattle.std.proofs.Common.{◌≡◌, ◌≢◌, ◌∙◌, ◌<◌, ◌≤◌, ◌-◌, ◌⊎◌, inl, inr, ℕ, suc, Bool, true, false, List, [], ◌∷◌, ◌++◌, length, get_or, map, Option, Some, None, refl, sym, ap, subst, arith, leb-true}
 use Rattle.std.specs.Prelude.{◌==◌, nat_le, nat_lt, is_none, if◌then◌else◌, slice_get}
 use Rattle.std.proofs.lemmas.Bool.{and_parts, eq-eqb}
-use Rattle.std.proofs.lemmas.Grind.{common_steps}
 use Rattle.std.proofs.lemmas.List.{map_push}
-use Rattle.std.proofs.lemmas.Option.{slice_get_within, get_or_from_slice_get}
+use Rattle.std.proofs.lemmas.Option.{slice_get_within, get_or_from_slice_get, same_Some}
 use Rattle.hmc_codes.specs.Table.{table_line}
 use Rattle.hmc_codes.specs.Commands.{layout_of, is_flow}
 use Rattle.hmc_codes.specs.Flit.{IsFlit}
 use Rattle.hmc_codes.specs.declared.profile.Profile.{Profile}
-use Rattle.hmc_codes.specs.declared.profile.Profile.TheVariants.{One, Two}
 use Rattle.hmc_packet.specs.declared.feed.Feed.{Feed}
 use Rattle.hmc_packet.specs.declared.feed.Feed.TheVariants.{Waiting, Whole, Last}
 use Rattle.hmc_packet.specs.declared.kind.Kind.{Kind}
@@ -32,9 +30,10 @@ use Rattle.hmc_send.specs.IsSender.{IsFed}
 use Rattle.hmc_send.specs.Kept.{IsFedNext}
 use Rattle.hmc_send.specs.Places.{Place, flits_at, numbers_at, takes_tokens, is_token, place_at, packet_in, flit_of, pointer_of, number_of, next_packet, tret_packet, with_last}
 use Rattle.hmc_send.proofs.Cases.{Case, Case as case}
-use Rattle.hmc_send.proofs.KeptLemmas.{IsPacket-next}
-use Rattle.hmc_send.proofs.Lists.{last-push, last-same, fed-whole, length-push}
+use Rattle.hmc_send.proofs.KeptLemmas.{IsPacket-next, code-few}
+use Rattle.hmc_send.proofs.Lists.{last-push, last-same, fed-whole, length-push, place-push}
 use Rattle.hmc_send.proofs.Steps.{nothing-begun, some-begun}
+use Rattle.hmc_send.proofs.KeepSends.{zero-fits}
 use Rattle.hmc_numbers.specs.Direction.{Filler as fill}
 use Rattle.hmc_numbers.specs.Events.{Event}
 use Rattle.hmc_numbers.specs.Events.Event.{begins, begins_again}
@@ -51,9 +50,9 @@ use Rattle.hmc_wire.proofs.OpenPlaces.{AreKnown, IsOpen, open_place, open-at, un
 use Rattle.hmc_wire.proofs.Places.{packet_of, Fits, IsOpenPlace, FitOr, AllFit, fit-push, AreNumbered}
 use Rattle.hmc_wire.proofs.NumberedPlaces.{numbered-packet, numbered-last, fed-numbers, fed-flits}
 use Rattle.hmc_wire.proofs.Marks.{mark-null, mark-train, mark-pret, mark-start, first-lng}
-use Rattle.hmc_wire.proofs.Parts.{known-at, new-same, rtc-le, rtc-lt}
+use Rattle.hmc_wire.proofs.Parts.{known-at, new-same, rtc-le}
 use Rattle.hmc_wire.proofs.Filled.{token-sequenced, heads-lng, completed-last}
-use Rattle.hmc_wire.proofs.Senders.{Env, Done, new-part, none-part, left-none, filler-done, clear-done, begun-done, again-done, goes-done, goes-open, push-at}
+use Rattle.hmc_wire.proofs.Senders.{Env, Done, new-part, none-part, left-none, filler-done, clear-done, begun-done, again-done, goes-done, goes-open}
 
 -- a front of the queue is a request or a response, and its error number fits the profile
 pub record IsGood (q : Profile) (p : PacketFields) : Type 0 where
@@ -76,7 +75,7 @@ fits-next : (q : Profile) (l : List Place) (due : ℕ) (p : PacketFields) → (i
     Fits q (next_place q due p l) (next_after q l due p)
 fits-next q l due p kind sequenced is errstat = record {
   known = refl;
-  packet = IsPacket-next q (pointer_of q l) (number_of l) (code_for due) p kind is (rtc-lt due);
+  packet = IsPacket-next q (pointer_of q l) (number_of l) (code_for due) p kind is (code-few due);
   sequenced = sequenced;
   errstat = errstat;
   flits = refl;
@@ -95,19 +94,12 @@ tret-sequenced : IsSequenced (layout_of tret_packet.command)
 unfolding table_line
 tret-sequenced = tt
 
-tret-token : is_token tret_packet ≡ false
+pub tret-token : is_token tret_packet ≡ false
 unfolding table_line
 tret-token = refl
 
-zero-fits : (q : Profile) → FitsField (tail_layout q).errstat 0
-zero-fits One = omega arith
-zero-fits Two = omega arith
-
 fits-tret : (q : Profile) (l : List Place) (due : ℕ) → Fits q (next_place q due tret_packet l) (next_after q l due tret_packet)
 fits-tret q l due = fits-next q l due tret_packet (inr refl) tret-sequenced (IsPacket-tret 0 0 0 (omega arith) (omega arith) (omega arith)) (zero-fits q)
-
-le-of : (a b : ℕ) → nat_le a b ≡ true → a ≤ b
-le-of a b is = grind (arith, common_steps)
 
 -- a place costs no more than its flits
 cost-le : (x : Place) → cost (weight x) ≤ flits_at x
@@ -309,7 +301,7 @@ feed-by q s retry adv t given own oth env o flit (Last half slid errstat good) f
     (subst (λ (e : Event). Done q s retry adv T e mine own oth) (ap (λ (u : Option Part). unless_begun u (begins (weight (next_place q given.due (or_null given.front) l)))) (sym o.under))
     (goes-done q s retry adv t T given own oth o.part copy env o.under
     (subst (AllFit q) (sym first) (fit-push q o.before (f x) (fit-front q o.before x all) (inl (record { packet = copy; fits = completed.fits }))))
-    (subst (λ (y : Place). Fits q y copy) (sym ((λ i. place_at (first i) (number i)) ∙ push-at o.before (f x))) completed.fits)
+    (subst (λ (y : Place). Fits q y copy) (sym ((λ i. place_at (first i) (number i)) ∙ place-push o.before (f x))) completed.fits)
     numbers (record {
       weights = weights;
       acked = refl;
@@ -317,9 +309,6 @@ feed-by q s retry adv t given own oth env o flit (Last half slid errstat good) f
       unfinished = ap (part_after false mine) o.under;
       clears = refl;
     })))
-
-some-part : (p r : Part) → Some p ≡ Some r → p ≡ r
-some-part p r e = cc
 
 goes-by : (q : Profile) (s : Sent (grammar q)) (retry adv : ℕ) (t : List SenderEntry) (given : Given) (own oth : Half) → Env q s retry adv t given own oth → IsFed (entries.under_way q t) given.feed → IsFeed given.feed →
     AreKnown (entries.places q t) ⊎ IsOpen q t → (under : Part) → entries.unfinished t ≡ Some under → (flit : List ℕ) →
@@ -333,7 +322,7 @@ goes-by q s retry adv t given own oth env fed is (inl known) under some flit nex
     subst (λ (f : List ℕ). DoneAs q s retry adv t given own oth (Out f (part_what under))) (next-known q (place_at l (entries.last_begun q t)) h.packet under given.own.rrp given.feed flit h.fits.known next)
     (goes-case q s retry adv t given own oth env known under some h.packet h.fits under.again)
 goes-by q s retry adv t given own oth env fed is (inr o) under some flit next =
-    let same : o.part ≡ under = some-part o.part under (sym o.under ∙ some) in
+    let same : o.part ≡ under = same_Some o.part under (sym o.under ∙ some) in
     let new : what.New ≡ part_what under = ap (λ (b : Bool). again_what b) (sym o.new) ∙ ap (λ (p : Part). part_what p) same in
     subst (λ (w : What). DoneAs q s retry adv t given own oth (Out flit w)) new
     (feed-by q s retry adv t given own oth env o flit given.feed refl
@@ -374,10 +363,10 @@ by-case q s retry adv t given own oth env fronts fed is x (case.repeats b place 
     repeats-case q s retry adv t given own oth env b.trained (bare q retry t given b.nothing) (between-bursts q retry t given b).0 place again
 by-case q s retry adv t given own oth env fronts fed is x (case.begins free can) =
     let b = free.between in
-    begins-case q s retry adv t given own oth env fronts b.trained (bare q retry t given b.nothing) (between-bursts q retry t given b).0 free.all_sent can.packet can.front (le-of _ _ can.held) (le-of _ _ can.room)
+    begins-case q s retry adv t given own oth env fronts b.trained (bare q retry t given b.nothing) (between-bursts q retry t given b).0 free.all_sent can.packet can.front (leb-true _ _ can.held) (leb-true _ _ can.room)
 by-case q s retry adv t given own oth env fronts fed is x (case.returns free opened may) =
     let b = free.between in
-    returns-case q s retry adv t given own oth env b.trained (bare q retry t given b.nothing) (between-bursts q retry t given b).0 free.all_sent (le-of _ _ (and_parts (nat_lt 0 given.due) (nat_le 1 (entries.room q retry t)) may).1)
+    returns-case q s retry adv t given own oth env b.trained (bare q retry t given b.nothing) (between-bursts q retry t given b).0 free.all_sent (leb-true _ _ (and_parts (nat_lt 0 given.due) (nat_le 1 (entries.room q retry t)) may).1)
 by-case q s retry adv t given own oth env fronts fed is x (case.points free other) =
     let b = free.between in
     filler-done q s retry adv t _ given fill.pret _ own oth env (record { first = refl; acked = refl; last = refl; unfinished = refl; clears = refl }) (env.ready b.trained, left-none q t own.direction env.sends (bare q retry t given b.nothing))

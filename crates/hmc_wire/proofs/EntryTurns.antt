@@ -17,7 +17,8 @@ use Rattle.hmc_send.specs.declared.toward.Toward.TheVariants.{Forth, Back}
 use Rattle.hmc_send.specs.Entries.{SenderEntry}
 use Rattle.hmc_send.specs.LinkCalls.{IsLawful}
 use Rattle.hmc_send.specs.LinkEntries.{LinkEntry, LinkEntry as entry, receiver_entries}
-use Rattle.hmc_send.specs.LinkLines.{line, changes, is_pending_changed}
+use Rattle.hmc_packet.specs.Masks.{changes}
+use Rattle.hmc_send.specs.LinkLines.{line, is_pending_changed}
 use Rattle.hmc_send.specs.LinkSenders.{sender_entries, given_in, due_after}
 use Rattle.hmc_send.proofs.LinkLawful.{lawful-landed}
 use Rattle.hmc_numbers.specs.Events.{Reading, Event}
@@ -93,7 +94,7 @@ kept-before link e past is = record {
 
 -- ---- a landing
 
-reading-same : (o : Option (outer.Kind × ℕ)) → matches.reading_of (pair_of o) ≡ reading_of o
+pub reading-same : (o : Option (outer.Kind × ℕ)) → matches.reading_of (pair_of o) ≡ reading_of o
 reading-same None = refl
 reading-same (Some (outer_kinds.Start, rrp)) = refl
 reading-same (Some (outer_kinds.Clear, rrp)) = refl
@@ -102,7 +103,7 @@ touched-same : (touched changed : Bool) → matches.gathers_or_spoils touched ch
 touched-same true changed = refl
 touched-same false changed = refl
 
-event-same : (m : outer_mode.Mode) (touched changed : Bool) (reading : Reading) (o : outer_outcome.Outcome) → matches.event_of (mode_as m) touched changed reading (outcome_as o) ≡ event_by m touched changed reading o
+pub event-same : (m : outer_mode.Mode) (touched changed : Bool) (reading : Reading) (o : outer_outcome.Outcome) → matches.event_of (mode_as m) touched changed reading (outcome_as o) ≡ event_by m touched changed reading o
 event-same outer_modes.Train touched changed reading out.Trained = refl
 event-same outer_modes.Train touched changed reading _ = refl
 event-same outer_modes.Abort touched changed reading (out.Ran outer_kinds.Clear) = refl

@@ -36,7 +36,7 @@ use Rattle.hmc_send.specs.Copies.{command_or_null, errstat_for, tail_with, copy_
 use Rattle.hmc_send.specs.Entries.{Part}
 use Rattle.hmc_send.specs.LinkCalls.{names_flits}
 use Rattle.hmc_send.specs.Places.{Place, flits_at, numbers_at, flit_of}
-use Rattle.hmc_send.proofs.CopyLemmas.{HeadSays, head-says}
+use Rattle.hmc_send.proofs.CopyLemmas.{HeadSays, head-says, errstat-fits}
 use Rattle.hmc_wire.proofs.PacketGrammar.{IsSequenced}
 use Rattle.hmc_wire.proofs.Places.{Fits, IsOpenPlace}
 use Rattle.hmc_wire.proofs.OpenPlaces.{HasWholeFlits}
@@ -137,12 +137,6 @@ copy-is q front half slid errstat good n head says =
     let bytes = concat front ++ half in
     let named : command_or_null (named_by bytes) ≡ head.command = ap command_or_null says.names in
     λ i. copied_packet (named i) bytes (tail_with n slid (errstat_for q (layout_of (named i)) errstat)) good
-
-errstat-fits : (q : Profile) (layout : Layout) (errstat : ℕ) → FitsField (tail_layout q).errstat (errstat_for q layout errstat)
-errstat-fits One layouts.Reply errstat = omega arith
-errstat-fits Two layouts.Reply errstat = omega arith
-errstat-fits One _ errstat = omega arith
-errstat-fits Two _ errstat = omega arith
 
 errstat-ask : (q : Profile) (layout : Layout) (errstat : ℕ) → layout ≡ layouts.Ask → errstat_for q layout errstat ≡ 0
 errstat-ask q layouts.Ask errstat is = refl

@@ -21,7 +21,8 @@ use Rattle.hmc_packet.proofs.PacketLemmas.{IsPacket-pret}
 use Rattle.hmc_packet.proofs.PartLemmas.{IsBytes-half_bytes}
 use Rattle.hmc_packet.proofs.ReadOf.{null-null_packet, spelling-null, spelling-other}
 use Rattle.hmc_packet.proofs.SpelledLemmas.{length-bytes_of}
-use Rattle.hmc_send.specs.LinkLines.{StampedFlit, under_mask}
+use Rattle.hmc_packet.specs.Masks.{under_mask}
+use Rattle.hmc_send.specs.LinkLines.{StampedFlit}
 use Rattle.hmc_send.specs.Places.{flit_of, pret_packet}
 
 -- each of these has a flit

@@ -3,7 +3,8 @@ use Rattle.std.specs.Prelude.{◌≡◌, ℕ, zero, ◌+◌, nat_lt, nat_le, ◌
 use Rattle.hmc_numbers.specs.Direction.{Filler as fill, Item}
 use Rattle.hmc_numbers.specs.Direction.Item.{filler, clear, part}
 use Rattle.hmc_wire.proofs.Grammar.{Kind, Kind as kinds, Read, Read as reads, Grammar}
-use Rattle.hmc_wire.proofs.GrammarLandings.{Mode, Landings, mode, pending, run, is_empty, is_wrong_length, head_or}
+use Rattle.hmc_packet.specs.Receptions.{is_no_length}
+use Rattle.hmc_wire.proofs.GrammarLandings.{Mode, Landings, mode, pending, run, is_empty, head_or}
 use Rattle.hmc_wire.proofs.GrammarLandings.Mode.{training, abort, good}
 use Rattle.hmc_wire.proofs.Spelled.{Sent, fronts}
 
@@ -25,7 +26,7 @@ counted_read G past (reads.packet p r) = Some r
 abbrev pub counted_good : (G : Grammar) → Landings G → List G.Flit → G.Flit → Option ℕ
 counted_good G past fs f =
     if is_empty fs && G.is_null f then None
-    else (if is_empty fs && is_wrong_length (G.lng f) then None
+    else (if is_empty fs && is_no_length (G.lng f) then None
     else (if nat_lt (length fs + 1) (G.lng (head_or fs f)) then None
     else counted_read G past (G.read (fs ++ f ∷ []))))
 

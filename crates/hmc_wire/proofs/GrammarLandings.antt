@@ -1,8 +1,8 @@
 -- What a landing gives by a grammar, from the landings before it of the same direction, the newest
 -- first. Mirrors shows that a receiver's own entries give the same.
 use Rattle.std.specs.Prelude.{ℕ, ◌+◌, ◌-◌, ◌%◌, ◌==◌, nat_lt, Bool, true, false, not, ◌&&◌, ◌||◌, if◌then◌else◌, List, [], ◌∷◌, ◌++◌, length, Option, Some, None}
-use Rattle.hmc_codes.specs.Profile.{modulus_of}
-use Rattle.hmc_numbers.specs.Pointers.{window}
+use Rattle.hmc_codes.specs.Profile.{modulus_of, window_of}
+use Rattle.hmc_packet.specs.Receptions.{is_no_length}
 use Rattle.hmc_wire.proofs.Grammar.{Kind, Read, Grammar}
 use Rattle.hmc_wire.proofs.Grammar.Kind.{start, clear}
 use Rattle.hmc_wire.proofs.Grammar.Read.{bad, null, irtry, pret, packet}
@@ -155,7 +155,7 @@ abbrev pub in_order : (G : Grammar) → G.Packet → (flits count : ℕ) → Out
 in_order G p f n =
     if (G.frp p == (f + G.flits p) % modulus_of G.profile) && (G.seq p == (n + 1) % 8)
     then (if G.poisoned p then poisoned else accepted)
-    else (if nat_lt ((f % modulus_of G.profile + (modulus_of G.profile - G.frp p)) % modulus_of G.profile) (window G.profile) then repeated else disordered)
+    else (if nat_lt ((f % modulus_of G.profile + (modulus_of G.profile - G.frp p)) % modulus_of G.profile) (window_of G.profile) then repeated else disordered)
 
 abbrev pub of_read : (G : Grammar) → Landings G → Read G.Packet G.Bad → Outcome G.Bad
 of_read G past (bad b) = aborted b
@@ -172,13 +172,10 @@ abbrev pub is_empty : {F : Type 0} → List F → Bool
 is_empty [] = true
 is_empty (g ∷ gs) = false
 
-abbrev pub is_wrong_length : ℕ → Bool
-is_wrong_length n = n == 0 || nat_lt 17 n
-
 abbrev pub in_good : (G : Grammar) → Landings G → List G.Flit → G.Flit → Outcome G.Bad
 in_good G past fs f =
     if is_empty fs && G.is_null f then quiet
-    else (if is_empty fs && is_wrong_length (G.lng f) then aborted G.wrong_length
+    else (if is_empty fs && is_no_length (G.lng f) then aborted G.wrong_length
     else (if nat_lt (length fs + 1) (G.lng (head_or fs f)) then gathered
     else of_read G past (G.read (fs ++ f ∷ []))))
 

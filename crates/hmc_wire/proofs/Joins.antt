@@ -1,8 +1,7 @@
 -- A lawful list of a link is a list of steps that may come, and each direction is what the list
 -- says: by induction over its entries. All laws of src/laws.rt rest on it.
-use Rattle.std.proofs.Common.{◌≡◌, ◌∙◌, ◌≤◌, ◌-◌, ℕ, zero, suc, Bool, true, false, List, [], ◌∷◌, length, Option, refl, sym, ap, subst, arith}
-use Rattle.std.specs.Prelude.{replicate, ◌*◌, not, nat_lt, slice_get, filter}
-use Rattle.std.proofs.lemmas.Grind.{common_steps}
+use Rattle.std.proofs.Common.{◌≡◌, ◌∙◌, ◌≤◌, ◌-◌, ℕ, zero, suc, Bool, true, false, List, [], ◌∷◌, length, Option, refl, sym, ap, subst, arith, ltb-true}
+use Rattle.std.specs.Prelude.{replicate, ◌*◌, not, slice_get, filter}
 use Rattle.hmc_codes.specs.Commands.{layout_of, is_flow}
 use Rattle.hmc_codes.specs.Link.{LinkFields}
 use Rattle.hmc_codes.specs.Profile.{most_retry}
@@ -163,11 +162,8 @@ landed-back link s t past mask flit o few lawful j =
 
 -- A packet is taken
 
-less : (a b : ℕ) → nat_lt a b ≡ true → suc a ≤ b
-less a b is = grind (arith, common_steps)
-
 taken-some : (link : LinkFields) (d : Toward) (past : List LinkEntry) → IsLawful link (entry.taken d ∷ past) → suc (takes d past) ≤ length (filter is_token (accepted_packets link.profile d past))
-taken-some link d past lawful = less (takes d past) (length (filter is_token (accepted_packets link.profile d past))) (lawful-taken link past d lawful)
+taken-some link d past lawful = ltb-true (takes d past) (length (filter is_token (accepted_packets link.profile d past))) (lawful-taken link past d lawful)
 
 pub taken-forth : (link : LinkFields) (s t : Sent (grammar link.profile)) (past : List LinkEntry) → link.retry ≤ most_retry link.profile → IsLawful link (entry.taken Forth ∷ past) → AgreesWith link.profile s (sender_entries link Forth past) →
     Joins link s t past → Joins link s t (entry.taken Forth ∷ past)

@@ -1,11 +1,11 @@
 -- A return pointer that is counted is the one that was sent. Used by ActionLaw.
-use Rattle.std.proofs.Common.{◌≡◌, ℕ, zero, suc, ◌+◌, ◌-◌, ◌%◌, ◌≤◌, List, [], ◌∷◌, ◌++◌, length, Bool, true, false, inl, inr, refl, sym, ◌∙◌, ap, subst, arith}
+use Rattle.std.proofs.Common.{◌≡◌, ℕ, zero, suc, ◌+◌, ◌-◌, ◌%◌, ◌≤◌, List, [], ◌∷◌, ◌++◌, length, Bool, true, false, inl, inr, refl, sym, ◌∙◌, ap, subst, arith, lt-ltb, le-ltb}
 use Rattle.std.specs.Prelude.{not, ◌==◌, ◌&&◌, ◌||◌, nat_lt, nat_le, if◌then◌else◌, Option, Some, None}
 use Rattle.std.proofs.lemmas.Grind.{common_steps}
+use Rattle.std.proofs.lemmas.Bool.{or_parts}
 use Rattle.hmc_numbers.specs.Weights.{size}
-use Rattle.hmc_codes.specs.Profile.{modulus_of}
-use Rattle.hmc_numbers.specs.Pointers.{window}
-use Rattle.hmc_numbers.specs.Direction.{Filler as fill, Item, Reached, Reached as far, Direction, front_or}
+use Rattle.hmc_codes.specs.Profile.{modulus_of, window_of}
+use Rattle.hmc_numbers.specs.Direction.{Filler as fill, Item, Reached, Reached as far, Direction}
 use Rattle.hmc_numbers.specs.Direction.Item.{filler, clear, part}
 use Rattle.hmc_numbers.specs.Events.{Reading}
 use Rattle.hmc_numbers.specs.Events.Reading.{as_start, as_clear}
@@ -13,17 +13,18 @@ use Rattle.hmc_numbers.specs.May.{IsGood, CanReadAs}
 use Rattle.hmc_numbers.specs.DirectionLaws.{ContinuesGathered}
 use Rattle.hmc_numbers.specs.Turns.{IsLong, IsPret, MayCount}
 use Rattle.hmc_wire.proofs.Grammar.{Kind, Kind as kinds, Read, Read as reads, Grammar}
-use Rattle.hmc_wire.proofs.GrammarLandings.{Mode, Landings, mode, pending, is_spoilt, run, is_some_irtry, checks, checks_good, is_empty, is_wrong_length, head_or, is_read, in_mode, in_abort, in_good, in_order, of_read, ran_or_quiet, outcome, accepted_in, flits_of}
+use Rattle.hmc_packet.specs.Receptions.{is_no_length}
+use Rattle.hmc_wire.proofs.GrammarLandings.{Mode, Landings, mode, pending, is_spoilt, run, is_some_irtry, checks, checks_good, is_empty, head_or, is_read, in_mode, in_abort, in_good, in_order, of_read, ran_or_quiet, outcome, accepted_in, flits_of}
 use Rattle.hmc_wire.proofs.GrammarLandings.Mode.{training, abort, good}
 use Rattle.hmc_wire.proofs.GrammarLandings.Outcome.{quiet, accepted, poisoned, repeated, disordered, ran}
 use Rattle.hmc_wire.proofs.Spelled.{Sent, Spelled}
 use Rattle.hmc_wire.proofs.Matches.{Matches, IsAt, reading_of, event_of}
 use Rattle.hmc_wire.proofs.Lands.{Lands, IsOrdered}
 use Rattle.hmc_wire.proofs.GrammarCounted.{counted_run, counted_alone, counted_read, counted_good, counted_in, counted, Carries}
-use Rattle.hmc_wire.proofs.LandOutcomes.{less_lt, not_less, good_flow}
+use Rattle.hmc_wire.proofs.LandOutcomes.{good_flow}
 use Rattle.hmc_wire.proofs.LandShut.{readings, abort_check}
-use Rattle.hmc_wire.proofs.LandParts.{Goes, ends, first_tests, lng_test}
-use Rattle.hmc_wire.proofs.LandLanded.{lands, or_false, between_goes, inside_goes}
+use Rattle.hmc_wire.proofs.LandParts.{Goes, ends, first_tests, lng_test, front_line}
+use Rattle.hmc_wire.proofs.LandLanded.{lands, between_goes, inside_goes}
 
 none_some : (x : Option ℕ) (q : ℕ) → x ≡ None → x ≡ Some q → ⊥
 none_some x q e h = cc
@@ -108,23 +109,23 @@ good_none G past x false z w true h = refl
 good_none G past x false z w false h = read_none G past x h
 
 fails_none : (G : Grammar) (past : Landings G) (fs : List G.Flit) (f : G.Flit) → checks_good G fs f ≡ false → counted_good G past fs f ≡ None
-fails_none G past fs f h = good_none G past (G.read (fs ++ f ∷ [])) (is_empty fs) (G.is_null f) (is_wrong_length (G.lng f)) (nat_lt (length fs + 1) (G.lng (head_or fs f))) h
+fails_none G past fs f h = good_none G past (G.read (fs ++ f ∷ [])) (is_empty fs) (G.is_null f) (is_no_length (G.lng f)) (nat_lt (length fs + 1) (G.lng (head_or fs f))) h
 
 -- and where nothing is changed
 
-null_none : (G : Grammar) (past : Landings G) (fs : List G.Flit) (f : G.Flit) → fs ≡ [] → G.is_null f ≡ true → counted_good G past fs f ≡ None
+pub null_none : (G : Grammar) (past : Landings G) (fs : List G.Flit) (f : G.Flit) → fs ≡ [] → G.is_null f ≡ true → counted_good G past fs f ≡ None
 null_none G past [] f p z = rw z refl
 null_none G past (g ∷ gs) f p z = absurd (cc p)
 
-flow_counts : (G : Grammar) (past : Landings G) (fs : List G.Flit) (f : G.Flit) → fs ≡ [] → G.is_null f ≡ false → G.lng f ≡ 1 → counted_good G past fs f ≡ counted_read G past (G.read (f ∷ []))
+pub flow_counts : (G : Grammar) (past : Landings G) (fs : List G.Flit) (f : G.Flit) → fs ≡ [] → G.is_null f ≡ false → G.lng f ≡ 1 → counted_good G past fs f ≡ counted_read G past (G.read (f ∷ []))
 flow_counts G past [] f p z l = rw (z, l) refl
 flow_counts G past (g ∷ gs) f p z l = absurd (cc p)
 
-gathers_none : (G : Grammar) (past : Landings G) (fs : List G.Flit) (f : G.Flit) → nat_lt (length fs + 1) (G.lng (head_or fs f)) ≡ true → (fs ≡ [] → (G.is_null f ≡ false) × (is_wrong_length (G.lng f) ≡ false)) → counted_good G past fs f ≡ None
+gathers_none : (G : Grammar) (past : Landings G) (fs : List G.Flit) (f : G.Flit) → nat_lt (length fs + 1) (G.lng (head_or fs f)) ≡ true → (fs ≡ [] → (G.is_null f ≡ false) × (is_no_length (G.lng f) ≡ false)) → counted_good G past fs f ≡ None
 gathers_none G past [] f m h = rw ((h refl).0, (h refl).1, m) refl
 gathers_none G past (g ∷ gs) f m h = rw m refl
 
-ends_counts : (G : Grammar) (past : Landings G) (fs : List G.Flit) (f : G.Flit) → nat_lt (length fs + 1) (G.lng (head_or fs f)) ≡ false → (fs ≡ [] → (G.is_null f ≡ false) × (is_wrong_length (G.lng f) ≡ false)) → counted_good G past fs f ≡ counted_read G past (G.read (fs ++ f ∷ []))
+ends_counts : (G : Grammar) (past : Landings G) (fs : List G.Flit) (f : G.Flit) → nat_lt (length fs + 1) (G.lng (head_or fs f)) ≡ false → (fs ≡ [] → (G.is_null f ≡ false) × (is_no_length (G.lng f) ≡ false)) → counted_good G past fs f ≡ counted_read G past (G.read (fs ++ f ∷ []))
 ends_counts G past [] f m h = rw ((h refl).0, (h refl).1, m) refl
 ends_counts G past (g ∷ gs) f m h = rw m refl
 
@@ -135,10 +136,6 @@ order_counts G w c reading p true b true h = tt
 order_counts G w c reading p true b false h = tt
 order_counts G w c reading p false true d h = tt
 order_counts G w c reading p false false d h = absurd h
-
--- what passes
-front_line : (b x : Item) (xs ys : List Item) → ys ≡ x ∷ xs → front_or b ys ≡ x
-front_line b x xs ys q = ap (λ z. front_or b z) q
 
 irtry_counts : (G : Grammar) (s : Sent G) (w : Direction) (past : Landings G) (c : Bool) (f : G.Flit) (k : Kind) (t q : ℕ) → Matches G s w past → pending G past ≡ [] → G.is_null f ≡ false → G.lng f ≡ 1 →
     G.alone f ≡ Some (k, t) → G.read (f ∷ []) ≡ reads.irtry k t → counted_good G past (pending G past) f ≡ Some q → MayCount w (event_of good false c (reading_of (G.alone f)) (in_good G past (pending G past) f)) × (q ≡ t)
@@ -164,11 +161,11 @@ part_counts : (G : Grammar) (s : Sent G) (r : ℕ) (w : Direction) (past : Landi
     counted_good G past (pending G past) f ≡ Some q → MayCount w (event_of good false c (reading_of (G.alone f)) (in_good G past (pending G past) f)) × (q ≡ t)
 part_counts G s r w past n k (suc more) xs c f t q g h i e =
     let z = g.lands.laws.placed n k (suc more) xs g.lands.line in
-    let u = lng_test G (s.front n) (pending G past) k (size w.first n) f g.behind g.lng g.first ∙ less_lt (k + 1) (size w.first n) (omega (arith, z.flits)) in
+    let u = lng_test G (s.front n) (pending G past) k (size w.first n) f g.behind g.lng g.first ∙ lt-ltb (k + 1) (size w.first n) (omega (arith, z.flits)) in
     absurd (none_some (counted_good G past (pending G past) f) q (gathers_none G past (pending G past) f u (first_tests G (s.front n) (pending G past) k (size w.first n) f g.behind (omega (arith, z.flits)) z.short g.first)) e)
 part_counts G s r w past n k zero xs c f t q g h i e =
     let z = g.lands.laws.placed n k 0 xs g.lands.line in
-    let u = lng_test G (s.front n) (pending G past) k (size w.first n) f g.behind g.lng g.first ∙ not_less (k + 1) (size w.first n) (omega (arith, z.flits)) in
+    let u = lng_test G (s.front n) (pending G past) k (size w.first n) f g.behind g.lng g.first ∙ le-ltb (k + 1) (size w.first n) (omega (arith, z.flits)) in
     let v = ends_counts G past (pending G past) f u (first_tests G (s.front n) (pending G past) k (size w.first n) f g.behind (omega (arith, z.flits)) z.short g.first) in
     let d : G.read (pending G past ++ f ∷ []) ≡ reads.packet (s.packet n) t = ap (λ (y : List G.Flit). G.read (y ++ f ∷ [])) g.behind ∙ h in
     let y : Some t ≡ Some q = sym (ap (λ z. counted_read G past z) d) ∙ sym v ∙ e in
@@ -188,7 +185,7 @@ part_counts G s r w past n k zero xs c f t q g h i e =
     by_order o i =
         subst (λ y. MayCount w (event_of good false c (reading_of (G.alone f)) y)) (sym o)
         (order_counts G w c (reading_of (G.alone f)) p ((G.frp p == (a + G.flits p) % modulus_of G.profile) && (G.seq p == (b + 1) % 8))
-        (nat_lt ((a % modulus_of G.profile + (modulus_of G.profile - G.frp p)) % modulus_of G.profile) (window G.profile)) (G.poisoned p) (subst IsOrdered o i))
+        (nat_lt ((a % modulus_of G.profile + (modulus_of G.profile - G.frp p)) % modulus_of G.profile) (window_of G.profile)) (G.poisoned p) (subst IsOrdered o i))
 
 between_counts : (G : Grammar) (s : Sent G) (r : ℕ) (w : Direction) (past : Landings G) (x : Item) (xs : List Item) (c : Bool) (f : G.Flit) → Lands G s r w past x xs c f → (c || is_spoilt G past) ≡ false →
     w.far ≡ far.between → (mode G past ≡ good) × (is_spoilt G past ≡ false) × (pending G past ≡ []) → ContinuesGathered far.between x → IsOrdered (in_good G past (pending G past) f) → (t q : ℕ) → Spelled G s w.first x f → Carries G s t x f →
@@ -231,15 +228,15 @@ by_place G s r w past x xs c f l t q y far.aborting e p i =
     subst (λ m. Counts G w past c (c || is_spoilt G past) f t q m) (sym p.0) (λ z. abort_counts G s r w past x xs c f l t y p.0 e (c || is_spoilt G past) q z)
 by_place G s r w past x xs c f l t q y far.between e p i =
     subst (λ m. Counts G w past c (c || is_spoilt G past) f t q m) (sym p.0)
-    (good_counts G s r w past x xs c f l t q p.0 (λ h z. let v = (or_false c (is_spoilt G past) h).0 in
+    (good_counts G s r w past x xs c f l t q p.0 (λ h z. let v = (or_parts c (is_spoilt G past) h).0 in
     between_counts G s r w past x xs c f l h e p (subst (λ u. ContinuesGathered u x) e (l.laws.gathered x xs l.line)) (subst (λ m. IsOrdered (in_mode G m past f)) p.0 i) t q (l.spelled v) (y v) z))
 by_place G s r w past x xs c f l t q y (far.inside n k) e p i =
     subst (λ m. Counts G w past c (c || is_spoilt G past) f t q m) (sym p.0)
-    (good_counts G s r w past x xs c f l t q p.0 (λ h z. let v = (or_false c (is_spoilt G past) h).0 in
+    (good_counts G s r w past x xs c f l t q p.0 (λ h z. let v = (or_parts c (is_spoilt G past) h).0 in
     inside_counts G s r w past x xs c f n k l h e p (subst (λ u. ContinuesGathered u x) e (l.laws.gathered x xs l.line)) (subst (λ m. IsOrdered (in_mode G m past f)) p.0 i) t q (y v) z))
 by_place G s r w past x xs c f l t q y far.spoilt e p i =
     subst (λ m. Counts G w past c (c || is_spoilt G past) f t q m) (sym p.0)
-    (good_counts G s r w past x xs c f l t q p.0 (λ h z. absurd (never (is_spoilt G past) p.1 (or_false c (is_spoilt G past) h).1)))
+    (good_counts G s r w past x xs c f l t q p.0 (λ h z. absurd (never (is_spoilt G past) p.1 (or_parts c (is_spoilt G past) h).1)))
   where
     never : (b : Bool) → b ≡ true → b ≡ false → ⊥
     never b e g = cc

@@ -2,6 +2,7 @@
 -- Its cases are LandClean, LandParts, LandShut and LandTouched.
 use Rattle.std.proofs.Common.{◌≡◌, ℕ, zero, suc, List, [], Bool, true, false, refl, sym, ◌∙◌, ap, subst}
 use Rattle.std.specs.Prelude.{◌||◌}
+use Rattle.std.proofs.lemmas.Bool.{or_parts}
 use Rattle.hmc_numbers.specs.Weights.{size}
 use Rattle.hmc_numbers.specs.Direction.{Item, Reached, Reached as far, Direction}
 use Rattle.hmc_numbers.specs.Direction.Item.{filler, clear, part}
@@ -18,10 +19,6 @@ use Rattle.hmc_wire.proofs.LandTouched.{in_touched}
 use Rattle.hmc_wire.proofs.LandClean.{pass}
 use Rattle.hmc_wire.proofs.LandParts.{Goes, gather, end}
 
-pub or_false : (a b : Bool) → (a || b) ≡ false → (a ≡ false) × (b ≡ false)
-or_false true b e = absurd (cc e)
-or_false false b e = (refl, e)
-
 not_spoilt : (b : Bool) → b ≡ true → b ≡ false → ⊥
 not_spoilt b e g = cc
 
@@ -34,7 +31,7 @@ goes G s r w past n k (suc more) xs c f g = gather G s r w past n k more xs c f 
 pub between_goes : (G : Grammar) (s : Sent G) (r : ℕ) (w : Direction) (past : Landings G) (n k more : ℕ) (xs : List Item) (c : Bool) (f : G.Flit) → Lands G s r w past (part n k more) xs c f → (c || is_spoilt G past) ≡ false →
     w.far ≡ far.between → (mode G past ≡ good) × (is_spoilt G past ≡ false) × (pending G past ≡ []) → k ≡ 0 → Goes G s r w past n k more xs c f
 between_goes G s r w past n k more xs c f l h q p z =
-    let i = l.spelled (or_false c (is_spoilt G past) h).0 in
+    let i = l.spelled (or_parts c (is_spoilt G past) h).0 in
     record {
       lands = l;
       far = subst IsGood (sym q) tt;
@@ -49,7 +46,7 @@ between_goes G s r w past n k more xs c f l h q p z =
 pub inside_goes : (G : Grammar) (s : Sent G) (r : ℕ) (w : Direction) (past : Landings G) (n k more : ℕ) (xs : List Item) (c : Bool) (f : G.Flit) (m j : ℕ) → Lands G s r w past (part n k more) xs c f → (c || is_spoilt G past) ≡ false →
     w.far ≡ far.inside m j → IsAt G s w.first (far.inside m j) (mode G past) (is_spoilt G past) (pending G past) → (n ≡ m) × (k ≡ j) → Goes G s r w past n k more xs c f
 inside_goes G s r w past n k more xs c f m j l h q p z =
-    let i = l.spelled (or_false c (is_spoilt G past) h).0 in
+    let i = l.spelled (or_parts c (is_spoilt G past) h).0 in
     record {
       lands = l;
       far = subst IsGood (sym q) tt;
@@ -66,9 +63,9 @@ at_between : (G : Grammar) (s : Sent G) (r : ℕ) (w : Direction) (past : Landin
     Done G s r w past c f (in_good G past (pending G past) f) (event_of good false c (reading_of (G.alone f)) (in_good G past (pending G past) f))
 at_between G s r w past (part n k more) xs c f l h q p z = goes G s r w past n k more xs c f (between_goes G s r w past n k more xs c f l h q p z)
 at_between G s r w past (filler y) xs c f l h q p z =
-    pass G s r w past (filler y) xs c f (record { lands = l; clean = (or_false c (is_spoilt G past) h).0; far = q; mode = p.0; nothing = p.2; no_part = tt }) (l.spelled (or_false c (is_spoilt G past) h).0)
+    pass G s r w past (filler y) xs c f (record { lands = l; clean = (or_parts c (is_spoilt G past) h).0; far = q; mode = p.0; nothing = p.2; no_part = tt }) (l.spelled (or_parts c (is_spoilt G past) h).0)
 at_between G s r w past clear xs c f l h q p z =
-    pass G s r w past clear xs c f (record { lands = l; clean = (or_false c (is_spoilt G past) h).0; far = q; mode = p.0; nothing = p.2; no_part = tt }) (l.spelled (or_false c (is_spoilt G past) h).0)
+    pass G s r w past clear xs c f (record { lands = l; clean = (or_parts c (is_spoilt G past) h).0; far = q; mode = p.0; nothing = p.2; no_part = tt }) (l.spelled (or_parts c (is_spoilt G past) h).0)
 
 at_inside : (G : Grammar) (s : Sent G) (r : ℕ) (w : Direction) (past : Landings G) (x : Item) (xs : List Item) (c : Bool) (f : G.Flit) (m j : ℕ) → Lands G s r w past x xs c f → (c || is_spoilt G past) ≡ false →
     w.far ≡ far.inside m j → IsAt G s w.first (far.inside m j) (mode G past) (is_spoilt G past) (pending G past) → ContinuesGathered (far.inside m j) x →
@@ -101,7 +98,7 @@ by_place G s r w past x xs c f l (far.inside n k) q p =
     (in_gathering G s r w past x xs c f l p.0 (λ h. at_inside G s r w past x xs c f n k l h q p (subst (λ z. ContinuesGathered z x) q (l.laws.gathered x xs l.line))))
 by_place G s r w past x xs c f l far.spoilt q p =
     subst (λ m. DoneIn G s r w past c (is_spoilt G past) f (in_mode G m past f) m) (sym p.0)
-    (in_gathering G s r w past x xs c f l p.0 (λ h. absurd (not_spoilt (is_spoilt G past) p.1 (or_false c (is_spoilt G past) h).1)))
+    (in_gathering G s r w past x xs c f l p.0 (λ h. absurd (not_spoilt (is_spoilt G past) p.1 (or_parts c (is_spoilt G past) h).1)))
 
 pub lands : (G : Grammar) (s : Sent G) (r : ℕ) (w : Direction) (past : Landings G) (x : Item) (xs : List Item) (c : Bool) (f : G.Flit) → Lands G s r w past x xs c f →
     DoneIn G s r w past c (is_spoilt G past) f (outcome G past f) (mode G past)

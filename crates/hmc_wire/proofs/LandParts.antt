@@ -1,5 +1,5 @@
 -- Landings in Good of flits of sequenced packets. A case of LandLanded.
-use Rattle.std.proofs.Common.{◌≡◌, ◌≢◌, ℕ, zero, suc, ◌+◌, ◌-◌, ◌%◌, ◌≤◌, List, [], ◌∷◌, ◌++◌, length, Bool, true, false, inl, inr, refl, sym, ◌∙◌, ap, subst, arith, length-append}
+use Rattle.std.proofs.Common.{◌≡◌, ◌≢◌, ℕ, zero, suc, ◌+◌, ◌-◌, ◌%◌, ◌≤◌, List, [], ◌∷◌, ◌++◌, length, Bool, true, false, inl, inr, refl, sym, ◌∙◌, ap, subst, arith, length-append, lt-ltb, le-ltb}
 use Rattle.std.specs.Prelude.{◌||◌, nat_lt, if◌then◌else◌}
 use Rattle.hmc_numbers.specs.Weights.{size, flits_to}
 use Rattle.hmc_codes.specs.Profile.{modulus_of}
@@ -13,13 +13,14 @@ use Rattle.hmc_numbers.specs.May.{IsGood, IsMiddle, IsEnd, May}
 use Rattle.hmc_numbers.specs.DirectionLaws.{IsIdentified}
 use Rattle.hmc_numbers.proofs.Sums.{upto-up}
 use Rattle.hmc_wire.proofs.Grammar.{Read, Read as reads, Grammar}
-use Rattle.hmc_wire.proofs.GrammarLandings.{Outcome, Landings, mode, pending, is_spoilt, in_good, in_order, of_read, is_wrong_length, head_or, accepted_in, flits_of, packets_in}
+use Rattle.hmc_packet.specs.Receptions.{is_no_length}
+use Rattle.hmc_wire.proofs.GrammarLandings.{Outcome, Landings, mode, pending, is_spoilt, in_good, in_order, of_read, head_or, accepted_in, flits_of, packets_in}
 use Rattle.hmc_wire.proofs.GrammarLandings.Mode.{good}
 use Rattle.hmc_wire.proofs.GrammarLandings.Outcome.{gathered, accepted, poisoned, repeated}
 use Rattle.hmc_wire.proofs.Spelled.{Sent, IsFirst, IsFlit, IsWhole, fronts}
 use Rattle.hmc_wire.proofs.Matches.{Matches, IsAt, reading_of, event_of, packets_to}
 use Rattle.hmc_wire.proofs.Lands.{Lands, Done}
-use Rattle.hmc_wire.proofs.LandOutcomes.{less_lt, not_less, valid_sizes_length, good_gathers, good_ends, order_next, order_behind}
+use Rattle.hmc_wire.proofs.LandOutcomes.{valid_sizes_length, good_gathers, good_ends, order_next, order_behind}
 use Rattle.hmc_wire.proofs.LandKeep.{keep}
 
 -- flit k of packet n lands in Good after its first k flits
@@ -54,10 +55,10 @@ none_pending g zero e = refl
 none_pending g (suc k) e = let h = fronts-length g (suc k) in let l : length (fronts g (suc k)) ≡ 0 = ap (λ z. length z) e in absurd (omega arith)
 
 -- the first tests, for a flit of a packet of z flits
-pub first_tests : (G : Grammar) (g : ℕ → G.Flit) (fs : List G.Flit) (k z : ℕ) (f : G.Flit) → fs ≡ fronts g k → 1 ≤ z → z ≤ 17 → (k ≡ 0 → IsFirst G z f) → fs ≡ [] → (G.is_null f ≡ false) × (is_wrong_length (G.lng f) ≡ false)
+pub first_tests : (G : Grammar) (g : ℕ → G.Flit) (fs : List G.Flit) (k z : ℕ) (f : G.Flit) → fs ≡ fronts g k → 1 ≤ z → z ≤ 17 → (k ≡ 0 → IsFirst G z f) → fs ≡ [] → (G.is_null f ≡ false) × (is_no_length (G.lng f) ≡ false)
 first_tests G g fs k z f e a b i q =
     let h = i (none_pending g k (sym e ∙ q)) in
-    (h.some, ap is_wrong_length h.lng ∙ valid_sizes_length z a b)
+    (h.some, ap is_no_length h.lng ∙ valid_sizes_length z a b)
 
 pub lng_test : (G : Grammar) (g : ℕ → G.Flit) (fs : List G.Flit) (k z : ℕ) (f : G.Flit) → fs ≡ fronts g k → (k ≢ 0 → G.lng (g 0) ≡ z) → (k ≡ 0 → IsFirst G z f) → nat_lt (length fs + 1) (G.lng (head_or fs f)) ≡ nat_lt (k + 1) z
 lng_test G g fs k z f e h i =
@@ -65,7 +66,7 @@ lng_test G g fs k z f e h i =
     let b : G.lng (head_or fs f) ≡ z = ap (λ y. G.lng (head_or y f)) e ∙ head_lng G g k z f h i in
     rw (a, b) refl
 
-front_line : (b x : Item) (xs ys : List Item) → ys ≡ x ∷ xs → front_or b ys ≡ x
+pub front_line : (b x : Item) (xs ys : List Item) → ys ≡ x ∷ xs → front_or b ys ≡ x
 front_line b x xs ys q = ap (λ z. front_or b z) q
 
 -- a flit that isn't the last
@@ -75,7 +76,7 @@ gather G s r w past n k more xs c f g =
     let l = g.lands in
     let m = l.matches in
     let z = l.laws.placed n k (suc more) xs l.line in
-    let t = lng_test G (s.front n) (pending G past) k (size w.first n) f g.behind g.lng g.first ∙ less_lt (k + 1) (size w.first n) (omega (arith, z.flits)) in
+    let t = lng_test G (s.front n) (pending G past) k (size w.first n) f g.behind g.lng g.first ∙ lt-ltb (k + 1) (size w.first n) (omega (arith, z.flits)) in
     let o = good_gathers G past (pending G past) f (first_tests G (s.front n) (pending G past) k (size w.first n) f g.behind (omega (arith, z.flits)) z.short g.first) t in
     let x : Item = part n k (suc more) in
     let q = front_line w.before x xs w.line l.line in
@@ -125,7 +126,7 @@ pub ends : (G : Grammar) (s : Sent G) (r : ℕ) (w : Direction) (past : Landings
 ends G s r w past n k xs c f g =
     let l = g.lands in
     let z = l.laws.placed n k 0 xs l.line in
-    let t = lng_test G (s.front n) (pending G past) k (size w.first n) f g.behind g.lng g.first ∙ not_less (k + 1) (size w.first n) (omega (arith, z.flits)) in
+    let t = lng_test G (s.front n) (pending G past) k (size w.first n) f g.behind g.lng g.first ∙ le-ltb (k + 1) (size w.first n) (omega (arith, z.flits)) in
     let o = good_ends G past (pending G past) f (first_tests G (s.front n) (pending G past) k (size w.first n) f g.behind (omega (arith, z.flits)) z.short g.first) t in
     let e = ap (λ (y : List G.Flit). G.read (y ++ f ∷ [])) g.behind ∙ g.flit.1.1 in
     record { goes = g; read = (g.flit.1.0, e); outcome = o ∙ ap (λ y. of_read G past y) e }

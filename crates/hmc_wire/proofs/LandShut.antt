@@ -1,5 +1,5 @@
 -- Landings in Train and in Abort. A case of LandLanded.
-use Rattle.std.proofs.Common.{◌≡◌, ℕ, ◌+◌, List, [], ◌∷◌, Bool, true, false, refl, sym, ◌∙◌, subst}
+use Rattle.std.proofs.Common.{◌≡◌, ℕ, ◌+◌, List, [], ◌∷◌, Bool, true, false, refl, sym, ◌∙◌, subst, eqb-true}
 use Rattle.std.specs.Prelude.{◌==◌, ◌&&◌, ◌||◌, if◌then◌else◌, Option, Some, None}
 use Rattle.hmc_numbers.specs.Direction.{Item, Direction, front_or}
 use Rattle.hmc_numbers.specs.Direction.{Reached as far}
@@ -13,7 +13,6 @@ use Rattle.hmc_wire.proofs.GrammarLandings.Outcome.{quiet, trained, ran}
 use Rattle.hmc_wire.proofs.Spelled.{Sent}
 use Rattle.hmc_wire.proofs.Matches.{Matches, IsAt, reading_of}
 use Rattle.hmc_wire.proofs.Lands.{Lands, DoneIn}
-use Rattle.hmc_wire.proofs.LandOutcomes.{eq_same}
 use Rattle.hmc_wire.proofs.LandKeep.{keep, clear_reads, start_reads, can_read, changed_reading}
 
 or_right : (a b : Bool) → (a || b) ≡ false → b ≡ false
@@ -93,7 +92,7 @@ in_aborted G s r w past x xs c f l q p = by_alone (G.alone f) refl
     }
     by_run kinds.clear n e true h = record {
       ordered = tt;
-      may = (q, v.0, subst (λ a. CanReadAs (front_or w.before w.line) (reading_of a)) e v.1, sym m.clear_run ∙ eq_same (run G kinds.clear past) 23 h);
+      may = (q, v.0, subst (λ a. CanReadAs (front_or w.before w.line) (reading_of a)) e v.1, sym m.clear_run ∙ eqb-true (run G kinds.clear past) 23 h);
       matches = keep G s w past c f (ran kinds.clear) far.between as_clear m refl (rw p.0 (refl, refl, refl))
           (subst (λ a. (if is_of kinds.clear (G.alone f) then run G kinds.clear past + 1 else 0) ≡ clear_run_after (reading_of a) w.clear_run) e (clear_reads (G.alone f) (run G kinds.clear past) w.clear_run m.clear_run))
           (subst (λ a. (if is_of kinds.start (G.alone f) then run G kinds.start past + 1 else 0) ≡ start_run_after (reading_of a) w.start_run) e (start_reads (G.alone f) (run G kinds.start past) w.start_run m.start_run));

@@ -38,7 +38,7 @@ touched_far G s ps (far.inside n k) m b false fs p g t = absurd (not_both b p.1 
     not_both b e g = cc
 touched_far G s ps far.spoilt m b c fs p g t = tt
 
-check_in : (G : Grammar) (m : Mode) (past : Landings G) (f : G.Flit) → m ≡ good → checks G m past f ≡ false → checks G good past f ≡ false
+pub check_in : (G : Grammar) (m : Mode) (past : Landings G) (f : G.Flit) → m ≡ good → checks G m past f ≡ false → checks G good past f ≡ false
 check_in G training past f e h = absurd (cc e)
 check_in G abort past f e h = absurd (cc e)
 check_in G good past f e h = h

@@ -1,8 +1,8 @@
 -- The cases of a landing by hmc_packet's rows, with what is known in each. Used by Readings and
 -- Mirrors.
-use Rattle.std.proofs.Common.{◌≡◌, ◌∙◌, ◌+◌, ℕ, suc, Bool, true, false, List, [], ◌∷◌, ◌++◌, length, Option, Some, None, Result, Ok, Err, refl, sym, arith}
+use Rattle.std.proofs.Common.{◌≡◌, ◌∙◌, ◌+◌, ℕ, Bool, true, false, List, [], ◌∷◌, ◌++◌, length, Option, Some, None, Result, Ok, Err, refl, sym}
 use Rattle.std.specs.Prelude.{◌==◌, ◌&&◌, nat_lt, if◌then◌else◌}
-use Rattle.std.proofs.lemmas.Grind.{common_steps}
+use Rattle.hmc_codes.proofs.General.{suc-some}
 use Rattle.hmc_codes.specs.Commands.{layout_of}
 use Rattle.hmc_codes.specs.declared.profile.Profile.{Profile}
 use Rattle.hmc_packet.specs.declared.bad.Bad.{Bad}
@@ -54,9 +54,6 @@ by_count : (q : Profile) (r : LandingView) (flit : List ℕ) (b : Bool) → r.mo
     Case q r flit (if b then unchecked Gathered else read_reception q r (read_of q (r.pending ++ flit ∷ [])))
 by_count q r flit true m is = gathered m is
 by_count q r flit false m is = by_reading q r flit (read_of q (r.pending ++ flit ∷ [])) m is refl
-
-pub suc-some : (n : ℕ) → (suc n == 0) ≡ false
-suc-some n = grind (arith, common_steps)
 
 none : (flits : List (List ℕ)) → (length flits == 0) ≡ true → flits ≡ []
 none [] is = refl

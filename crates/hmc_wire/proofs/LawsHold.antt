@@ -16,7 +16,8 @@ use Rattle.hmc_send.specs.declared.toward.Toward.TheVariants.{Forth, Back}
 use Rattle.hmc_send.specs.Entries as turns
 use Rattle.hmc_send.specs.Entries.{SenderEntry, Part}
 use Rattle.hmc_send.specs.LinkEntries.{LinkEntry}
-use Rattle.hmc_send.specs.LinkLines.{StampedFlit, line, passes, changes}
+use Rattle.hmc_packet.specs.Masks.{changes}
+use Rattle.hmc_send.specs.LinkLines.{StampedFlit, line, passes}
 use Rattle.hmc_send.specs.Places.{Place, flits_at, flits_in, place_at, pointer_of}
 use Rattle.hmc_send.proofs.LinkLawful.{lawful-landed}
 use Rattle.hmc_numbers.specs.Weights.{flits_to}

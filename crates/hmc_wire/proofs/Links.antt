@@ -1,13 +1,14 @@
 -- What the laws of the two directions give a send, a landing and a taken packet. Used by Joins.
-use Rattle.std.proofs.Common.{◌≡◌, ◌≢◌, ◌∙◌, ◌<◌, ◌≤◌, ◌+◌, ◌-◌, ◌%◌, inl, inr, ℕ, zero, suc, Bool, true, false, cond, List, [], ◌∷◌, length, drop, get_or, map, Option, Some, refl, sym, ap, subst, arith}
-use Rattle.std.specs.Prelude.{◌&&◌, ◌||◌, not, slice_get, sum_by, replicate, bit_xor, filter}
+use Rattle.std.proofs.Common.{◌≡◌, ◌≢◌, ◌∙◌, ◌≤◌, ◌+◌, ◌-◌, ◌%◌, inl, inr, ℕ, zero, suc, Bool, true, false, cond, List, [], ◌∷◌, length, drop, get_or, map, Option, Some, refl, sym, ap, subst, arith}
+use Rattle.std.specs.Prelude.{◌&&◌, ◌||◌, slice_get, sum_by, replicate, bit_xor, filter}
 use Rattle.std.specs.Str.{bytes_eq}
 use Rattle.std.proofs.lemmas.Slice.Eq.{bytes_eq-Decides}
 use Rattle.std.proofs.lemmas.List.Sums.{sum_by_push, sum_by-cons, sum_by-take-le}
+use Rattle.std.proofs.lemmas.Bool.{not-false}
+use Rattle.hmc_codes.proofs.General.{mod_small}
 use Rattle.hmc_codes.specs.Flit.{zero_flit, IsFlit}
 use Rattle.hmc_codes.specs.Profile.{modulus_of}
 use Rattle.hmc_codes.specs.declared.profile.Profile.{Profile}
-use Rattle.hmc_codes.specs.declared.profile.Profile.TheVariants.{One, Two}
 use Rattle.hmc_packet.specs.declared.feed.Feed.{Feed}
 use Rattle.hmc_packet.specs.declared.view.Mode as outer_mode
 use Rattle.hmc_packet.specs.declared.view.Mode.TheVariants.{Train, Abort, Good}
@@ -19,7 +20,8 @@ use Rattle.hmc_tokens.specs.Account.{tokens_of_code}
 use Rattle.hmc_send.specs.Choice.{is_train}
 use Rattle.hmc_send.specs.Entries as turns
 use Rattle.hmc_send.specs.Entries.{Given, SenderEntry, Part}
-use Rattle.hmc_send.specs.LinkLines.{StampedFlit, changes, under_mask}
+use Rattle.hmc_packet.specs.Masks.{changes, under_mask}
+use Rattle.hmc_send.specs.LinkLines.{StampedFlit}
 use Rattle.hmc_send.specs.LinkTokens.{flits_begun, flits_accepted, flits_taken, tokens_returned, tokens_credited, tokens_held, tokens_due}
 use Rattle.hmc_send.specs.Places.{Place, flits_at, numbers_at, takes_tokens, is_token, place_at}
 use Rattle.hmc_numbers.specs.Weights.{Weight, upto, flits_to}
@@ -166,10 +168,6 @@ given_by q adv mine theirs feed = record {
   feed = feed;
 }
 
-pointer-below : (q : Profile) (n : ℕ) → n % modulus_of q < modulus_of q
-pointer-below One n = omega arith
-pointer-below Two n = omega arith
-
 pub env-of : (q : Profile) (retry adv : ℕ) (mine theirs : Lists q) (s s' : Sent (grammar q)) (own oth : SideOf (grammar q)) (feed : Feed) →
     Way q retry mine own → Way q retry theirs oth → Linked (grammar q) s retry adv own oth → Linked (grammar q) s' retry adv oth own → AgreesWith q s' theirs.sender → AreFed q mine.sender →
     Env q s retry adv mine.sender (given_by q adv mine theirs feed) own.half oth.half
@@ -194,7 +192,7 @@ env-of q retry adv mine theirs s s' own oth feed is other linked back agree fed 
       train = λ e. far-training q s' oth.half.direction.first oth.half.direction.far (inner.mode (grammar q) oth.received) (inner.is_spoilt (grammar q) oth.received) (inner.pending (grammar q) oth.received) place (sym mode ∙ train-is (receipts.mode theirs.receiver) e);
       ready = λ e f. train-not (receipts.mode theirs.receiver) e (mode ∙ far-is q s' oth.half.direction.first oth.half.direction.far (inner.mode (grammar q) oth.received) (inner.is_spoilt (grammar q) oth.received) (inner.pending (grammar q) oth.received) place f);
       rrp = ap (λ (n : ℕ). n % modulus_of q) flits;
-      below = pointer-below q (receipts.flits_in (receipts.accepted q theirs.receiver));
+      below = mod_small q (receipts.flits_in (receipts.accepted q theirs.receiver));
       held = λ i. credited i - spent i;
       due = λ i. adv + sym m i - returned i;
     }
@@ -210,14 +208,10 @@ unchanged-by zero (b ∷ flit) le = absurd (omega arith)
 unchanged-by (suc n) [] le = refl
 unchanged-by (suc n) (b ∷ flit) le = λ i. xor-zero b i ∷ unchanged-by n flit (omega arith) i
 
-not-true : (b : Bool) → not b ≡ false → b ≡ true
-not-true true e = refl
-not-true false e = let clash : true ≡ false = e in absurd cc
-
 pub unchanged : (mask flit : List ℕ) → IsFlit flit → changes mask ≡ false → under_mask mask flit ≡ flit
 unfolding zero_flit
 unchanged mask flit whole is =
-    let same : mask ≡ zero_flit = (bytes_eq-Decides mask zero_flit).0 (not-true (bytes_eq mask zero_flit) is) in
+    let same : mask ≡ zero_flit = (bytes_eq-Decides mask zero_flit).0 (not-false (bytes_eq mask zero_flit) is) in
     ap (λ (m : List ℕ). under_mask m flit) same ∙ unchanged-by 16 flit (let long = whole.long in omega arith)
 
 -- where a check succeeds nothing that it covers is changed
@@ -253,11 +247,8 @@ may-take q retry adv mine s own oth is linked agree =
 
 -- the front of the queue was handed
 
-good-front : (q : Profile) (ps : List PacketFields) (n : ℕ) → AllGood q ps → (p : PacketFields) → slice_get (drop n ps) 0 ≡ Some p → IsGood q p
-good-front q [] zero all p e = absurd cc
-good-front q [] (suc n) all p e = absurd cc
-good-front q (r ∷ ps) zero all p e = let same : r ≡ p = cc in subst (IsGood q) same all.0
-good-front q (r ∷ ps) (suc n) all p e = good-front q ps n all.1 p e
-
 pub fronts-good : (q : Profile) (ps : List PacketFields) (n : ℕ) → AllGood q ps → (p : PacketFields) → slice_get (drop n ps) 0 ≡ Some p → IsGood q p
-fronts-good q ps n all p e = good-front q ps n all p e
+fronts-good q [] zero all p e = absurd cc
+fronts-good q [] (suc n) all p e = absurd cc
+fronts-good q (r ∷ ps) zero all p e = let same : r ≡ p = cc in subst (IsGood q) same all.0
+fronts-good q (r ∷ ps) (suc n) all p e = fronts-good q ps n all.1 p e

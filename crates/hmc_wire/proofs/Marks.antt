@@ -1,6 +1,8 @@
 -- Flits that a sender sends are spelled as what they are. Used by Senders and Choices.
-use Rattle.std.proofs.Common.{◌≡◌, ◌≢◌, ◌∙◌, ◌<◌, ◌≤◌, ◌+◌, ◌-◌, ◌%◌, lit<, ℕ, zero, suc, true, List, [], ◌∷◌, ◌++◌, length, take, get_or, refl, sym, ap, subst, arith}
+use Rattle.std.proofs.Common.{◌≡◌, ◌≢◌, ◌∙◌, ◌<◌, ◌≤◌, ◌+◌, ◌-◌, lit<, ℕ, zero, suc, true, List, [], ◌∷◌, ◌++◌, length, take, get_or, refl, sym, ap, subst, arith}
 use Rattle.std.proofs.lemmas.List.{get_or-take}
+use Rattle.std.proofs.lemmas.Bool.{false_from_ne_true}
+use Rattle.hmc_codes.proofs.General.{mod_small}
 use Rattle.hmc_codes.specs.Table.{table_line}
 use Rattle.hmc_codes.specs.Commands.{layout_of, is_flow}
 use Rattle.hmc_codes.specs.Flit.{zero_flit}
@@ -33,7 +35,7 @@ use Rattle.hmc_wire.proofs.Spelled.{Sent, fronts}
 use Rattle.hmc_wire.proofs.Marked.{Mark}
 use Rattle.hmc_wire.proofs.Words.{kind_as}
 use Rattle.hmc_wire.proofs.PacketGrammar.{grammar, read_as, read_by, irtry_of_read, IsSequenced, IsNumbered}
-use Rattle.hmc_wire.proofs.SpelledPackets.{not_true, not_null_layout, null_spelled, training_spelled, irtry_spelled, pret_spelled, front_spelled, last_spelled, whole_read}
+use Rattle.hmc_wire.proofs.SpelledPackets.{not_null_layout, null_spelled, training_spelled, irtry_spelled, pret_spelled, front_spelled, last_spelled, whole_read}
 
 -- Flow packets
 
@@ -139,16 +141,12 @@ fronts-take q p front r (suc k) is same lt =
     (λ i. fronts-take q p front r k is same (omega arith) i ++ same k lt i ∷ [])
     ∙ grown-front q p r 0 k is (omega arith) ∙ ap (λ (n : ℕ). take n (spelling q p r)) next
 
-mod-below : (q : Profile) (n : ℕ) → n % modulus_of q < modulus_of q
-mod-below One n = omega arith
-mod-below Two n = omega arith
-
 -- a sequenced packet may be sent with a return pointer
 pub numbered-fits : (q : Profile) (ps : List Weight) (n : ℕ) (p : PacketFields) (rrp : ℕ) → IsNumbered q ps n p → rrp < modulus_of q → FitsProfile q p rrp
 unfolding table_line
 numbered-fits q ps n p rrp i lt = record {
   below = lt;
-  forward = subst (λ (f : ℕ). f < modulus_of q) (sym i.frp) (mod-below q _);
+  forward = subst (λ (f : ℕ). f < modulus_of q) (sym i.frp) (mod_small q _);
   errstat = i.errstat;
   null = λ is. absurd (subst (λ c. IsSequenced (layout_of c)) is i.sequenced);
 }
@@ -190,7 +188,7 @@ mark-open q s ps qs n k more t flit is first = record {
     λ z. let lng = (first z).0 in let long = (first z).1 in
         let some : flit ≢ zero_flit = λ e. let zero_lng = ap lng_of e ∙ lng_of-null in omega arith in
         record {
-          some = not_true (is_null flit) (λ e. some (is_null-is flit e));
+          some = false_from_ne_true (is_null flit) (λ e. some (is_null-is flit e));
           lng = lng;
           alone = ap (λ x. irtry_of_read (read_as x)) (read_of-long q flit some (λ e. omega arith));
         },

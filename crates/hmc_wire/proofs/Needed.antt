@@ -34,7 +34,8 @@ use Rattle.hmc_send.specs.IsSender.{IsFed}
 use Rattle.hmc_send.specs.LinkCalls.{next_entry, call_of, IsLawful, entries_after_calls}
 use Rattle.hmc_send.specs.LinkEntries.{LinkEntry, receiver_entries, accepted_packets, handed_packets, takes}
 use Rattle.hmc_send.specs.declared.toward.Toward.TheVariants.{Forth, Back}
-use Rattle.hmc_send.specs.LinkLines.{under_mask, sent_flits, landings, line, is_pending_changed, passes}
+use Rattle.hmc_packet.specs.Masks.{under_mask}
+use Rattle.hmc_send.specs.LinkLines.{sent_flits, landings, line, is_pending_changed, passes}
 use Rattle.hmc_send.specs.LinkSenders.{given_after, sender_entries, places_in, tokens}
 use Rattle.hmc_send.specs.Places.{Place, place_at, flit_of}
 use Rattle.hmc_send.proofs.LinkLists.{calls_are_lawful}

@@ -1,10 +1,10 @@
 -- The n-th place has the flits of the first n places as its pointer, and n as its number. Used by
 -- Links, Choices and Agreements.
-use Rattle.std.proofs.Common.{◌≡◌, ◌∙◌, ◌<◌, ◌≤◌, ◌+◌, ◌%◌, ◌⊎◌, inl, inr, ℕ, suc, Bool, true, false, List, [], ◌∷◌, ◌++◌, length, take, get_or, Option, Some, None, refl, sym, ap, subst, arith}
+use Rattle.std.proofs.Common.{◌≡◌, ◌∙◌, ◌<◌, ◌+◌, ◌%◌, ◌⊎◌, inl, inr, ℕ, suc, Bool, true, false, List, [], ◌∷◌, ◌++◌, length, take, get_or, Option, Some, None, refl, sym, ap, subst, arith, ltb-false, ltb-true}
 use Rattle.std.specs.Prelude.{nat_lt}
 use Rattle.std.proofs.lemmas.Bool.{eqb-true}
-use Rattle.std.proofs.lemmas.Grind.{common_steps}
 use Rattle.std.proofs.lemmas.List.{take_all, get_or_append_left}
+use Rattle.hmc_codes.proofs.General.{mod_again, eight_again}
 use Rattle.hmc_codes.specs.Profile.{modulus_of}
 use Rattle.hmc_codes.specs.declared.profile.Profile.{Profile}
 use Rattle.hmc_packet.specs.declared.feed.Feed.{Feed}
@@ -23,7 +23,7 @@ use Rattle.hmc_send.specs.IsSender.{IsFed}
 use Rattle.hmc_send.specs.Kept.{IsFedNext}
 use Rattle.hmc_send.specs.Places.{Place, flits_at, flits_in, numbers_at, pointer_of, number_of, numbers_after, next_packet, tret_packet, with_last}
 use Rattle.hmc_send.proofs.CopyLemmas.{copy-length}
-use Rattle.hmc_send.proofs.Lists.{mod_again, eight_again, flits-push, take-push, get-push, length-push, last-push}
+use Rattle.hmc_send.proofs.Lists.{flits-push, take-push, get-push, length-push, last-push}
 use Rattle.hmc_tokens.specs.Account.{code_for}
 use Rattle.hmc_wire.specs.Conditions.{AreFed, IsFeed}
 use Rattle.hmc_wire.specs.LinkLaws.{HasNumbers}
@@ -31,17 +31,11 @@ use Rattle.hmc_wire.proofs.Places.{AreNumbered}
 use Rattle.hmc_wire.proofs.SenderLists.{Chosen}
 use Rattle.hmc_wire.proofs.OpenPlaces.{AreKnown, IsOpen, open_place, under-open, last-fed_known, open-place}
 
-inside : (a b : ℕ) → nat_lt a b ≡ true → a < b
-inside a b is = grind (arith, common_steps)
-
-outside : (a b : ℕ) → nat_lt a b ≡ false → b ≤ a
-outside a b is = grind (arith, common_steps)
-
 push-by : (q : Profile) (l : List Place) (x : Place) (n : ℕ) (b : Bool) → nat_lt n (length l) ≡ b → AreNumbered q l → (numbers_at x).frp ≡ (flits_in l + flits_at x) % modulus_of q → (numbers_at x).seq ≡ (length l + 1) % 8 →
     n < suc (length l) → HasNumbers q (l ++ x ∷ []) n
 push-by q l x n true is all frp seq lt =
     let d : Place = Place.known null_packet in
-    let below = inside n (length l) is in
+    let below = ltb-true n (length l) is in
     let same : get_or (l ++ x ∷ []) n d ≡ get_or l n d = get_or_append_left l (x ∷ []) d n below in
     record {
       frp = ap (λ (s : Place). (numbers_at s).frp) same ∙ (all n below).frp ∙ ap (λ (t : List Place). flits_in t % modulus_of q) (sym (take-push (suc n) l x (omega arith)));
@@ -49,7 +43,7 @@ push-by q l x n true is all frp seq lt =
     }
 push-by q l x n false is all frp seq lt =
     let d : Place = Place.known null_packet in
-    let above = outside n (length l) is in
+    let above = ltb-false n (length l) is in
     let at : n ≡ length l = omega arith in
     let len = length-push l x in
     let same : get_or (l ++ x ∷ []) n d ≡ x = ap (λ (k : ℕ). get_or (l ++ x ∷ []) k d) at ∙ get-push l x d in
@@ -79,7 +73,7 @@ numbered-last q l x y numbers flits all n lt = by_index (nat_lt n (length l)) re
     by_index true is =
         let d : Place = Place.known null_packet in
         let lx = length-push l x in
-        let below = inside n (length l) is in
+        let below = ltb-true n (length l) is in
         let at = all n (omega arith) in
         let same : get_or (l ++ y ∷ []) n d ≡ get_or (l ++ x ∷ []) n d = get_or_append_left l (y ∷ []) d n below ∙ sym (get_or_append_left l (x ∷ []) d n below) in
         let front : take (suc n) (l ++ y ∷ []) ≡ take (suc n) (l ++ x ∷ []) = take-push (suc n) l y (omega arith) ∙ sym (take-push (suc n) l x (omega arith)) in
@@ -91,7 +85,7 @@ numbered-last q l x y numbers flits all n lt = by_index (nat_lt n (length l)) re
         let d : Place = Place.known null_packet in
         let lx = length-push l x in
         let ly = length-push l y in
-        let above = outside n (length l) is in
+        let above = ltb-false n (length l) is in
         let here : n ≡ length l = omega arith in
         let at = all n (omega arith) in
         let of_x : get_or (l ++ x ∷ []) n d ≡ x = ap (λ (k : ℕ). get_or (l ++ x ∷ []) k d) here ∙ get-push l x d in

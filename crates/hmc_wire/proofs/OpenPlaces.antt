@@ -1,10 +1,12 @@
 -- At most one place is open: the last, whose packet is under way. Used by Senders, Choices and
 -- Agreements.
-use Rattle.std.proofs.Common.{◌≡◌, ◌≢◌, ◌∙◌, ◌≤◌, ◌⊎◌, inl, inr, ℕ, zero, suc, Bool, true, false, List, [], ◌∷◌, ◌++◌, length, get_or, Option, Some, None, refl, sym, ap, subst, arith, append-nil, append_assoc}
+use Rattle.std.proofs.Common.{◌≡◌, ◌≢◌, ◌∙◌, ◌≤◌, ◌⊎◌, inl, inr, ℕ, zero, suc, Bool, true, false, List, [], ◌∷◌, ◌++◌, length, get_or, Option, Some, None, refl, sym, ap, subst, arith}
 use Rattle.std.specs.List.{concat}
 use Rattle.std.specs.Prelude.{◌==◌, is_none, if◌then◌else◌}
+use Rattle.std.proofs.lemmas.Option.{same_Some}
 use Rattle.hmc_codes.specs.Bytes.{IsBytes}
 use Rattle.hmc_codes.proofs.BytesLemmas.{IsBytes-append, IsBytes-[]}
+use Rattle.hmc_codes.proofs.General.{concat-more}
 use Rattle.hmc_codes.specs.declared.profile.Profile.{Profile}
 use Rattle.hmc_packet.specs.declared.feed.Feed.{Feed}
 use Rattle.hmc_packet.specs.declared.feed.Feed.TheVariants.{Waiting, Whole, Last}
@@ -31,7 +33,7 @@ use Rattle.hmc_send.proofs.Lists.{length-push, place-push, last-push, last-same,
 use Rattle.hmc_tokens.specs.Account.{code_for}
 use Rattle.hmc_wire.specs.Conditions.{AreFed, IsFeed}
 use Rattle.hmc_wire.proofs.Places.{packet_of}
-use Rattle.hmc_wire.proofs.SenderLists.{Chosen}
+use Rattle.hmc_wire.proofs.SenderLists.{Chosen, what_is}
 
 -- ---- places that have their packets
 
@@ -67,10 +69,6 @@ flits-push [] x all len (suc k) lt = absurd (omega arith)
 flits-push (y ∷ l) x all len zero lt = all 0 (omega arith)
 flits-push (y ∷ l) x all len (suc k) lt = flits-push l x (λ j h. all (suc j) (omega arith)) len k (omega arith)
 
-concat-push : (l : List (List ℕ)) (x : List ℕ) → concat (l ++ x ∷ []) ≡ concat l ++ x
-concat-push [] x = append-nil x
-concat-push (y ∷ l) x = ap (λ (k : List ℕ). y ++ k) (concat-push l x) ∙ sym (append_assoc y (concat l) x)
-
 first-push : (l : List (List ℕ)) (x : List ℕ) → 1 ≤ length l → get_or (l ++ x ∷ []) 0 [] ≡ get_or l 0 []
 first-push [] x some = absurd (omega arith)
 first-push (y ∷ l) x some = refl
@@ -78,7 +76,7 @@ first-push (y ∷ l) x some = refl
 pub whole_flits-push : (part : Part) (flit : List ℕ) → HasWholeFlits part → length flit ≡ 16 → IsBytes flit → (length part.sent ≡ 0 → names_flits part.flits (head_in flit) ≡ true) → HasWholeFlits (record part { sent = part.sent ++ flit ∷ [] })
 whole_flits-push part flit whole_flits len bytes head = record {
   flits = flits-push part.sent flit whole_flits.flits len;
-  bytes = subst IsBytes (sym (concat-push part.sent flit)) (IsBytes-append (concat part.sent) flit whole_flits.bytes bytes);
+  bytes = subst IsBytes (sym (concat-more part.sent flit)) (IsBytes-append (concat part.sent) flit whole_flits.bytes bytes);
   head = λ some. by_sent part.sent refl;
 }
   where
@@ -129,21 +127,15 @@ none_some part u none some = let clash : None ≡ Some part = sym none ∙ some 
 none_begun : (begun : UnderWay) (u : Option UnderWay) → u ≡ None → u ≡ Some begun → ⊥
 none_begun begun u none some = let clash : None ≡ Some begun = sym none ∙ some in cc
 
-what_is : (f g : List ℕ) (v w : What) → Out f v ≡ Out g w → v ≡ w
-what_is f g v w is = cc
-
 flit_is : (f g : List ℕ) (v w : What) → Out f v ≡ Out g w → f ≡ g
 flit_is f g v w is = cc
-
-some_begun : (p r : UnderWay) → Some p ≡ Some r → p ≡ r
-some_begun p r is = cc
 
 -- while a packet is under way a send goes on with it, or trains
 under-by : (q : Profile) (s : SendView) (x : Sent) → Case q s x → (begun : UnderWay) → s.under_way ≡ Some begun → (flit : List ℕ) (what : What) → x ≡ Out flit what → what ≢ Train →
     (what ≡ part_what begun.part) × (next_flit q s.given.own.rrp s.given.feed begun.place begun.part ≡ Some flit)
 under-by q s x (trains t) begun some flit what is other = absurd (other (sym (what_is _ flit Train what is)))
 under-by q s x (goes_on t b some' f next) begun some flit what is other =
-    let same : b ≡ begun = some_begun b begun (sym some' ∙ some) in (
+    let same : b ≡ begun = same_Some b begun (sym some' ∙ some) in (
       sym (what_is f flit (part_what b.part) what is) ∙ ap (λ (y : UnderWay). part_what y.part) same,
       ap (λ (y : UnderWay). next_flit q s.given.own.rrp s.given.feed y.place y.part) (sym same) ∙ next ∙ ap (λ (y : List ℕ). Some y) (flit_is f flit (part_what b.part) what is),
     )

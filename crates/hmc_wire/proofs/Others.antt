@@ -13,7 +13,8 @@ use Rattle.hmc_packet.specs.Packet.{PacketFields, flits_of}
 use Rattle.hmc_packet.specs.Receptions.{reception_of}
 use Rattle.hmc_send.specs.Entries as turns
 use Rattle.hmc_send.specs.Entries.{SenderEntry}
-use Rattle.hmc_send.specs.LinkLines.{StampedFlit, changes}
+use Rattle.hmc_packet.specs.Masks.{changes}
+use Rattle.hmc_send.specs.LinkLines.{StampedFlit}
 use Rattle.hmc_send.specs.LinkSenders.{run_entries, acknowledgement}
 use Rattle.hmc_send.specs.LinkTokens.{flits_taken}
 use Rattle.hmc_send.specs.Places.{Place, is_token}

@@ -1,8 +1,7 @@
 -- What a sender's entries are for the numbers, and what each send leaves of the packet under way.
 -- Used by Senders and Choices.
-use Rattle.std.proofs.Common.{◌≡◌, ◌≢◌, ◌∙◌, ◌<◌, ◌≤◌, ◌-◌, inl, inr, ℕ, zero, suc, Bool, true, false, List, [], ◌∷◌, ◌++◌, length, get_or, map, Option, Some, None, refl, sym, ap, arith, length-append}
+use Rattle.std.proofs.Common.{◌≡◌, ◌≢◌, ◌∙◌, ◌<◌, ◌≤◌, ◌-◌, inl, inr, ℕ, zero, suc, Bool, true, false, List, [], ◌∷◌, ◌++◌, length, get_or, map, Option, Some, None, refl, sym, ap, arith, length-append, leb-true}
 use Rattle.std.specs.Prelude.{◌==◌, nat_le, is_none, if◌then◌else◌}
-use Rattle.std.proofs.lemmas.Grind.{common_steps}
 use Rattle.std.proofs.lemmas.Bool.{eqb-true, eq-eqb}
 use Rattle.hmc_codes.specs.declared.profile.Profile.{Profile}
 use Rattle.hmc_packet.specs.Packet.{null_packet}
@@ -10,7 +9,6 @@ use Rattle.hmc_packet.specs.Parts.{lng_of}
 use Rattle.hmc_tokens.specs.Account.{tokens_of_code, greatest_code, code_for}
 use Rattle.hmc_send.specs.Entries.{SenderEntry, Given, Part, part_with, part_after, places_with, unfinished, places, acked, clears, last_begun}
 use Rattle.hmc_send.specs.Places.{Place, flits_at, place_at}
-use Rattle.hmc_send.proofs.KeptLemmas.{code-few}
 use Rattle.hmc_numbers.specs.Direction.{Direction}
 use Rattle.hmc_wire.proofs.OpenPlaces.{AreKnown, last-fed_known}
 use Rattle.hmc_wire.proofs.Places.{HasPacket, AllFit}
@@ -92,11 +90,8 @@ known-at q (x ∷ l) (suc n) lt known all = known-at q l n (omega arith) known.1
 
 -- ---- what is returned is due
 
-below : (a b : ℕ) → nat_le a b ≡ true → a ≤ b
-below a b is = grind (arith, common_steps)
-
 greatest-by : (k due : ℕ) (b : Bool) → nat_le (tokens_of_code (suc k)) due ≡ b → tokens_of_code (greatest_code k due) ≤ due → tokens_of_code (if b then suc k else greatest_code k due) ≤ due
-greatest-by k due true is le = below (tokens_of_code (suc k)) due is
+greatest-by k due true is le = leb-true (tokens_of_code (suc k)) due is
 greatest-by k due false is le = le
 
 greatest-le : (most due : ℕ) → tokens_of_code (greatest_code most due) ≤ due
@@ -106,6 +101,3 @@ greatest-le (suc k) due = greatest-by k due (nat_le (tokens_of_code (suc k)) due
 pub rtc-le : (due : ℕ) → tokens_of_code (code_for due) ≤ due
 unfolding code_for
 rtc-le due = greatest-le 7 due
-
-pub rtc-lt : (due : ℕ) → code_for due < 8
-rtc-lt due = code-few due

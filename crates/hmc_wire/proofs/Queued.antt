@@ -68,7 +68,7 @@ handed-queued handed all past p is =
 -- a flit is sent
 
 -- where a new packet is begun, the queue has a front
-front-by : (q : Profile) (s : SendView) (x : Sent) → Case q s x → (flit : List ℕ) → x ≡ Out flit New → s.under_way ≡ None → (p : PacketFields) × (s.given.front ≡ Some p)
+pub front-by : (q : Profile) (s : SendView) (x : Sent) → Case q s x → (flit : List ℕ) → x ≡ Out flit New → s.under_way ≡ None → (p : PacketFields) × (s.given.front ≡ Some p)
 front-by q s x (begins f can) flit is none = (can.packet, can.front)
 front-by q s x (repeats b place again) flit is none = let clash : Again ≡ New = what_is _ flit Again New is in absurd cc
 front-by q s x (goes_on t begun some f next) flit is none = let clash : None ≡ Some begun = sym none ∙ some in absurd cc
@@ -79,7 +79,7 @@ front-by q s x (returns f opened due) flit is none = let clash : Tret ≡ New = 
 front-by q s x (points f other_rrp) flit is none = let clash : Pret ≡ New = what_is _ flit Pret New is in absurd cc
 front-by q s x (idles f same_rrp) flit is none = let clash : NullFlit ≡ New = what_is _ flit NullFlit New is in absurd cc
 
-front-some : (q : Profile) (retry : ℕ) (past : List SenderEntry) (given : Given) (flit : List ℕ) → choice q (view_after q retry past given) ≡ Out flit New → unfinished past ≡ None → (p : PacketFields) × (given.front ≡ Some p)
+pub front-some : (q : Profile) (retry : ℕ) (past : List SenderEntry) (given : Given) (flit : List ℕ) → choice q (view_after q retry past given) ≡ Out flit New → unfinished past ≡ None → (p : PacketFields) × (given.front ≡ Some p)
 unfolding view_after
 front-some q retry past given flit is none =
     front-by q (view_after q retry past given) (choice q (view_after q retry past given)) (case_of q (view_after q retry past given)) flit is
@@ -125,7 +125,7 @@ sent-queued q retry handed all past given NullFlit flit chosen front is = record
 
 -- A cut-through is begun, and nothing waits.
 
-nothing-front : (l : List PacketFields) → is_none (slice_get l 0) ≡ true → l ≡ []
+pub nothing-front : (l : List PacketFields) → is_none (slice_get l 0) ≡ true → l ≡ []
 nothing-front [] is = refl
 nothing-front (x ∷ l) is = absurd cc
 

@@ -1,11 +1,12 @@
 -- A landing by the entries of a receiver is a landing by the grammar of packets. Used by Mirrors.
-use Rattle.std.proofs.Common.{◌≡◌, ◌≢◌, ◌∙◌, ◌<◌, ◌+◌, ◌-◌, ◌%◌, ℕ, zero, suc, Bool, true, false, List, [], ◌∷◌, ◌++◌, length, Option, Some, None, Result, Ok, Err, refl, sym, ap, subst, arith, length-append}
+use Rattle.std.proofs.Common.{◌≡◌, ◌≢◌, ◌∙◌, ◌+◌, ◌-◌, ◌%◌, ℕ, zero, suc, Bool, true, false, List, [], ◌∷◌, ◌++◌, length, Option, Some, None, Result, Ok, Err, refl, sym, ap, subst, arith, length-append, lt-ltb}
 use Rattle.std.specs.Prelude.{◌==◌, ◌&&◌, ◌||◌, nat_lt, nat_le, not, if◌then◌else◌, is_some}
 use Rattle.std.proofs.lemmas.Grind.{common_steps}
 use Rattle.std.specs.Str.{bytes_eq}
+use Rattle.hmc_codes.proofs.General.{suc-some}
 use Rattle.hmc_codes.specs.Commands.{layout_of}
 use Rattle.hmc_codes.specs.Flit.{zero_flit}
-use Rattle.hmc_codes.specs.Profile.{modulus_of}
+use Rattle.hmc_codes.specs.Profile.{modulus_of, window_of}
 use Rattle.hmc_codes.specs.Table.{table_line}
 use Rattle.hmc_codes.specs.declared.command.Command.{Command}
 use Rattle.hmc_codes.specs.declared.command.Command.TheVariants.{Irtry}
@@ -26,7 +27,7 @@ use Rattle.hmc_packet.specs.Landings.{whole_run, whole_training, is_training}
 use Rattle.hmc_packet.specs.Packet.{PacketFields}
 use Rattle.hmc_packet.specs.Parts.{lng_of}
 use Rattle.hmc_packet.specs.Reading.{is_null, read_of}
-use Rattle.hmc_packet.specs.Receptions.{LandingView, checked, unchecked, irtry_reception, abort_reception, window_of, is_next, is_repeat, sequenced_outcome, packet_reception, read_reception, flits_reception, is_no_length, lng_with, mode_reception, reception_by}
+use Rattle.hmc_packet.specs.Receptions.{LandingView, checked, unchecked, irtry_reception, abort_reception, is_next, is_repeat, sequenced_outcome, packet_reception, read_reception, flits_reception, is_no_length, lng_with, mode_reception, reception_by}
 use Rattle.hmc_packet.specs.Spelling.{training_flit}
 use Rattle.hmc_packet.proofs.ReadOf.{is_null-null}
 use Rattle.hmc_packet.proofs.LinkLemmas.{read_of-long}
@@ -34,7 +35,6 @@ use Rattle.hmc_wire.proofs.Grammar.{Kind, Read as reads}
 use Rattle.hmc_wire.proofs.GrammarLandings.{Mode, Mode as modes, Outcome, Outcome as outcomes, Landings, ran_or_quiet, in_abort, in_order, of_read, in_good, in_mode, is_some_irtry, is_steady, is_read, checks_good, checks, outcome}
 use Rattle.hmc_wire.proofs.GrammarLandings as inner
 use Rattle.hmc_wire.proofs.GrammarCounted.{counted_run, counted_alone, counted_read, counted_good, counted_in, counted}
-use Rattle.hmc_wire.proofs.LandingCases.{suc-some}
 use Rattle.hmc_wire.proofs.Words.{kind_as, mode_as, outcome_as}
 use Rattle.hmc_wire.proofs.PacketGrammar.{read_by, read_as, irtry_of_read, alone, grammar}
 
@@ -200,13 +200,10 @@ pending-at q r ls flit first rest alike =
 not_null : (flit : List ℕ) → is_null flit ≡ false → flit ≢ zero_flit
 not_null flit other is = let clash : true ≡ false = sym is_null-null ∙ ap is_null (sym is) ∙ other in cc
 
-less : (a b : ℕ) → a < b → nat_lt a b ≡ true
-less a b lt = grind (arith, common_steps)
-
 zero_or_long : (n : ℕ) (a b : Bool) → (n == 0) ≡ a → nat_lt 17 n ≡ b → (a || b) ≡ true → (x : Bool) → (n ≢ 1 → x ≡ false) → (not (nat_lt 1 n) && x) ≡ false
 zero_or_long zero a b e f h x z = z (λ q. cc)
 zero_or_long (suc zero) a b e f h x z = absurd (grind arith)
-zero_or_long (suc (suc n)) a b e f h x z = ap (λ (t : Bool). not t && x) (less 1 (suc (suc n)) (omega arith))
+zero_or_long (suc (suc n)) a b e f h x z = ap (λ (t : Bool). not t && x) (lt-ltb 1 (suc (suc n)) (omega arith))
 
 by_null : (q : Profile) (r : LandingView) (ls : Landings (grammar q)) (flit : List ℕ) (a b : Bool) → is_null flit ≡ a → is_no_length (lng_of flit) ≡ b → Alike q r ls →
     Same (if a then checked Quiet None else if b then unchecked (AbortedBad bads.Length) else flits_reception q r (lng_of flit) (flit ∷ []))

@@ -2,6 +2,7 @@
 use Rattle.std.proofs.Common.{◌≡◌, ◌≢◌, ◌∙◌, ◌<◌, ◌≤◌, ℕ, suc, max, Bool, true, false, List, [], ◌∷◌, length, Option, Some, None, refl, sym, ap, arith}
 use Rattle.std.specs.Prelude.{not, is_none, if◌then◌else◌}
 use Rattle.std.proofs.lemmas.Option.{slice_get_within}
+use Rattle.hmc_codes.proofs.General.{back-within}
 use Rattle.hmc_codes.specs.declared.profile.Profile.{Profile}
 use Rattle.hmc_packet.specs.declared.kind.Kind.{Kind}
 use Rattle.hmc_packet.specs.declared.kind.Kind.TheVariants as kinds
@@ -187,10 +188,6 @@ again-last : (a last n : ℕ) (u : Option Part) → last ≤ n → (u ≡ None �
 again-last a last n None le lt = lt refl
 again-last a last n (Some part) le lt = le
 
-clear-last : (b : Bool) (last n : ℕ) → last ≤ n → (if b then 0 else last) ≤ n
-clear-last true last n le = omega arith
-clear-last false last n le = le
-
 pub within : (q : Profile) (retry : ℕ) (past : List SenderEntry) → Chosen q retry past → IsWithin q past
 unfolding Chosen acked last_begun places
 within q retry [] chosen = record { acked = omega arith; last = omega arith }
@@ -208,7 +205,7 @@ within q retry (sent given Again flit ∷ past) chosen =
     record { acked = before.acked; last = again-last (acked past) (last_begun q past) (length (places q past)) (unfinished past) before.last (again-within q retry past given flit chosen.0) }
 within q retry (sent given Clear flit ∷ past) chosen =
     let before = within q retry past chosen.1 in
-    record { acked = before.acked; last = clear-last (are_bursts (clears past)) (last_begun q past) (length (places q past)) before.last }
+    record { acked = before.acked; last = back-within (are_bursts (clears past)) (last_begun q past) (length (places q past)) before.last }
 within q retry (sent given Train flit ∷ past) chosen = let before = within q retry past chosen.1 in record { acked = before.acked; last = before.last }
 within q retry (sent given NullFlit flit ∷ past) chosen = let before = within q retry past chosen.1 in record { acked = before.acked; last = before.last }
 within q retry (sent given Pret flit ∷ past) chosen = let before = within q retry past chosen.1 in record { acked = before.acked; last = before.last }

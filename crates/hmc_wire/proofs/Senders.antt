@@ -2,7 +2,7 @@
 -- Used by Ways and Choices.
 use Rattle.std.proofs.Common.{◌≡◌, ◌≢◌, ◌∙◌, ◌<◌, ◌≤◌, ◌+◌, ◌-◌, ◌%◌, ◌⊎◌, inl, ℕ, zero, suc, max, Bool, true, false, List, [], ◌∷◌, ◌++◌, length, take, get_or, map, Option, Some, None, refl, sym, ap, subst, arith, length-append}
 use Rattle.std.specs.Prelude.{◌==◌, if◌then◌else◌, slice_get}
-use Rattle.std.proofs.lemmas.Bool.{eqb-true}
+use Rattle.std.proofs.lemmas.Bool.{eqb-true, false_from_ne_true}
 use Rattle.std.proofs.lemmas.List.{length-map, map_push}
 use Rattle.std.proofs.lemmas.List.Sums.{sum_by-take-drop}
 use Rattle.hmc_codes.specs.Profile.{modulus_of}
@@ -113,13 +113,9 @@ filler-done q s retry adv t T given f flit own oth env k may mark whole = record
 pub whole-zero : (n : ℕ) → are_bursts n ≡ true → n % 32 ≡ 0
 whole-zero n is = eqb-true (n % 32) 0 is
 
-pub never : (b : Bool) → (b ≡ true → ⊥) → b ≡ false
-never true no_way = absurd (no_way refl)
-never false no_way = refl
-
 cleared-by : (m last : ℕ) → last_after_clear m last ≡ (if m == 0 then 0 else last)
 cleared-by zero last = refl
-cleared-by (suc m) last = ap (λ (b : Bool). if b then 0 else last) (sym (never (suc m == 0) (λ is. let zero_is = eqb-true (suc m) 0 is in omega arith)))
+cleared-by (suc m) last = ap (λ (b : Bool). if b then 0 else last) (sym (false_from_ne_true (suc m == 0) (λ is. let zero_is = eqb-true (suc m) 0 is in omega arith)))
 
 -- a Clear
 pub clear-done : (q : Profile) (s : Sent (grammar q)) (retry adv : ℕ) (t T : List SenderEntry) (given : Given) (own oth : Half) → Env q s retry adv t given own oth → is_train given.own.mode ≡ false → entries.unfinished t ≡ None →
@@ -169,9 +165,6 @@ room-at q retry t w x sends some room =
     let parts = sum_by-take-drop flits_at l (entries.acked t) in
     omega arith
 
-pub push-at : (l : List Place) (x : Place) → place_at (l ++ x ∷ []) (suc (length l)) ≡ x
-push-at = place-push
-
 -- what is under way after the first flit of the packet of a new place
 pub record NewPart (l : List Place) (x : Place) (u : Option Part) : Type 0 where
   pub left : left_of u ≡ flits_at x - 1
@@ -180,7 +173,7 @@ pub record NewPart (l : List Place) (x : Place) (u : Option Part) : Type 0 where
 pub new-part : (l : List Place) (x : Place) (flit : List ℕ) → lng_of flit ≡ flits_at x → 1 ≤ flits_at x → NewPart l x (part_after false flit None)
 new-part l x flit lng some = record {
   left = grown-left (record { again = false; flits = lng_of flit; sent = [] }) flit ∙ (omega arith);
-  part = part-begins (l ++ x ∷ []) (suc (length l)) false flit (omega arith) (lng ∙ ap flits_at (sym (push-at l x))) (omega arith);
+  part = part-begins (l ++ x ∷ []) (suc (length l)) false flit (omega arith) (lng ∙ ap flits_at (sym (place-push l x))) (omega arith);
 }
 
 -- nothing, where it is one flit
@@ -204,7 +197,7 @@ begun-done q s retry adv t T given own oth x p u env fits new is_part numbers re
     let ff = fits.flits in
     let b = begun-length q t own.direction env.sends in
     let n = suc (length l) in
-    let at : place_at (entries.places q T) n ≡ x = ap (λ (k : List Place). place_at k n) new.first ∙ push-at l x in
+    let at : place_at (entries.places q T) n ≡ x = ap (λ (k : List Place). place_at k n) new.first ∙ place-push l x in
     let len : length (entries.places q T) ≡ n = ap (λ (k : List Place). length k) new.first ∙ (let e = length-append l (x ∷ []) in omega arith) in
     let fits-at : Fits q (place_at (entries.places q T) n) p = subst (λ (y : Place). Fits q y p) (sym at) fits in
     let grown : own.direction.first ++ weight x ∷ [] ≡ map weight (entries.places q T) = ap (λ k. k ++ weight x ∷ []) env.sends.first ∙ sym (map_push weight l x) ∙ ap (map weight) (sym new.first) in

@@ -1,6 +1,7 @@
 -- Flits as hmc_packet spells them have what Spelled asks. Used by Marks.
-use Rattle.std.proofs.Common.{◌≡◌, ◌≢◌, ℕ, suc, List, [], ◌∷◌, ◌++◌, Bool, true, false, refl, sym, ◌∙◌, ap, subst}
+use Rattle.std.proofs.Common.{◌≡◌, ◌≢◌, ℕ, suc, List, [], ◌∷◌, ◌++◌, true, false, refl, sym, ◌∙◌, ap, subst}
 use Rattle.std.specs.Prelude.{None, Result, Ok, Err}
+use Rattle.std.proofs.lemmas.Bool.{false_from_ne_true}
 use Rattle.hmc_codes.specs.Commands.{layout_of, is_flow}
 use Rattle.hmc_codes.specs.declared.layout.Layout.{Layout}
 use Rattle.hmc_codes.specs.declared.layout.Layout.TheVariants as layouts
@@ -24,10 +25,6 @@ use Rattle.hmc_packet.specs.Irtry.{kind_of}
 use Rattle.hmc_wire.proofs.Words.{kind_as}
 use Rattle.hmc_wire.proofs.PacketGrammar.{read_by, read_as, irtry_of_read, grammar, IsSequenced, IsNumbered}
 
-pub not_true : (b : Bool) → (b ≡ true → ⊥) → b ≡ false
-not_true true h = absurd (h refl)
-not_true false h = refl
-
 -- a NULL and the training flit
 
 pub null_spelled : (q : Profile) (s : Sent (grammar q)) (ps : List Weight) → Spelled (grammar q) s ps (filler fill.null) zero_flit
@@ -48,7 +45,7 @@ not_null_layout layouts.Ask s q = cc
 not_null_layout layouts.Reply s q = cc
 
 some_first : (q : Profile) (p : PacketFields) (r : ℕ) (f : List ℕ) (fs : List (List ℕ)) → IsPacket p → layout_of p.command ≢ layouts.Null → spelling q p r ≡ f ∷ fs → is_null f ≡ false
-some_first q p r f fs i l e = not_true (is_null f) (λ z. not_null-first q p r f fs i l e (is_null-is f z))
+some_first q p r f fs i l e = false_from_ne_true (is_null f) (λ z. not_null-first q p r f fs i l e (is_null-is f z))
 
 -- what isn't an IRTRY by its command reads as none alone
 no_irtry : (x : Result Seen Bad) (l : Layout) → ((seen : Seen) → x ≡ Ok seen → layout_of seen.packet.command ≡ l) → IsSequenced l → irtry_of_read (read_as x) ≡ None

@@ -9,7 +9,7 @@ use Rattle.hmc_send.specs.Entries.{SenderEntry, Part, unfinished, places}
 use Rattle.hmc_send.specs.declared.toward.Toward.{Toward}
 use Rattle.hmc_send.specs.declared.toward.Toward.TheVariants.{Forth, Back}
 use Rattle.hmc_send.specs.LinkEntries.{LinkEntry, other, same_way, put_if}
-use Rattle.hmc_send.specs.LinkLines.{changes}
+use Rattle.hmc_packet.specs.Masks.{changes}
 use Rattle.hmc_send.specs.LinkSenders.{due_after, sender_entries, given_in}
 use Rattle.hmc_send.specs.Places.{Place, place_at, flits_at, takes_tokens, numbers_at, flit_of}
 use Rattle.hmc_numbers.specs.Pair.{Turn as Turned, Turn as turned}

@@ -1,23 +1,24 @@
 -- A packet that is begun before its flits are there may be begun, and gives the numbers of its
 -- entry. Used by Joins and Others.
-use Rattle.std.proofs.Common.{◌≡◌, ◌∙◌, ◌<◌, ◌≤◌, ◌+◌, ◌%◌, inr, ℕ, suc, Bool, true, false, List, [], ◌∷◌, ◌++◌, length, Option, Some, None, refl, sym, ap, subst, arith}
+use Rattle.std.proofs.Common.{◌≡◌, ◌∙◌, ◌≤◌, ◌+◌, inr, ℕ, suc, Bool, true, false, List, [], ◌∷◌, ◌++◌, length, Option, Some, None, refl, sym, ap, subst, arith, leb-true}
 use Rattle.std.specs.Prelude.{◌&&◌, nat_le, not, is_none}
-use Rattle.std.proofs.lemmas.Bool.{and_parts}
-use Rattle.std.proofs.lemmas.Grind.{common_steps}
+use Rattle.std.proofs.lemmas.Bool.{and_parts, not-true}
 use Rattle.std.proofs.lemmas.List.{map_push}
-use Rattle.hmc_codes.specs.Profile.{modulus_of}
+use Rattle.std.proofs.lemmas.Option.{same_Some}
+use Rattle.hmc_codes.proofs.General.{mod_small}
 use Rattle.hmc_codes.specs.declared.profile.Profile.{Profile}
-use Rattle.hmc_codes.specs.declared.profile.Profile.TheVariants.{One, Two}
 use Rattle.hmc_packet.specs.declared.kind.Kind.{Kind}
 use Rattle.hmc_packet.specs.Head.{head_in}
 use Rattle.hmc_packet.proofs.CommandLemmas.{allows_few}
 use Rattle.hmc_send.specs.Choice.{SendView, view_after, is_train, irtry_of, is_free, may_begin}
 use Rattle.hmc_send.specs.Entries as entries
-use Rattle.hmc_send.specs.Entries.{SenderEntry, Given, Part, UnderWay, are_bursts}
+use Rattle.hmc_send.specs.Entries.{SenderEntry, Given, Part, are_bursts}
 use Rattle.hmc_send.specs.LinkCalls.{may_pass_on, names_flits}
 use Rattle.hmc_send.specs.Places.{Place, flits_at, pointer_of, place_at}
 use Rattle.hmc_send.proofs.CopyLemmas.{head-says}
 use Rattle.hmc_send.proofs.Lists.{place-push}
+use Rattle.hmc_send.proofs.CallLemmas.{none-of, place-none}
+use Rattle.hmc_send.proofs.KeptLemmas.{code-few}
 use Rattle.hmc_numbers.specs.Direction.{Direction}
 use Rattle.hmc_numbers.specs.Events.{happens}
 use Rattle.hmc_numbers.specs.Events.Event.{begins_through}
@@ -26,7 +27,7 @@ use Rattle.hmc_numbers.specs.Turns.{MayHere}
 use Rattle.hmc_numbers.specs.Weights.{Weight}
 use Rattle.hmc_wire.proofs.Filled.{heads}
 use Rattle.hmc_wire.proofs.PacketGrammar.{grammar}
-use Rattle.hmc_wire.proofs.Parts.{Sends, IsPart, PartsFit, rtc-le, rtc-lt}
+use Rattle.hmc_wire.proofs.Parts.{Sends, IsPart, PartsFit, rtc-le}
 use Rattle.hmc_wire.proofs.Places.{AllFit, fit-push}
 use Rattle.hmc_wire.proofs.SenderLists.{Chosen, none-under, calm-bursts}
 use Rattle.hmc_wire.proofs.Senders.{Env, begun-length, free-at, room-at}
@@ -52,21 +53,6 @@ pub record Ready (s : SendView) (flits : ℕ) : Type 0 where
 none-kind : (o : Option Kind) → is_none o ≡ true → o ≡ None
 none-kind None e = refl
 none-kind (Some x) e = absurd cc
-
-none-begun : (o : Option UnderWay) → is_none o ≡ true → o ≡ None
-none-begun None e = refl
-none-begun (Some x) e = absurd cc
-
-none-place : (o : Option Place) → is_none o ≡ true → o ≡ None
-none-place None e = refl
-none-place (Some x) e = absurd cc
-
-not-true : (b : Bool) → not b ≡ true → b ≡ false
-not-true true e = absurd cc
-not-true false e = refl
-
-le-of : (a b : ℕ) → nat_le a b ≡ true → a ≤ b
-le-of a b is = grind (arith, common_steps)
 
 -- five tests that hold
 record Five (a b c d e : Bool) : Type 0 where
@@ -96,11 +82,11 @@ ready-is s flits is =
     let h = and_parts (nat_le flits s.given.held) (nat_le flits s.room) f.1 in
     record {
       trained = not-true (is_train s.given.own.mode) g.second;
-      nothing = none-begun s.under_way g.third;
+      nothing = none-of s.under_way g.third;
       calm = none-kind (irtry_of s) g.fourth;
-      again = none-place s.again g.fifth;
-      held = le-of flits s.given.held h.0;
-      room = le-of flits s.room h.1;
+      again = place-none s.again g.fifth;
+      held = leb-true flits s.given.held h.0;
+      room = leb-true flits s.room h.1;
     }
 
 pub record Begun (q : Profile) (retry adv : ℕ) (t : List SenderEntry) (head : List ℕ) (flits due : ℕ) (own oth : Half) : Type 0 where
@@ -114,13 +100,6 @@ few-flits flits head is =
     let few = (allows_few h.head.command h.head.flits says.allowed).1 in
     let long = h.long in
     omega arith
-
-some-part : (p r : Part) → Some p ≡ Some r → p ≡ r
-some-part p r e = cc
-
-mod-small : (q : Profile) (n : ℕ) → n % modulus_of q < modulus_of q
-mod-small One n = omega arith
-mod-small Two n = omega arith
 
 -- what the list is after a cut-through is begun
 through-list : (q : Profile) (s : Sent (grammar q)) (retry adv : ℕ) (t : List SenderEntry) (given : Given) (own oth : Half) (head : List ℕ) (flits : ℕ) → Env q s retry adv t given own oth →
@@ -144,9 +123,9 @@ through-list q s retry adv t given own oth head flits env nothing bursts named =
       };
       chosen = (nothing, bursts.0, bursts.1, env.chosen, named);
       parts = λ p is.
-          subst (λ (u : Part). IsPart (l ++ x ∷ []) (suc (length l)) u) (some-part begun p is)
+          subst (λ (u : Part). IsPart (l ++ x ∷ []) (suc (length l)) u) (same_Some begun p is)
           (record { least = omega arith; flits = ap (λ (y : Place). flits_at y) (sym (place-push l x)); more = omega arith });
-      fit = fit-push q l x env.fit (inr (record { none = refl; token = refl; some = long; few = few; frp = mod-small q (pointer_of q l + flits); seq = omega arith; rtc = rtc-lt given.due; head = named }));
+      fit = fit-push q l x env.fit (inr (record { none = refl; token = refl; some = long; few = few; frp = mod_small q (pointer_of q l + flits); seq = omega arith; rtc = code-few given.due; head = named }));
     }
 
 pub through-done : (q : Profile) (s : Sent (grammar q)) (retry adv : ℕ) (t : List SenderEntry) (given : Given) (own oth : Half) (head : List ℕ) (flits : ℕ) → Env q s retry adv t given own oth → may_pass_on (view_after q retry t given) flits ≡ true → names_flits flits (head_in head) ≡ true →

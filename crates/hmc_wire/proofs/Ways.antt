@@ -1,9 +1,10 @@
 -- What a direction's entries are for its side, and what a send and a landing make of it. Used by
 -- Joins.
-use Rattle.std.proofs.Common.{◌≡◌, ◌∙◌, ◌≤◌, ℕ, zero, suc, Bool, true, false, List, [], ◌∷◌, ◌++◌, length, drop, map, Option, Some, None, refl, sym, ap, subst, arith, length-append}
+use Rattle.std.proofs.Common.{◌≡◌, ◌∙◌, ◌≤◌, ℕ, zero, suc, Bool, List, [], ◌∷◌, ◌++◌, length, drop, map, Option, Some, None, refl, sym, ap, subst, arith, length-append}
 use Rattle.std.specs.Prelude.{◌||◌, slice_get, filter, take}
 use Rattle.std.proofs.lemmas.List.{map_push, drop-append-le, take-append-le}
 use Rattle.std.proofs.lemmas.List.Elements.{filter-append}
+use mathlib.Core.Bool.{or_comm}
 use Rattle.hmc_codes.specs.Link.{LinkFields}
 use Rattle.hmc_codes.specs.Flit.{IsFlit}
 use Rattle.hmc_codes.specs.declared.profile.Profile.{Profile}
@@ -19,7 +20,8 @@ use Rattle.hmc_send.specs.Entries as turns
 use Rattle.hmc_send.specs.Entries.{Given, SenderEntry}
 use Rattle.hmc_send.specs.declared.toward.Toward.{Toward}
 use Rattle.hmc_send.specs.LinkEntries.{LinkEntry, receiver_entries, handed_packets, takes}
-use Rattle.hmc_send.specs.LinkLines.{StampedFlit, sent_flits, landings, changes, changed_after, is_pending_changed}
+use Rattle.hmc_packet.specs.Masks.{changes}
+use Rattle.hmc_send.specs.LinkLines.{StampedFlit, sent_flits, landings, changed_after, is_pending_changed}
 use Rattle.hmc_send.specs.LinkSenders.{sender_entries}
 use Rattle.hmc_send.specs.LinkTokens.{flits_taken}
 use Rattle.hmc_send.specs.Places.{is_token}
@@ -185,14 +187,8 @@ more-count ps qs =
     let n = length-append (filter is_token ps) (filter is_token qs) in
     omega arith
 
-or-swap : (a b : Bool) → (a || b) ≡ (b || a)
-or-swap true true = refl
-or-swap true false = refl
-or-swap false true = refl
-or-swap false false = refl
-
 spoilt-by : (mask : List ℕ) (o : outer_outcome.Outcome) (b : Bool) → inner.spoilt_by (outcome_as o) (changes mask || b) ≡ changed_after mask o b
-spoilt-by mask out.Gathered b = or-swap (changes mask) b
+spoilt-by mask out.Gathered b = or_comm (changes mask) b
 spoilt-by mask _ b = refl
 
 accepted-grows : (q : Profile) (rs : List ReceiverEntry) (flit : List ℕ) (o : outer_outcome.Outcome) → receipts.accepted q (ReceiverEntry.Land flit o ∷ rs) ≡ receipts.accepted q rs ++ receipts.accepted_by q (receipts.pending rs) (ReceiverEntry.Land flit o)

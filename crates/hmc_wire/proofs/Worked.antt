@@ -1,10 +1,9 @@
 -- Lists that are kept, so that the laws of a link say something of them: a packet sent again after a
 -- landing was changed, a cut-through, and one that is poisoned in profile Two.
-use Rattle.std.proofs.Common.{◌≡◌, ◌<◌, ◌≤◌, ℕ, zero, suc, Bool, true, false, not, ◌&&◌, ◌||◌, List, [], ◌∷◌, length, reverse, Option, Some, None, refl, arith}
+use Rattle.std.proofs.Common.{◌≡◌, ℕ, zero, suc, Bool, true, false, not, ◌&&◌, ◌||◌, List, [], ◌∷◌, length, reverse, Option, Some, None, refl, arith, leb-true, ltb-true}
 use Rattle.std.specs.Prelude.{◌==◌, nat_lt, nat_le}
 use Rattle.std.specs.Str.{bytes_eq}
-use Rattle.std.proofs.lemmas.Bool.{and_parts, eqb-true}
-use Rattle.std.proofs.lemmas.Grind.{common_steps}
+use Rattle.std.proofs.lemmas.Bool.{and_parts, eqb-true, not-true}
 use Rattle.std.proofs.lemmas.Slice.Eq.{bytes_eq-Decides}
 use mathlib.Core.Bool.{xor}
 use Rattle.hmc_codes.specs.Bytes.{IsBytes}
@@ -14,6 +13,7 @@ use Rattle.hmc_codes.specs.Table.{table_line}
 use Rattle.hmc_codes.specs.declared.profile.Profile.{Profile}
 use Rattle.hmc_codes.specs.declared.profile.Profile.TheVariants.{One, Two}
 use Rattle.hmc_codes.proofs.BytesLemmas.{IsBytes-[]}
+use Rattle.hmc_codes.proofs.General.{is_zero}
 use Rattle.hmc_crc.specs.Bits.{bits_below, bits_of, number_of}
 use Rattle.hmc_crc.specs.Remainder.{coefficients, divisor, zeros, plus, divide, remainder, crc_of}
 use Rattle.hmc_packet.specs.declared.feed.Feed.{Feed}
@@ -54,16 +54,10 @@ all_bytes : List ℕ → Bool
 all_bytes [] = true
 all_bytes (b ∷ bs) = nat_lt b 256 && all_bytes bs
 
-less : (a b : ℕ) → nat_lt a b ≡ true → a < b
-less a b is = grind (arith, common_steps)
-
-at_least : (a b : ℕ) → nat_le a b ≡ true → a ≤ b
-at_least a b is = grind (arith, common_steps)
-
 bytes-are : (bs : List ℕ) → all_bytes bs ≡ true → IsBytes bs
 unfolding all_bytes
 bytes-are [] is k = IsBytes-[] k
-bytes-are (b ∷ bs) is zero = less b 256 (and_parts (nat_lt b 256) (all_bytes bs) is).0
+bytes-are (b ∷ bs) is zero = ltb-true b 256 (and_parts (nat_lt b 256) (all_bytes bs) is).0
 bytes-are (b ∷ bs) is (suc k) = bytes-are bs (and_parts (nat_lt b 256) (all_bytes bs) is).1 k
 
 abbrev is_sized : (size : ℕ) → List ℕ → Bool
@@ -94,28 +88,21 @@ fits_next part head Waiting = nat_le 1 (length part.sent)
 fits_next part head (Whole flit) = not (suc (length part.sent) == part.flits) && (not (length part.sent == 0) || bytes_eq flit head)
 fits_next part head (Last half slid errstat good) = (suc (length part.sent) == part.flits) && (nat_lt slid 8 && nat_lt errstat 128)
 
-false-is : (b : Bool) → not b ≡ true → b ≡ false
-false-is true is = let clash : false ≡ true = is in absurd cc
-false-is false is = refl
-
 first-or : (none first : Bool) → (not none || first) ≡ true → none ≡ true → first ≡ true
 first-or true first is so = is
 first-or false first is so = let clash : false ≡ true = so in absurd cc
 
-zero-is : (n : ℕ) → n ≡ 0 → (n == 0) ≡ true
-zero-is n is = grind (arith, common_steps)
-
 next-is : (part : Part) (head : List ℕ) (feed : Feed) → fits_next part head feed ≡ true → IsFedNext part head feed
-next-is part head Waiting is = at_least 1 (length part.sent) is
+next-is part head Waiting is = leb-true 1 (length part.sent) is
 next-is part head (Whole flit) is =
     let both = and_parts (not (suc (length part.sent) == part.flits)) (not (length part.sent == 0) || bytes_eq flit head) is in (
-      false-is (suc (length part.sent) == part.flits) both.0,
-      λ none. (bytes_eq-Decides flit head).0 (first-or (length part.sent == 0) (bytes_eq flit head) both.1 (zero-is (length part.sent) none)),
+      not-true (suc (length part.sent) == part.flits) both.0,
+      λ none. (bytes_eq-Decides flit head).0 (first-or (length part.sent == 0) (bytes_eq flit head) both.1 (is_zero (length part.sent) none)),
     )
 next-is part head (Last half slid errstat good) is =
     let a = and_parts (suc (length part.sent) == part.flits) (nat_lt slid 8 && nat_lt errstat 128) is in
     let b = and_parts (nat_lt slid 8) (nat_lt errstat 128) a.1 in
-    (a.0, less slid 8 b.0, less errstat 128 b.1)
+    (a.0, ltb-true slid 8 b.0, ltb-true errstat 128 b.1)
 
 abbrev fits_place : Part → Place → Feed → Bool
 fits_place part (Place.known packet) feed = true

@@ -20,7 +20,8 @@ use Rattle.hmc_send.specs.declared.toward.Toward.{Toward}
 use Rattle.hmc_send.specs.declared.toward.Toward.TheVariants.{Forth, Back}
 use Rattle.hmc_send.specs.Entries.{SenderEntry, Given, Part, or_null, unfinished, places}
 use Rattle.hmc_send.specs.LinkEntries.{LinkEntry, other, receiver_entries, accepted_packets, takes}
-use Rattle.hmc_send.specs.LinkLines.{changes, is_pending_changed}
+use Rattle.hmc_packet.specs.Masks.{changes}
+use Rattle.hmc_send.specs.LinkLines.{is_pending_changed}
 use Rattle.hmc_send.specs.LinkSenders.{sender_entries, places_in, given_in, due_after}
 use Rattle.hmc_send.specs.LinkTokens.{flits_taken}
 use Rattle.hmc_send.specs.Places.{Place, flits_at, numbers_at, takes_tokens, pointer_of, number_of, numbers_after, next_packet, tret_packet}

@@ -7,7 +7,8 @@ use Rattle.hmc_link.specs.Held.{LinkHeld}
 use Rattle.hmc_ends.specs.Parts.{parts_of}
 use Rattle.hmc_link.specs.StandsFor.{LinkStandsFor}
 use Rattle.hmc_link.proofs.Joins.{sends-forth, sends-back}
-use Rattle.hmc_link.proofs.LinkThroughs.{may-in, ready-forth, ready-back}
+use Rattle.hmc_ends.proofs.Begins.{may-in}
+use Rattle.hmc_link.proofs.LinkThroughs.{ready-forth, ready-back}
 use Rattle.hmc_link.proofs.link.Link.through_ready.Goals as goal
 
 pub returns-in-Forth-clause-by_list : goal.returns-in-Forth-clause-by_list

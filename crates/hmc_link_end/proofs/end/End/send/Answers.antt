@@ -1,0 +1,11 @@
+use Rattle.std.proofs.Common.{◌∙◌, Bool, ap, sym}
+use Rattle.hmc_send.specs.Choice.{choice}
+use Rattle.hmc_ends.specs.Answers.{link_sent}
+use Rattle.hmc_ends.specs.Parts.{view_by}
+use Rattle.hmc_ends.proofs.SendNext.{full-is}
+use Rattle.hmc_link_end.proofs.end.End.send.Goals as goal
+
+pub returns-clause-answer : goal.returns-clause-answer
+returns-clause-answer g c link p s =
+    let full = sym c.is_full.ensures ∙ c.if-is_full.false in
+    c.send_next.ensures.answer link p s ∙ ap (λ (b : Bool). link_sent b (choice link.profile (view_by link p c.args.feed))) (sym full ∙ full-is link c.args.self.now p s)
