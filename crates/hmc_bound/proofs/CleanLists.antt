@@ -1,5 +1,5 @@
--- The landing of a flit that isn't changed is the one that hmc_drain's rounds make, by the lists of
--- a direction.
+-- The landing of a flit that isn't changed is the one that hmc_link_state's rounds make, by the
+-- lists of a direction.
 use Rattle.std.proofs.Common.{◌≡◌, ◌∙◌, ◌+◌, ◌-◌, ◌≤◌, ℕ, suc, Bool, true, false, List, [], ◌∷◌, ◌++◌, length, drop, map, Option, Some, None, refl, sym, ap, subst, arith, length-append, append-nil}
 use Rattle.std.specs.Prelude.{◌||◌, if◌then◌else◌, is_some, slice_get, filter, sum_by, cond}
 use Rattle.std.specs.Str.{bytes_eq}
@@ -20,7 +20,8 @@ use Rattle.hmc_packet.specs.Parts.{lng_of, word_of}
 use Rattle.hmc_packet.specs.Receptions.{reception_of}
 use Rattle.hmc_packet.specs.Spelling.{training_flit}
 use Rattle.hmc_packet.proofs.ReadOf.{is_null-is}
-use Rattle.hmc_send.specs.LinkLines.{StampedFlit, changes}
+use Rattle.hmc_packet.specs.Masks.{changes}
+use Rattle.hmc_send.specs.LinkLines.{StampedFlit}
 use Rattle.hmc_send.specs.Places.{is_token}
 use Rattle.hmc_numbers.specs.Weights.{Weight, upto, size}
 use Rattle.hmc_numbers.specs.Direction.{Item, Direction, Reached as far, Filler as fill, begun, front_or}
@@ -28,10 +29,11 @@ use Rattle.hmc_numbers.specs.Direction.Item.{filler, clear, part}
 use Rattle.hmc_numbers.specs.Events.{Reading, Event, Event as events, happens}
 use Rattle.hmc_numbers.specs.Pair.{Half, own_after}
 use Rattle.hmc_numbers.specs.Places as numbers
-use Rattle.hmc_numbers.specs.Pointers.{window}
+use Rattle.hmc_codes.specs.Profile.{window_of as window}
 use Rattle.hmc_numbers.specs.Tokens.{if_token, cost}
 use Rattle.hmc_numbers.specs.Turns.{MayMove, MayHere, MayCount}
 use Rattle.hmc_numbers.proofs.Effect.{effect}
+use Rattle.hmc_wire.proofs.EntryTurns.{reading-same}
 use Rattle.hmc_wire.specs.EntryTurns.{reading_of, counted_move}
 use Rattle.hmc_wire.proofs.Actions.{SideOf, landing_event}
 use Rattle.hmc_wire.proofs.ActionLaw.{Linked, facts}
@@ -50,19 +52,20 @@ use Rattle.hmc_wire.proofs.Readings.{alone-same}
 use Rattle.hmc_wire.proofs.Spelled.{Sent, Spelled}
 use Rattle.hmc_wire.proofs.Ways.{Lists, Way}
 use Rattle.hmc_wire.proofs.Words.{outcome_as}
-use Rattle.hmc_drain.specs.Facts.{SideFacts}
-use Rattle.hmc_drain.specs.Landing.{IsLanding}
-use Rattle.hmc_drain.specs.Round.{Reads, is_steady, front, event_here, event_at_far, is_counted_at, is_ran_start_at, steady_after, costs_next}
-use Rattle.hmc_drain.specs.State.{Side, world, count_if, count_of}
-use Rattle.hmc_drain.proofs.Here.{buffer_after}
-use Rattle.hmc_drain.proofs.TokenSums.{cost_next, count_next}
+use Rattle.hmc_link_state.specs.Facts.{SideFacts}
+use Rattle.hmc_link_state.specs.Landing.{IsLanding}
+use Rattle.hmc_link_state.specs.Round.{Reads, is_steady, front, event_here, event_at_far, is_counted_at, is_ran_start_at, steady_after, costs_next}
+use Rattle.hmc_link_state.specs.State.{Side, wire, count_if, count_of}
+use Rattle.hmc_link_state.proofs.CleanLandings.{buffer_after}
+use Rattle.hmc_link_state.proofs.TokenSums.{cost_next, count_next}
 use Rattle.hmc_steps.specs.Doings.{is_ran_start}
 use Rattle.hmc_steps.specs.SideIn.{lacking}
 use Rattle.hmc_steps.proofs.CleanLands.{clean-reads, is_ran, IsNoPartItem}
-use Rattle.hmc_steps.proofs.Landed.{event_in, landing-event_is, reading-same}
+use Rattle.hmc_steps.proofs.Landed.{event_in, landing-event_is}
 use Rattle.hmc_steps.proofs.LandStep.{IsLandingOf}
 use Rattle.hmc_steps.proofs.Sides.{side_of, setup}
-use Rattle.hmc_bound.proofs.CleanGrammar.{Knows, CleanIn, clean, lacking_of}
+use Rattle.hmc_bound.proofs.CleanGrammar.{Knows, clean, lacking_of}
+use Rattle.hmc_bound.proofs.CleanModes.{CleanIn, never}
 use Rattle.hmc_bound.proofs.Trains.{TrainsAre}
 
 -- ---- readings in Train
@@ -77,10 +80,6 @@ zero_trains = refl
 train_lng : lng_of training_flit ≡ 20
 unfolding training_flit lng_of word_of
 train_lng = refl
-
-never : (b : Bool) → (b ≡ true → ⊥) → b ≡ false
-never true h = absurd (h refl)
-never false h = refl
 
 or_some : (b : Bool) (x : Option (inner_kinds × ℕ)) (k : inner_kinds) (r : ℕ) → x ≡ Some (k, r) →
     (b || inner.is_some_irtry x) ≡ true
@@ -245,12 +244,12 @@ stays n l more false b is e =
 
 accepts-buffer : (n : ℕ) (l more : List PacketFields) (x : Side) →
     x.buffer ≡ map flits_of (drop n (filter is_token l)) → n ≤ length (filter is_token l) →
-    suc (world x).accepted ≤ begun (world x) → Sums l (world x) →
-    Sums (l ++ more) (happens (world x) events.accepts) →
+    suc (wire x).accepted ≤ begun (wire x) → Sums l (wire x) →
+    Sums (l ++ more) (happens (wire x) events.accepts) →
     map flits_of (drop n (filter is_token (l ++ more))) ≡ buffer_after x (costs_next x)
     events.accepts
 accepts-buffer n l more x is le lt before after =
-    let w = world x in
+    let w = wire x in
     let one = one-first l more (after.count ∙ ap (λ (m : ℕ). m + 1) (sym before.count)) in
     let p = one.0 in
     let tok = numbers.is_token w.first (w.accepted + 1) in
@@ -277,11 +276,11 @@ accepts-buffer n l more x is le lt before after =
 
 buffer-by : (n : ℕ) (l more : List PacketFields) (x : Side) (e : Event) → IsLanding e →
     x.buffer ≡ map flits_of (drop n (filter is_token l)) → n ≤ length (filter is_token l) →
-    (happens (world x) e).accepted ≤ begun (happens (world x) e) → Sums l (world x) →
-    Sums (l ++ more) (happens (world x) e) →
+    (happens (wire x) e).accepted ≤ begun (happens (wire x) e) → Sums l (wire x) →
+    Sums (l ++ more) (happens (wire x) e) →
     map flits_of (drop n (filter is_token (l ++ more))) ≡ buffer_after x (costs_next x) e
 buffer-by n l more x events.accepts h is le lt before after =
-    accepts-buffer n l more x is le (let k : (world x).accepted + 1 ≤ begun (world x) = lt in
+    accepts-buffer n l more x is le (let k : (wire x).accepted + 1 ≤ begun (wire x) = lt in
     omega (arith, k)) before after
 buffer-by n l more x (events.drops r) h is le lt before after =
     stays n l more (costs_next x) x.buffer is (after.count ∙ sym before.count)
@@ -313,12 +312,12 @@ pub record Clean (q : Profile) (mine : Lists q) (x : Side) (flit : List ℕ)
     (o : outer_outcome.Outcome) (e : Event) : Type 0 where
   pub reads : Reads (front x) (reading_of (irtry_in q flit))
   pub event : e ≡ event_here x (reading_of (irtry_in q flit))
-  pub counted_is : is_some (reception_of q mine.receiver flit).rrp ≡ is_counted_at x (world x).far e
-  pub ran_is : is_ran_start o ≡ is_ran_start_at x (world x).far (reading_of (irtry_in q flit))
-  pub steady : (happens (world x) e).far ≡ far.training → ((world x).far ≡ far.training)
+  pub counted_is : is_some (reception_of q mine.receiver flit).rrp ≡ is_counted_at x (wire x).far e
+  pub ran_is : is_ran_start o ≡ is_ran_start_at x (wire x).far (reading_of (irtry_in q flit))
+  pub steady : (happens (wire x) e).far ≡ far.training → ((wire x).far ≡ far.training)
       × (receipts.training q (Land flit o ∷ mine.receiver) ≡ steady_after x
       (reading_of (irtry_in q flit)))
-  pub lacks : (happens (world x) e).far ≡ far.spoilt → ((world x).far ≡ far.spoilt)
+  pub lacks : (happens (wire x) e).far ≡ far.spoilt → ((wire x).far ≡ far.spoilt)
       × (lacking (receipts.pending (Land flit o ∷ mine.receiver)) ≡ x.missing - 1)
   pub buffer :
       map flits_of
@@ -347,14 +346,14 @@ unfolding receipts.accepted
 accepted-more q rs flit o = refl
 
 pub clean-lists : (q : Profile) (line retry adv : ℕ) (mine theirs : Lists q) (s : Sent (grammar q))
-    (own oth : SideOf (grammar q)) (told their_told missing their_missing : ℕ) (mask flit : List ℕ)
+    (own oth : SideOf (grammar q)) (ack their_ack missing their_missing : ℕ) (mask flit : List ℕ)
     (o : outer_outcome.Outcome) (sent : StampedFlit) → retry ≤ window q →
     Way q retry mine own → Linked (grammar q) s retry adv own oth →
     IsLandingOf q mine mask flit o sent → changes mask ≡ false →
-    SideFacts (setup line retry adv) (side_of q own.half mine told missing)
-    (side_of q oth.half theirs their_told their_missing) →
-    SideFacts (setup line retry adv) (side_of q oth.half theirs their_told their_missing)
-    (side_of q own.half mine told missing) →
+    SideFacts (setup line retry adv) (side_of q own.half mine ack missing)
+    (side_of q oth.half theirs their_ack their_missing) →
+    SideFacts (setup line retry adv) (side_of q oth.half theirs their_ack their_missing)
+    (side_of q own.half mine ack missing) →
     TrainsAre own.half.direction.line (drop mine.landed mine.sent) →
     (own.half.direction.far ≡ far.spoilt → missing ≡ lacking (receipts.pending mine.receiver)) →
     MayMove retry adv own.half oth.half
@@ -365,11 +364,11 @@ pub clean-lists : (q : Profile) (line retry adv : ℕ) (mine theirs : Lists q) (
     (counted_move (reception_of q mine.receiver flit).rrp
     (event_in q mine false flit o))).direction →
     IsLanding (event_in q mine false flit o) →
-    Clean q mine (side_of q own.half mine told missing) flit o (event_in q mine false flit o)
-clean-lists q line retry adv mine theirs s own oth told their_told missing their_missing mask flit o
+    Clean q mine (side_of q own.half mine ack missing) flit o (event_in q mine false flit o)
+clean-lists q line retry adv mine theirs s own oth ack their_ack missing their_missing mask flit o
     sent few is linked l ce side other_side trains lack may before after landing_is =
     let g = grammar q in
-    let x = side_of q own.half mine told missing in
+    let x = side_of q own.half mine ack missing in
     let w = own.half.direction in
     let rrp = (reception_of q mine.receiver flit).rrp in
     let e = event_in q mine false flit o in

@@ -26,7 +26,7 @@ use Rattle.hmc_wire.proofs.EntryTurns.{kept-before}
 use Rattle.hmc_wire.proofs.LawsHold.{direction-laws}
 use Rattle.hmc_wire.proofs.Places.{FitOr, AllFit}
 use Rattle.hmc_wire.proofs.TokenFacts.{token-laws}
-use Rattle.hmc_drain.specs.State as drain
+use Rattle.hmc_link_state.specs.State as drain
 use Rattle.hmc_steps.proofs.LandStep.{shown-fronts, buffer-sum}
 use Rattle.hmc_steps.proofs.Wired.{wired}
 use Rattle.hmc_bound.specs.Counts.{buffered, IsFew}

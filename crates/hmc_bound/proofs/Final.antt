@@ -6,10 +6,10 @@ use Rattle.hmc_send.specs.declared.toward.Toward.{Toward}
 use Rattle.hmc_send.specs.declared.toward.Toward.TheVariants.{Forth, Back}
 use Rattle.hmc_numbers.specs.Direction.{Item}
 use Rattle.hmc_numbers.specs.Events.{Reading}
-use Rattle.hmc_drain.specs.Round.{sent, landed_other}
-use Rattle.hmc_drain.specs.State.{Side, State, world}
-use Rattle.hmc_drain.specs.Steps.{Link}
-use Rattle.hmc_drain.proofs.Lines.{sent_fits, lands_other}
+use Rattle.hmc_link_state.specs.Round.{sent, landed_other}
+use Rattle.hmc_link_state.specs.State.{Side, State, wire}
+use Rattle.hmc_link_state.specs.Steps.{Link}
+use Rattle.hmc_link_state.proofs.Lines.{sent_fits, lands_other}
 use Rattle.hmc_steps.specs.SideIn.{setup_of}
 use Rattle.hmc_entries.specs.declared.entry.Entry.{Entry}
 use Rattle.hmc_journal.specs.Links.{sizes_on, entries_on}
@@ -30,9 +30,9 @@ use Rattle.hmc_bound.proofs.Steps.{link_at, both, send-forth, send-back, lands-f
 
 -- a landing of the other direction leaves a line
 long_after : (x y y' : Side) (look : Reading) → y' ≡ landed_other x y look →
-    1 ≤ length (world y).line → 1 ≤ length (world y').line
+    1 ≤ length (wire y).line → 1 ≤ length (wire y').line
 long_after x y y' look is some =
-    subst (λ (z : Side). 1 ≤ length (world z).line) (sym is)
+    subst (λ (z : Side). 1 ≤ length (wire z).line) (sym is)
     (subst (λ (n : ℕ). 1 ≤ n) (sym (ap (λ (l : List Item). length l) (lands_other x y look)))
     some)
 
@@ -63,10 +63,10 @@ four setup network j past fine =
     let sb = send-back setup one network j f1.lawful in
     let forth_is : l2.forth ≡ sent c l0.forth l0.back = sb.other_is ∙ sf.own in
     let lf = lands-forth setup two network j f2.lawful f3.lawful f3.unpassed
-    (subst (λ (x : Side). 1 ≤ length (world x).line) (sym forth_is)
+    (subst (λ (x : Side). 1 ≤ length (wire x).line) (sym forth_is)
     (sent_fits c l0.forth l0.back (both setup network j past f0.lawful).0.short some).1) in
-    let long_back : 1 ≤ length (world l2.back).line =
-    subst (λ (x : Side). 1 ≤ length (world x).line) (sym sb.own)
+    let long_back : 1 ≤ length (wire l2.back).line =
+    subst (λ (x : Side). 1 ≤ length (wire x).line) (sym sb.own)
     (sent_fits c l1.back l1.forth (both setup network j one f1.lawful).1.short some).1 in
     let lb =
     lands-back setup three network j f3.lawful fine.lawful fine.unpassed

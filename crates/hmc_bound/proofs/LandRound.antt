@@ -1,4 +1,4 @@
--- A landing of a flit that isn't changed is a landing of hmc_drain's rounds.
+-- A landing of a flit that isn't changed is a landing of hmc_link_state's rounds.
 use Rattle.std.proofs.Common.{◌≡◌, ◌∙◌, ◌-◌, ℕ, Bool, true, false, List, ◌∷◌, refl, sym, ap, subst}
 use Rattle.std.specs.Prelude.{if◌then◌else◌, is_some}
 use Rattle.hmc_codes.specs.Link.{LinkFields}
@@ -9,7 +9,8 @@ use Rattle.hmc_packet.specs.Receptions.{reception_of}
 use Rattle.hmc_send.specs.declared.toward.Toward.{Toward}
 use Rattle.hmc_send.specs.declared.toward.Toward.TheVariants.{Forth, Back}
 use Rattle.hmc_send.specs.LinkEntries.{LinkEntry, LinkEntry as entry, receiver_entries, handed_packets, takes}
-use Rattle.hmc_send.specs.LinkLines.{changes, sent_flits, landings, line, is_pending_changed, passes}
+use Rattle.hmc_packet.specs.Masks.{changes}
+use Rattle.hmc_send.specs.LinkLines.{sent_flits, landings, line, is_pending_changed, passes}
 use Rattle.hmc_send.specs.LinkSenders.{sender_entries}
 use Rattle.hmc_send.proofs.LinkLawful.{lawful-landed}
 use Rattle.hmc_numbers.specs.Direction.{Reached, Reached as far, Item}
@@ -22,14 +23,14 @@ use Rattle.hmc_wire.specs.LinkLaws.{IsKept}
 use Rattle.hmc_wire.proofs.EntryTurns.{kept-before, turns-may}
 use Rattle.hmc_wire.proofs.Steps.{landings_on}
 use Rattle.hmc_wire.proofs.Ways.{lists_in}
-use Rattle.hmc_drain.specs.Landing.{land, took}
-use Rattle.hmc_drain.specs.Round.{Reads, front, event_at_far, event_here, is_counted_at, is_ran_start_at, steady_after, costs_next, landed_own, landed_other}
-use Rattle.hmc_drain.specs.State.{Side, world}
-use Rattle.hmc_drain.specs.Steps.{link_after}
-use Rattle.hmc_drain.proofs.Here.{buffer_after}
-use Rattle.hmc_drain.proofs.Keeps.{Both}
+use Rattle.hmc_link_state.specs.Landing.{land, took}
+use Rattle.hmc_link_state.specs.Round.{Reads, front, event_at_far, event_here, is_counted_at, is_ran_start_at, steady_after, costs_next, landed_own, landed_other}
+use Rattle.hmc_link_state.specs.State.{Side, wire}
+use Rattle.hmc_link_state.specs.Steps.{link_after}
+use Rattle.hmc_link_state.proofs.CleanLandings.{buffer_after}
+use Rattle.hmc_link_state.proofs.Keeps.{Both}
 use Rattle.hmc_steps.specs.Doings.{is_ran_start}
-use Rattle.hmc_steps.specs.SideIn.{setup_of, side_in, told_in, missing_in, buffer_flits}
+use Rattle.hmc_steps.specs.SideIn.{setup_of, side_in, ack_sent_in, missing_in, buffer_flits}
 use Rattle.hmc_steps.proofs.Landed.{event_in, is-landing}
 use Rattle.hmc_steps.proofs.Settled.{event-lands}
 use Rattle.hmc_steps.proofs.SideIs.{side-is}
@@ -50,11 +51,11 @@ pub record IsClean (x : Side) (look : Reading) (e : Event) (counted ran : Bool) 
     (bf : List ℕ) : Type 0 where
   pub reads : Reads (front x) look
   pub event : e ≡ event_here x look
-  pub counted_is : counted ≡ is_counted_at x (world x).far e
-  pub ran_is : ran ≡ is_ran_start_at x (world x).far look
-  pub steady : (happens (world x) e).far ≡ far.training → ((world x).far ≡ far.training)
+  pub counted_is : counted ≡ is_counted_at x (wire x).far e
+  pub ran_is : ran ≡ is_ran_start_at x (wire x).far look
+  pub steady : (happens (wire x) e).far ≡ far.training → ((wire x).far ≡ far.training)
       × (st ≡ steady_after x look)
-  pub lacks : (happens (world x) e).far ≡ far.spoilt → ((world x).far ≡ far.spoilt)
+  pub lacks : (happens (wire x) e).far ≡ far.spoilt → ((wire x).far ≡ far.spoilt)
       × (ms ≡ x.missing - 1)
   pub buffer : bf ≡ buffer_after x (costs_next x) e
 
@@ -69,10 +70,10 @@ here_by x a b look i far.aborting s m = refl
 here_by x a b look i far.between s m = refl
 here_by x a b look i (far.inside n k) s m = refl
 
-here_near : (x : Side) (a b : ℕ) (look : Reading) → ((world x).far ≡ far.training → a ≡ x.steady) →
-    ((world x).far ≡ far.spoilt → b ≡ x.missing) →
+here_near : (x : Side) (a b : ℕ) (look : Reading) → ((wire x).far ≡ far.training → a ≡ x.steady) →
+    ((wire x).far ≡ far.spoilt → b ≡ x.missing) →
     event_here (with_counts x a b) look ≡ event_here x look
-here_near x a b look s m = here_by x a b look (front x) (world x).far s m
+here_near x a b look s m = here_by x a b look (front x) (wire x).far s m
 
 steady_is : (r : Reached) (k n : ℕ) → (r ≡ far.training → k ≡ n) → steady_for r k n ≡ n
 steady_is far.training k n h = h refl
@@ -100,18 +101,18 @@ pub record Lands (x y x' y' : Side) (look : Reading) : Type 0 where
   pub other_is : y' ≡ landed_other x y look
 
 by_counts : (x y : Side) (a b : ℕ) (look : Reading) (e : Event) (counted ran : Bool) (st ms : ℕ)
-    (bf : List ℕ) → ((world x).far ≡ far.training → a ≡ x.steady) →
-    ((world x).far ≡ far.spoilt → b ≡ x.missing) → IsClean x look e counted ran st ms bf →
+    (bf : List ℕ) → ((wire x).far ≡ far.training → a ≡ x.steady) →
+    ((wire x).far ≡ far.spoilt → b ≡ x.missing) → IsClean x look e counted ran st ms bf →
     let z = with_counts x a b in
-    let r = (happens (world x) e).far in
+    let r = (happens (wire x) e).far in
     Lands z y (land z e (steady_for r st (steady_after z look)) (missing_for r ms (b - 1)) bf)
     (took z y e counted ran) look
 by_counts x y a b look e counted ran st ms bf s m is =
     let z = with_counts x a b in
-    let r = (happens (world x) e).far in
+    let r = (happens (wire x) e).far in
     let event : e ≡ event_here z look = is.event ∙ sym (here_near x a b look s m) in
-    let counts : counted ≡ is_counted_at z (world z).far (event_here z look) =
-    is.counted_is ∙ ap (λ (v : Event). is_counted_at x (world x).far v) event in
+    let counts : counted ≡ is_counted_at z (wire z).far (event_here z look) =
+    is.counted_is ∙ ap (λ (v : Event). is_counted_at x (wire x).far v) event in
     let steady : steady_for r st (steady_after z look) ≡ steady_after z look =
     steady_is r st (steady_after z look) (λ t. (is.steady t).1
     ∙ ap (λ (n : ℕ). steady_after (with_counts x n b) look) (sym (s (is.steady t).0))) in
@@ -140,13 +141,13 @@ by_counts x y a b look e counted ran st ms bf s m is =
 
 pub lands-near : (x x' y : Side) (look : Reading) (e : Event) (counted ran : Bool) (st ms : ℕ)
     (bf : List ℕ) → Near x x' → IsClean x look e counted ran st ms bf →
-    Lands x' y (land x' e (steady_for (happens (world x') e).far st (steady_after x' look))
-    (missing_for (happens (world x') e).far ms (x'.missing - 1)) bf) (took x' y e counted ran) look
+    Lands x' y (land x' e (steady_for (happens (wire x') e).far st (steady_after x' look))
+    (missing_for (happens (wire x') e).far ms (x'.missing - 1)) bf) (took x' y e counted ran) look
 lands-near x x' y look e counted ran st ms bf n is =
     subst (λ (z : Side).
     Lands z y
-    (land z e (steady_for (happens (world z) e).far st (steady_after z look))
-    (missing_for (happens (world z) e).far ms (z.missing - 1)) bf) (took z y e counted ran)
+    (land z e (steady_for (happens (wire z) e).far st (steady_after z look))
+    (missing_for (happens (wire z) e).far ms (z.missing - 1)) bf) (took z y e counted ran)
     look) (sym n.same)
     (by_counts x y x'.steady x'.missing look e counted ran st ms bf n.steady n.missing is)
 
@@ -165,7 +166,7 @@ clean_forth : (link : LinkFields) (past : List LinkEntry) (mask flit : List ℕ)
     IsKept link (entry.landed Forth mask flit o ∷ past) → changes mask ≡ false →
     Both (setup_of link) (side_in link Forth past) (side_in link Back past) →
     CleanAt link Forth past mask flit o
-unfolding sender_entries receiver_entries sent_flits landings landings_on takes handed_packets is_pending_changed turns_of told_in missing_in line passes
+unfolding sender_entries receiver_entries sent_flits landings landings_on takes handed_packets is_pending_changed turns_of ack_sent_in missing_in line passes
 clean_forth link past mask flit o kept ce f =
     let q = link.profile in
     let e = entry.landed Forth mask flit o in
@@ -191,7 +192,7 @@ clean_forth link past mask flit o kept ce f =
     } in
     let found : Clean q mine (side_in link Forth past) flit o (event_in q mine false flit o) =
     clean-lists q link.line link.retry link.tokens mine (lists_in link Back past) x.s own oth
-    (told_in link Forth past) (told_in link Back past) (missing_in Forth past)
+    (ack_sent_in link Forth past) (ack_sent_in link Back past) (missing_in Forth past)
     (missing_in Back past) mask flit o is.front kept.retry x.way x.linked
     (record {
       is_front = is.is_front;
@@ -224,7 +225,7 @@ clean_back : (link : LinkFields) (past : List LinkEntry) (mask flit : List ℕ) 
     IsKept link (entry.landed Back mask flit o ∷ past) → changes mask ≡ false →
     Both (setup_of link) (side_in link Back past) (side_in link Forth past) →
     CleanAt link Back past mask flit o
-unfolding sender_entries receiver_entries sent_flits landings landings_on takes handed_packets is_pending_changed turns_of told_in missing_in line passes
+unfolding sender_entries receiver_entries sent_flits landings landings_on takes handed_packets is_pending_changed turns_of ack_sent_in missing_in line passes
 clean_back link past mask flit o kept ce f =
     let q = link.profile in
     let e = entry.landed Back mask flit o in
@@ -250,7 +251,7 @@ clean_back link past mask flit o kept ce f =
     } in
     let found : Clean q mine (side_in link Back past) flit o (event_in q mine false flit o) =
     clean-lists q link.line link.retry link.tokens mine (lists_in link Forth past) x.s own oth
-    (told_in link Back past) (told_in link Forth past) (missing_in Back past)
+    (ack_sent_in link Back past) (ack_sent_in link Forth past) (missing_in Back past)
     (missing_in Forth past) mask flit o is.front kept.retry x.way x.linked
     (record {
       is_front = is.is_front;

@@ -2,6 +2,7 @@ pub mod Near
 pub mod Commute
 pub mod Part
 pub mod Trains
+pub mod CleanModes
 pub mod CleanGrammar
 pub mod CleanLists
 pub mod Starve

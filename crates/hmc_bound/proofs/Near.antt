@@ -1,19 +1,19 @@
--- The steps that a list is, with the numbers of hmc_drain's rounds, may come too, and lead to the
--- same except what nothing reads.
+-- The steps that a list is, with the numbers of hmc_link_state's rounds, may come too, and lead to
+-- the same except what nothing reads.
 use Rattle.std.proofs.Common.{◌≡◌, ◌∙◌, ◌≤◌, ◌-◌, ℕ, Bool, true, false, List, [], ◌∷◌, length, refl, sym, subst}
 use Rattle.std.specs.Prelude.{nat_lt, if◌then◌else◌}
 use Rattle.hmc_codes.specs.Link.{LinkFields}
 use Rattle.hmc_send.specs.LinkEntries.{LinkEntry, LinkEntry as entry}
 use Rattle.hmc_numbers.specs.Direction.{Direction, Reached, Reached as far}
 use Rattle.hmc_numbers.specs.Events.{Reading, Event, happens}
-use Rattle.hmc_numbers.specs.Pair.{Half, Move as moves, own_after, other_after}
+use Rattle.hmc_numbers.specs.Pair.{Half, Move as moves, own_after}
 use Rattle.hmc_numbers.specs.Tokens.{due_tokens}
-use Rattle.hmc_drain.specs.Choice.{Choice, Choice as choices, choice}
-use Rattle.hmc_drain.specs.Landing.{move_of}
-use Rattle.hmc_drain.specs.Round.{sight, sent, sent_by, steady_after}
-use Rattle.hmc_drain.specs.Sees.{event_of}
-use Rattle.hmc_drain.specs.State.{Setup, Side, world}
-use Rattle.hmc_drain.specs.Steps.{Step, Doing, Link, own_step, other_step, MayStep, MayAll, link_after}
+use Rattle.hmc_link_state.specs.Choice.{Choice, Choice as choices, choice}
+use Rattle.hmc_link_state.specs.Round.{sight, sent, sent_by, steady_after}
+use Rattle.hmc_link_state.specs.Sees.{event_of}
+use Rattle.hmc_link_state.specs.State.{Setup, Side, wire}
+use Rattle.hmc_link_state.specs.Steps.{Step, Doing, Link, own_step, other_step, MayStep, MayAll, link_after}
+use Rattle.hmc_link_state.proofs.LandedFacts.{took_far}
 use Rattle.hmc_steps.specs.Doings.{doings_of}
 use Rattle.hmc_steps.specs.SideIn.{setup_of}
 use Rattle.hmc_bound.specs.Regular.{steady_for, missing_for, regular_step, regular, look_of, regulars}
@@ -24,11 +24,11 @@ with_counts x st ms = record x { steady = st; missing = ms }
 -- y is x except the numbers that nothing reads
 pub record Near (x y : Side) : Type 0 where
   pub same : y ≡ with_counts x y.steady y.missing
-  pub steady : (world x).far ≡ far.training → y.steady ≡ x.steady
-  pub missing : (world x).far ≡ far.spoilt → y.missing ≡ x.missing
+  pub steady : (wire x).far ≡ far.training → y.steady ≡ x.steady
+  pub missing : (wire x).far ≡ far.spoilt → y.missing ≡ x.missing
 
-near_with : (x : Side) (st ms : ℕ) → ((world x).far ≡ far.training → st ≡ x.steady) →
-    ((world x).far ≡ far.spoilt → ms ≡ x.missing) → Near x (with_counts x st ms)
+near_with : (x : Side) (st ms : ℕ) → ((wire x).far ≡ far.training → st ≡ x.steady) →
+    ((wire x).far ≡ far.spoilt → ms ≡ x.missing) → Near x (with_counts x st ms)
 near_with x st ms s m = record { same = refl; steady = s; missing = m }
 
 near_if : (b : Bool) (p q p' q' : Side) → Near p p' → Near q q' →
@@ -66,12 +66,12 @@ send_far h n due choices.pret = refl
 send_far h n due choices.null = refl
 
 pub sent-near : (c : Setup) (x y : Side) (a b k l : ℕ) →
-    ((world x).far ≡ far.training → a ≡ x.steady) → ((world x).far ≡ far.spoilt → b ≡ x.missing) →
+    ((wire x).far ≡ far.training → a ≡ x.steady) → ((wire x).far ≡ far.spoilt → b ≡ x.missing) →
     Near (sent c x y) (sent c (with_counts x a b) (with_counts y k l))
 sent-near c x y a b k l s m =
     let ch = choice (sight c x y) in
-    let same = send_far x.half (world y).accepted (due_tokens c.tokens y.half x.half) ch in
-    near_if (nat_lt (length (world x).line) c.line) (sent_by c x y ch) x
+    let same = send_far x.half (wire y).accepted (due_tokens c.tokens y.half x.half) ch in
+    near_if (nat_lt (length (wire x).line) c.line) (sent_by c x y ch) x
     (sent_by c (with_counts x a b) (with_counts y k l) ch) (with_counts x a b)
     (near_with (sent_by c x y ch) a b (λ e. s (sym same ∙ e)) (λ e. m (sym same ∙ e)))
     (near_with x a b s m)
@@ -88,11 +88,6 @@ unlock_far w e = by_far w.far e
     by_far (far.inside i j) e = cc e
     by_far far.spoilt e = cc e
 
-took_far : (own oth : Half) (b : Bool) (e : Event) →
-    (other_after own oth (move_of b e)).direction.far ≡ oth.direction.far
-took_far own oth true e = refl
-took_far own oth false e = refl
-
 -- ---- any step
 
 pub record StepNear (c : Setup) (x y x' y' : Side) (look : Reading) (step : Step) : Type 0 where
@@ -101,13 +96,13 @@ pub record StepNear (c : Setup) (x y x' y' : Side) (look : Reading) (step : Step
   pub other_is : Near (other_step x y step) (other_step x' y' (regular_step x' look step))
 
 by_step : (c : Setup) (x y : Side) (a b k l : ℕ) (look : Reading) (step : Step) →
-    ((world x).far ≡ far.training → a ≡ x.steady) → ((world x).far ≡ far.spoilt → b ≡ x.missing) →
-    ((world y).far ≡ far.training → k ≡ y.steady) → ((world y).far ≡ far.spoilt → l ≡ y.missing) →
+    ((wire x).far ≡ far.training → a ≡ x.steady) → ((wire x).far ≡ far.spoilt → b ≡ x.missing) →
+    ((wire y).far ≡ far.training → k ≡ y.steady) → ((wire y).far ≡ far.spoilt → l ≡ y.missing) →
     MayStep c x y step → StepNear c x y (with_counts x a b) (with_counts y k l) look step
 by_step c x y a b k l look Step.sends s m t n may =
     record { may = tt; own = sent-near c x y a b k l s m; other_is = near_with y k l t n }
 by_step c x y a b k l look (Step.lands e counted ran st ms bf) s m t n may =
-    let after = (happens (world x) e).far in
+    let after = (happens (wire x) e).far in
     let here = may.0 in
     let same = took_far x.half y.half counted e in
     record {
@@ -142,7 +137,7 @@ by_step c x y a b k l look Step.unlocks s m t n may =
     record {
       may = tt;
       own =
-          record { same = refl; steady = λ z. refl; missing = λ z. absurd (unlock_far (world x) z) };
+          record { same = refl; steady = λ z. refl; missing = λ z. absurd (unlock_far (wire x) z) };
       other_is = near_with y k l t n;
     }
 by_step c x y a b k l look (Step.leaves i bf) s m t n may =

@@ -4,8 +4,8 @@ use Rattle.std.specs.Prelude.{if◌then◌else◌}
 use Rattle.hmc_numbers.specs.Direction.{Item, begun}
 use Rattle.hmc_numbers.specs.Events.{Reading, Event}
 use Rattle.hmc_numbers.specs.Pair.{Move as moves, other_after}
-use Rattle.hmc_drain.specs.Round.{Reads, front, event_here, is_counted_at, sent, sent_both, landed_own, landed_other, landed_forth, costs_next, link_round}
-use Rattle.hmc_drain.specs.State.{Setup, Side, State, world}
+use Rattle.hmc_link_state.specs.Round.{Reads, front, event_here, is_counted_at, sent, sent_both, landed_own, landed_other, landed_forth, costs_next, link_round}
+use Rattle.hmc_link_state.specs.State.{Setup, Side, State, wire}
 use Rattle.hmc_bound.proofs.Commute.{sends-commute, lands-commute}
 use Rattle.hmc_bound.proofs.LandRound.{Lands}
 
@@ -55,7 +55,7 @@ in-order c s f b r =
 -- what a landing of the other direction leaves of the front
 front-kept : (x y : Side) (look : Reading) → front (landed_other x y look) ≡ front y
 front-kept x y look =
-    by_counts (is_counted_at x (world x).far (event_here x look)) (event_here x look)
+    by_counts (is_counted_at x (wire x).far (event_here x look)) (event_here x look)
   where
     by_counts : (b : Bool) (e : Event) →
         front (record y
@@ -64,8 +64,8 @@ front-kept x y look =
     by_counts false e = refl
 
 -- sent and landed the other way round they come to the same
-pub other-order : (c : Setup) (f0 b0 f4 b4 : Side) → (world f0).accepted ≤ begun (world f0) →
-    (world b0).accepted ≤ begun (world b0) → FourSteps c f0 b0 f4 b4 → FourSteps c b0 f0 b4 f4
+pub other-order : (c : Setup) (f0 b0 f4 b4 : Side) → (wire f0).accepted ≤ begun (wire f0) →
+    (wire b0).accepted ≤ begun (wire b0) → FourSteps c f0 b0 f4 b4 → FourSteps c b0 f0 b4 f4
 other-order c f0 b0 f4 b4 le_f le_b r =
     let l = r.first in
     let m = r.second in

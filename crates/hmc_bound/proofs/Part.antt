@@ -1,25 +1,22 @@
 -- The link's part: the numbers of a list of entries.
-use Rattle.std.proofs.Common.{◌≡◌, ◌∙◌, ◌+◌, ◌-◌, ℕ, Bool, true, false, List, [], ◌∷◌, All, map, length, drop, take, refl, sym, ap, subst, arith, length-append}
+use Rattle.std.proofs.Common.{◌≡◌, ◌∙◌, ◌+◌, ◌-◌, ℕ, Bool, true, false, List, [], ◌∷◌, map, length, drop, take, refl, sym, ap, subst, arith, length-append}
 use Rattle.std.specs.Prelude.{filter, cond}
 use Rattle.std.proofs.lemmas.List.{take-append-drop}
-use Rattle.std.proofs.lemmas.List.Elements.{filter-append, All-head, All-tail}
+use Rattle.std.proofs.lemmas.List.Elements.{filter-append}
 use Rattle.hmc_codes.specs.Link.{LinkFields}
-use Rattle.hmc_packet.specs.declared.what.What.{What}
-use Rattle.hmc_packet.specs.declared.what.What.TheVariants as what
 use Rattle.hmc_packet.specs.Packet.{PacketFields, flits_of}
 use Rattle.hmc_send.specs.declared.toward.Toward.{Toward}
 use Rattle.hmc_send.specs.declared.toward.Toward.TheVariants.{Forth, Back}
-use Rattle.hmc_send.specs.LinkEntries.{LinkEntry, LinkEntry as entry, same_way, push_if, accepted_packets}
-use Rattle.hmc_send.specs.LinkLines.{landings}
+use Rattle.hmc_send.specs.LinkEntries.{LinkEntry, LinkEntry as entry, accepted_packets}
 use Rattle.hmc_send.specs.LinkSenders.{places_in}
 use Rattle.hmc_send.specs.Places.{Place, is_token, takes_tokens}
 use Rattle.hmc_numbers.specs.Tokens.{transit_tokens}
 use Rattle.hmc_wire.proofs.LawsHold.{direction-laws}
 use Rattle.hmc_wire.specs.EntryTurns.{taken_in}
-use Rattle.hmc_drain.specs.State as drain
-use Rattle.hmc_drain.specs.State.{Setup, Side}
-use Rattle.hmc_drain.specs.Steps.{Doing, Link, own_step, other_step, MayStep, MayAll, link_after}
-use Rattle.hmc_drain.specs.Steps.Step.{leaves, queues}
+use Rattle.hmc_link_state.specs.State as drain
+use Rattle.hmc_link_state.specs.State.{Setup, Side}
+use Rattle.hmc_link_state.specs.Steps.{Doing, Link, own_step, other_step, MayStep, MayAll, link_after}
+use Rattle.hmc_link_state.specs.Steps.Step.{leaves, queues}
 use Rattle.hmc_steps.specs.Doings.{AreWhole}
 use Rattle.hmc_steps.specs.SideIn.{setup_of, side_in, link_in, buffer_flits}
 use Rattle.hmc_steps.proofs.Settled.{settled-way}
@@ -136,7 +133,7 @@ taken_for Forth Back link past = refl
 taken_for Back Forth link past = refl
 taken_for Back Back link past = refl
 
--- what is told of a side of the list
+-- what a side of the list shows
 pub side-near : (requests way : Toward) (link : LinkFields) (past : List LinkEntry) →
     IsPlain link past →
     Near (side_in link way past) (side_on requests way (after_for requests link past))

@@ -1,4 +1,4 @@
--- The link's steps of a round of a journal are those of hmc_drain.
+-- The link's steps of a round of a journal are those of hmc_link_state.
 use Rattle.std.proofs.Common.{◌≡◌, ◌∙◌, ◌≤◌, ◌==◌, ℕ, nat_lt, nat_le, Bool, true, false, Option, Some, None, List, [], ◌∷◌, length, refl, sym, ap, subst, arith}
 use Rattle.std.specs.Prelude.{not, if◌then◌else◌, slice_get}
 use Rattle.std.specs.Str.{bytes_eq}
@@ -20,18 +20,19 @@ use Rattle.hmc_send.specs.declared.toward.Toward.TheVariants.{Forth, Back}
 use Rattle.hmc_send.specs.Choice as cases
 use Rattle.hmc_send.specs.LinkCalls.{is_full, view_in}
 use Rattle.hmc_send.specs.LinkEntries.{LinkEntry, LinkEntry as entry, receiver_entries}
-use Rattle.hmc_send.specs.LinkLines.{StampedFlit, line, changes, under_mask, passes}
+use Rattle.hmc_packet.specs.Masks.{changes, under_mask}
+use Rattle.hmc_send.specs.LinkLines.{StampedFlit, line, passes}
 use Rattle.hmc_send.specs.LinkSenders.{given_in}
 use Rattle.hmc_numbers.specs.Events.{Reading}
 use Rattle.hmc_wire.proofs.LawsHold.{direction-laws}
 use Rattle.hmc_wire.proofs.Links.{unchanged}
 use Rattle.hmc_wire.specs.EntryTurns.{reading_of}
-use Rattle.hmc_drain.specs.State.{Side, world}
-use Rattle.hmc_drain.specs.Round.{sent, sent_by, sight}
-use Rattle.hmc_drain.specs.Choice.{choice}
-use Rattle.hmc_drain.specs.Steps.{Link, link_after}
-use Rattle.hmc_drain.proofs.Keeps.{Both}
-use Rattle.hmc_drain.proofs.StepFacts.{facts_after}
+use Rattle.hmc_link_state.specs.State.{Side, wire}
+use Rattle.hmc_link_state.specs.Round.{sent, sent_by, sight}
+use Rattle.hmc_link_state.specs.Choice.{choice}
+use Rattle.hmc_link_state.specs.Steps.{Link, link_after}
+use Rattle.hmc_link_state.proofs.Keeps.{Both}
+use Rattle.hmc_link_state.proofs.StepFacts.{facts_after}
 use Rattle.hmc_steps.specs.SideIn.{setup_of}
 use Rattle.hmc_steps.proofs.StepsAre.{line-long}
 use Rattle.hmc_steps.proofs.Wired.{wired}
@@ -114,17 +115,17 @@ both setup network j past lawful =
 
 -- the line by numbers is as long as the list's
 line_forth : (link : LinkFields) (past : List LinkEntry) → IsPlain link past →
-    length (world (link_after (setup_of link) (regulars link past)).forth).line ≡ length
+    length (wire (link_after (setup_of link) (regulars link past)).forth).line ≡ length
     (line link.profile Forth past)
 line_forth link past is =
-    ap (λ (x : Side). length (world x).line) ((plain link past is).near Forth).same
+    ap (λ (x : Side). length (wire x).line) ((plain link past is).near Forth).same
     ∙ line-long link Forth past (wired link Forth past is.kept)
 
 line_back : (link : LinkFields) (past : List LinkEntry) → IsPlain link past →
-    length (world (link_after (setup_of link) (regulars link past)).back).line ≡ length
+    length (wire (link_after (setup_of link) (regulars link past)).back).line ≡ length
     (line link.profile Back past)
 line_back link past is =
-    ap (λ (x : Side). length (world x).line) ((plain link past is).near Back).same
+    ap (λ (x : Side). length (wire x).line) ((plain link past is).near Back).same
     ∙ line-long link Back past (wired link Back past is.kept)
 
 -- ---- sends
@@ -185,7 +186,7 @@ full_not : (n m : ℕ) → nat_le n m ≡ true → nat_lt m n ≡ false
 full_not n m e = grind (arith, common_steps)
 
 -- where the line is full nothing is sent
-sent_full : (link : LinkFields) (x y : Side) (n : ℕ) → length (world x).line ≡ n →
+sent_full : (link : LinkFields) (x y : Side) (n : ℕ) → length (wire x).line ≡ n →
     nat_le link.line n ≡ true → sent (setup_of link) x y ≡ x
 sent_full link x y n long full =
     ap (λ (b : Bool). if b then sent_by (setup_of link) x y (choice (sight (setup_of link) x y))
@@ -433,7 +434,7 @@ lands_sides_back link before after is a =
 pub lands-forth : (setup : Setup) (past : List Entry) → IsNetwork setup → Joined setup.topology →
     Lawful setup past → Lawful setup (next setup past (steps.Land 0 zero_flit) ∷ past) →
     is_passed (next setup past (steps.Land 0 zero_flit)) ≡ false →
-    1 ≤ length (world (link_at setup.topology past).forth).line →
+    1 ≤ length (wire (link_at setup.topology past).forth).line →
     let l = link_at setup.topology past in
     let k = link_at setup.topology (next setup past (steps.Land 0 zero_flit) ∷ past) in
     (look : Reading)
@@ -451,7 +452,7 @@ lands-forth setup past network j lawful after off some =
 pub lands-back : (setup : Setup) (past : List Entry) → IsNetwork setup → Joined setup.topology →
     Lawful setup past → Lawful setup (next setup past (steps.Land 1 zero_flit) ∷ past) →
     is_passed (next setup past (steps.Land 1 zero_flit)) ≡ false →
-    1 ≤ length (world (link_at setup.topology past).back).line →
+    1 ≤ length (wire (link_at setup.topology past).back).line →
     let l = link_at setup.topology past in
     let k = link_at setup.topology (next setup past (steps.Land 1 zero_flit) ∷ past) in
     (look : Reading)

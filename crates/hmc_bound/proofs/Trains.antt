@@ -1,5 +1,5 @@
 -- What was sent as a training flit is one, on each line of a kept list.
-use Rattle.std.proofs.Common.{◌≡◌, ◌∙◌, ℕ, zero, suc, Bool, true, false, List, [], ◌∷◌, ◌++◌, drop, Option, Some, None, refl, sym, ap, subst}
+use Rattle.std.proofs.Common.{◌≡◌, ◌∙◌, ℕ, suc, Bool, true, false, List, [], ◌∷◌, ◌++◌, drop, Option, Some, None, refl, sym, ap, subst}
 use Rattle.std.specs.Prelude.{◌||◌}
 use Rattle.std.proofs.lemmas.List.{drop-append-le}
 use Rattle.hmc_codes.specs.Link.{LinkFields}
@@ -16,7 +16,8 @@ use Rattle.hmc_send.specs.declared.toward.Toward.TheVariants.{Forth, Back}
 use Rattle.hmc_send.specs.Choice.{SendView, view_after, choice, what_of}
 use Rattle.hmc_send.specs.Entries.{SenderEntry, Given, Part, or_null, places, unfinished}
 use Rattle.hmc_send.specs.LinkEntries.{LinkEntry, LinkEntry as entry, receiver_entries}
-use Rattle.hmc_send.specs.LinkLines.{StampedFlit, sent_flits, stamped_flit, landings, line, is_pending_changed, changes}
+use Rattle.hmc_packet.specs.Masks.{changes}
+use Rattle.hmc_send.specs.LinkLines.{StampedFlit, sent_flits, stamped_flit, landings, line, is_pending_changed}
 use Rattle.hmc_send.specs.LinkSenders.{sender_entries, given_in}
 use Rattle.hmc_send.proofs.Cases.{Case, Case as case, case_of}
 use Rattle.hmc_send.proofs.LinkLawful.{lawful-sent}
@@ -30,7 +31,7 @@ use Rattle.hmc_wire.proofs.Actions.{item_of}
 use Rattle.hmc_wire.proofs.ActionWays.{sends}
 use Rattle.hmc_wire.proofs.EntryTurns.{kept-before}
 use Rattle.hmc_wire.proofs.SenderLists.{what_is, carries, carries-part}
-use Rattle.hmc_steps.proofs.Settled.{event-sends, event-lands, own-line, other-line}
+use Rattle.hmc_steps.proofs.Settled.{event-sends, event-lands, own-line, other-line, drop-one}
 use Rattle.hmc_steps.proofs.Wired.{wired}
 
 abbrev pub TrainsAre : List Item → List StampedFlit → Type 0
@@ -52,11 +53,6 @@ trains-rest [] [] all = tt
 trains-rest [] (g ∷ fs) all = absurd all
 trains-rest (y ∷ xs) [] all = absurd all
 trains-rest (y ∷ xs) (g ∷ fs) all = all.1
-
-drop-one : {X : Type 0} (n : ℕ) (l : List X) → drop 1 (drop n l) ≡ drop (suc n) l
-drop-one zero l = refl
-drop-one (suc n) [] = refl
-drop-one (suc n) (x ∷ l) = drop-one n l
 
 -- a flit that is sent to train
 

@@ -1,5 +1,5 @@
 -- The steps of a link's entries, where a receiver's run in Train and what a spoilt gathering lacks
--- are kept on as hmc_drain's rounds keep them: nothing reads the first outside Train, nor the
+-- are kept on as hmc_link_state's rounds keep them: nothing reads the first outside Train, nor the
 -- second where nothing is spoilt.
 use Rattle.std.specs.Prelude.{ℕ, ◌-◌, List, [], ◌∷◌, ◌++◌, map}
 use Rattle.hmc_codes.specs.Link.{LinkFields}
@@ -12,9 +12,9 @@ use Rattle.hmc_numbers.specs.Direction.Reached.{training, spoilt}
 use Rattle.hmc_numbers.specs.Events.{Reading, happens}
 use Rattle.hmc_numbers.specs.Events.Reading.{plain}
 use Rattle.hmc_wire.specs.EntryTurns.{reading_of}
-use Rattle.hmc_drain.specs.Round.{steady_after}
-use Rattle.hmc_drain.specs.State.{Side, world}
-use Rattle.hmc_drain.specs.Steps.{Step, Doing, Link, link_after}
+use Rattle.hmc_link_state.specs.Round.{steady_after}
+use Rattle.hmc_link_state.specs.State.{Side, wire}
+use Rattle.hmc_link_state.specs.Steps.{Step, Doing, Link, link_after}
 use Rattle.hmc_steps.specs.Doings.{doings_by}
 use Rattle.hmc_steps.specs.SideIn.{setup_of}
 
@@ -29,8 +29,8 @@ missing_for far kept next = next
 -- of a direction whose landed flit reads so
 abbrev pub regular_step : Side → Reading → Step → Step
 regular_step x look (Step.lands e counted ran steady missing buffer) =
-    Step.lands e counted ran (steady_for (happens (world x) e).far steady (steady_after x look))
-    (missing_for (happens (world x) e).far missing (x.missing - 1)) buffer
+    Step.lands e counted ran (steady_for (happens (wire x) e).far steady (steady_after x look))
+    (missing_for (happens (wire x) e).far missing (x.missing - 1)) buffer
 regular_step x look step = step
 
 abbrev pub regular : Link → Reading → Doing → Doing

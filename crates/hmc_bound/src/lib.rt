@@ -1,4 +1,5 @@
-//! The drain bound of a case of one cube and one link: so many whole rounds leave nothing under way.
+//! The drain bound of a case of one cube and one link: so many whole rounds leave nothing under
+//! way.
 //!
 //! `Drains` (specs/Bound) is the bound. specs/Ends says it of a schedule that ends with rounds, and
 //! specs/Appended of rounds that are appended to one. docs/drain.md has the bound in words.

@@ -1,12 +1,13 @@
 -- The bound, from every list of steps.
 use Rattle.std.proofs.Common.{◌≡◌, sym, subst, arith}
 use Rattle.hmc_codes.specs.declared.profile.Profile.{Profile}
-use Rattle.hmc_drain.specs.State.{Setup, Side, State, IsSettled, IsSettledSide}
-use Rattle.hmc_drain.specs.Facts.{Facts}
-use Rattle.hmc_drain.specs.Steps.{link_after, DrainsAfter, IsSettledLink, AnyLink}
+use Rattle.hmc_link_state.specs.State.{Setup, Side, State, IsSettled, IsSettledSide}
+use Rattle.hmc_link_state.specs.Facts.{Facts}
+use Rattle.hmc_link_state.specs.Steps.{link_after, IsSettledLink}
+use Rattle.hmc_drain.specs.Drains.{DrainsAfter, AnyLink}
 use Rattle.hmc_drain.proofs.Assembly.{settled, any_state}
-use Rattle.hmc_drain.proofs.Keeps.{Both}
-use Rattle.hmc_drain.proofs.StepFacts.{facts_after}
+use Rattle.hmc_link_state.proofs.Keeps.{Both}
+use Rattle.hmc_link_state.proofs.StepFacts.{facts_after}
 
 facts_at : (c : Setup) (s : State) (x y : Side) → Both c x y → s.forth ≡ x → s.back ≡ y → Facts c s
 facts_at c s x y b q r =

@@ -7,25 +7,27 @@ use Rattle.hmc_numbers.specs.Events.{Reading}
 use Rattle.hmc_numbers.proofs.DirectionLaws.{unfinished}
 use Rattle.hmc_numbers.proofs.Effect.{same_first}
 use Rattle.hmc_numbers.proofs.Sums.{upto-append, upto-up}
-use Rattle.hmc_drain.specs.Choice.{Choice, choice}
-use Rattle.hmc_drain.specs.Choice.Choice.{train, next, new, tret}
-use Rattle.hmc_drain.specs.State.{Setup, Side, State, world, count_of, weight, IsSteady}
-use Rattle.hmc_drain.specs.Round.{sight, sent, sent_by, front, landed_own, costs_next, IsRound, Rounds}
-use Rattle.hmc_drain.specs.Facts.{SideFacts, Facts}
-use Rattle.hmc_drain.specs.Lemmas.{IsFit, IsReady, Arrives}
-use Rattle.hmc_drain.proofs.Calm.{landed_world, sent_settled}
-use Rattle.hmc_drain.proofs.Catch.{sends_next, sent_if_room, zero_or_more}
-use Rattle.hmc_drain.proofs.Chosen.{chosen}
-use Rattle.hmc_drain.proofs.Counts.{begun_count, accepted_count, Progress, progress_same, progress_trans}
-use Rattle.hmc_drain.proofs.Falls.{falls, facts_along, landed_sender, took_keeps, AreReady, ready_stays}
-use Rattle.hmc_drain.proofs.Here.{some_front}
-use Rattle.hmc_drain.proofs.Keeps.{Both, send_both, round_keeps}
-use Rattle.hmc_drain.proofs.LandedFacts.{SameSender}
-use Rattle.hmc_drain.proofs.Lines.{lands_own}
+use Rattle.hmc_link_state.specs.Choice.{Choice, choice}
+use Rattle.hmc_link_state.specs.Choice.Choice.{train, next, new, tret}
+use Rattle.hmc_link_state.specs.State.{Setup, Side, State, wire, count_of, weight, IsSteady}
+use Rattle.hmc_link_state.specs.Round.{sight, sent, sent_by, front, landed_own, costs_next, IsRound, Rounds}
+use Rattle.hmc_link_state.specs.Facts.{SideFacts, Facts}
+use Rattle.hmc_link_state.specs.EachRound.{IsFit, IsReady}
+use Rattle.hmc_drain.specs.Stages.{Arrives}
+use Rattle.hmc_link_state.proofs.Calm.{landed_wire, sent_settled}
+use Rattle.hmc_drain.proofs.Backlog.{sends_next, sent_if_room, zero_or_more}
+use Rattle.hmc_link_state.proofs.Chosen.{chosen}
+use Rattle.hmc_link_state.proofs.Counts.{begun_count, accepted_count, Progress, progress_same, progress_trans}
+use Rattle.hmc_link_state.proofs.Falls.{falls, facts_along, landed_sender, took_keeps, AreReady, ready_stays}
+use Rattle.hmc_link_state.proofs.CleanLandings.{some_front}
+use Rattle.hmc_link_state.proofs.Keeps.{Both, send_both, round_keeps}
+use Rattle.hmc_link_state.proofs.LandedEvents.{SameSender}
+use Rattle.hmc_link_state.proofs.Lines.{lands_own}
 use Rattle.hmc_drain.proofs.Reach.{reach, raised, reach_snoc, reach_more, reaches, lands_raised, reach_lands}
-use Rattle.hmc_drain.proofs.Ready.{sent_caught}
-use Rattle.hmc_drain.proofs.SentFacts.{accepted_same, tells}
-use Rattle.hmc_drain.proofs.Turning.{Landing, Turning, stays_round, forth_turns, back_turns}
+use Rattle.hmc_link_state.proofs.Ready.{sent_caught}
+use Rattle.hmc_link_state.proofs.SentFields.{accepted_same}
+use Rattle.hmc_link_state.proofs.SentPointers.{sent_item}
+use Rattle.hmc_link_state.proofs.Turning.{Landing, Turning, stays_round, forth_turns, back_turns}
 
 -- the first n packets, m of which are requests or responses, are all begun; all are accepted when i
 -- flits have landed, or so many after what is left of the last one
@@ -37,11 +39,11 @@ record Nears (n m i k : ℕ) (w : Direction) : Type 0 where
 -- A send
 
 first_sent : (c : Setup) (x y : Side) (z : Choice) → (ns : List Weight)
-    × ((world (sent_by c x y z)).first ≡ (world x).first ++ ns)
+    × ((wire (sent_by c x y z)).first ≡ (wire x).first ++ ns)
 first_sent c x y (new n) = (_ ∷ [], refl)
 first_sent c x y tret = (_ ∷ [], refl)
-first_sent c x y train = ([], same_first (world x).first)
-first_sent c x y z = ([], same_first (world x).first)
+first_sent c x y train = ([], same_first (wire x).first)
+first_sent c x y z = ([], same_first (wire x).first)
 
 longer : (ps ns : List Weight) → length ps ≤ length (ps ++ ns)
 longer [] ns = omega arith
@@ -52,51 +54,50 @@ record Grown (w v : Direction) : Type 0 where
   count : (n : ℕ) → n ≤ Rattle.std.proofs.Common.length w.first →
       upto count_of v.first n ≡ upto count_of w.first n
   accepted : v.accepted ≡ w.accepted
-  reach : (i a : ℕ) →
-      Rattle.hmc_drain.proofs.Reach.reach i a w.line ≤ Rattle.hmc_drain.proofs.Reach.reach i a
-      v.line
+  line : (i a : ℕ) →
+      reach i a w.line ≤ reach i a v.line
 
 grown_by : (c : Setup) (x y : Side) → Both c x y →
-    Grown (world x) (world (sent_by c x y (choice (sight c x y))))
+    Grown (wire x) (wire (sent_by c x y (choice (sight c x y))))
 grown_by c x y b =
     let z : Choice = choice (sight c x y) in
     let f = first_sent c x y z in
-    let t = tells c x y z (chosen (sight c x y)) b.0 in
+    let t = sent_item c x y z (chosen (sight c x y)) b.0 in
     record {
       length =
-          subst (λ ps. length (world x).first ≤ length ps) (sym f.1) (longer (world x).first f.0);
+          subst (λ ps. length (wire x).first ≤ length ps) (sym f.1) (longer (wire x).first f.0);
       count =
-          λ n l. ap (λ ps. upto count_of ps n) f.1 ∙ upto-append count_of (world x).first f.0 n l;
+          λ n l. ap (λ ps. upto count_of ps n) f.1 ∙ upto-append count_of (wire x).first f.0 n l;
       accepted = accepted_same c x y z;
-      reach =
-          λ i a. subst (λ xs. reach i a (world x).line ≤ reach i a xs) (sym t.1.line)
-          (reach_snoc i a (world x).line t.0);
+      line =
+          λ i a. subst (λ xs. reach i a (wire x).line ≤ reach i a xs) (sym t.1.line)
+          (reach_snoc i a (wire x).line t.0);
     }
 
-grown : (c : Setup) (x y : Side) → Both c x y → suc (length (world x).line) ≤ c.line →
-    Grown (world x) (world (sent c x y))
+grown : (c : Setup) (x y : Side) → Both c x y → suc (length (wire x).line) ≤ c.line →
+    Grown (wire x) (wire (sent c x y))
 grown c x y b l =
-    subst (λ s. Grown (world x) (world s)) (sym (sent_if_room c x y l)) (grown_by c x y b)
+    subst (λ s. Grown (wire x) (wire s)) (sym (sent_if_room c x y l)) (grown_by c x y b)
 
 grown_reach : (n i : ℕ) (w v : Direction) → Grown w v → n ≤ reach i w.accepted w.line →
     n ≤ reach i v.accepted v.line
 grown_reach n i w v g h =
-    let z = g.reach i w.accepted in
+    let z = g.line i w.accepted in
     let y : n ≤ reach i w.accepted v.line =
     omega (arith, z, h) in subst (λ a. n ≤ reach i a v.line) (sym g.accepted) y
 
-next_left : (c : Setup) (x y : Side) → AreReady x y → suc (length (world x).line) ≤ c.line →
-    1 ≤ (world x).left → ((world (sent c x y)).left ≡ (world x).left - 1)
-    × (begun (world (sent c x y)) ≡ begun (world x))
+next_left : (c : Setup) (x y : Side) → AreReady x y → suc (length (wire x).line) ≤ c.line →
+    1 ≤ (wire x).left → ((wire (sent c x y)).left ≡ (wire x).left - 1)
+    × (begun (wire (sent c x y)) ≡ begun (wire x))
 next_left c x y k l h =
     let e : sent c x y ≡ sent_by c x y next =
     sent_if_room c x y l
     ∙ ap (sent_by c x y) (sends_next c x y k.settled.0 k.settled.1.good h) in
-    (ap (λ s. (world s).left) e, ap (λ s. begun (world s)) e)
+    (ap (λ s. (wire s).left) e, ap (λ s. begun (wire s)) e)
 
 nears_sent : (p : Profile) (c : Setup) → IsFit p c → (n m i : ℕ) (x y : Side) → Both c x y →
-    AreReady x y → suc (length (world x).line) ≤ c.line → Nears n m (suc i) (suc i) (world x) →
-    Nears n m (suc i) i (world (sent c x y))
+    AreReady x y → suc (length (wire x).line) ≤ c.line → Nears n m (suc i) (suc i) (wire x) →
+    Nears n m (suc i) i (wire (sent c x y))
 nears_sent p c f n m i x y b k l h =
     let g = grown c x y b l in
     record {
@@ -107,15 +108,15 @@ nears_sent p c f n m i x y b k l h =
     }
   where
     v : Direction
-    v = world (sent c x y)
+    v = wire (sent c x y)
 
-    by_phase : ((1 ≤ (world x).left) × ((world x).left + 64 ≤ suc i) × (begun (world x) ≡ n))
-        ⊎ (n ≤ reach (suc i) (world x).accepted (world x).line) →
+    by_phase : ((1 ≤ (wire x).left) × ((wire x).left + 64 ≤ suc i) × (begun (wire x) ≡ n))
+        ⊎ (n ≤ reach (suc i) (wire x).accepted (wire x).line) →
         ((1 ≤ v.left) × (v.left + 64 ≤ i) × (begun v ≡ n)) ⊎ (n ≤ reach (suc i) v.accepted v.line)
-    by_phase (inr r) = inr (grown_reach n (suc i) (world x) v (grown c x y b l) r)
+    by_phase (inr r) = inr (grown_reach n (suc i) (wire x) v (grown c x y b l) r)
     by_phase (inl r) = by_left (zero_or_more v.left)
       where
-        t : (v.left ≡ (world x).left - 1) × (begun v ≡ begun (world x))
+        t : (v.left ≡ (wire x).left - 1) × (begun v ≡ begun (wire x))
         t = next_left c x y k l r.0
 
         by_left : (v.left ≡ 0) ⊎ (1 ≤ v.left) → ((1 ≤ v.left) × (v.left + 64 ≤ i) × (begun v ≡ n))
@@ -135,8 +136,8 @@ nears_sent p c f n m i x y b k l h =
 -- A landing
 
 nears_landed : (c : Setup) (n m i : ℕ) (x y : Side) (look : Reading) → Both c x y → AreReady x y →
-    Landing x look → Nears n m (suc i) i (world x) →
-    Nears n m i i (world (landed_own x (costs_next x) look))
+    Landing x look → Nears n m (suc i) i (wire x) →
+    Nears n m i i (wire (landed_own x (costs_next x) look))
 nears_landed c n m i x y look b k l h = record {
   length = subst (λ ps. n ≤ length ps) (sym s.first) h.length;
   count = ap (λ ps. upto count_of ps n) s.first ∙ h.count;
@@ -144,10 +145,10 @@ nears_landed c n m i x y look b k l h = record {
 }
   where
     w : Direction
-    w = world x
+    w = wire x
 
     v : Direction
-    v = world (landed_own x (costs_next x) look)
+    v = wire (landed_own x (costs_next x) look)
 
     s : SameSender w v
     s = landed_sender x (costs_next x) look
@@ -164,7 +165,7 @@ nears_landed c n m i x y look b k l h = record {
     by_phase (inr r) =
         let q : w.line ≡ front x ∷ rest w.line = some_front w.before w.line l.some in
         let a : v.accepted ≡ raised (front x) w.accepted =
-        ap (λ d. d.accepted) (landed_world x (costs_next x) look k.settled.0.good)
+        ap (λ d. d.accepted) (landed_wire x (costs_next x) look k.settled.0.good)
         ∙ lands_raised c.retry w (front x) b.0.joined.order k.settled.0.good q in
         let e : v.line ≡ rest w.line = lands_own x (costs_next x) look in
         let z : reach (suc i) w.accepted w.line ≡ reach i (raised (front x) w.accepted)
@@ -177,8 +178,8 @@ nears_acked : (n m i k : ℕ) (w : Direction) (a : ℕ) → Nears n m i k w →
 nears_acked n m i k w a h = record { length = h.length; count = h.count; phase = h.phase }
 
 nears_turns : (p : Profile) (c : Setup) → IsFit p c → (n m i : ℕ) →
-    Turning c AreReady (λ x y. Nears n m (suc i) (suc i) (world x))
-    (λ x y. Nears n m (suc i) i (world x)) (λ x y. Nears n m i i (world x))
+    Turning c AreReady (λ x y. Nears n m (suc i) (suc i) (wire x))
+    (λ x y. Nears n m (suc i) i (wire x)) (λ x y. Nears n m i i (wire x))
 nears_turns p c f n m i = record {
   link = record {
     send = nears_sent p c f n m i;
@@ -194,20 +195,20 @@ nears_turns p c f n m i = record {
 
 record AreNear (nf mf nb mb i : ℕ) (s : State) : Type 0 where
   ready : AreReady s.forth s.back
-  forth : Nears nf mf i i (world s.forth)
-  back : Nears nb mb i i (world s.back)
+  forth : Nears nf mf i i (wire s.forth)
+  back : Nears nb mb i i (wire s.back)
 
 near_falls : (p : Profile) (c : Setup) → IsFit p c → (nf mf nb mb i : ℕ) (s t : State) → Facts c s →
     IsSteady c s → IsRound c s t → AreNear nf mf nb mb (suc i) s → AreNear nf mf nb mb i t
 near_falls p c f nf mf nb mb i s t h b r z = record {
   ready = stays_round p c AreReady (ready_stays c) f s t h r z.ready;
   forth =
-      forth_turns p c AreReady (λ x y. Nears nf mf (suc i) (suc i) (world x))
-      (λ x y. Nears nf mf (suc i) i (world x)) (λ x y. Nears nf mf i i (world x)) (ready_stays c)
+      forth_turns p c AreReady (λ x y. Nears nf mf (suc i) (suc i) (wire x))
+      (λ x y. Nears nf mf (suc i) i (wire x)) (λ x y. Nears nf mf i i (wire x)) (ready_stays c)
       (nears_turns p c f nf mf i) f s t h b r z.ready z.forth;
   back =
-      back_turns p c AreReady (λ x y. Nears nb mb (suc i) (suc i) (world x))
-      (λ x y. Nears nb mb (suc i) i (world x)) (λ x y. Nears nb mb i i (world x)) (ready_stays c)
+      back_turns p c AreReady (λ x y. Nears nb mb (suc i) (suc i) (wire x))
+      (λ x y. Nears nb mb (suc i) i (wire x)) (λ x y. Nears nb mb i i (wire x)) (ready_stays c)
       (nears_turns p c f nb mb i) f s t h b r z.ready z.back;
 }
 
@@ -219,12 +220,12 @@ are_ready c s a h = record {
 }
 
 nears_first : (c : Setup) (x y : Side) → c.line ≤ 64 → SideFacts c x y → AreReady x y →
-    Nears (begun (world x)) (begun_count (world x)) 82 82 (world x)
+    Nears (begun (wire x)) (begun_count (wire x)) 82 82 (wire x)
 nears_first c x y l f k =
-    record { length = omega arith; count = refl; phase = by_left (zero_or_more (world x).left) }
+    record { length = omega arith; count = refl; phase = by_left (zero_or_more (wire x).left) }
   where
     w : Direction
-    w = world x
+    w = wire x
 
     by_left : (w.left ≡ 0) ⊎ (1 ≤ w.left) →
         ((1 ≤ w.left) × (w.left + 64 ≤ 82) × (begun w ≡ begun w))
@@ -251,22 +252,22 @@ nears_last n m w h = by_phase h.phase
 -- 82 rounds of a ready link
 pub record Arrived (s t : State) : Type 0 where
   pub ready : AreReady t.forth t.back
-  pub forth : (begun (world s.forth) ≤ (world t.forth).accepted)
-      × (begun_count (world s.forth) ≤ accepted_count (world t.forth))
-  pub back : (begun (world s.back) ≤ (world t.back).accepted)
-      × (begun_count (world s.back) ≤ accepted_count (world t.back))
+  pub forth : (begun (wire s.forth) ≤ (wire t.forth).accepted)
+      × (begun_count (wire s.forth) ≤ accepted_count (wire t.forth))
+  pub back : (begun (wire s.back) ≤ (wire t.back).accepted)
+      × (begun_count (wire s.back) ≤ accepted_count (wire t.back))
 
 pub arrive : (p : Profile) (c : Setup) → IsFit p c → (run : ℕ → State) (k n : ℕ) → Rounds c run n →
     82 + k ≤ n → Facts c (run k) → IsSteady c (run k) → AreReady (run k).forth (run k).back →
     Arrived (run k) (run (82 + k))
 arrive p c f run k n r h a b y =
     let s : State = run k in
-    let z : AreNear (begun (world s.forth)) (begun_count (world s.forth)) (begun (world s.back))
-    (begun_count (world s.back)) 0 (run (82 + k)) =
-    falls p c (AreNear (begun (world s.forth)) (begun_count (world s.forth)) (begun (world s.back))
-    (begun_count (world s.back)))
-    (near_falls p c f (begun (world s.forth)) (begun_count (world s.forth)) (begun (world s.back))
-    (begun_count (world s.back)))
+    let z : AreNear (begun (wire s.forth)) (begun_count (wire s.forth)) (begun (wire s.back))
+    (begun_count (wire s.back)) 0 (run (82 + k)) =
+    falls p c (AreNear (begun (wire s.forth)) (begun_count (wire s.forth)) (begun (wire s.back))
+    (begun_count (wire s.back)))
+    (near_falls p c f (begun (wire s.forth)) (begun_count (wire s.forth)) (begun (wire s.back))
+    (begun_count (wire s.back)))
     f run 82 k n r h a b
     (record {
       ready = y;
@@ -277,10 +278,10 @@ arrive p c f run k n r h a b y =
     record {
       ready = z.ready;
       forth =
-          nears_last (begun (world s.forth)) (begun_count (world s.forth))
-          (world (run (82 + k)).forth) z.forth;
+          nears_last (begun (wire s.forth)) (begun_count (wire s.forth))
+          (wire (run (82 + k)).forth) z.forth;
       back =
-          nears_last (begun (world s.back)) (begun_count (world s.back)) (world (run (82 + k)).back)
+          nears_last (begun (wire s.back)) (begun_count (wire s.back)) (wire (run (82 + k)).back)
           z.back;
     }
 
@@ -309,12 +310,12 @@ arrives p c = λ f run r a h.
     progress_along p c f run 18 82 100 r (omega arith) u.0 u.1 in
     let y : Progress (run 0) (run 82) = progress_along p c f run 82 0 100 r (omega arith) a h.0.0 in
     let v : Progress (run 0) (run 100) = progress_trans (run 0) (run 82) (run 100) y x in
-    by_sums (weight (run 0)) (weight (run 100)) (begun_count (world (run 0).forth))
-    (begun_count (world (run 100).forth)) (begun_count (world (run 0).back))
-    (begun_count (world (run 100).back)) (accepted_count (world (run 0).forth))
-    (accepted_count (world (run 82).forth)) (accepted_count (world (run 100).forth))
-    (accepted_count (world (run 0).back)) (accepted_count (world (run 82).back))
-    (accepted_count (world (run 100).back))
+    by_sums (weight (run 0)) (weight (run 100)) (begun_count (wire (run 0).forth))
+    (begun_count (wire (run 100).forth)) (begun_count (wire (run 0).back))
+    (begun_count (wire (run 100).back)) (accepted_count (wire (run 0).forth))
+    (accepted_count (wire (run 82).forth)) (accepted_count (wire (run 100).forth))
+    (accepted_count (wire (run 0).back)) (accepted_count (wire (run 82).back))
+    (accepted_count (wire (run 100).back))
     v.weight v.begun.0 v.begun.1 z.forth.1 z.back.1 x.accepted.0 x.accepted.1 v.accepted.0
     v.accepted.1 h.1
   where

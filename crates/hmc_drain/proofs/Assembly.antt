@@ -1,24 +1,26 @@
 -- The bound from the lemmas on rounds.
-use Rattle.std.proofs.Common.{◌≡◌, ℕ, zero, suc, ◌+◌, ◌-◌, ◌*◌, ◌≤◌, ◌⊎◌, inl, inr, refl, subst, arith}
+use Rattle.std.proofs.Common.{◌≡◌, ℕ, zero, suc, ◌+◌, ◌-◌, ◌*◌, ◌≤◌, ◌⊎◌, inl, inr, subst, arith}
 use Rattle.hmc_codes.specs.declared.profile.Profile.{Profile}
-use Rattle.hmc_drain.specs.State.{Setup, State, under_way, weight, crossing, IsSteady, IsSettled}
-use Rattle.hmc_drain.specs.Round.{Rounds}
-use Rattle.hmc_drain.specs.Facts.{Facts}
-use Rattle.hmc_drain.specs.Lemmas.{IsFit, Any, HasNoTrain, IsClean, AreGood, Crosses, CrossesNot, IsQuiet, IsReady, IsLighterBy, SettlesInAll, DrainsSettled, DrainsAny}
-use Rattle.hmc_drain.proofs.Along.{fewer, later, along, kept, any}
-use Rattle.hmc_drain.proofs.Steady.{steadies, stays_steady}
-use Rattle.hmc_drain.proofs.Settled.{stays_settled}
+use Rattle.hmc_link_state.specs.State.{Setup, State, under_way, weight, crossing, IsSteady, IsSettled}
+use Rattle.hmc_link_state.specs.Round.{Rounds}
+use Rattle.hmc_link_state.specs.Facts.{Facts}
+use Rattle.hmc_link_state.specs.EachRound.{IsFit, Any, IsReady}
+use Rattle.hmc_drain.specs.Stages.{HasNoTrain, IsClean, AreGood, Crosses, CrossesNot, IsQuiet, IsLighterBy, SettlesInAll, DrainsSettled, DrainsAny}
+use Rattle.hmc_link_state.proofs.Along.{fewer, later, along, kept, any}
+use Rattle.hmc_link_state.proofs.Steady.{steadies, stays_steady}
+use Rattle.hmc_link_state.proofs.Settled.{stays_settled}
 use Rattle.hmc_drain.proofs.Clean.{cleans}
-use Rattle.hmc_drain.proofs.Ready.{stays_ready}
+use Rattle.hmc_link_state.proofs.Ready.{stays_ready}
 use Rattle.hmc_drain.proofs.Training.{leaves}
 use Rattle.hmc_drain.proofs.Opening.{becomes_good}
 use Rattle.hmc_drain.proofs.Settling.{settles_good}
-use Rattle.hmc_drain.proofs.Keeps.{keeps}
+use Rattle.hmc_link_state.proofs.Keeps.{keeps}
 use Rattle.hmc_drain.proofs.Catching.{catches}
 use Rattle.hmc_drain.proofs.Moving.{moves}
 use Rattle.hmc_drain.proofs.Arriving.{arrives}
 use Rattle.hmc_drain.proofs.Beginning.{begins}
 use Rattle.hmc_drain.proofs.Weight.{crossing_weighs, quiet_weighs, under_way_weighs, little, crosses_or_not}
+use Rattle.hmc_drain.proofs.Backlog.{zero_or_more}
 
 -- what is under way k rounds into a run bounds what is under way at its end
 ends : (p : Profile) (c : Setup) → IsFit p c → (run : ℕ → State) (n k : ℕ) → Rounds c run n →
@@ -85,10 +87,6 @@ crossed p c f run n fuel k r next w h a b u (inr z) =
     (along p c 1 (λ s. IsReady c s × CrossesNot s × (1 ≤ under_way s)) (λ s t. IsLighterBy 1 s t
     ⊎ (IsQuiet t × (weight t ≡ weight s))) (moves p c) f run k n r here a (b, z, u))
 
-none_or_some : (u : ℕ) → (u ≡ 0) ⊎ (1 ≤ u)
-none_or_some zero = inl refl
-none_or_some (suc u) = inr (omega arith)
-
 -- what is under way, or nothing
 by_under_way : (p : Profile) (c : Setup) → IsFit p c → (run : ℕ → State) (n fuel k : ℕ) →
     Rounds c run n → Next p c run n fuel → weight (run k) ≤ suc fuel → weight (run k) + k ≤ n →
@@ -108,7 +106,7 @@ drains_from p c f run n r zero = λ k w h a b.
     omega (arith, e, w)
 drains_from p c f run n r (suc fuel) =
     λ k w h a b. by_under_way p c f run n fuel k r (drains_from p c f run n r fuel) w h a b
-    (none_or_some (under_way (run k)))
+    (zero_or_more (under_way (run k)))
 
 facts_at : (p : Profile) (c : Setup) → IsFit p c → (run : ℕ → State) (n k : ℕ) → Rounds c run n →
     k + 0 ≤ n → Facts c (run 0) → Facts c (run (k + 0))

@@ -8,24 +8,29 @@ use Rattle.hmc_numbers.specs.Direction.{begun}
 use Rattle.hmc_numbers.specs.Tokens.{cost, cost_begun, cost_accepted, tokens_begun, tokens_accepted, held_tokens, used_tokens, due_tokens}
 use Rattle.hmc_numbers.proofs.Effect.{begun_one}
 use Rattle.hmc_numbers.proofs.Sums.{upto-append, upto-up}
-use Rattle.hmc_drain.specs.Choice.{Choice, choice, fits}
-use Rattle.hmc_drain.specs.Choice.Choice.{new, tret, pret, null, train}
-use Rattle.hmc_drain.specs.Sees.{new_slot}
-use Rattle.hmc_drain.specs.State.{Setup, Side, State, world, front_of, room, flits_of, AreFairSizes, inside_cube, under_way, crossing, weight, count_of, IsSteady}
-use Rattle.hmc_drain.specs.Round.{sight, sent, sent_by, landed_own, landed_other, costs_next, IsRound, Rounds}
-use Rattle.hmc_drain.specs.Facts.{Facts}
-use Rattle.hmc_drain.specs.Lemmas.{IsFit, IsQuiet, IsLighterBy, Begins}
+use Rattle.hmc_link_state.specs.Choice.{Choice, choice, fits}
+use Rattle.hmc_link_state.specs.Choice.Choice.{new, tret, pret, null, train}
+use Rattle.hmc_link_state.specs.Sees.{new_slot}
+use Rattle.hmc_link_state.specs.State.{Setup, Side, State, wire, front_of, room, flits_of, AreFairSizes, inside_cube, crossing, weight, count_of, IsSteady}
+use Rattle.hmc_link_state.specs.Round.{sight, sent, sent_by, landed_own, landed_other, costs_next, IsRound, Rounds}
+use Rattle.hmc_link_state.specs.Facts.{Facts}
+use Rattle.hmc_link_state.specs.EachRound.{IsFit}
+use Rattle.hmc_drain.specs.Stages.{IsQuiet, IsLighterBy, Begins}
 use Rattle.hmc_drain.proofs.Arriving.{are_ready, progress_along}
-use Rattle.hmc_drain.proofs.Catch.{sent_if_room, zero_or_more}
-use Rattle.hmc_drain.proofs.Chosen.{Chosen, chosen}
-use Rattle.hmc_drain.proofs.Counts.{begun_count, accepted_count, sent_counts, Progress}
-use Rattle.hmc_drain.proofs.Falls.{facts_along, landed_sender, AreReady}
-use Rattle.hmc_drain.proofs.Keeps.{Both, laws_of}
+use Rattle.hmc_drain.proofs.Backlog.{sent_if_room, zero_or_more}
+use Rattle.hmc_link_state.proofs.Chosen.{Chosen, chosen}
+use Rattle.hmc_link_state.proofs.Counts.{begun_count, accepted_count, sent_counts, Progress}
+use Rattle.hmc_link_state.proofs.Falls.{facts_along, landed_sender, AreReady}
+use Rattle.hmc_link_state.proofs.Keeps.{Both, laws_of}
 use Rattle.hmc_drain.proofs.Quiet.{Counted, Begun, Span, Until, span_round}
-use Rattle.hmc_drain.proofs.Telling.{Newer, newer_is, Acknowledged}
-use Rattle.hmc_drain.proofs.Telling.Newer.{goes, begins_new, returns, points, rests_now}
-use Rattle.hmc_drain.proofs.Turning.{Linking}
-use Rattle.hmc_drain.proofs.Windows.{View, Views, view_links, due_of, due_in, capacity, Due, left_most, until_kept, counts_first, took_first, begun_along, span_waits, window}
+use Rattle.hmc_drain.proofs.ReadyChoice.{Newer, newer_is}
+use Rattle.hmc_drain.proofs.Acknowledging.{Acknowledged}
+use Rattle.hmc_drain.proofs.ReadyChoice.Newer.{goes, begins_new, returns, points, rests_now}
+use Rattle.hmc_link_state.proofs.Turning.{Linking}
+use Rattle.hmc_drain.proofs.Views.{View, Views, view_links, due_of, until_kept, counts_first, took_first}
+use Rattle.hmc_drain.proofs.Windows.{due_in, Due, left_most, begun_along, span_waits, window}
+use Rattle.hmc_drain.proofs.Returns.{capacity}
+use Rattle.hmc_drain.proofs.Bursts.{long_choice}
 
 -- Nothing is due
 
@@ -38,7 +43,7 @@ done_views c b k = record {
   up_after = λ ps l a d m q h. h;
   goes = λ ps l a m q h. (h.0, h.1, omega (arith, h.2, q));
   returns =
-      λ x y h q t z. let u : 1 ≤ due_in c (world x).first y.half.moved =
+      λ x y h q t z. let u : 1 ≤ due_in c (wire x).first y.half.moved =
       t.due in absurd (omega (arith, u, z.1));
   still = λ x y h r q t z. (z.0, z.1, omega (arith, q));
 }
@@ -55,10 +60,10 @@ nothing_views c = record {
 -- The front fits
 
 record Fits (c : Setup) (n : ℕ) (x y : Side) : Type 0 where
-  left : (world x).left ≡ 0
+  left : (wire x).left ≡ 0
   front : front_of x.queue ≡ Some n
   held : n ≤ held_tokens x.half y.half
-  room : n ≤ Rattle.hmc_drain.specs.State.room c x
+  room : n ≤ room c x
 
 fits_true : (f : Option ℕ) (n h r : ℕ) → f ≡ Some n → n ≤ h → n ≤ r → fits f h r ≡ true
 fits_true None n h r q a b = absurd (cc q)
@@ -68,19 +73,15 @@ fits_true (Some m) n h r q a b =
     let v : nat_le m r ≡ true = grind (arith, common_steps) in
     ap (λ z. z && nat_le m r) u ∙ v
 
-both_true : (a b : Bool) → a ≡ true → b ≡ true → (a && b) ≡ false → ⊥
-both_true true b p q h = let z : true ≡ false = sym q ∙ h in cc z
-both_true false b p q h = cc p
-
 no_fit : (c : Setup) (n : ℕ) (x y : Side) → AreReady x y → Fits c n x y →
     (x.is_open && fits (front_of x.queue) (held_tokens x.half y.half) (room c x)) ≡ false → ⊥
 no_fit c n x y k h q =
-    both_true x.is_open (fits (front_of x.queue) (held_tokens x.half y.half) (room c x))
+    long_choice x.is_open (fits (front_of x.queue) (held_tokens x.half y.half) (room c x))
     k.settled.0.opened
     (fits_true (front_of x.queue) n (held_tokens x.half y.half) (room c x) h.front h.held h.room) q
 
 fit_sent : (c : Setup) (b n : ℕ) (x y : Side) → Both c x y → AreReady x y →
-    suc (length (world x).line) ≤ c.line → Until b (Fits c n) x y →
+    suc (length (wire x).line) ≤ c.line → Until b (Fits c n) x y →
     Until b (λ v w. ⊥) (sent c x y) y
 fit_sent c b n x y h k l (inl z) =
     inl (let u = (sent_counts c x y h.0.joined.order.accepted).begun in omega (arith, z, u))
@@ -93,7 +94,7 @@ fit_sent c b n x y h k l (inr z) =
     by_newer : Newer c x y → Until b (λ v w. ⊥) (sent_by c x y (choice (sight c x y))) y
     by_newer (goes q e) = absurd (omega (arith, q, z.1.left))
     by_newer (begins_new m q e) =
-        let u = begun_one count_of (world x).first (new_slot m (due_of c x y)) in
+        let u = begun_one count_of (wire x).first (new_slot m (due_of c x y)) in
         subst (λ w. Until b (λ v w. ⊥) (sent_by c x y w) y) (sym e) (inl (omega (arith, u, z.0)))
     by_newer (returns q e) =
         let u : Chosen (sight c x y) tret = subst (Chosen (sight c x y)) e ch in
@@ -106,22 +107,22 @@ fit_sent c b n x y h k l (inr z) =
         absurd (no_fit c n x y k z.1 u.0.front)
 
 accepted_tokens : (c : Setup) (y x : Side) (z : Choice) →
-    (world y).accepted ≤ length (world y).first →
-    tokens_accepted (world (sent_by c y x z)) ≡ tokens_accepted (world y)
+    (wire y).accepted ≤ length (wire y).first →
+    tokens_accepted (wire (sent_by c y x z)) ≡ tokens_accepted (wire y)
 accepted_tokens c y x (new n) h =
-    upto-append (λ s. s.returns) (world y).first (_ ∷ []) (world y).accepted h
+    upto-append (λ s. s.returns) (wire y).first (_ ∷ []) (wire y).accepted h
 accepted_tokens c y x tret h =
-    upto-append (λ s. s.returns) (world y).first (_ ∷ []) (world y).accepted h
+    upto-append (λ s. s.returns) (wire y).first (_ ∷ []) (wire y).accepted h
 accepted_tokens c y x train h = refl
 accepted_tokens c y x z h = refl
 
-sent_tokens : (c : Setup) (y x : Side) → (world y).accepted ≤ length (world y).first →
-    tokens_accepted (world (sent c y x)) ≡ tokens_accepted (world y)
-sent_tokens c y x h = by_full (nat_lt (length (world y).line) c.line)
+sent_tokens : (c : Setup) (y x : Side) → (wire y).accepted ≤ length (wire y).first →
+    tokens_accepted (wire (sent c y x)) ≡ tokens_accepted (wire y)
+sent_tokens c y x h = by_full (nat_lt (length (wire y).line) c.line)
   where
     by_full : (b : Bool) →
-        tokens_accepted (world (if b then sent_by c y x (choice (sight c y x)) else y))
-        ≡ tokens_accepted (world y)
+        tokens_accepted (wire (if b then sent_by c y x (choice (sight c y x)) else y))
+        ≡ tokens_accepted (wire y)
     by_full true = accepted_tokens c y x (choice (sight c y x)) h
     by_full false = refl
 
@@ -130,7 +131,7 @@ fit_before c n x y b h =
     let z = sent_tokens c y x b.1.joined.order.accepted in
     record { left = h.left; front = h.front; held = omega (arith, h.held, z); room = h.room }
 
-none_kept : (b : ℕ) (x y x' y' : Side) → begun_count (world x') ≡ begun_count (world x) →
+none_kept : (b : ℕ) (x y x' y' : Side) → begun_count (wire x') ≡ begun_count (wire x) →
     Until b (λ v w. ⊥) x y → Until b (λ v w. ⊥) x' y'
 none_kept b x y x' y' q z = until_kept b (λ v w. ⊥) (λ v w. ⊥) x y x' y' q (λ e. e) z
 
@@ -144,14 +145,14 @@ fit_links c b n = record {
   send_after = λ x y h k z. none_kept b x y x (sent c y x) refl z;
   land =
       λ x y look h k l z. none_kept b x y (landed_own x (costs_next x) look) (landed_other x y look)
-      (counts_first (world (landed_own x (costs_next x) look)) (world x)
+      (counts_first (wire (landed_own x (costs_next x) look)) (wire x)
       (landed_sender x (costs_next x) look).first) z;
   land_before =
       λ x y look h k l z. none_kept b x y (landed_other y x look) (landed_own y (costs_next y) look)
-      (counts_first (world (landed_other y x look)) (world x) (took_first y x look)) z;
+      (counts_first (wire (landed_other y x look)) (wire x) (took_first y x look)) z;
   land_after =
       λ x y look h k l z. none_kept b x y (landed_other y x look) (landed_own y (costs_next y) look)
-      (counts_first (world (landed_other y x look)) (world x) (took_first y x look)) z;
+      (counts_first (wire (landed_other y x look)) (wire x) (took_first y x look)) z;
 }
 
 -- all is accepted, acknowledged and returned
@@ -172,26 +173,26 @@ fit_now p c f x y b h k e q =
     let z = front_some x.queue q b.0.queue in
     let o = b.0.joined.order in
     let u = b.1.joined.order in
-    let ax : (world x).accepted ≡ begun (world x) = omega (arith, h.0, o.acked, o.accepted) in
-    let ay : (world y).accepted ≡ begun (world y) = omega (arith, k.0, u.acked, u.accepted) in
-    let tx : cost_accepted (world x) ≡ cost_begun (world x) =
-    ap (λ i. upto cost (world x).first i) ax in
-    let ty : tokens_accepted (world y) ≡ tokens_begun (world y) =
-    ap (λ i. upto (λ s. s.returns) (world y).first i) ay in
+    let ax : (wire x).accepted ≡ begun (wire x) = omega (arith, h.0, o.acked, o.accepted) in
+    let ay : (wire y).accepted ≡ begun (wire y) = omega (arith, k.0, u.acked, u.accepted) in
+    let tx : cost_accepted (wire x) ≡ cost_begun (wire x) =
+    ap (λ i. upto cost (wire x).first i) ax in
+    let ty : tokens_accepted (wire y) ≡ tokens_begun (wire y) =
+    ap (λ i. upto (λ s. s.returns) (wire y).first i) ay in
     let s = (laws_of p c x y f.retry.1 b).sum in
     let ub : used_tokens x.half ≡ 0 = sym b.0.buffer ∙ no_flits x.buffer e in
-    let r = upto-up (λ s. s.flits) (world x).first (begun (world x)) (world x).acked h.0 in (
+    let r = upto-up (λ s. s.flits) (wire x).first (begun (wire x)) (wire x).acked h.0 in (
       z.0,
       record {
         left = h.2;
         front = z.1;
         held =
-            by_sum (held_tokens x.half y.half) (cost_begun (world x)) (cost_accepted (world x))
-            (used_tokens x.half) (due_tokens c.tokens x.half y.half) (tokens_begun (world y))
-            (tokens_accepted (world y)) c.tokens z.0 s tx ty ub k.1 z.2 f.tokens.0;
+            by_sum (held_tokens x.half y.half) (cost_begun (wire x)) (cost_accepted (wire x))
+            (used_tokens x.half) (due_tokens c.tokens x.half y.half) (tokens_begun (wire y))
+            (tokens_accepted (wire y)) c.tokens z.0 s tx ty ub k.1 z.2 f.tokens.0;
         room =
-            by_room c.retry (flits_to (world x).first (begun (world x)))
-            (flits_to (world x).first (world x).acked) z.0 r f.retry.0 z.2;
+            by_room c.retry (flits_to (wire x).first (begun (wire x)))
+            (flits_to (wire x).first (wire x).acked) z.0 r f.retry.0 z.2;
       },
     )
   where
@@ -204,13 +205,13 @@ fit_now p c f x y b h k e q =
 
 -- the round that begins
 pub record Finished (c : Setup) (x y : Side) : Type 0 where
-  pub acked : length (world x).first ≤ (world x).acked
+  pub acked : length (wire x).first ≤ (wire x).acked
   pub due : due_of c x y ≡ 0
-  pub left : (world x).left ≡ 0
+  pub left : (wire x).left ≡ 0
 
 begins_now : (p : Profile) (c : Setup) → IsFit p c → (bf bb : ℕ) (s t : State) → Facts c s →
     IsSteady c s → IsRound c s t → AreReady s.forth s.back → IsQuiet s →
-    begun_count (world s.forth) ≡ bf → begun_count (world s.back) ≡ bb →
+    begun_count (wire s.forth) ≡ bf → begun_count (wire s.back) ≡ bb →
     Finished c s.forth s.back → Finished c s.back s.forth → Begun bf bb t
 begins_now p c f bf bb s t h n r k q e1 e2 d1 d2 = by_stuck q.2.full
   where
@@ -296,14 +297,14 @@ first_due p c f x y b =
 
 pub begins_within : (p : Profile) (c : Setup) → IsFit p c → (run : ℕ → State) → Rounds c run 799 →
     Facts c (run 0) → IsSteady c (run 0) → AreReady (run 0).forth (run 0).back → IsQuiet (run 0) →
-    Begun (begun_count (world (run 0).forth)) (begun_count (world (run 0).back)) (run 799)
+    Begun (begun_count (wire (run 0).forth)) (begun_count (wire (run 0).back)) (run 799)
 begins_within p c f run r a b k q = by_third third
   where
     bf : ℕ
-    bf = begun_count (world (run 0).forth)
+    bf = begun_count (wire (run 0).forth)
 
     bb : ℕ
-    bb = begun_count (world (run 0).back)
+    bb = begun_count (wire (run 0).back)
 
     zero_is : Span bf bb (Due c 22) (Due c 22) (run 0)
     zero_is =
@@ -335,10 +336,10 @@ begins_within p c f run r a b k q = by_third third
         run 180 799 r (omega arith) (at 180 (omega arith)).0 (at 180 (omega arith)).1 one
 
     b1 : ℕ
-    b1 = begun (world (run 360).forth)
+    b1 = begun (wire (run 360).forth)
 
     b2 : ℕ
-    b2 = begun (world (run 360).back)
+    b2 = begun (wire (run 360).back)
 
     third : Begun bf bb (run 523)
         ⊎ (Counted bf bb (View (Done c b1 0)) (View (Done c b2 0)) (run 523)
@@ -407,18 +408,18 @@ begins p c = λ f run r a h.
     by_sums w w' b b' g g' a a' h h' l p q r t u = omega arith
 
     by_begun : (s t : State) → Progress s t →
-        Begun (begun_count (world s.forth)) (begun_count (world s.back)) t → IsLighterBy 800 s t
+        Begun (begun_count (wire s.forth)) (begun_count (wire s.back)) t → IsLighterBy 800 s t
     by_begun s t v (inl y) =
-        by_sums (weight s) (weight t) (begun_count (world s.forth)) (begun_count (world t.forth))
-        (begun_count (world s.back)) (begun_count (world t.back)) (accepted_count (world s.forth))
-        (accepted_count (world t.forth)) (accepted_count (world s.back))
-        (accepted_count (world t.back))
+        by_sums (weight s) (weight t) (begun_count (wire s.forth)) (begun_count (wire t.forth))
+        (begun_count (wire s.back)) (begun_count (wire t.back)) (accepted_count (wire s.forth))
+        (accepted_count (wire t.forth)) (accepted_count (wire s.back))
+        (accepted_count (wire t.back))
         v.weight v.begun.0 v.begun.1 v.accepted.0 v.accepted.1 (let u = v.begun.1 in
         omega (arith, y, u))
     by_begun s t v (inr y) =
-        by_sums (weight s) (weight t) (begun_count (world s.forth)) (begun_count (world t.forth))
-        (begun_count (world s.back)) (begun_count (world t.back)) (accepted_count (world s.forth))
-        (accepted_count (world t.forth)) (accepted_count (world s.back))
-        (accepted_count (world t.back))
+        by_sums (weight s) (weight t) (begun_count (wire s.forth)) (begun_count (wire t.forth))
+        (begun_count (wire s.back)) (begun_count (wire t.back)) (accepted_count (wire s.forth))
+        (accepted_count (wire t.forth)) (accepted_count (wire s.back))
+        (accepted_count (wire t.back))
         v.weight v.begun.0 v.begun.1 v.accepted.0 v.accepted.1 (let u = v.begun.0 in
         omega (arith, y, u))

@@ -8,17 +8,18 @@ use Rattle.hmc_numbers.specs.Pair.{other_after, front_stamp}
 use Rattle.hmc_numbers.specs.Pair.Move.{does, counts}
 use Rattle.hmc_numbers.proofs.DirectionLaws.{unfinished, position_begun}
 use Rattle.hmc_numbers.proofs.Sums.{upto-up, flits-less}
-use Rattle.hmc_drain.specs.State.{Setup, Side, State, world, IsSteady}
-use Rattle.hmc_drain.specs.Round.{sent, landed_own, landed_other, event_here, is_counted_at, costs_next, IsRound}
-use Rattle.hmc_drain.specs.Facts.{SideFacts, Facts}
-use Rattle.hmc_drain.specs.Lemmas.{IsFit, CatchesUp}
-use Rattle.hmc_drain.proofs.Catch.{sent_gains, zero_or_more}
-use Rattle.hmc_drain.proofs.Falls.{falls, facts_along, landed_sender, AreSettled, settled_stays, stamp_between}
-use Rattle.hmc_drain.proofs.Keeps.{Both}
-use Rattle.hmc_drain.proofs.LandedFacts.{SameSender}
+use Rattle.hmc_link_state.specs.State.{Setup, Side, State, wire, IsSteady}
+use Rattle.hmc_link_state.specs.Round.{sent, landed_own, landed_other, event_here, is_counted_at, costs_next, IsRound}
+use Rattle.hmc_link_state.specs.Facts.{SideFacts, Facts}
+use Rattle.hmc_link_state.specs.EachRound.{IsFit}
+use Rattle.hmc_drain.specs.Stages.{CatchesUp}
+use Rattle.hmc_drain.proofs.Backlog.{sent_gains, zero_or_more}
+use Rattle.hmc_link_state.proofs.Falls.{falls, facts_along, landed_sender, AreSettled, settled_stays, stamp_between}
+use Rattle.hmc_link_state.proofs.Keeps.{Both}
+use Rattle.hmc_link_state.proofs.LandedEvents.{SameSender}
 use Rattle.hmc_drain.proofs.Moving.{less_or_more}
-use Rattle.hmc_drain.proofs.Ready.{sent_caught, higher_caught}
-use Rattle.hmc_drain.proofs.Turning.{Turning, stays_round, forth_turns, back_turns}
+use Rattle.hmc_link_state.proofs.Ready.{sent_caught, higher_caught}
+use Rattle.hmc_link_state.proofs.Turning.{Turning, stays_round, forth_turns, back_turns}
 
 -- caught up, or at most n flits behind
 abbrev Behind : ℕ → (acked last left : ℕ) → List Weight → Type 0
@@ -27,7 +28,7 @@ Behind n acked last left first =
     ⊎ (left + (flits_to first (length first) - flits_to first (max acked last)) ≤ n)
 
 abbrev pub IsBehind : ℕ → Side → Side → Type 0
-IsBehind n x y = Behind n (world x).acked (world x).last (world x).left (world x).first
+IsBehind n x y = Behind n (wire x).acked (wire x).last (wire x).left (wire x).first
 
 same_backlog : (n : ℕ) (w v : Direction) → SameSender w v → Behind n w.acked w.last w.left w.first →
     Behind n v.acked v.last v.left v.first
@@ -38,17 +39,17 @@ same_backlog n w v s h =
     (subst (λ a. Behind n w.acked w.last w.left a) (sym s.first) h)))
 
 backlog_sent : (c : Setup) (n : ℕ) (x y : Side) → Both c x y → AreSettled x y →
-    suc (length (world x).line) ≤ c.line → IsBehind (suc n) x y → IsBehind n (sent c x y) y
+    suc (length (wire x).line) ≤ c.line → IsBehind (suc n) x y → IsBehind n (sent c x y) y
 backlog_sent c n x y b k l (inl h) =
     inl (sent_caught c x y k.0 k.1.good
     (h, omega (arith, b.0.joined.order.acked, b.0.joined.order.accepted))).0
-backlog_sent c n x y b k l (inr h) = by_less (less_or_more (position (world x)) (begun (world x)))
+backlog_sent c n x y b k l (inr h) = by_less (less_or_more (position (wire x)) (begun (wire x)))
   where
-    by_less : (position (world x) < begun (world x)) ⊎ (begun (world x) ≤ position (world x)) →
+    by_less : (position (wire x) < begun (wire x)) ⊎ (begun (wire x) ≤ position (wire x)) →
         IsBehind n (sent c x y) y
     by_less (inl q) =
         inr (omega (arith, sent_gains c x y k.0 k.1.good l b.0.joined.order.valid_sizes q, h))
-    by_less (inr q) = let z = position_begun c.retry (world x) b.0.joined.order in
+    by_less (inr q) = let z = position_begun c.retry (wire x) b.0.joined.order in
         inl (sent_caught c x y k.0 k.1.good (
           omega (arith, q, z),
           omega (arith, b.0.joined.order.acked, b.0.joined.order.accepted),
@@ -64,7 +65,7 @@ acked_later n a m last left first l u v (inr h) =
 
 backlog_took : (c : Setup) (n : ℕ) (x y : Side) (look : Reading) → Both c x y → IsBehind n x y →
     IsBehind n (landed_other y x look) (landed_own y (costs_next y) look)
-backlog_took c n x y look b h = by_count (is_counted_at y (world y).far (event_here y look))
+backlog_took c n x y look b h = by_count (is_counted_at y (wire y).far (event_here y look))
   where
     by_count : (d : Bool) →
         Behind n
@@ -78,8 +79,8 @@ backlog_took c n x y look b h = by_count (is_counted_at y (world y).far (event_h
         else does (event_here y look))).direction.first
     by_count true =
         let z = stamp_between c y x (b.1, b.0) in
-        acked_later n (world x).acked (front_stamp (world x).acked y.half.stamps) (world x).last
-        (world x).left (world x).first z.0 (omega (arith, z.1, b.0.joined.order.accepted))
+        acked_later n (wire x).acked (front_stamp (wire x).acked y.half.stamps) (wire x).last
+        (wire x).left (wire x).first z.0 (omega (arith, z.1, b.0.joined.order.accepted))
         (omega (arith, b.0.joined.order.acked, b.0.joined.order.accepted)) h
     by_count false = h
 
@@ -91,7 +92,7 @@ behind_turns c n = record {
     send_before = λ x y b k h. h;
     send_after = λ x y b k h. h;
     land =
-        λ x y look b k l h. same_backlog n (world x) (world (landed_own x (costs_next x) look))
+        λ x y look b k l h. same_backlog n (wire x) (wire (landed_own x (costs_next x) look))
         (landed_sender x (costs_next x) look) h;
     land_before = λ x y look b k l h. backlog_took c n x y look b h;
     land_after = λ x y look b k l h. backlog_took c n x y look b h;
@@ -117,10 +118,10 @@ backlog_falls p c f n s t h b r z = record {
 }
 
 little_backlog : (c : Setup) (x y : Side) → SideFacts c x y → c.retry ≤ 1024 → IsBehind 1500 x y
-little_backlog c x y f r = inr (by_left (zero_or_more (world x).left))
+little_backlog c x y f r = inr (by_left (zero_or_more (wire x).left))
   where
     w : Direction
-    w = world x
+    w = wire x
 
     by_left : (w.left ≡ 0) ⊎ (1 ≤ w.left) →
         w.left + (flits_to w.first (length w.first) - flits_to w.first (max w.acked w.last)) ≤ 1500
@@ -135,17 +136,17 @@ little_backlog c x y f r = inr (by_left (zero_or_more (world x).left))
         omega (arith, u.2, u.3, z, f.joined.order.room, r)
 
 caught : (c : Setup) (x y : Side) → SideFacts c x y → IsBehind 0 x y →
-    position (world x) ≡ begun (world x)
+    position (wire x) ≡ begun (wire x)
 caught c x y f (inl h) = h
-caught c x y f (inr h) = by_less (less_or_more (position (world x)) (begun (world x)))
+caught c x y f (inr h) = by_less (less_or_more (position (wire x)) (begun (wire x)))
   where
-    by_less : (position (world x) < begun (world x)) ⊎ (begun (world x) ≤ position (world x)) →
-        position (world x) ≡ begun (world x)
+    by_less : (position (wire x) < begun (wire x)) ⊎ (begun (wire x) ≤ position (wire x)) →
+        position (wire x) ≡ begun (wire x)
     by_less (inl q) =
         let z =
-        flits-less (world x).first (position (world x)) (begun (world x)) f.joined.order.valid_sizes
+        flits-less (wire x).first (position (wire x)) (begun (wire x)) f.joined.order.valid_sizes
         q (omega arith) in absurd (omega (arith, z, h))
-    by_less (inr q) = let z = position_begun c.retry (world x) f.joined.order in omega (arith, q, z)
+    by_less (inr q) = let z = position_begun c.retry (wire x) f.joined.order in omega (arith, q, z)
 
 pub catches : (p : Profile) (c : Setup) → CatchesUp p c
 catches p c = λ f run r a h.

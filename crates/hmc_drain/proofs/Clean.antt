@@ -10,12 +10,12 @@ use Rattle.hmc_numbers.specs.Events.Reading.{plain, as_start, as_clear}
 use Rattle.hmc_numbers.specs.Events.Event.{drops, opens, accepts, repeats, spoils, breaks}
 use Rattle.hmc_numbers.specs.Pair.{other_after}
 use Rattle.hmc_numbers.specs.Pair.Move.{does, counts}
-use Rattle.hmc_drain.specs.Choice.{Choice, choice}
-use Rattle.hmc_drain.specs.Choice.Choice.{train, starved, next, clear as clears, start, again, new, tret, pret, null}
-use Rattle.hmc_drain.specs.State.{Setup, Side, State, world}
-use Rattle.hmc_drain.specs.Round.{sight, sent, sent_by, event_in_good, event_in_abort, event_at_far, event_here, is_counted_at, landed_own, landed_other, link_round, front, costs_next, CubeRound, IsRound, Rounds}
-use Rattle.hmc_drain.specs.Lemmas.{Cleans}
-use Rattle.hmc_drain.proofs.Calm.{own_world}
+use Rattle.hmc_link_state.specs.Choice.{Choice, choice}
+use Rattle.hmc_link_state.specs.Choice.Choice.{train, starved, next, clear as clears, start, again, new, tret, pret, null}
+use Rattle.hmc_link_state.specs.State.{Setup, Side, State, wire}
+use Rattle.hmc_link_state.specs.Round.{sight, sent, sent_by, event_in_good, event_in_abort, event_at_far, event_here, is_counted_at, landed_own, landed_other, link_round, front, costs_next, CubeRound, IsRound, Rounds}
+use Rattle.hmc_drain.specs.Stages.{Cleans}
+use Rattle.hmc_link_state.proofs.Calm.{own_wire}
 
 -- out of Train, and a changed gathering lacks at most m
 abbrev Lacks : ℕ → Reached → ℕ → Type 0
@@ -24,7 +24,7 @@ Lacks m spoilt n = (1 ≤ n) × (n ≤ m)
 Lacks m far n = Unit {0}
 
 abbrev IsShort : ℕ → Side → Type 0
-IsShort m x = Lacks m (world x).far x.missing
+IsShort m x = Lacks m (wire x).far x.missing
 
 two_or_more : (n : ℕ) → nat_le n 1 ≡ false → 2 ≤ n
 two_or_more n h = grind (arith, common_steps)
@@ -58,26 +58,26 @@ spoilt_short w m n true q h = tt
 spoilt_short w m n false q h =
     let t : 2 ≤ n = two_or_more n q in (omega (arith, t), omega (arith, h.1))
 
-far_short : (x : Side) (look : Reading) (i : Item) (m : ℕ) (far : Reached) → (world x).far ≡ far →
+far_short : (x : Side) (look : Reading) (i : Item) (m : ℕ) (far : Reached) → (wire x).far ≡ far →
     Lacks (suc m) far x.missing →
-    Lacks m (happens (world x) (event_at_far x look i far)).far (x.missing - 1)
+    Lacks m (happens (wire x) (event_at_far x look i far)).far (x.missing - 1)
 far_short x look i m training q h = absurd h
-far_short x look i m aborting q h = lost_short (world x) look m (x.missing - 1) q
-far_short x look i m between q h = good_short (world x) i m (x.missing - 1)
-far_short x look i m (inside k j) q h = good_short (world x) i m (x.missing - 1)
-far_short x look i m spoilt q h = spoilt_short (world x) m x.missing (nat_le x.missing 1) refl h
+far_short x look i m aborting q h = lost_short (wire x) look m (x.missing - 1) q
+far_short x look i m between q h = good_short (wire x) i m (x.missing - 1)
+far_short x look i m (inside k j) q h = good_short (wire x) i m (x.missing - 1)
+far_short x look i m spoilt q h = spoilt_short (wire x) m x.missing (nat_le x.missing 1) refl h
 
 own_short : (x : Side) (costs : Bool) (look : Reading) (m : ℕ) → IsShort (suc m) x →
     IsShort m (landed_own x costs look)
 own_short x costs look m h =
     subst (λ w. Lacks m w.far (x.missing - 1))
-    (sym (own_world x.half 0 (is_counted_at x (world x).far (event_here x look))
+    (sym (own_wire x.half 0 (is_counted_at x (wire x).far (event_here x look))
     (event_here x look)))
-    (far_short x look (front x) m (world x).far refl h)
+    (far_short x look (front x) m (wire x).far refl h)
 
 other_short : (own other : Side) (look : Reading) (m : ℕ) → IsShort m other →
     IsShort m (landed_other own other look)
-other_short own other look m h = by_count (is_counted_at own (world own).far (event_here own look))
+other_short own other look m h = by_count (is_counted_at own (wire own).far (event_here own look))
   where
     by_count : (b : Bool) →
         Lacks m (other_after own.half other.half (if b then counts (event_here own look)
@@ -99,7 +99,7 @@ choice_short c own other pret m h = h
 choice_short c own other null m h = h
 
 sent_short : (c : Setup) (own other : Side) (m : ℕ) → IsShort m own → IsShort m (sent c own other)
-sent_short c own other m h = by_full (nat_lt (length (world own).line) c.line)
+sent_short c own other m h = by_full (nat_lt (length (wire own).line) c.line)
   where
     by_full : (b : Bool) →
         IsShort m (if b then sent_by c own other (choice (sight c own other)) else own)
@@ -158,10 +158,10 @@ pub cleans : (p : Profile) (c : Setup) → Cleans p c
 cleans p c = λ f run r a h.
     let z : IsShort 0 (run 16).forth × IsShort 0 (run 16).back =
     short_after c run 16 0 16 r (omega arith)
-    (starts_short (world (run 0).forth).far (run 0).forth.missing h.1.0 a.forth.missing)
-    (starts_short (world (run 0).back).far (run 0).back.missing h.1.1 a.back.missing) in
-    let x : ((world (run 16).forth).far ≢ training) × ((world (run 16).forth).far ≢ spoilt) =
-    ends_short (world (run 16).forth).far (run 16).forth.missing z.0 in
-    let y : ((world (run 16).back).far ≢ training) × ((world (run 16).back).far ≢ spoilt) =
-    ends_short (world (run 16).back).far (run 16).back.missing z.1 in
+    (starts_short (wire (run 0).forth).far (run 0).forth.missing h.1.0 a.forth.missing)
+    (starts_short (wire (run 0).back).far (run 0).back.missing h.1.1 a.back.missing) in
+    let x : ((wire (run 16).forth).far ≢ training) × ((wire (run 16).forth).far ≢ spoilt) =
+    ends_short (wire (run 16).forth).far (run 16).forth.missing z.0 in
+    let y : ((wire (run 16).back).far ≢ training) × ((wire (run 16).back).far ≢ spoilt) =
+    ends_short (wire (run 16).back).far (run 16).back.missing z.1 in
     ((x.0, y.0), x.1, y.1)

@@ -1,13 +1,14 @@
 -- Where nothing crosses, a round makes the weight less, or nothing moves and its end is quiet.
 use Rattle.std.proofs.Common.{◌≡◌, ℕ, zero, suc, ◌+◌, ◌-◌, ◌*◌, ◌≤◌, false, ◌⊎◌, inl, inr, sym, ap, subst, arith}
 use Rattle.hmc_codes.specs.declared.profile.Profile.{Profile}
-use Rattle.hmc_drain.specs.State.{Setup, State, world, under_way, weight}
-use Rattle.hmc_drain.specs.Round.{link_round, IsStuck, IsIdle, CubeRound, IsRound}
-use Rattle.hmc_drain.specs.Facts.{Facts}
-use Rattle.hmc_drain.specs.Lemmas.{IsFit, MovesOrRests, IsLighterBy, IsQuiet, CrossesNot}
+use Rattle.hmc_link_state.specs.State.{Setup, State, wire, under_way, weight}
+use Rattle.hmc_link_state.specs.Round.{link_round, IsStuck, IsIdle, CubeRound, IsRound}
+use Rattle.hmc_link_state.specs.Facts.{Facts}
+use Rattle.hmc_link_state.specs.EachRound.{IsFit}
+use Rattle.hmc_drain.specs.Stages.{MovesOrRests, IsLighterBy, IsQuiet, CrossesNot}
 use Rattle.hmc_drain.proofs.Weight.{little, under_way_weighs}
-use Rattle.hmc_drain.proofs.Counts.{begun_count, accepted_count, Progress}
-use Rattle.hmc_drain.proofs.Keeps.{round_keeps, link_keeps, lighter_by}
+use Rattle.hmc_link_state.proofs.Counts.{begun_count, accepted_count, Progress}
+use Rattle.hmc_link_state.proofs.Keeps.{round_keeps, link_keeps, lighter_by}
 
 pub less_or_more : (m n : ℕ) → (suc m ≤ n) ⊎ (n ≤ m)
 less_or_more m zero = inr (omega arith)
@@ -20,18 +21,18 @@ less_or_more (suc m) (suc n) = by_less (less_or_more m n)
 
 -- no request or response was begun or accepted
 pub record Unchanged (s t : State) : Type 0 where
-  pub forth_begun : begun_count (world t.forth) ≡ begun_count (world s.forth)
-  pub back_begun : begun_count (world t.back) ≡ begun_count (world s.back)
-  pub forth_accepted : accepted_count (world t.forth) ≡ accepted_count (world s.forth)
-  pub back_accepted : accepted_count (world t.back) ≡ accepted_count (world s.back)
+  pub forth_begun : begun_count (wire t.forth) ≡ begun_count (wire s.forth)
+  pub back_begun : begun_count (wire t.back) ≡ begun_count (wire s.back)
+  pub forth_accepted : accepted_count (wire t.forth) ≡ accepted_count (wire s.forth)
+  pub back_accepted : accepted_count (wire t.back) ≡ accepted_count (wire s.back)
 
 pub unchanged : (s t : State) → Progress s t → weight s ≤ weight t → Unchanged s t
 unchanged s t p h =
     let z =
-    by_sums (weight s) (weight t) (begun_count (world s.forth)) (begun_count (world t.forth))
-    (begun_count (world s.back)) (begun_count (world t.back)) (accepted_count (world s.forth))
-    (accepted_count (world t.forth)) (accepted_count (world s.back))
-    (accepted_count (world t.back))
+    by_sums (weight s) (weight t) (begun_count (wire s.forth)) (begun_count (wire t.forth))
+    (begun_count (wire s.back)) (begun_count (wire t.back)) (accepted_count (wire s.forth))
+    (accepted_count (wire t.forth)) (accepted_count (wire s.back))
+    (accepted_count (wire t.back))
     p.weight p.begun.0 p.begun.1 p.accepted.0 p.accepted.1 h in
     record { forth_begun = z.0; back_begun = z.1; forth_accepted = z.2; back_accepted = z.3 }
   where
@@ -52,11 +53,11 @@ quiet s t p w h u k m =
     let q : 1 ≤ weight s = under_way_weighs s u in
     let y : weight t ≤ 1805 * under_way t = little t in (
       (
-        crossing_same (begun_count (world s.forth)) (begun_count (world t.forth))
-            (accepted_count (world s.forth)) (accepted_count (world t.forth)) z.forth_begun
+        crossing_same (begun_count (wire s.forth)) (begun_count (wire t.forth))
+            (accepted_count (wire s.forth)) (accepted_count (wire t.forth)) z.forth_begun
             z.forth_accepted h.0,
-        crossing_same (begun_count (world s.back)) (begun_count (world t.back))
-            (accepted_count (world s.back)) (accepted_count (world t.back)) z.back_begun
+        crossing_same (begun_count (wire s.back)) (begun_count (wire t.back))
+            (accepted_count (wire s.back)) (accepted_count (wire t.back)) z.back_begun
             z.back_accepted h.1,
         k,
         some (weight s) (weight t) (under_way t) w q y,

@@ -3,17 +3,18 @@
 use Rattle.std.proofs.Common.{◌≡◌, ℕ, suc, ◌+◌, ◌-◌, ◌≤◌, nat_lt, Bool, true, false, if◌then◌else◌, List, [], ◌∷◌, ◌++◌, length, ◌⊎◌, inl, inr, refl, sym, ◌∙◌, ap, subst, arith, append-nil, length-append}
 use Rattle.hmc_codes.specs.declared.profile.Profile.{Profile}
 use Rattle.hmc_numbers.specs.Events.{Reading}
-use Rattle.hmc_drain.specs.Choice.{Choice, choice}
-use Rattle.hmc_drain.specs.Choice.Choice.{train, new}
-use Rattle.hmc_drain.specs.State.{Setup, Side, State, world, crossing, inside_cube, under_way, IsSteady}
-use Rattle.hmc_drain.specs.Round.{sight, sent, sent_by, sent_both, queue_after, event_here, token_flits, is_counted_at, is_ran_start_at, landed_own, landed_other, landed_forth, link_round, costs_next, Reads, front, IsStuck, IsRound}
-use Rattle.hmc_drain.specs.Facts.{Facts}
-use Rattle.hmc_drain.specs.Lemmas.{IsFit, IsQuiet}
-use Rattle.hmc_drain.proofs.Counts.{begun_count, accepted_count, Counts, counts_trans, sent_counts, landed_counts, took_counts, below, Progress}
-use Rattle.hmc_drain.proofs.Keeps.{within, link_keeps, round_keeps}
-use Rattle.hmc_drain.proofs.Turning.{Linking, forth_links, back_links, stays_round}
-use Rattle.hmc_drain.proofs.Falls.{AreReady, ready_stays}
-use Rattle.hmc_drain.proofs.Moving.{less_or_more}
+use Rattle.hmc_link_state.specs.Choice.{Choice, choice}
+use Rattle.hmc_link_state.specs.Choice.Choice.{train, new}
+use Rattle.hmc_link_state.specs.State.{Setup, Side, State, wire, crossing, inside_cube, under_way, IsSteady}
+use Rattle.hmc_link_state.specs.Round.{sight, sent, sent_by, sent_both, queue_after, event_here, token_flits, is_counted_at, is_ran_start_at, landed_own, landed_other, landed_forth, link_round, costs_next, Reads, front, IsStuck, IsRound, CubeRound}
+use Rattle.hmc_link_state.specs.Facts.{Facts}
+use Rattle.hmc_link_state.specs.EachRound.{IsFit}
+use Rattle.hmc_drain.specs.Stages.{IsQuiet}
+use Rattle.hmc_link_state.proofs.Counts.{begun_count, accepted_count, Counts, counts_trans, sent_counts, landed_counts, took_counts, below, Progress}
+use Rattle.hmc_link_state.proofs.Keeps.{within, link_keeps, round_keeps}
+use Rattle.hmc_link_state.proofs.Turning.{Linking, forth_links, back_links, stays_round}
+use Rattle.hmc_link_state.proofs.Falls.{AreReady, ready_stays}
+use Rattle.hmc_drain.proofs.Moving.{less_or_more, crossing_same}
 
 -- Lists
 
@@ -26,7 +27,7 @@ same_queue z ps h = refl
 
 sent_queue : (c : Setup) (x y : Side) → length (sent c x y).queue ≡ length x.queue →
     (sent c x y).queue ≡ x.queue
-sent_queue c x y = by_full (nat_lt (length (world x).line) c.line)
+sent_queue c x y = by_full (nat_lt (length (wire x).line) c.line)
   where
     by_full : (b : Bool) →
         length (if b then sent_by c x y (choice (sight c x y)) else x).queue ≡ length x.queue →
@@ -35,7 +36,7 @@ sent_queue c x y = by_full (nat_lt (length (world x).line) c.line)
     by_full false h = refl
 
 sent_buffer : (c : Setup) (x y : Side) → (sent c x y).buffer ≡ x.buffer
-sent_buffer c x y = by_full (nat_lt (length (world x).line) c.line)
+sent_buffer c x y = by_full (nat_lt (length (wire x).line) c.line)
   where
     by_full : (b : Bool) → (if b then sent_by c x y (choice (sight c x y)) else x).buffer ≡ x.buffer
     by_full true = refl
@@ -68,10 +69,10 @@ same_length_buffer d d' a a' h k = omega arith
 link_still : (p : Profile) (c : Setup) (l m : Reading) (s : State) → IsFit p c → Facts c s →
     (rl : Reads (front (sent_both c s).forth) l) →
     (rm : Reads (front (landed_forth l (sent_both c s)).back) m) →
-    begun_count (world (link_round c l m s).forth) ≡ begun_count (world s.forth) →
-    begun_count (world (link_round c l m s).back) ≡ begun_count (world s.back) →
-    accepted_count (world (link_round c l m s).forth) ≡ accepted_count (world s.forth) →
-    accepted_count (world (link_round c l m s).back) ≡ accepted_count (world s.back) →
+    begun_count (wire (link_round c l m s).forth) ≡ begun_count (wire s.forth) →
+    begun_count (wire (link_round c l m s).back) ≡ begun_count (wire s.back) →
+    accepted_count (wire (link_round c l m s).forth) ≡ accepted_count (wire s.forth) →
+    accepted_count (wire (link_round c l m s).back) ≡ accepted_count (wire s.back) →
     Still s (link_round c l m s)
 link_still p c l m s f h rl rm b1 b2 a1 a2 =
     let w = within p c l m s f h rl rm in
@@ -84,12 +85,12 @@ link_still p c l m s f h rl rm b1 b2 a1 a2 =
     let cd : Counts s.back d = sent_counts c s.back a h.back.joined.order.accepted in
     let ce : Counts a e = landed_counts c a d l w.sent_two.1 w.half_one.1 rl in
     let cg : Counts d g =
-    took_counts a d (event_here a l) (is_counted_at a (world a).far (event_here a l))
-    (is_ran_start_at a (world a).far l) in
+    took_counts a d (event_here a l) (is_counted_at a (wire a).far (event_here a l))
+    (is_ran_start_at a (wire a).far l) in
     let ct : Counts g t.back = landed_counts c g e m w.landed_one.1 w.some rm in
     let cu : Counts e t.forth =
-    took_counts g e (event_here g m) (is_counted_at g (world g).far (event_here g m))
-    (is_ran_start_at g (world g).far m) in
+    took_counts g e (event_here g m) (is_counted_at g (wire g).far (event_here g m))
+    (is_ran_start_at g (wire g).far m) in
     let cf : Counts s.forth t.forth =
     counts_trans s.forth a t.forth ca (counts_trans a e t.forth ce cu) in
     let cb : Counts s.back t.back =
@@ -98,19 +99,19 @@ link_still p c l m s f h rl rm b1 b2 a1 a2 =
     let qd : d.buffer ≡ s.back.buffer = sent_buffer c s.back a in
     let lf : length t.forth.buffer ≡ length s.forth.buffer =
     same_length_buffer (length s.forth.buffer) (length t.forth.buffer)
-    (accepted_count (world s.forth)) (accepted_count (world t.forth)) cf.buffer a1 in
+    (accepted_count (wire s.forth)) (accepted_count (wire t.forth)) cf.buffer a1 in
     let lb : length t.back.buffer ≡ length s.back.buffer =
     same_length_buffer (length s.back.buffer) (length t.back.buffer)
-    (accepted_count (world s.back)) (accepted_count (world t.back)) cb.buffer a2 in
+    (accepted_count (wire s.back)) (accepted_count (wire t.back)) cb.buffer a2 in
     record {
       forth_queue =
           sent_queue c s.forth s.back
-          (same_length (length s.forth.queue) (length t.forth.queue) (begun_count (world s.forth))
-          (begun_count (world t.forth)) cf.queue b1);
+          (same_length (length s.forth.queue) (length t.forth.queue) (begun_count (wire s.forth))
+          (begun_count (wire t.forth)) cf.queue b1);
       back_queue =
           sent_queue c s.back a
-          (same_length (length s.back.queue) (length t.back.queue) (begun_count (world s.back))
-          (begun_count (world t.back)) cb.queue b2);
+          (same_length (length s.back.queue) (length t.back.queue) (begun_count (wire s.back))
+          (begun_count (wire t.back)) cb.queue b2);
       forth_buffer =
           same_buffer (costs_next a) a.buffer (token_flits a (event_here a l)) (lf
           ∙ ap length (sym qa)) ∙ qa;
@@ -142,38 +143,38 @@ some_left : (q d i p e b b' : ℕ) → 1 ≤ q + d + i + p + e + b → d ≡ 0 �
 some_left q d i p e b b' h k l = omega arith
 
 pub rests : (p : Profile) (c : Setup) (s t : State) → IsFit p c → Facts c s → (r : IsRound c s t) →
-    IsQuiet s → begun_count (world t.forth) ≡ begun_count (world s.forth) →
-    begun_count (world t.back) ≡ begun_count (world s.back) → Resting c s t r
+    IsQuiet s → begun_count (wire t.forth) ≡ begun_count (wire s.forth) →
+    begun_count (wire t.back) ≡ begun_count (wire s.back) → Resting c s t r
 rests p c s t f h r q b1 b2 =
     let u : State = link_round c r.0 r.1 s in
     let lk = link_keeps p c r.0 r.1 s f h r.2 r.3 in
     let rk = round_keeps p c s t f h r in
-    let uf : begun_count (world u.forth) ≡ begun_count (world s.forth) =
-    between (begun_count (world s.forth)) (begun_count (world u.forth))
-    (begun_count (world t.forth)) lk.1.begun.0 (after_cube r.4).0 b1 in
-    let ub : begun_count (world u.back) ≡ begun_count (world s.back) =
-    between (begun_count (world s.back)) (begun_count (world u.back))
-    (begun_count (world t.back)) lk.1.begun.1 (after_cube r.4).1 b2 in
-    let af : accepted_count (world u.forth) ≡ accepted_count (world s.forth) =
-    nothing_accepted (begun_count (world s.forth)) (begun_count (world u.forth))
-    (accepted_count (world s.forth)) (accepted_count (world u.forth)) uf q.0
-    (below (world s.forth) h.forth.joined.order.accepted) lk.1.accepted.0
-    (below (world u.forth) lk.0.forth.joined.order.accepted) in
-    let ab : accepted_count (world u.back) ≡ accepted_count (world s.back) =
-    nothing_accepted (begun_count (world s.back)) (begun_count (world u.back))
-    (accepted_count (world s.back)) (accepted_count (world u.back)) ub q.1
-    (below (world s.back) h.back.joined.order.accepted) lk.1.accepted.1
-    (below (world u.back) lk.0.back.joined.order.accepted) in
+    let uf : begun_count (wire u.forth) ≡ begun_count (wire s.forth) =
+    between (begun_count (wire s.forth)) (begun_count (wire u.forth))
+    (begun_count (wire t.forth)) lk.1.begun.0 (after_cube r.4).0 b1 in
+    let ub : begun_count (wire u.back) ≡ begun_count (wire s.back) =
+    between (begun_count (wire s.back)) (begun_count (wire u.back))
+    (begun_count (wire t.back)) lk.1.begun.1 (after_cube r.4).1 b2 in
+    let af : accepted_count (wire u.forth) ≡ accepted_count (wire s.forth) =
+    nothing_accepted (begun_count (wire s.forth)) (begun_count (wire u.forth))
+    (accepted_count (wire s.forth)) (accepted_count (wire u.forth)) uf q.0
+    (below (wire s.forth) h.forth.joined.order.accepted) lk.1.accepted.0
+    (below (wire u.forth) lk.0.forth.joined.order.accepted) in
+    let ab : accepted_count (wire u.back) ≡ accepted_count (wire s.back) =
+    nothing_accepted (begun_count (wire s.back)) (begun_count (wire u.back))
+    (accepted_count (wire s.back)) (accepted_count (wire u.back)) ub q.1
+    (below (wire s.back) h.back.joined.order.accepted) lk.1.accepted.1
+    (below (wire u.back) lk.0.back.joined.order.accepted) in
     let st : Still s u = link_still p c r.0 r.1 s f h r.2 r.3 uf ub af ab in
     let i : t ≡ record u { can_move = false } =
     r.5 q.4 st.back_queue st.forth_buffer st.back_buffer in
     let zf : crossing u.forth ≡ 0 =
-    Rattle.hmc_drain.proofs.Moving.crossing_same (begun_count (world s.forth))
-    (begun_count (world u.forth)) (accepted_count (world s.forth))
-    (accepted_count (world u.forth)) uf af q.0 in
+    crossing_same (begun_count (wire s.forth))
+    (begun_count (wire u.forth)) (accepted_count (wire s.forth))
+    (accepted_count (wire u.forth)) uf af q.0 in
     let zb : crossing u.back ≡ 0 =
-    Rattle.hmc_drain.proofs.Moving.crossing_same (begun_count (world s.back))
-    (begun_count (world u.back)) (accepted_count (world s.back)) (accepted_count (world u.back))
+    crossing_same (begun_count (wire s.back))
+    (begun_count (wire u.back)) (accepted_count (wire s.back)) (accepted_count (wire u.back))
     ub ab q.1 in
     let sk : IsStuck u = stuck_still c r.0 r.1 s st q.2 in
     let w : 1 ≤ under_way u =
@@ -190,13 +191,13 @@ rests p c s t f h r q b1 b2 =
     between : (a b d : ℕ) → a ≤ b → d ≡ b → d ≡ a → b ≡ a
     between a b d l m n = omega arith
 
-    after_cube : Rattle.hmc_drain.specs.Round.CubeRound (link_round c r.0 r.1 s) t →
-        (begun_count (world t.forth) ≡ begun_count (world (link_round c r.0 r.1 s).forth))
-        × (begun_count (world t.back) ≡ begun_count (world (link_round c r.0 r.1 s).back))
+    after_cube : CubeRound (link_round c r.0 r.1 s) t →
+        (begun_count (wire t.forth) ≡ begun_count (wire (link_round c r.0 r.1 s).forth))
+        × (begun_count (wire t.back) ≡ begun_count (wire (link_round c r.0 r.1 s).back))
     after_cube (inl m) =
-        (ap (λ x. begun_count (world x)) m.forth, ap (λ x. begun_count (world x)) m.back)
+        (ap (λ x. begun_count (wire x)) m.forth, ap (λ x. begun_count (wire x)) m.back)
     after_cube (inr i) =
-        (ap (λ x. begun_count (world x.forth)) i.0, ap (λ x. begun_count (world x.back)) i.0)
+        (ap (λ x. begun_count (wire x.forth)) i.0, ap (λ x. begun_count (wire x.back)) i.0)
 
     some : (q q' k k' d d' v b a p p' g g' e e' : ℕ) → 1 ≤ q + k + (d + v + b + a) + p + g + e →
         q' ≡ q → p' ≡ p → d' ≡ d → e' ≡ e → k ≡ 0 → g ≡ 0 → 1 ≤ q' + k' + (d' + v + b + a) + p' + g'
@@ -209,32 +210,32 @@ rests p c s t f h r q b1 b2 =
 pub record Counted (bf bb : ℕ) (P Q : Side → Side → Type 0) (s : State) : Type 0 where
   pub ready : AreReady s.forth s.back
   pub quiet : IsQuiet s
-  pub forth_begun : begun_count (world s.forth) ≡ bf
-  pub back_begun : begun_count (world s.back) ≡ bb
+  pub forth_begun : begun_count (wire s.forth) ≡ bf
+  pub back_begun : begun_count (wire s.back) ≡ bb
   pub forth : P s.forth s.back
   pub back : Q s.back s.forth
 
 abbrev pub Begun : (bf bb : ℕ) → State → Type 0
-Begun bf bb s = (suc bf ≤ begun_count (world s.forth)) ⊎ (suc bb ≤ begun_count (world s.back))
+Begun bf bb s = (suc bf ≤ begun_count (wire s.forth)) ⊎ (suc bb ≤ begun_count (wire s.back))
 
 abbrev pub Span : (bf bb : ℕ) (P Q : Side → Side → Type 0) → State → Type 0
 Span bf bb P Q s = Begun bf bb s ⊎ Counted bf bb P Q s
 
 -- P holds as long as no request or response is begun
 abbrev pub Until : ℕ → (Side → Side → Type 0) → Side → Side → Type 0
-Until b P x y = (suc b ≤ begun_count (world x)) ⊎ ((begun_count (world x) ≡ b) × P x y)
+Until b P x y = (suc b ≤ begun_count (wire x)) ⊎ ((begun_count (wire x) ≡ b) × P x y)
 
 stays_begun : (p : Profile) (c : Setup) (bf bb : ℕ) (s t : State) → IsFit p c → Facts c s →
     IsRound c s t → Begun bf bb s → Begun bf bb t
 stays_begun p c bf bb s t f h r (inl z) =
     inl (let y = (round_keeps p c s t f h r).1.begun.0 in
-    more bf (begun_count (world s.forth)) (begun_count (world t.forth)) z y)
+    more bf (begun_count (wire s.forth)) (begun_count (wire t.forth)) z y)
   where
     more : (b a d : ℕ) → suc b ≤ a → a ≤ d → suc b ≤ d
     more b a d l m = omega arith
 stays_begun p c bf bb s t f h r (inr z) =
     inr (let y = (round_keeps p c s t f h r).1.begun.1 in
-    more bb (begun_count (world s.back)) (begun_count (world t.back)) z y)
+    more bb (begun_count (wire s.back)) (begun_count (wire t.back)) z y)
   where
     more : (b a d : ℕ) → suc b ≤ a → a ≤ d → suc b ≤ d
     more b a d l m = omega arith
@@ -246,7 +247,7 @@ pub span_round : (p : Profile) (c : Setup) (bf bb : ℕ) (P P1 P2 Q Q1 Q2 : Side
 span_round p c bf bb P P1 P2 Q Q1 Q2 f lf lb s t h n r (inl z) =
     inl (stays_begun p c bf bb s t f h r z)
 span_round p c bf bb P P1 P2 Q Q1 Q2 f lf lb s t h n r (inr z) =
-    by_forth (less_or_more bf (begun_count (world t.forth)))
+    by_forth (less_or_more bf (begun_count (wire t.forth)))
   where
     u : State
     u = link_round c r.0 r.1 s
@@ -261,15 +262,15 @@ span_round p c bf bb P P1 P2 Q Q1 Q2 f lf lb s t h n r (inr z) =
     is_then b a X q (inl l) = absurd (omega (arith, q, l))
     is_then b a X q (inr l) = l.1
 
-    by_back : begun_count (world t.forth) ≤ bf → (suc bb ≤ begun_count (world t.back))
-        ⊎ (begun_count (world t.back) ≤ bb) → Span bf bb P2 Q2 t
+    by_back : begun_count (wire t.forth) ≤ bf → (suc bb ≤ begun_count (wire t.back))
+        ⊎ (begun_count (wire t.back) ≤ bb) → Span bf bb P2 Q2 t
     by_back l (inl m) = inl (inr m)
     by_back l (inr m) =
         let nf =
-        no_more bf (begun_count (world s.forth)) (begun_count (world t.forth)) z.forth_begun
+        no_more bf (begun_count (wire s.forth)) (begun_count (wire t.forth)) z.forth_begun
         pr.begun.0 l in
         let nb =
-        no_more bb (begun_count (world s.back)) (begun_count (world t.back)) z.back_begun
+        no_more bb (begun_count (wire s.back)) (begun_count (wire t.back)) z.back_begun
         pr.begun.1 m in
         let y : Resting c s t r = rests p c s t f h r z.quiet nf.0 nb.0 in
         let k1 : Until bf P2 u.forth u.back =
@@ -287,11 +288,11 @@ span_round p c bf bb P P1 P2 Q Q1 Q2 f lf lb s t h n r (inr z) =
           quiet = y.quiet;
           forth_begun = nf.1;
           back_begun = nb.1;
-          forth = is_then bf (begun_count (world t.forth)) (P2 t.forth t.back) nf.1 j1;
-          back = is_then bb (begun_count (world t.back)) (Q2 t.back t.forth) nb.1 j2;
+          forth = is_then bf (begun_count (wire t.forth)) (P2 t.forth t.back) nf.1 j1;
+          back = is_then bb (begun_count (wire t.back)) (Q2 t.back t.forth) nb.1 j2;
         })
 
-    by_forth : (suc bf ≤ begun_count (world t.forth)) ⊎ (begun_count (world t.forth) ≤ bf) →
+    by_forth : (suc bf ≤ begun_count (wire t.forth)) ⊎ (begun_count (wire t.forth) ≤ bf) →
         Span bf bb P2 Q2 t
     by_forth (inl l) = inl (inl l)
-    by_forth (inr l) = by_back l (less_or_more bb (begun_count (world t.back)))
+    by_forth (inr l) = by_back l (less_or_more bb (begun_count (wire t.back)))

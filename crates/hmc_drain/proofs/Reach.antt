@@ -9,11 +9,11 @@ use Rattle.hmc_numbers.specs.Events.Event.{accepts, repeats}
 use Rattle.hmc_numbers.specs.May.{IsGood}
 use Rattle.hmc_numbers.proofs.Chain.{Chain, AtEnd}
 use Rattle.hmc_numbers.proofs.Fits.{Fits}
-use Rattle.hmc_numbers.proofs.Order.{Order, Stands}
+use Rattle.hmc_numbers.proofs.Order.{Order, Stands, stands_up}
 use Rattle.hmc_numbers.proofs.Step.{fits_good}
 use Rattle.hmc_numbers.proofs.DirectionLaws.{at_most_next}
-use Rattle.hmc_drain.specs.Round.{event_in_good}
-use Rattle.hmc_drain.proofs.Chosen.{eq_same, not_same}
+use Rattle.hmc_link_state.specs.Round.{event_in_good}
+use Rattle.hmc_link_state.proofs.Chosen.{eq_same, not_same}
 
 abbrev pub raised : Item → ℕ → ℕ
 raised (part n k zero) a = max a n
@@ -88,10 +88,6 @@ ends E s last a e b z (part n k (suc more) ∷ xs) m l f g c h =
 stands_zero : (acked last left r : ℕ) → left ≡ 0 → Stands acked last left r → max acked last ≤ r
 stands_zero acked last zero r q h = h
 stands_zero acked last (suc l) r q h = absurd (cc q)
-
-stands_up : (acked last left r t : ℕ) → r ≤ t → Stands acked last left r → Stands acked last left t
-stands_up acked last zero r t l h = omega (arith, h, l)
-stands_up acked last (suc k) r t l h = omega (arith, h, l)
 
 -- all that was sent is accepted once the line has landed, where no packet is begun
 pub reaches : (r : ℕ) (w : Direction) → Order r w → IsGood w.far → w.left ≡ 0 →

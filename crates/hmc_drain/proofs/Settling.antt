@@ -1,285 +1,29 @@
 -- A link that is Good on both sides settles within 191 rounds.
-use Rattle.std.proofs.Common.{◌≡◌, ◌≢◌, ℕ, suc, ◌+◌, ◌-◌, ◌%◌, ◌≤◌, ◌==◌, nat_lt, ◌&&◌, Bool, true, false, if◌then◌else◌, List, [], ◌∷◌, ◌++◌, length, ◌⊎◌, inl, inr, refl, sym, ◌∙◌, ap, subst, arith, append_assoc, append-nil}
+use Rattle.std.proofs.Common.{◌≡◌, ◌≢◌, ℕ, suc, ◌+◌, ◌-◌, ◌%◌, ◌≤◌, ◌==◌, Bool, true, false, if◌then◌else◌, List, [], ◌∷◌, ◌++◌, length, ◌⊎◌, inl, inr, refl, sym, ◌∙◌, ap, subst, arith, append-nil}
 use Rattle.std.proofs.lemmas.Grind.{common_steps}
 use Rattle.hmc_codes.specs.declared.profile.Profile.{Profile}
-use Rattle.hmc_numbers.specs.Direction.{Item, Reached, rest}
+use Rattle.hmc_numbers.specs.Direction.{Item, Reached}
 use Rattle.hmc_numbers.specs.Direction.Reached.{training, aborting, between, inside, spoilt}
 use Rattle.hmc_numbers.specs.Events.{Reading}
 use Rattle.hmc_numbers.specs.May.{IsGood, IsShut}
-use Rattle.hmc_drain.specs.Choice.{Choice, choice, is_abort}
-use Rattle.hmc_drain.specs.Choice.Choice.{train, starved, next, clear, start, again, new, tret, pret, null}
-use Rattle.hmc_drain.specs.Sees.{mode_of}
-use Rattle.hmc_drain.specs.State.{Setup, Side, State, world, IsSteady, IsSettled, IsSettledSide, IsNoStart, HaveNoStart}
-use Rattle.hmc_drain.specs.Round.{sight, sent, sent_by, front, is_ran_start_at, landed_own, landed_other, costs_next, Rounds}
-use Rattle.hmc_drain.specs.Facts.{SideFacts, Facts}
-use Rattle.hmc_drain.specs.Lemmas.{IsFit, Settles}
-use Rattle.hmc_drain.proofs.Along.{kept}
-use Rattle.hmc_drain.proofs.Calm.{good_far, landed_world, never_ran, no_start, front_quiet, rest_quiet, more_quiet}
-use Rattle.hmc_drain.proofs.Catch.{zero_or_more}
-use Rattle.hmc_drain.proofs.Chosen.{Chosen, chosen}
-use Rattle.hmc_drain.proofs.Falls.{falls, facts_along, landed_sender, took_keeps}
-use Rattle.hmc_drain.proofs.Keeps.{keeps}
-use Rattle.hmc_drain.proofs.Lines.{lands_own, lands_other}
-use Rattle.hmc_drain.proofs.Settled.{stays_settled}
-use Rattle.hmc_drain.proofs.SentFacts.{far_same, no_starts}
-use Rattle.hmc_drain.proofs.Telling.{no_train, no_abort}
-use Rattle.hmc_drain.proofs.Turning.{Landing, Stays, Turning, stays_round, forth_turns, back_turns}
+use Rattle.hmc_link_state.specs.Choice.{Choice, choice}
+use Rattle.hmc_link_state.specs.Choice.Choice.{train, starved, next, clear, start, again, new, tret, pret, null}
+use Rattle.hmc_link_state.specs.State.{Setup, Side, State, wire, IsSteady, IsSettled, IsSettledSide, HaveNoStart}
+use Rattle.hmc_link_state.specs.Round.{sight, sent_by, front, is_ran_start_at, landed_own, landed_other, costs_next, Rounds}
+use Rattle.hmc_link_state.specs.Facts.{SideFacts, Facts}
+use Rattle.hmc_link_state.specs.EachRound.{IsFit}
+use Rattle.hmc_drain.specs.Stages.{Settles}
+use Rattle.hmc_link_state.proofs.Along.{kept}
+use Rattle.hmc_link_state.proofs.Calm.{never_ran, no_start, front_quiet}
+use Rattle.hmc_drain.proofs.Backlog.{zero_or_more}
+use Rattle.hmc_link_state.proofs.Chosen.{Chosen, chosen}
+use Rattle.hmc_link_state.proofs.Falls.{falls, facts_along, landed_sender, took_keeps}
+use Rattle.hmc_link_state.proofs.Keeps.{keeps}
+use Rattle.hmc_link_state.proofs.Settled.{stays_settled}
+use Rattle.hmc_drain.proofs.ReadyChoice.{no_train}
+use Rattle.hmc_link_state.proofs.Turning.{Landing, Stays, Turning, stays_round, forth_turns, back_turns}
 use Rattle.hmc_drain.proofs.Windows.{left_most}
-
--- Both Good
-
-abbrev pub BothGood : Side → Side → Type 0
-BothGood x y = IsGood (world x).far × IsGood (world y).far
-
-pub if_side : (P : Side → Type 0) (b : Bool) (x y : Side) → P x → P y → P (if b then x else y)
-if_side P true x y h k = h
-if_side P false x y h k = k
-
--- a send, by its choice, or none where the line is full
-pub by_send : (P : Side → Type 0) (c : Setup) (x y : Side) →
-    P (sent_by c x y (choice (sight c x y))) → P x → P (sent c x y)
-by_send P c x y h k =
-    if_side P (nat_lt (length (world x).line) c.line) (sent_by c x y (choice (sight c x y))) x h k
-
-pub good_sent : (c : Setup) (x y : Side) → IsGood (world x).far → IsGood (world (sent c x y)).far
-good_sent c x y h =
-    by_send (λ s. IsGood (world s).far) c x y
-    (subst IsGood (sym (far_same c x y (choice (sight c x y)))) h) h
-
-pub good_landed : (x : Side) (costs : Bool) (look : Reading) → IsGood (world x).far →
-    IsGood (world (landed_own x costs look)).far
-good_landed x costs look h =
-    subst (λ w. IsGood w.far) (sym (landed_world x costs look h)) (good_far (world x) (front x))
-
-pub good_took : (y x : Side) (look : Reading) → IsGood (world x).far →
-    IsGood (world (landed_other y x look)).far
-good_took y x look h = took_keeps (λ w. IsGood w.far) (λ w n g. g) y x look h
-
-pub goods_stay : (c : Setup) → Stays c BothGood
-goods_stay c = record {
-  swap = λ x y h. (h.1, h.0);
-  send = λ x y b h. (good_sent c x y h.0, h.1);
-  land = λ x y look b l h. (good_landed x (costs_next x) look h.0, good_took x y look h.1);
-  moved = λ x y m n bx by qx qy h. h;
-}
-
--- A burst of Starts ends
-
-abbrev Starting : ℕ → Side → Side → Type 0
-Starting m x y = (x.starts % 32 ≡ 0) ⊎ (32 - x.starts % 32 ≤ m)
-
-no_start_in_good : (c : Setup) (x y : Side) → IsGood (world y).far → Chosen (sight c x y) start →
-    x.starts % 32 ≡ 0 → ⊥
-no_start_in_good c x y g h z = by_why h.why
-  where
-    by_why : (x.starts % 32 ≢ 0)
-        ⊎ ((x.starts % 32 ≡ 0) × (x.go_back ≡ false)
-        × ((is_abort (mode_of (world y).far) && (sight c x y).is_long_ago) ≡ true)) → ⊥
-    by_why (inl n) = n z
-    by_why (inr a) = no_abort (world y).far (sight c x y).is_long_ago g a.2
-
-one_less : (n m : ℕ) → 32 - n % 32 ≤ suc m → ((n + 1) % 32 ≡ 0) ⊎ (32 - (n + 1) % 32 ≤ m)
-one_less n m h = by_rest (zero_or_more ((n + 1) % 32))
-  where
-    by_rest : ((n + 1) % 32 ≡ 0) ⊎ (1 ≤ (n + 1) % 32) → ((n + 1) % 32 ≡ 0) ⊎ (32 - (n + 1) % 32 ≤ m)
-    by_rest (inl q) = inl q
-    by_rest (inr q) = inr (omega (arith, h, q))
-
-starting_by : (c : Setup) (m : ℕ) (x y : Side) (z : Choice) → SideFacts c x y →
-    IsGood (world y).far → Chosen (sight c x y) z → Starting (suc m) x y →
-    Starting m (sent_by c x y z) y
-starting_by c m x y train f g h s = absurd (no_train (world y).far g h)
-starting_by c m x y starved f g h s = absurd (cc h)
-starting_by c m x y next f g h s = inl (f.whole h.1).1
-starting_by c m x y clear f g h s = inl (no_starts c x y h f)
-starting_by c m x y start f g h s = by_left s
-  where
-    by_left : Starting (suc m) x y → ((x.starts + 1) % 32 ≡ 0) ⊎ (32 - (x.starts + 1) % 32 ≤ m)
-    by_left (inl q) = absurd (no_start_in_good c x y g h q)
-    by_left (inr q) = one_less x.starts m q
-starting_by c m x y again f g h s = inl h.0.starts
-starting_by c m x y (new n) f g h s = inl h.new.calm.starts
-starting_by c m x y tret f g h s = inl h.new.calm.starts
-starting_by c m x y pret f g h s = inl h.0.new.calm.starts
-starting_by c m x y null f g h s = inl h.0.new.calm.starts
-
-room_or : (c : Setup) (P : Side → Type 0) (x y : Side) → suc (length (world x).line) ≤ c.line →
-    P (sent_by c x y (choice (sight c x y))) → P (sent c x y)
-room_or c P x y l h = subst P (sym (Rattle.hmc_drain.proofs.Catch.sent_if_room c x y l)) h
-
-starting_turns : (c : Setup) (m : ℕ) →
-    Turning c BothGood (Starting (suc m)) (Starting m) (Starting m)
-starting_turns c m = record {
-  link = record {
-    send =
-        λ x y b k l h. room_or c (λ s. Starting m s y) x y l
-        (starting_by c m x y (choice (sight c x y)) b.0 k.1 (chosen (sight c x y)) h);
-    send_before = λ x y b k h. h;
-    send_after = λ x y b k h. h;
-    land = λ x y look b k l h. h;
-    land_before = λ x y look b k l h. h;
-    land_after = λ x y look b k l h. h;
-  };
-  moved = λ x y m n bx by qx qy h. h;
-}
-
--- The line is rid of Starts
-
-record Ridding (i : ℕ) (x y : Side) : Type 0 where
-  starts : x.starts % 32 ≡ 0
-  xs : List Item
-  ys : List Item
-  line : (world x).line ≡ xs ++ ys
-  short : length xs ≤ i
-  quiet : HaveNoStart ys
-
--- what is sent that is no Start
-other_item : (c : Setup) (x y : Side) (z : Choice) → z ≢ start → Chosen (sight c x y) z → (i : Item)
-    × IsNoStart i × ((world (sent_by c x y z)).line ≡ (world x).line ++ i ∷ [])
-    × ((sent_by c x y z).starts ≡ x.starts)
-other_item c x y train n h = (_, tt, refl, refl)
-other_item c x y starved n h = absurd (cc h)
-other_item c x y next n h = (_, tt, refl, refl)
-other_item c x y clear n h = (_, tt, refl, refl)
-other_item c x y start n h = absurd (n refl)
-other_item c x y again n h = (_, tt, refl, refl)
-other_item c x y (new m) n h = (_, tt, refl, refl)
-other_item c x y tret n h = (_, tt, refl, refl)
-other_item c x y pret n h = (_, tt, refl, refl)
-other_item c x y null n h = (_, tt, refl, refl)
-
-not_start : (c : Setup) (x y : Side) → IsGood (world y).far → x.starts % 32 ≡ 0 →
-    choice (sight c x y) ≢ start
-not_start c x y g z q =
-    no_start_in_good c x y g (subst (Chosen (sight c x y)) q (chosen (sight c x y))) z
-
-ridding_by : (c : Setup) (i : ℕ) (x y : Side) → IsGood (world y).far → Ridding i x y →
-    Ridding i (sent_by c x y (choice (sight c x y))) y
-ridding_by c i x y g h =
-    let t =
-    other_item c x y (choice (sight c x y)) (not_start c x y g h.starts)
-    (chosen (sight c x y)) in
-    record {
-      starts = ap (λ n. n % 32) t.3 ∙ h.starts;
-      xs = h.xs;
-      ys = h.ys ++ t.0 ∷ [];
-      line = t.2 ∙ ap (λ l. l ++ t.0 ∷ []) h.line ∙ append_assoc h.xs h.ys (t.0 ∷ []);
-      short = h.short;
-      quiet = more_quiet h.ys t.0 h.quiet t.1;
-    }
-
-ridding_line : (i : ℕ) (x y x' y' : Side) → (world x').line ≡ (world x).line →
-    x'.starts ≡ x.starts → Ridding i x y → Ridding i x' y'
-ridding_line i x y x' y' q r h =
-    record {
-      starts = ap (λ n. n % 32) r ∙ h.starts;
-      xs = h.xs;
-      ys = h.ys;
-      line = q
-          ∙ h.line;
-      short = h.short;
-      quiet = h.quiet;
-    }
-
-ridding_lands : (i : ℕ) (x y x' y' : Side) → (world x').line ≡ rest (world x).line →
-    x'.starts ≡ x.starts → x.starts % 32 ≡ 0 → (xs ys : List Item) → (world x).line ≡ xs ++ ys →
-    length xs ≤ suc i → HaveNoStart ys → Ridding i x' y'
-ridding_lands i x y x' y' q r z [] ys l s h =
-    record {
-      starts = ap (λ n. n % 32) r ∙ z;
-      xs = [];
-      ys = rest ys;
-      line = q
-          ∙ ap rest l;
-      short = omega arith;
-      quiet = rest_quiet ys h;
-    }
-ridding_lands i x y x' y' q r z (w ∷ xs) ys l s h =
-    record {
-      starts = ap (λ n. n % 32) r ∙ z;
-      xs = xs;
-      ys = ys;
-      line = q
-          ∙ ap rest l;
-      short = omega (arith, s);
-      quiet = h;
-    }
-
-ridding_turns : (c : Setup) (i : ℕ) →
-    Turning c BothGood (Ridding (suc i)) (Ridding (suc i)) (Ridding i)
-ridding_turns c i = record {
-  link = record {
-    send =
-        λ x y b k l h. room_or c (λ s. Ridding (suc i) s y) x y l (ridding_by c (suc i) x y k.1 h);
-    send_before = λ x y b k h. ridding_line (suc i) x y x (sent c y x) refl refl h;
-    send_after = λ x y b k h. ridding_line (suc i) x y x (sent c y x) refl refl h;
-    land =
-        λ x y look b k l h. ridding_lands i x y (landed_own x (costs_next x) look)
-        (landed_other x y look) (lands_own x (costs_next x) look) refl h.starts h.xs h.ys h.line
-        h.short h.quiet;
-    land_before =
-        λ x y look b k l h. ridding_line (suc i) x y (landed_other y x look)
-        (landed_own y (costs_next y) look) (lands_other y x look) refl h;
-    land_after =
-        λ x y look b k l h. ridding_line i x y (landed_other y x look)
-        (landed_own y (costs_next y) look) (lands_other y x look) refl h;
-  };
-  moved =
-      λ x y m n bx by qx qy h. record {
-        starts = h.starts;
-        xs = h.xs;
-        ys = h.ys;
-        line = h.line;
-        short = h.short;
-        quiet = h.quiet;
-      };
-}
-
--- Both rid of them
-
-record IsRid (x : Side) : Type 0 where
-  good : IsGood (world x).far
-  starts : x.starts % 32 ≡ 0
-  line : HaveNoStart (world x).line
-
-abbrev AreRid : Side → Side → Type 0
-AreRid x y = IsRid x × IsRid y
-
-rid_sent : (c : Setup) (x y : Side) → IsGood (world y).far → IsRid x → IsRid (sent c x y)
-rid_sent c x y g h =
-    let t =
-    other_item c x y (choice (sight c x y)) (not_start c x y g h.starts)
-    (chosen (sight c x y)) in
-    by_send IsRid c x y (record {
-      good = subst IsGood (sym (far_same c x y (choice (sight c x y)))) h.good;
-      starts = ap (λ n. n % 32) t.3 ∙ h.starts;
-      line = subst HaveNoStart (sym t.2) (more_quiet (world x).line t.0 h.line t.1);
-    }) h
-
-rids_stay : (c : Setup) → Stays c AreRid
-rids_stay c = record {
-  swap = λ x y h. (h.1, h.0);
-  send = λ x y b h. (rid_sent c x y h.1.good h.0, h.1);
-  land = λ x y look b l h. (
-    record {
-      good = good_landed x (costs_next x) look h.0.good;
-      starts = h.0.starts;
-      line =
-          subst HaveNoStart (sym (lands_own x (costs_next x) look))
-          (rest_quiet (world x).line h.0.line);
-    },
-    record {
-      good = good_took x y look h.1.good;
-      starts = h.1.starts;
-      line = subst HaveNoStart (sym (lands_other x y look)) h.1.line;
-    },
-  );
-  moved =
-      λ x y m n bx by qx qy h. (
-        record { good = h.0.good; starts = h.0.starts; line = h.0.line },
-        record { good = h.1.good; starts = h.1.starts; line = h.1.line },
-      );
-}
+use Rattle.hmc_drain.proofs.StartsEnd.{BothGood, goods_stay, Starting, no_start_in_good, room_or, starting_turns, Ridding, ridding_turns, IsRid, AreRid, rids_stay}
 
 -- Clears end
 
@@ -294,7 +38,7 @@ data Clearing (m clears left : ℕ) (back : Bool) : Type 0 where
       Clearing m clears left back
 
 abbrev IsClearing : ℕ → Side → Side → Type 0
-IsClearing m x y = Clearing m (world x).clears (world x).left x.go_back
+IsClearing m x y = Clearing m (wire x).clears (wire x).left x.go_back
 
 pub bool_or : (b : Bool) → (b ≡ true) ⊎ (b ≡ false)
 bool_or true = inl refl
@@ -333,18 +77,18 @@ after_clear m n l b z (burst p q r) w =
     subst (λ t. Clearing m (n + 1) l t) (sym e)
     (subst (λ k. Clearing m (n + 1) k b) (sym z) (clears_on m n b p r))
 
-clearing_by : (c : Setup) (m : ℕ) (x y : Side) (z : Choice) → IsGood (world y).far →
+clearing_by : (c : Setup) (m : ℕ) (x y : Side) (z : Choice) → IsGood (wire y).far →
     x.starts % 32 ≡ 0 → Chosen (sight c x y) z → IsClearing (suc m) x y →
     IsClearing m (sent_by c x y z) y
-clearing_by c m x y train g s h k = absurd (no_train (world y).far g h)
+clearing_by c m x y train g s h k = absurd (no_train (wire y).far g h)
 clearing_by c m x y starved g s h k = absurd (cc h)
 clearing_by c m x y start g s h k = absurd (no_start_in_good c x y g h s)
 clearing_by c m x y clear g s h k =
-    after_clear m (world x).clears (world x).left x.go_back h.out.left k (by_why h.why)
+    after_clear m (wire x).clears (wire x).left x.go_back h.out.left k (by_why h.why)
   where
-    by_why : ((world x).clears % 32 ≢ 0)
-        ⊎ (((world x).clears % 32 ≡ 0) × (x.starts % 32 ≡ 0) × (x.go_back ≡ true)) →
-        ((world x).clears % 32 ≢ 0) ⊎ (((world x).clears % 32 ≡ 0) × (x.go_back ≡ true))
+    by_why : ((wire x).clears % 32 ≢ 0)
+        ⊎ (((wire x).clears % 32 ≡ 0) × (x.starts % 32 ≡ 0) × (x.go_back ≡ true)) →
+        ((wire x).clears % 32 ≢ 0) ⊎ (((wire x).clears % 32 ≡ 0) × (x.go_back ≡ true))
     by_why (inl n) = inl n
     by_why (inr n) = inr (n.0, n.2)
 clearing_by c m x y next g s h (done p q) = done p q
@@ -352,24 +96,24 @@ clearing_by c m x y next g s h (due p q r) = due p q (omega (arith, r, h.1))
 clearing_by c m x y next g s h (burst p q r) = absurd (omega (arith, q, h.1))
 clearing_by c m x y again g s h k = calmed h.0.clears h.0.back
   where
-    calmed : (world x).clears % 32 ≡ 0 → x.go_back ≡ false → IsClearing m (sent_by c x y again) y
+    calmed : (wire x).clears % 32 ≡ 0 → x.go_back ≡ false → IsClearing m (sent_by c x y again) y
     calmed a b = done b a
 clearing_by c m x y (new n) g s h k = done h.new.calm.back h.new.calm.clears
 clearing_by c m x y tret g s h k = done h.new.calm.back h.new.calm.clears
 clearing_by c m x y pret g s h k = done h.0.new.calm.back h.0.new.calm.clears
 clearing_by c m x y null g s h k = done h.0.new.calm.back h.0.new.calm.clears
 
-ran_not : (y x : Side) (look : Reading) → IsRid y → 1 ≤ length (world y).line →
-    is_ran_start_at y (world y).far look ≡ false
+ran_not : (y x : Side) (look : Reading) → IsRid y → 1 ≤ length (wire y).line →
+    is_ran_start_at y (wire y).far look ≡ false
 ran_not y x look h l =
-    never_ran y look (world y).far h.good
-    (no_start (front y) (front_quiet (world y).before (world y).line h.line l))
+    never_ran y look (wire y).far h.good
+    (no_start (front y) (front_quiet (wire y).before (wire y).line h.line l))
 
 clearing_took : (c : Setup) (m : ℕ) (x y : Side) (look : Reading) → IsRid y → Landing y look →
     IsClearing m x y → IsClearing m (landed_other y x look) (landed_own y (costs_next y) look)
 clearing_took c m x y look r l h =
-    subst (λ b. Clearing m (world (landed_other y x look)).clears
-    (world (landed_other y x look)).left (if b then true else x.go_back))
+    subst (λ b. Clearing m (wire (landed_other y x look)).clears
+    (wire (landed_other y x look)).left (if b then true else x.go_back))
     (sym (ran_not y x look r l.some))
     (took_keeps (λ w. Clearing m w.clears w.left x.go_back) (λ w n z. z) y x look h)
 
@@ -377,8 +121,8 @@ clearing_landed : (m : ℕ) (x y : Side) (look : Reading) → IsClearing m x y �
     IsClearing m (landed_own x (costs_next x) look) (landed_other x y look)
 clearing_landed m x y look h =
     let s = landed_sender x (costs_next x) look in
-    subst (λ n. Clearing m n (world (landed_own x (costs_next x) look)).left x.go_back)
-    (sym s.clears) (subst (λ n. Clearing m (world x).clears n x.go_back) (sym s.left) h)
+    subst (λ n. Clearing m n (wire (landed_own x (costs_next x) look)).left x.go_back)
+    (sym s.clears) (subst (λ n. Clearing m (wire x).clears n x.go_back) (sym s.left) h)
 
 clearing_turns : (c : Setup) (m : ℕ) →
     Turning c AreRid (IsClearing (suc m)) (IsClearing m) (IsClearing m)
@@ -398,7 +142,7 @@ clearing_turns c m = record {
 
 -- The phases
 
-record Both1 (K : Side → Side → Type 0) (P : ℕ → Side → Side → Type 0) (m : ℕ) (s : State) :
+record BothSides (K : Side → Side → Type 0) (P : ℕ → Side → Side → Type 0) (m : ℕ) (s : State) :
     Type 0 where
   context : K s.forth s.back
   forth : P m s.forth s.back
@@ -412,7 +156,7 @@ pub both_fall : (p : Profile) (c : Setup) (K : Side → Side → Type 0) (P Q : 
     K (run (m + k)).forth (run (m + k)).back × P 0 (run (m + k)).forth (run (m + k)).back
     × P 0 (run (m + k)).back (run (m + k)).forth
 both_fall p c K P Q st tu f run m k n r h a b x y z =
-    let w : Both1 K P 0 (run (m + k)) = falls p c (Both1 K P)
+    let w : BothSides K P 0 (run (m + k)) = falls p c (BothSides K P)
     (λ i s t fa sa ro u. record {
       context = stays_round p c K st f s t fa ro u.context;
       forth = forth_turns p c K (P (suc i)) (Q i) (P i) st (tu i) f s t fa sa ro u.context u.forth;
@@ -431,48 +175,48 @@ starting_last : (x y : Side) → Starting 0 x y → x.starts % 32 ≡ 0
 starting_last x y (inl q) = q
 starting_last x y (inr q) = absurd (omega (arith, q))
 
-ridding_first : (c : Setup) (x y : Side) → c.line ≤ 64 → length (world x).line ≤ c.line →
+ridding_first : (c : Setup) (x y : Side) → c.line ≤ 64 → length (wire x).line ≤ c.line →
     x.starts % 32 ≡ 0 → Ridding 64 x y
 ridding_first c x y l s z =
     record {
       starts = z;
-      xs = (world x).line;
+      xs = (wire x).line;
       ys = [];
-      line = sym (append-nil (world x).line);
+      line = sym (append-nil (wire x).line);
       short = omega (arith, l, s);
       quiet = tt;
     }
 
-ridding_last : (x y : Side) → IsGood (world x).far → Ridding 0 x y → IsRid x
+ridding_last : (x y : Side) → IsGood (wire x).far → Ridding 0 x y → IsRid x
 ridding_last x y g h = record { good = g; starts = h.starts; line = by_list h.xs h.line h.short }
   where
-    by_list : (xs : List Item) → (world x).line ≡ xs ++ h.ys → length xs ≤ 0 →
-        HaveNoStart (world x).line
+    by_list : (xs : List Item) → (wire x).line ≡ xs ++ h.ys → length xs ≤ 0 →
+        HaveNoStart (wire x).line
     by_list [] q l = subst HaveNoStart (sym q) h.quiet
     by_list (z ∷ zs) q l = absurd (omega (arith, l))
 
 clearing_first : (c : Setup) (x y : Side) → SideFacts c x y → IsClearing 96 x y
-clearing_first c x y f = by_rest (zero_or_more ((world x).clears % 32)) (bool_or x.go_back)
+clearing_first c x y f = by_rest (zero_or_more ((wire x).clears % 32)) (bool_or x.go_back)
   where
     if_most : (b : Bool) → extra b ≤ 64
     if_most true = omega arith
     if_most false = omega arith
 
-    none_left : 1 ≤ (world x).clears % 32 → ((world x).left ≡ 0) ⊎ (1 ≤ (world x).left) →
-        (world x).left ≡ 0
+    none_left : 1 ≤ (wire x).clears % 32 → ((wire x).left ≡ 0) ⊎ (1 ≤ (wire x).left) →
+        (wire x).left ≡ 0
     none_left q (inl l) = l
     none_left q (inr l) = absurd (omega (arith, q, (f.whole l).0))
 
-    by_rest : ((world x).clears % 32 ≡ 0) ⊎ (1 ≤ (world x).clears % 32) → (x.go_back ≡ true)
+    by_rest : ((wire x).clears % 32 ≡ 0) ⊎ (1 ≤ (wire x).clears % 32) → (x.go_back ≡ true)
         ⊎ (x.go_back ≡ false) → IsClearing 96 x y
     by_rest (inl q) (inl b) = due b q (let z = left_most c x y f in omega (arith, z))
     by_rest (inl q) (inr b) = done b q
     by_rest (inr q) b =
-        burst (λ z. absurd (omega (arith, q, z))) (none_left q (zero_or_more (world x).left))
+        burst (λ z. absurd (omega (arith, q, z))) (none_left q (zero_or_more (wire x).left))
         (let z = if_most x.go_back in omega (arith, z, q))
 
-good_open : (c : Setup) (x y : Side) → SideFacts c x y → IsGood (world x).far → x.is_open ≡ true
-good_open c x y f g = by_clears (zero_or_more (world x).clears)
+good_open : (c : Setup) (x y : Side) → SideFacts c x y → IsGood (wire x).far → x.is_open ≡ true
+good_open c x y f g = by_clears (zero_or_more (wire x).clears)
   where
     not_shut : (far : Reached) → IsGood far → IsShut far → ⊥
     not_shut between g s = s
@@ -481,8 +225,8 @@ good_open c x y f g = by_clears (zero_or_more (world x).clears)
     not_shut aborting g s = g
     not_shut spoilt g s = g
 
-    by_clears : ((world x).clears ≡ 0) ⊎ (1 ≤ (world x).clears) → x.is_open ≡ true
-    by_clears (inl q) = absurd (not_shut (world x).far g (f.shut q))
+    by_clears : ((wire x).clears ≡ 0) ⊎ (1 ≤ (wire x).clears) → x.is_open ≡ true
+    by_clears (inl q) = absurd (not_shut (wire x).far g (f.shut q))
     by_clears (inr q) = f.open_clears q
 
 settled_side : (c : Setup) (x y : Side) → SideFacts c x y → IsRid x → IsClearing 0 x y →

@@ -7,11 +7,12 @@ use Rattle.hmc_numbers.specs.Direction.Item.{filler, clear, part}
 use Rattle.hmc_numbers.specs.Events.{Reading}
 use Rattle.hmc_numbers.specs.Events.Reading.{plain, as_start, as_clear}
 use Rattle.hmc_codes.specs.declared.profile.Profile.{Profile}
-use Rattle.hmc_drain.specs.Lemmas.{IsFit}
-use Rattle.hmc_drain.specs.Steps.{Doing, MayAll, link_after, side_opening}
+use Rattle.hmc_link_state.specs.EachRound.{IsFit}
+use Rattle.hmc_link_state.specs.Steps.{Doing, MayAll, link_after, side_opening}
 use Rattle.hmc_drain.proofs.AfterSteps.{drains_any}
-use Rattle.hmc_drain.specs.Round.{Reads, front, sent_both, landed_forth, link_round, Moves, CubeRound, StaysIdle, IsRound, Rounds}
-use Rattle.hmc_drain.specs.State.{Setup, State, flits_of, AreFairSizes, crossing, inside_cube, under_way}
+use Rattle.hmc_link_state.specs.Round.{Reads, front, sent_both, landed_forth, link_round, Moves, CubeRound, StaysIdle, IsRound, Rounds}
+use Rattle.hmc_link_state.specs.State.{Setup, State, flits_of, AreFairSizes, crossing, inside_cube, under_way}
+use Rattle.hmc_link_state.proofs.Empty.{none}
 
 abbrev look_of : Item → Reading
 look_of (filler start) = as_start
@@ -70,10 +71,6 @@ none_or : (n : ℕ) → (n ≡ 0) ⊎ (1 ≤ n)
 none_or zero = inl refl
 none_or (suc n) = inr (omega arith)
 
-empty : (xs : List ℕ) → length xs ≡ 0 → xs ≡ []
-empty [] h = refl
-empty (x ∷ xs) h = absurd (omega (arith, h))
-
 instant_moves : (s : State) → 1 ≤ inside_cube s + length s.back.buffer → Moves s (instant s)
 unfolding instant
 instant_moves s h =
@@ -128,7 +125,7 @@ unfolding ends_with done
 cube_goes s (inl h) =
     inr (
       refl,
-      record { taken = empty s.back.buffer (omega (arith, h)); full = inr (omega (arith, h)) },
+      record { taken = none s.back.buffer (omega (arith, h)); full = inr (omega (arith, h)) },
     )
 cube_goes s (inr h) = inl (instant_moves s h)
 
@@ -148,9 +145,9 @@ rests_after : (s : State) (o : (inside_cube s + length s.back.buffer ≡ 0)
 unfolding ends_with done instant
 rests_after s (inl h) =
     λ q. (
-      empty s.forth.buffer (omega (arith, h)),
+      none s.forth.buffer (omega (arith, h)),
       omega (arith, h),
-      empty s.back.buffer (omega (arith, h)),
+      none s.back.buffer (omega (arith, h)),
     )
 rests_after s (inr h) = λ q. (refl, refl, refl)
 

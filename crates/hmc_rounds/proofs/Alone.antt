@@ -56,7 +56,7 @@ handed_alone t cube (goals.Vault vault) packet past all = all
 handed_alone t cube goals.Registers packet past all = all
 
 -- a direction from a port of a cube is that of answers
-clash_places : (start : Place) (h c p : ℕ) → start ≡ places.Host h → start ≡ places.Port c p → ⊥
+pub clash_places : (start : Place) (h c p : ℕ) → start ≡ places.Host h → start ≡ places.Port c p → ⊥
 clash_places start h c p x y = let z : places.Host h ≡ places.Port c p = sym x ∙ y in cc
 
 from_port : (t : Topology) (j : Joined t) → Wired t → (c p d : ℕ) →

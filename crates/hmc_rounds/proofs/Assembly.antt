@@ -10,12 +10,13 @@ use Rattle.hmc_schedule.specs.declared.step.Step.{Step}
 use Rattle.hmc_schedule.specs.declared.step.Step.TheVariants.{Give}
 use Rattle.hmc_schedule.specs.Round.{rounds_of}
 use Rattle.hmc_send.specs.LinkEntries.{LinkEntry}
-use Rattle.hmc_numbers.specs.Pointers.{window}
-use Rattle.hmc_drain.specs.Lemmas.{IsFit}
-use Rattle.hmc_drain.specs.Round.{Rounds}
-use Rattle.hmc_drain.specs.State as drain
-use Rattle.hmc_drain.specs.State.{State}
-use Rattle.hmc_drain.specs.Steps.{Doing, Link, DrainsAfter}
+use Rattle.hmc_codes.specs.Profile.{window_of as window}
+use Rattle.hmc_link_state.specs.EachRound.{IsFit}
+use Rattle.hmc_link_state.specs.Round.{Rounds}
+use Rattle.hmc_link_state.specs.State as drain
+use Rattle.hmc_link_state.specs.State.{State}
+use Rattle.hmc_link_state.specs.Steps.{Doing, Link}
+use Rattle.hmc_drain.specs.Drains.{DrainsAfter}
 use Rattle.hmc_entries.specs.declared.entry.Entry.{Entry}
 use Rattle.hmc_journal.specs.Hosts.{given_count}
 use Rattle.hmc_journal.specs.Links.{sizes_on, entries_on}

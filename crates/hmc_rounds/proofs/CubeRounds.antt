@@ -9,8 +9,8 @@ use Rattle.hmc_schedule.specs.declared.step.Step.TheVariants.{Shift, Spread, Ban
 use Rattle.hmc_schedule.specs.Plan.{vaults_at, banks_at}
 use Rattle.hmc_schedule.specs.Round.{shifts_of, spreads_of, banks_of, lifts_of}
 use Rattle.hmc_send.specs.LinkEntries.{LinkEntry}
-use Rattle.hmc_drain.specs.Round.{IsIdle, CubeRound}
-use Rattle.hmc_drain.specs.Steps.{Doing}
+use Rattle.hmc_link_state.specs.Round.{IsIdle, CubeRound}
+use Rattle.hmc_link_state.specs.Steps.{Doing}
 use Rattle.hmc_entries.specs.declared.entry.Entry.{Entry}
 use Rattle.hmc_journal.specs.Next.{next}
 use Rattle.hmc_journal.specs.Setup.{Setup, Topology}

@@ -16,9 +16,9 @@ use Rattle.hmc_send.specs.declared.toward.Toward.{Toward}
 use Rattle.hmc_send.specs.LinkEntries.{LinkEntry, other, put_if}
 use Rattle.hmc_send.specs.LinkEntries.LinkEntry.{handed, taken}
 use Rattle.hmc_serial.specs.Unit.{is_for_registers}
-use Rattle.hmc_rounds.proofs.Alone.{plain_before}
-use Rattle.hmc_drain.specs.Round.{Moves}
-use Rattle.hmc_drain.specs.Steps.{Doing}
+use Rattle.hmc_rounds.proofs.Alone.{plain_before, clash_places}
+use Rattle.hmc_link_state.specs.Round.{Moves}
+use Rattle.hmc_link_state.specs.Steps.{Doing}
 use Rattle.hmc_entries.specs.declared.outcome.Goal.{Goal}
 use Rattle.hmc_entries.specs.declared.outcome.Goal.TheVariants as goals
 use Rattle.hmc_entries.specs.declared.entry.Entry.{Entry}
@@ -59,9 +59,6 @@ put_back t j there is entry past =
     ∙ ap₂ (λ (n : ℕ) (w : Toward). put_if (n == 0) (entry w) past) j.link_back j.way_back
 
 -- what leaves a port of the cube leaves by the direction of answers
-clash_places : (start : Place) (h c p : ℕ) → start ≡ places.Host h → start ≡ places.Port c p → ⊥
-clash_places start h c p x y = let z : places.Host h ≡ places.Port c p = sym x ∙ y in cc
-
 pub out_is_back : (t : Topology) (j : Joined t) → Wired t → (out d : ℕ) →
     direction_from t (places.Port 0 out) ≡ Some d → d ≡ j.back
 out_is_back t j wires out d from =

@@ -10,10 +10,10 @@ use Rattle.hmc_send.specs.declared.toward.Toward.TheVariants.{Forth, Back}
 use Rattle.hmc_send.specs.LinkEntries.{LinkEntry, other, takes, accepted_packets}
 use Rattle.hmc_send.specs.LinkSenders.{queue_in, places_in}
 use Rattle.hmc_send.specs.Places.{is_token, takes_tokens}
-use Rattle.hmc_drain.specs.State as drain
-use Rattle.hmc_drain.specs.State.{State, Side, under_way, weight, inside_cube}
-use Rattle.hmc_drain.specs.Round.{Moves}
-use Rattle.hmc_drain.specs.Steps.{Doing, Link}
+use Rattle.hmc_link_state.specs.State as drain
+use Rattle.hmc_link_state.specs.State.{State, Side, under_way, weight, inside_cube}
+use Rattle.hmc_link_state.specs.Round.{Moves}
+use Rattle.hmc_link_state.specs.Steps.{Doing, Link}
 use Rattle.hmc_entries.specs.declared.entry.Entry.{Entry}
 use Rattle.hmc_journal.specs.Lawful.{Lawful}
 use Rattle.hmc_journal.specs.Links.{toward, link_sizes, link_entries, sizes_on, entries_on}

@@ -10,13 +10,14 @@ use Rattle.hmc_send.specs.declared.toward.Toward.TheVariants.{Forth, Back}
 use Rattle.hmc_send.specs.LinkEntries.{LinkEntry, other}
 use Rattle.hmc_send.specs.LinkSenders.{tokens}
 use Rattle.hmc_numbers.specs.Tokens.{transit_tokens}
-use Rattle.hmc_drain.specs.Facts.{Facts}
-use Rattle.hmc_drain.specs.State as drain
-use Rattle.hmc_drain.specs.State.{Side}
-use Rattle.hmc_drain.specs.Steps.{Doing, IsSettledLink, AnyLink}
+use Rattle.hmc_link_state.specs.Facts.{Facts}
+use Rattle.hmc_link_state.specs.State as drain
+use Rattle.hmc_link_state.specs.State.{Side}
+use Rattle.hmc_link_state.specs.Steps.{Doing, IsSettledLink}
+use Rattle.hmc_drain.specs.Drains.{AnyLink}
 use Rattle.hmc_drain.proofs.AfterSteps.{drains_settled, drains_any}
-use Rattle.hmc_drain.proofs.Empty.{empty}
-use Rattle.hmc_drain.proofs.StepFacts.{facts_after}
+use Rattle.hmc_link_state.proofs.Empty.{empty}
+use Rattle.hmc_link_state.proofs.StepFacts.{facts_after}
 use Rattle.hmc_entries.specs.declared.entry.Entry.{Entry}
 use Rattle.hmc_journal.specs.Counts.{token_counts}
 use Rattle.hmc_journal.specs.Drained.{is_drained, queues_of}

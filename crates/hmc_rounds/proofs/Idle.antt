@@ -23,7 +23,7 @@ use Rattle.hmc_schedule.specs.declared.step.Step.TheVariants as steps
 use Rattle.hmc_serial.specs.Machine.{State}
 use Rattle.hmc_vault.specs.Execute.{must_wait}
 use Rattle.hmc_vault.specs.declared.execute.Executed.TheVariants as executions
-use Rattle.hmc_drain.specs.Steps.{Doing}
+use Rattle.hmc_link_state.specs.Steps.{Doing}
 use Rattle.hmc_entries.specs.declared.outcome.Goal.{Goal}
 use Rattle.hmc_entries.specs.declared.outcome.Goal.TheVariants as goals
 use Rattle.hmc_entries.specs.declared.entry.Entry.{Entry}

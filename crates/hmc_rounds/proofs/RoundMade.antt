@@ -5,9 +5,9 @@ use Rattle.hmc_packet.specs.Packet.{PacketFields, flits_of}
 use Rattle.hmc_schedule.specs.declared.step.Step.{Step}
 use Rattle.hmc_schedule.specs.declared.step.Step.TheVariants.{Give, Send, Land}
 use Rattle.hmc_send.specs.LinkEntries.{LinkEntry}
-use Rattle.hmc_drain.specs.Round.{link_round, IsIdle, CubeRound, IsRound}
-use Rattle.hmc_drain.specs.State.{Side, State}
-use Rattle.hmc_drain.specs.Steps.{Doing, Link}
+use Rattle.hmc_link_state.specs.Round.{link_round, IsIdle, CubeRound, IsRound}
+use Rattle.hmc_link_state.specs.State.{Side, State}
+use Rattle.hmc_link_state.specs.Steps.{Doing, Link}
 use Rattle.hmc_entries.specs.declared.entry.Entry.{Entry}
 use Rattle.hmc_journal.specs.Hosts.{given_count}
 use Rattle.hmc_journal.specs.Lawful.{Lawful}

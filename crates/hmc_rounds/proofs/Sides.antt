@@ -6,11 +6,11 @@ use Rattle.hmc_send.specs.declared.toward.Toward.{Toward}
 use Rattle.hmc_send.specs.declared.toward.Toward.TheVariants.{Forth, Back}
 use Rattle.hmc_send.specs.LinkEntries.{LinkEntry, other}
 use Rattle.hmc_send.specs.LinkEntries.LinkEntry.{handed, taken}
-use Rattle.hmc_drain.specs.State as drain
-use Rattle.hmc_drain.specs.State.{Side, AreFairSizes}
-use Rattle.hmc_drain.specs.Steps.{Step, Doing, Link, MayAll, link_after}
-use Rattle.hmc_drain.specs.Steps.Step.{leaves, queues}
-use Rattle.hmc_drain.proofs.Keeps.{fair_append}
+use Rattle.hmc_link_state.specs.State as drain
+use Rattle.hmc_link_state.specs.State.{Side, AreFairSizes}
+use Rattle.hmc_link_state.specs.Steps.{Step, Doing, Link, MayAll, link_after}
+use Rattle.hmc_link_state.specs.Steps.Step.{leaves, queues}
+use Rattle.hmc_link_state.proofs.Keeps.{fair_append}
 use Rattle.hmc_rounds.specs.LinkPart.{sizes_by, doing_on, IsPlain, LinkPart}
 
 -- the parts of `Moves` that speak of the sides alone

@@ -30,9 +30,9 @@ use Rattle.hmc_schedule.specs.declared.step.Step.TheVariants as steps
 use Rattle.hmc_send.specs.LinkEntries.{LinkEntry}
 use Rattle.hmc_serial.specs.Unit.{is_for_registers}
 use Rattle.hmc_vault.specs.Execute.{must_wait}
-use Rattle.hmc_drain.specs.Round.{IsStuck}
-use Rattle.hmc_drain.specs.State.{inside_cube}
-use Rattle.hmc_drain.specs.Steps.{Doing}
+use Rattle.hmc_link_state.specs.Round.{IsStuck}
+use Rattle.hmc_link_state.specs.State.{inside_cube}
+use Rattle.hmc_link_state.specs.Steps.{Doing}
 use Rattle.hmc_entries.specs.declared.outcome.Goal.{Goal}
 use Rattle.hmc_entries.specs.declared.outcome.Goal.TheVariants as goals
 use Rattle.hmc_entries.specs.declared.entry.Entry.{Entry}

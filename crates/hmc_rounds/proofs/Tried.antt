@@ -5,10 +5,10 @@ use Rattle.std.specs.List.{flat_map}
 use Rattle.hmc_packet.specs.Packet.{PacketFields}
 use Rattle.hmc_schedule.specs.declared.step.Step.{Step}
 use Rattle.hmc_send.specs.LinkEntries.{LinkEntry}
-use Rattle.hmc_drain.specs.State.{State}
-use Rattle.hmc_drain.specs.Round.{Moves}
-use Rattle.hmc_drain.specs.Steps.{Doing, Link}
-use Rattle.hmc_drain.proofs.Tried.{moves_on}
+use Rattle.hmc_link_state.specs.State.{State}
+use Rattle.hmc_link_state.specs.Round.{Moves}
+use Rattle.hmc_link_state.specs.Steps.{Doing, Link}
+use Rattle.hmc_link_state.proofs.Tried.{moves_on}
 use Rattle.hmc_entries.specs.declared.entry.Entry.{Entry}
 use Rattle.hmc_entries.specs.declared.entry.Entry.TheVariants.{Idle}
 use Rattle.hmc_entries.specs.Event.{is_passed}
@@ -192,7 +192,8 @@ tried setup doings sc (step ∷ steps) rest past cube r b b' =
             idle,
             every_both (IsCubeStep setup.topology sc.joined)
                 (IsIdleAt setup (next setup past step ∷ past)) (IsIdleAt setup past)
-                (λ s c i. idle_before setup doings sc past (next setup past step ∷ past) same.queues s c
+                (λ s c i. idle_before setup doings sc past (next setup past step ∷ past) same.queues
+                s c
                 i) steps cube m.2,
           ),
         )

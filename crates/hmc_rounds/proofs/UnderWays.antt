@@ -6,9 +6,9 @@ use Rattle.hmc_codes.specs.declared.lift.Lift.TheVariants as lifts
 use Rattle.hmc_codes.specs.declared.place.Place.{Place}
 use Rattle.hmc_case.specs.Setup.{CubeSetupFields}
 use Rattle.hmc_send.specs.LinkEntries.{LinkEntry}
-use Rattle.hmc_drain.specs.State as drain
-use Rattle.hmc_drain.specs.State.{Side}
-use Rattle.hmc_drain.specs.Steps.{Doing}
+use Rattle.hmc_link_state.specs.State as drain
+use Rattle.hmc_link_state.specs.State.{Side}
+use Rattle.hmc_link_state.specs.Steps.{Doing}
 use Rattle.hmc_entries.specs.declared.entry.Entry.{Entry}
 use Rattle.hmc_journal.specs.Drained.{queues_of, directions_of, direction_queues, cube_queues, vault_queues}
 use Rattle.hmc_journal.specs.Lawful.{Lawful}

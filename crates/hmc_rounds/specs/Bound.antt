@@ -5,7 +5,7 @@ use Rattle.hmc_journal.specs.Drained.{is_drained}
 use Rattle.hmc_journal.specs.Network.{IsNetwork}
 use Rattle.hmc_journal.specs.Setup.{Setup}
 use Rattle.hmc_send.specs.LinkEntries.{LinkEntry}
-use Rattle.hmc_drain.specs.Steps.{Doing}
+use Rattle.hmc_link_state.specs.Steps.{Doing}
 use Rattle.hmc_journal.specs.Links.{sizes_on}
 use Rattle.hmc_rounds.specs.LinkPart.{LinkPart, LinkRounds, requests_of}
 use Rattle.hmc_rounds.specs.Single.{IsSingle}

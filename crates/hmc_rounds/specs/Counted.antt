@@ -1,8 +1,8 @@
 -- A journal of one cube and one link by numbers.
 use Rattle.std.specs.Prelude.{Bool, true, false, ◌||◌, not, List, [], ◌∷◌}
 use Rattle.hmc_send.specs.LinkEntries.{LinkEntry}
-use Rattle.hmc_drain.specs.State.{State}
-use Rattle.hmc_drain.specs.Steps.{Doing}
+use Rattle.hmc_link_state.specs.State.{State}
+use Rattle.hmc_link_state.specs.Steps.{Doing}
 use Rattle.hmc_entries.specs.declared.entry.Entry.{Entry}
 use Rattle.hmc_entries.specs.declared.entry.Entry.TheVariants.{Idle}
 use Rattle.hmc_schedule.specs.declared.step.Step.{Step}

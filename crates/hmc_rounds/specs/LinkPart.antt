@@ -13,11 +13,11 @@ use Rattle.hmc_send.specs.Places.{is_token, takes_tokens}
 use Rattle.hmc_wire.specs.LinkLaws.{IsKept}
 use Rattle.hmc_numbers.specs.Events.{Reading}
 use Rattle.hmc_numbers.specs.Tokens.{transit_tokens}
-use Rattle.hmc_drain.specs.State as drain
-use Rattle.hmc_drain.specs.State.{Side, State}
-use Rattle.hmc_drain.specs.Round.{Reads, front, sent_both, landed_forth, link_round}
-use Rattle.hmc_drain.specs.Steps.{Step, Doing, Link, MayAll, link_after}
-use Rattle.hmc_drain.specs.Steps.Step.{leaves, queues}
+use Rattle.hmc_link_state.specs.State as drain
+use Rattle.hmc_link_state.specs.State.{Side, State}
+use Rattle.hmc_link_state.specs.Round.{Reads, front, sent_both, landed_forth, link_round}
+use Rattle.hmc_link_state.specs.Steps.{Step, Doing, Link, MayAll, link_after}
+use Rattle.hmc_link_state.specs.Steps.Step.{leaves, queues}
 use Rattle.hmc_entries.specs.declared.entry.Entry.{Entry}
 use Rattle.hmc_journal.specs.Lawful.{Lawful, has_passed}
 use Rattle.hmc_journal.specs.Links.{toward, sizes_on, entries_on}

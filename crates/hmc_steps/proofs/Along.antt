@@ -1,6 +1,6 @@
 -- What holds of every kept list beside hmc_wire's laws: the pointer that was shown last is that of
--- told_in, pending flits are of a packet with a length, and no more fronts were taken than packets
--- were handed.
+-- ack_sent_in, pending flits are of a packet with a length, and no more fronts were taken than
+-- packets were handed.
 use Rattle.std.proofs.Common.{◌≡◌, ◌∙◌, ◌+◌, ◌≤◌, ℕ, Bool, true, false, List, [], ◌∷◌, length, drop, Option, Some, None, refl, sym, ap, arith, length-append}
 use Rattle.std.specs.Prelude.{if◌then◌else◌, is_none, slice_get}
 use Rattle.hmc_codes.specs.Link.{LinkFields}
@@ -23,6 +23,7 @@ use Rattle.hmc_send.specs.LinkLines.{line}
 use Rattle.hmc_send.specs.LinkSenders.{sender_entries, given_in, given_after}
 use Rattle.hmc_send.proofs.LinkLawful.{lawful-sent, lawful-landed}
 use Rattle.hmc_numbers.specs.Pointers.{pointer}
+use Rattle.hmc_wire.proofs.Queued.{front-some}
 use Rattle.hmc_wire.specs.Conditions.{AreFed}
 use Rattle.hmc_wire.specs.EntryTurns.{turns_of}
 use Rattle.hmc_wire.specs.FieldsAre.{half_after}
@@ -30,11 +31,10 @@ use Rattle.hmc_wire.specs.LinkLaws.{IsKept}
 use Rattle.hmc_wire.proofs.EntryTurns.{kept-before, fields-are}
 use Rattle.hmc_wire.proofs.Links.{env-of}
 use Rattle.hmc_wire.proofs.Ways.{lists_in, front-below}
-use Rattle.hmc_steps.specs.SideIn.{told_in}
+use Rattle.hmc_steps.specs.SideIn.{ack_sent_in}
 use Rattle.hmc_steps.proofs.Grows.{half-grows, pointer-grows}
 use Rattle.hmc_steps.proofs.Landed.{IsFewFirst, pending-few}
 use Rattle.hmc_steps.proofs.LandStep.{shown-pointers, shown-fronts}
-use Rattle.hmc_steps.proofs.Sends.{front-some}
 use Rattle.hmc_steps.proofs.Wired.{wired, side_with}
 
 pub fed-of : (link : LinkFields) (d : Toward) (past : List LinkEntry) → IsKept link past →
@@ -45,16 +45,17 @@ fed-of link Back past kept = kept.met.back
 -- ---- the pointer that was shown last
 
 pub record Shown (link : LinkFields) (d : Toward) (past : List LinkEntry) : Type 0 where
-  pub below : told_in link d past ≤ length (accepted_packets link.profile (other d) past)
+  pub below : ack_sent_in link d past ≤ length (accepted_packets link.profile (other d) past)
   pub shown : shown_pointer (sender_entries link d past) ≡ pointer link.profile
-      (half_after link (other d) past).direction.first (told_in link d past)
+      (half_after link (other d) past).direction.first (ack_sent_in link d past)
 
 -- an entry that shows none in this direction
 kept-shown : (link : LinkFields) (d : Toward) (e : LinkEntry) (past : List LinkEntry) →
-    IsKept link (e ∷ past) → Shown link d past → told_in link d (e ∷ past) ≡ told_in link d past →
+    IsKept link (e ∷ past) → Shown link d past → ack_sent_in link d (e ∷ past) ≡ ack_sent_in link d
+    past →
     shown_pointer (sender_entries link d (e ∷ past)) ≡ shown_pointer (sender_entries link d past) →
     Shown link d (e ∷ past)
-kept-shown link d e past kept is told pointers =
+kept-shown link d e past kept is ack pointers =
     let before = kept-before link e past kept in
     let g = half-grows link e past (other d) kept in
     let a = (fields-are link (other d) past before).accepted in
@@ -67,9 +68,9 @@ kept-shown link d e past kept is told pointers =
       shown =
           pointers ∙ is.shown
           ∙ pointer-grows link.profile (half_after link (other d) past).direction
-          (half_after link (other d) (e ∷ past)).direction (told_in link d past) g (omega arith)
+          (half_after link (other d) (e ∷ past)).direction (ack_sent_in link d past) g (omega arith)
           ∙ ap (pointer link.profile (half_after link (other d) (e ∷ past)).direction.first)
-          (sym told);
+          (sym ack);
     }
 
 -- what is shown is the pointer of what is accepted
@@ -96,7 +97,7 @@ pointer-zero Two = refl
 sent-shown_forth : (link : LinkFields) (past : List LinkEntry) (feed : Feed) (w : What)
     (flit : List ℕ) → IsKept link (entry.sent Forth feed w flit ∷ past) → Shown link Forth past →
     Shown link Forth (entry.sent Forth feed w flit ∷ past)
-unfolding sender_entries receiver_entries told_in shown_pointer turns_of
+unfolding sender_entries receiver_entries ack_sent_in shown_pointer turns_of
 sent-shown_forth link past feed w flit kept is =
     by_shows (shows_pointer w flit (unfinished (sender_entries link Forth past))) refl
   where
@@ -106,10 +107,10 @@ sent-shown_forth link past feed w flit kept is =
     by_shows : (b : Bool) → shows_pointer w flit (unfinished (sender_entries link Forth past)) ≡ b →
         Shown link Forth (entry.sent Forth feed w flit ∷ past)
     by_shows true e =
-        let told : told_in link Forth (entry.sent Forth feed w flit ∷ past) ≡ length
+        let ack : ack_sent_in link Forth (entry.sent Forth feed w flit ∷ past) ≡ length
         (accepted_packets link.profile Back past) =
         ap (λ (b : Bool). if b then length (accepted_packets link.profile Back past)
-        else told_in link Forth past) e in
+        else ack_sent_in link Forth past) e in
         let same : shown_pointer (sender_entries link Forth (entry.sent Forth feed w flit ∷ past))
         ≡ (given_in link Forth past feed).own.rrp =
         ap (λ (b : Bool). if b then (given_in link Forth past feed).own.rrp
@@ -117,19 +118,19 @@ sent-shown_forth link past feed w flit kept is =
         record {
           below = omega arith;
           shown = same ∙ rrp-is link Forth past feed before
-              ∙ ap (pointer link.profile (half_after link Back past).direction.first) (sym told);
+              ∙ ap (pointer link.profile (half_after link Back past).direction.first) (sym ack);
         }
     by_shows false e =
         kept-shown link Forth (entry.sent Forth feed w flit) past kept is
         (ap (λ (b : Bool). if b then length (accepted_packets link.profile Back past)
-        else told_in link Forth past) e)
+        else ack_sent_in link Forth past) e)
         (ap (λ (b : Bool). if b then (given_in link Forth past feed).own.rrp
         else shown_pointer (sender_entries link Forth past)) e)
 
 sent-shown_back : (link : LinkFields) (past : List LinkEntry) (feed : Feed) (w : What)
     (flit : List ℕ) → IsKept link (entry.sent Back feed w flit ∷ past) → Shown link Back past →
     Shown link Back (entry.sent Back feed w flit ∷ past)
-unfolding sender_entries receiver_entries told_in shown_pointer turns_of
+unfolding sender_entries receiver_entries ack_sent_in shown_pointer turns_of
 sent-shown_back link past feed w flit kept is =
     by_shows (shows_pointer w flit (unfinished (sender_entries link Back past))) refl
   where
@@ -139,10 +140,10 @@ sent-shown_back link past feed w flit kept is =
     by_shows : (b : Bool) → shows_pointer w flit (unfinished (sender_entries link Back past)) ≡ b →
         Shown link Back (entry.sent Back feed w flit ∷ past)
     by_shows true e =
-        let told : told_in link Back (entry.sent Back feed w flit ∷ past) ≡ length
+        let ack : ack_sent_in link Back (entry.sent Back feed w flit ∷ past) ≡ length
         (accepted_packets link.profile Forth past) =
         ap (λ (b : Bool). if b then length (accepted_packets link.profile Forth past)
-        else told_in link Back past) e in
+        else ack_sent_in link Back past) e in
         let same : shown_pointer (sender_entries link Back (entry.sent Back feed w flit ∷ past))
         ≡ (given_in link Back past feed).own.rrp =
         ap (λ (b : Bool). if b then (given_in link Back past feed).own.rrp
@@ -150,18 +151,18 @@ sent-shown_back link past feed w flit kept is =
         record {
           below = omega arith;
           shown = same ∙ rrp-is link Back past feed before
-              ∙ ap (pointer link.profile (half_after link Forth past).direction.first) (sym told);
+              ∙ ap (pointer link.profile (half_after link Forth past).direction.first) (sym ack);
         }
     by_shows false e =
         kept-shown link Back (entry.sent Back feed w flit) past kept is
         (ap (λ (b : Bool). if b then length (accepted_packets link.profile Forth past)
-        else told_in link Back past) e)
+        else ack_sent_in link Back past) e)
         (ap (λ (b : Bool). if b then (given_in link Back past feed).own.rrp
         else shown_pointer (sender_entries link Back past)) e)
 
 pub shown-forth : (link : LinkFields) (past : List LinkEntry) → IsKept link past →
     Shown link Forth past
-unfolding sender_entries receiver_entries told_in shown_pointer turns_of
+unfolding sender_entries receiver_entries ack_sent_in shown_pointer turns_of
 shown-forth link [] kept = record { below = omega arith; shown = pointer-zero link.profile }
 shown-forth link (entry.handed v packet ∷ past) kept =
     kept-shown link Forth (entry.handed v packet) past kept
@@ -195,7 +196,7 @@ shown-forth link (entry.through Back head flits ∷ past) kept =
 
 pub shown-back : (link : LinkFields) (past : List LinkEntry) → IsKept link past →
     Shown link Back past
-unfolding sender_entries receiver_entries told_in shown_pointer turns_of
+unfolding sender_entries receiver_entries ack_sent_in shown_pointer turns_of
 shown-back link [] kept = record { below = omega arith; shown = pointer-zero link.profile }
 shown-back link (entry.handed v packet ∷ past) kept =
     kept-shown link Back (entry.handed v packet) past kept

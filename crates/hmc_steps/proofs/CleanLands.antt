@@ -1,5 +1,4 @@
--- The landing of a flit that isn't changed is the one that hmc_drain's rounds make. For part B;
--- cited by none yet.
+-- The landing of a flit that isn't changed is the one that the rounds of hmc_link_state make.
 use Rattle.std.proofs.Common.{◌≡◌, ◌∙◌, ◌+◌, ◌≤◌, ℕ, zero, suc, Bool, true, false, List, [], ◌∷◌, Option, Some, None, refl, sym, ap, subst, arith}
 use Rattle.std.specs.Prelude.{◌==◌, ◌&&◌, nat_le, if◌then◌else◌, is_some}
 use Rattle.std.proofs.lemmas.Grind.{common_steps}
@@ -16,11 +15,11 @@ use Rattle.hmc_wire.proofs.GrammarLandings.Mode.{abort, good}
 use Rattle.hmc_wire.proofs.GrammarLandings.Outcome.{quiet, trained, gathered, accepted, poisoned, repeated, aborted, disordered, ran}
 use Rattle.hmc_wire.proofs.GrammarCounted.{counted_run, counted_alone, counted_read, counted_good}
 use Rattle.hmc_wire.proofs.LandOutcomes.{good_null, good_flow}
-use Rattle.hmc_steps.proofs.LandTells.{counted_flow}
 use Rattle.hmc_wire.proofs.Matches.{reading_of, event_of}
 use Rattle.hmc_wire.proofs.Spelled.{Sent, Spelled}
-use Rattle.hmc_drain.specs.State.{Side, world}
-use Rattle.hmc_drain.specs.Round.{Reads, event_in_good, event_in_abort, is_start_item, is_start_look, is_ran_start_at, is_counted_at}
+use Rattle.hmc_wire.proofs.LandCounted.{null_none, flow_counts}
+use Rattle.hmc_link_state.specs.State.{Side, wire}
+use Rattle.hmc_link_state.specs.Round.{Reads, event_in_good, event_in_abort, is_start_item, is_start_look, is_ran_start_at, is_counted_at}
 
 -- ---- readings
 
@@ -57,7 +56,7 @@ abort-event G past n t c (Some (kinds.clear, r)) e =
     abort_by G.Bad c t (run G kinds.clear past == 23) r
     ∙ ap (λ (m : ℕ). if m == 23 then opens else drops as_clear) e
 
--- its pointer is counted, and it ends a run of Starts, where hmc_drain says so
+-- its pointer is counted, and it ends a run of Starts, where hmc_link_state says so
 
 abbrev pub is_ran : {B : Type 0} → Outcome B → Bool
 is_ran (ran kinds.start) = true
@@ -71,7 +70,7 @@ ran_by B kinds.clear true = refl
 ran_by B kinds.clear false = refl
 
 pub abort-ran : (G : Grammar) (past : Landings G) (x : Side) (a : Option (Kind × ℕ)) →
-    run G kinds.start past ≡ (world x).start_run →
+    run G kinds.start past ≡ (wire x).start_run →
     is_ran (in_abort G past a) ≡ is_ran_start_at x far.aborting (reading_of a)
 abort-ran G past x None e = refl
 abort-ran G past x (Some (kinds.start, r)) e =
@@ -89,13 +88,13 @@ counted-run n r = by_test (nat_le 23 n)
 long_of : (n : ℕ) → (n == 23) ≡ true → nat_le 23 n ≡ true
 long_of n e = grind (arith, common_steps)
 
-clear-counts : (x : Side) (n : ℕ) (b : Bool) → (n == 23) ≡ b → n ≡ (world x).clear_run →
+clear-counts : (x : Side) (n : ℕ) (b : Bool) → (n == 23) ≡ b → n ≡ (wire x).clear_run →
     nat_le 23 n ≡ is_counted_at x far.aborting (if b then opens else drops as_clear)
 clear-counts x n true e h = long_of n e
 clear-counts x n false e h = ap (λ (m : ℕ). nat_le 23 m) h
 
 pub abort-counted : (G : Grammar) (past : Landings G) (x : Side) (a : Option (Kind × ℕ)) →
-    run G kinds.clear past ≡ (world x).clear_run → run G kinds.start past ≡ (world x).start_run →
+    run G kinds.clear past ≡ (wire x).clear_run → run G kinds.start past ≡ (wire x).start_run →
     is_some (counted_alone G past a) ≡ is_counted_at x far.aborting
     (event_in_abort (run G kinds.clear past) (reading_of a))
 abort-counted G past x None c s = refl
@@ -175,11 +174,6 @@ good-event G w x xs look repeated r e g h m = repeats_same w x xs r e m
 good-event G w x xs look (aborted b) r e g h m = absurd (untouched w.far g m.0)
 good-event G w x xs look disordered r e g h m = absurd (untouched w.far g m.0)
 
-counted_null : (G : Grammar) (past : Landings G) (fs : List G.Flit) (f : G.Flit) → fs ≡ [] →
-    G.is_null f ≡ true → counted_good G past fs f ≡ None
-counted_null G past [] f p z = rw z refl
-counted_null G past (g ∷ gs) f p z = absurd (cc p)
-
 -- likewise the pointer and the run of a flit that is no part of a packet
 
 abbrev pub IsNoPartItem : Item → Type 0
@@ -219,17 +213,17 @@ pub good-counted : (G : Grammar) (s : Sent G) (w : Direction) (past : Landings G
     (y ≡ filler fill.train → ⊥) →
     is_some (counted_good G past (pending G past) f) ≡ item_counts w y
 good-counted G s w past (filler fill.null) f nothing c e p h t =
-    ap (λ (o : Option ℕ). is_some o) (counted_null G past (pending G past) f nothing h.0)
+    ap (λ (o : Option ℕ). is_some o) (null_none G past (pending G past) f nothing h.0)
 good-counted G s w past (filler fill.train) f nothing c e p h t = absurd (t refl)
 good-counted G s w past (filler fill.pret) f nothing c e p h t =
-    ap (λ (o : Option ℕ). is_some o) (counted_flow G past (pending G past) f nothing h.some h.lng
+    ap (λ (o : Option ℕ). is_some o) (flow_counts G past (pending G past) f nothing h.some h.lng
     ∙ ap (counted_read G past) h.read)
 good-counted G s w past (filler fill.start) f nothing c e p h t =
-    ap (λ (o : Option ℕ). is_some o) (counted_flow G past (pending G past) f nothing h.some h.lng
+    ap (λ (o : Option ℕ). is_some o) (flow_counts G past (pending G past) f nothing h.some h.lng
     ∙ ap (counted_read G past) h.read)
     ∙ counted-run (run G kinds.start past) h.r ∙ ap (λ (n : ℕ). nat_le 23 n) e
 good-counted G s w past clear f nothing c e p h t =
-    ap (λ (o : Option ℕ). is_some o) (counted_flow G past (pending G past) f nothing h.some h.lng
+    ap (λ (o : Option ℕ). is_some o) (flow_counts G past (pending G past) f nothing h.some h.lng
     ∙ ap (counted_read G past) h.read)
     ∙ counted-run (run G kinds.clear past) h.r ∙ ap (λ (n : ℕ). nat_le 23 n) c
 good-counted G s w past (part n k more) f nothing c e p h t = absurd p

@@ -3,30 +3,25 @@ use Rattle.std.proofs.Common.{◌≡◌, ◌∙◌, ◌≤◌, ◌<◌, ℕ, Boo
 use Rattle.std.specs.Prelude.{◌==◌, nat_le, nat_lt, if◌then◌else◌}
 use Rattle.std.proofs.lemmas.Grind.{common_steps}
 use Rattle.hmc_tokens.specs.Account.{tokens_of_code, code_for}
-use Rattle.hmc_drain.specs.Choice.{tokens_for}
+use Rattle.hmc_link_state.specs.Choice.{tokens_for}
+use Rattle.hmc_link_state.proofs.Chosen.{most_le, most_not}
 
-le-of : (a b : ℕ) → nat_le a b ≡ true → a ≤ b
-le-of a b is = grind (arith, common_steps)
-
-lt-of : (a b : ℕ) → nat_le a b ≡ false → b < a
-lt-of a b is = grind (arith, common_steps)
-
-le-is : (a b : ℕ) → a ≤ b → nat_le a b ≡ true
+pub le-is : (a b : ℕ) → a ≤ b → nat_le a b ≡ true
 le-is a b le = grind (arith, common_steps)
 
 le-not : (a b : ℕ) → b < a → nat_le a b ≡ false
 le-not a b lt = grind (arith, common_steps)
 
-lt-is : (a b : ℕ) → a < b → nat_lt a b ≡ true
+pub lt-is : (a b : ℕ) → a < b → nat_lt a b ≡ true
 lt-is a b lt = grind (arith, common_steps)
 
-lt-not : (a b : ℕ) → b ≤ a → nat_lt a b ≡ false
+pub lt-not : (a b : ℕ) → b ≤ a → nat_lt a b ≡ false
 lt-not a b le = grind (arith, common_steps)
 
 zero-is : (a : ℕ) → a < 1 → (a == 0) ≡ true
 zero-is a lt = grind (arith, common_steps)
 
-zero-not : (a : ℕ) → 1 ≤ a → (a == 0) ≡ false
+pub zero-not : (a : ℕ) → 1 ≤ a → (a == 0) ≡ false
 zero-not a le = grind (arith, common_steps)
 
 abbrev by_numbers : (a b c d e f g : Bool) → ℕ
@@ -141,37 +136,37 @@ range_7 due lo =
 
 by_1 : (due : ℕ) (b : Bool) → nat_le 1 due ≡ b → due < 2 →
     tokens_for due ≡ tokens_of_code (code_for due)
-by_1 due true e hi = range_1 due (le-of 1 due e) hi
-by_1 due false e hi = range_0 due (lt-of 1 due e)
+by_1 due true e hi = range_1 due (most_le 1 due e) hi
+by_1 due false e hi = range_0 due (most_not 1 due e)
 
 by_2 : (due : ℕ) (b : Bool) → nat_le 2 due ≡ b → due < 4 →
     tokens_for due ≡ tokens_of_code (code_for due)
-by_2 due true e hi = range_2 due (le-of 2 due e) hi
-by_2 due false e hi = by_1 due (nat_le 1 due) refl (lt-of 2 due e)
+by_2 due true e hi = range_2 due (most_le 2 due e) hi
+by_2 due false e hi = by_1 due (nat_le 1 due) refl (most_not 2 due e)
 
 by_4 : (due : ℕ) (b : Bool) → nat_le 4 due ≡ b → due < 8 →
     tokens_for due ≡ tokens_of_code (code_for due)
-by_4 due true e hi = range_3 due (le-of 4 due e) hi
-by_4 due false e hi = by_2 due (nat_le 2 due) refl (lt-of 4 due e)
+by_4 due true e hi = range_3 due (most_le 4 due e) hi
+by_4 due false e hi = by_2 due (nat_le 2 due) refl (most_not 4 due e)
 
 by_8 : (due : ℕ) (b : Bool) → nat_le 8 due ≡ b → due < 16 →
     tokens_for due ≡ tokens_of_code (code_for due)
-by_8 due true e hi = range_4 due (le-of 8 due e) hi
-by_8 due false e hi = by_4 due (nat_le 4 due) refl (lt-of 8 due e)
+by_8 due true e hi = range_4 due (most_le 8 due e) hi
+by_8 due false e hi = by_4 due (nat_le 4 due) refl (most_not 8 due e)
 
 by_16 : (due : ℕ) (b : Bool) → nat_le 16 due ≡ b → due < 32 →
     tokens_for due ≡ tokens_of_code (code_for due)
-by_16 due true e hi = range_5 due (le-of 16 due e) hi
-by_16 due false e hi = by_8 due (nat_le 8 due) refl (lt-of 16 due e)
+by_16 due true e hi = range_5 due (most_le 16 due e) hi
+by_16 due false e hi = by_8 due (nat_le 8 due) refl (most_not 16 due e)
 
 by_32 : (due : ℕ) (b : Bool) → nat_le 32 due ≡ b → due < 64 →
     tokens_for due ≡ tokens_of_code (code_for due)
-by_32 due true e hi = range_6 due (le-of 32 due e) hi
-by_32 due false e hi = by_16 due (nat_le 16 due) refl (lt-of 32 due e)
+by_32 due true e hi = range_6 due (most_le 32 due e) hi
+by_32 due false e hi = by_16 due (nat_le 16 due) refl (most_not 32 due e)
 
 by_64 : (due : ℕ) (b : Bool) → nat_le 64 due ≡ b → tokens_for due ≡ tokens_of_code (code_for due)
-by_64 due true e = range_7 due (le-of 64 due e)
-by_64 due false e = by_32 due (nat_le 32 due) refl (lt-of 64 due e)
+by_64 due true e = range_7 due (most_le 64 due e)
+by_64 due false e = by_32 due (nat_le 32 due) refl (most_not 64 due e)
 
 pub tokens-same : (due : ℕ) → tokens_for due ≡ tokens_of_code (code_for due)
 tokens-same due = by_64 due (nat_le 64 due) refl

@@ -1,6 +1,6 @@
 -- The drain bound of hmc_drain at the steps of a kept list.
 use Rattle.std.proofs.Common.{◌∙◌, sym, ap, subst}
-use Rattle.hmc_drain.specs.Steps.{Link, IsSettledLink}
+use Rattle.hmc_link_state.specs.Steps.{Link, IsSettledLink}
 use Rattle.hmc_drain.proofs.AfterSteps.{drains_settled, drains_any}
 use Rattle.hmc_steps.specs.Doings.{doings_of}
 use Rattle.hmc_steps.specs.Drains.{DrainsFrom, AnyList}

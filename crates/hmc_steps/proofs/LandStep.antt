@@ -14,14 +14,15 @@ use Rattle.hmc_packet.specs.Packet.{PacketFields, flits_of}
 use Rattle.hmc_packet.specs.Receptions.{reception_of}
 use Rattle.hmc_send.specs.Entries as entries
 use Rattle.hmc_send.specs.Entries.{SenderEntry}
-use Rattle.hmc_send.specs.LinkLines.{StampedFlit, changes, under_mask}
+use Rattle.hmc_packet.specs.Masks.{changes, under_mask}
+use Rattle.hmc_send.specs.LinkLines.{StampedFlit}
 use Rattle.hmc_send.specs.LinkSenders.{run_entries, acknowledgement}
 use Rattle.hmc_send.specs.LinkTokens.{flits_taken, flits_accepted}
 use Rattle.hmc_send.specs.Places.{is_token}
 use Rattle.hmc_numbers.specs.Direction.{Reached}
 use Rattle.hmc_numbers.specs.Events.{Event, happens}
 use Rattle.hmc_numbers.specs.Pair.{Half, Move as moves, Way as ways, way, stamps_after, event_at, own_after, other_after}
-use Rattle.hmc_numbers.specs.Pointers.{window}
+use Rattle.hmc_codes.specs.Profile.{window_of as window}
 use Rattle.hmc_numbers.specs.Tokens.{used_tokens}
 use Rattle.hmc_numbers.specs.Turns.{MayMove, MayHere}
 use Rattle.hmc_numbers.proofs.Effect.{effect}
@@ -41,15 +42,15 @@ use Rattle.hmc_wire.proofs.Spelled.{Sent}
 use Rattle.hmc_wire.proofs.Ways.{Lists, Way, lists_landed}
 use Rattle.hmc_wire.proofs.Others.{lists_shown}
 use Rattle.hmc_wire.proofs.Words.{mode_as, outcome_as}
-use Rattle.hmc_drain.specs.Facts.{SideFacts}
-use Rattle.hmc_drain.specs.Landing.{Lands, took}
-use Rattle.hmc_drain.specs.State.{Setup, Side, world}
-use Rattle.hmc_drain.specs.State as drained
-use Rattle.hmc_drain.specs.Steps.{Step, MayStep, own_step}
+use Rattle.hmc_link_state.specs.Facts.{SideFacts}
+use Rattle.hmc_link_state.specs.Landing.{Lands, took}
+use Rattle.hmc_link_state.specs.State.{Setup, Side, wire}
+use Rattle.hmc_link_state.specs.State as drained
+use Rattle.hmc_link_state.specs.Steps.{Step, MayStep, own_step}
 use Rattle.hmc_steps.specs.Doings.{is_ran_start}
 use Rattle.hmc_steps.specs.SideIn.{lacking}
 use Rattle.hmc_steps.proofs.Landed.{event_in, landing-event_is, is-landing, move-same, ran-start, IsFewFirst, lacks-some, trained-few}
-use Rattle.hmc_steps.proofs.LandTells.{Tells, tells}
+use Rattle.hmc_steps.proofs.Outcomes.{OutcomeFacts, outcome_facts}
 use Rattle.hmc_steps.proofs.Sides.{side_of, setup}
 
 -- ---- the buffer
@@ -175,24 +176,25 @@ shown-open _ (Some r) None t = refl
 shown-open _ None front t = refl
 
 pub took-same : (q : Profile) (line retry adv : ℕ) (mine theirs : Lists q) (own oth : Half)
-    (told their_told missing their_missing : ℕ) (e : Event) (o : outer_outcome.Outcome)
+    (ack their_ack missing their_missing : ℕ) (e : Event) (o : outer_outcome.Outcome)
     (rrp : Option ℕ) (front : Option StampedFlit) →
-    took (side_of q own mine told missing) (side_of q oth theirs their_told their_missing) e
+    took (side_of q own mine ack missing) (side_of q oth theirs their_ack their_missing) e
     (is_some rrp) (is_ran_start o)
     ≡ side_of q (other_after own oth (counted_move rrp e)) (lists_shown theirs o rrp front)
-    their_told their_missing
-took-same q line retry adv mine theirs own oth told their_told missing their_missing e o rrp front =
+    their_ack their_missing
+took-same q line retry adv mine theirs own oth ack their_ack missing their_missing e o rrp front =
     λ i. record {
       half = other_after own oth (sym (move-same rrp e) i);
       starts = sym (shown-starts o rrp front theirs.sender) i;
       others = sym (shown-others o rrp front theirs.sender) i;
       go_back = shown-back o rrp front theirs.sender i;
       is_open = shown-open o rrp front theirs.sender i;
-      told = their_told;
+      ack_sent = their_ack;
       steady = receipts.training q theirs.receiver;
       missing = their_missing;
       queue = map flits_of (drop (sym (shown-fronts o rrp front theirs.sender) i) theirs.handed);
-      buffer = map flits_of (drop theirs.taken (filter is_token (receipts.accepted q theirs.receiver)));
+      buffer = map flits_of (drop theirs.taken (filter is_token
+          (receipts.accepted q theirs.receiver)));
     }
 
 -- ---- the step
@@ -234,12 +236,12 @@ lands_step q mine mask flit o missing =
     (drop mine.taken (filter is_token (receipts.accepted q (Land flit o ∷ mine.receiver)))))
 
 pub lands-may : (q : Profile) (line retry adv : ℕ) (mine theirs : Lists q) (s : Sent (grammar q))
-    (own oth : SideOf (grammar q)) (told their_told missing their_missing next_missing : ℕ)
+    (own oth : SideOf (grammar q)) (ack their_ack missing their_missing next_missing : ℕ)
     (mask flit : List ℕ) (o : outer_outcome.Outcome) (front : StampedFlit) → retry ≤ window q →
     Way q retry mine own → Linked (grammar q) s retry adv own oth →
     IsLandingOf q mine mask flit o front →
-    SideFacts (setup line retry adv) (side_of q own.half mine told missing)
-    (side_of q oth.half theirs their_told their_missing) →
+    SideFacts (setup line retry adv) (side_of q own.half mine ack missing)
+    (side_of q oth.half theirs their_ack their_missing) →
     IsFewFirst (receipts.pending mine.receiver) →
     next_missing ≡ lacking (receipts.pending (Land flit o ∷ mine.receiver)) →
     MayMove retry adv own.half oth.half
@@ -251,17 +253,17 @@ pub lands-may : (q : Profile) (line retry adv : ℕ) (mine theirs : Lists q) (s 
     (own_after own.half oth.half.direction.accepted
     (counted_move (reception_of q mine.receiver flit).rrp
     (event_in q mine (changes mask) flit o))) →
-    MayStep (setup line retry adv) (side_of q own.half mine told missing)
-    (side_of q oth.half theirs their_told their_missing)
+    MayStep (setup line retry adv) (side_of q own.half mine ack missing)
+    (side_of q oth.half theirs their_ack their_missing)
     (lands_step q mine mask flit o next_missing)
-    × (own_step (setup line retry adv) (side_of q own.half mine told missing)
-    (side_of q oth.half theirs their_told their_missing)
+    × (own_step (setup line retry adv) (side_of q own.half mine ack missing)
+    (side_of q oth.half theirs their_ack their_missing)
     (lands_step q mine mask flit o next_missing)
     ≡ side_of q
     (own_after own.half oth.half.direction.accepted
     (counted_move (reception_of q mine.receiver flit).rrp
-    (event_in q mine (changes mask) flit o))) (lists_landed mine mask flit o) told next_missing)
-lands-may q line retry adv mine theirs s own oth told their_told missing their_missing next_missing
+    (event_in q mine (changes mask) flit o))) (lists_landed mine mask flit o) ack next_missing)
+lands-may q line retry adv mine theirs s own oth ack their_ack missing their_missing next_missing
     mask flit o front few is linked l side pending next may fills =
     let g = grammar q in
     let c = changes mask in
@@ -283,12 +285,12 @@ lands-may q line retry adv mine theirs s own oth told their_told missing their_m
     subst (λ (x : Event). way x ≡ ways.lands) event
     (event_lands (mode g own.received) (c || is_spoilt g own.received) c
     (reading_of (alone q flit)) (inner.outcome g own.received flit)) in
-    let told_is : Tells w (outcome_as o) e rrp =
-    subst (λ (x : Option ℕ). Tells w (outcome_as o) e x) pointer
-    (subst (λ (x : Event). Tells w (outcome_as o) x (counted g own.received flit)) event
-    (subst (λ (x : Outcome g.Bad). Tells w x (landing_event g own.received c flit)
+    let facts_are : OutcomeFacts w (outcome_as o) e rrp =
+    subst (λ (x : Option ℕ). OutcomeFacts w (outcome_as o) e x) pointer
+    (subst (λ (x : Event). OutcomeFacts w (outcome_as o) x (counted g own.received flit)) event
+    (subst (λ (x : Outcome g.Bad). OutcomeFacts w x (landing_event g own.received c flit)
     (counted g own.received flit)) outcome
-    (tells g s retry w own.received f.front.0 f.front.1.0 c flit f.front.1.1 done.may))) in
+    (outcome_facts g s retry w own.received f.front.0 f.front.1.0 c flit f.front.1.1 done.may))) in
     let after : IsAt g s (happens w e).first (happens w e).far
     (mode g (inner.landed c flit (inner.outcome g own.received flit) ∷ own.received))
     (is_spoilt g (inner.landed c flit (inner.outcome g own.received flit) ∷ own.received))
@@ -299,18 +301,18 @@ lands-may q line retry adv mine theirs s own oth told their_told missing their_m
     (inner.pending g (inner.landed c flit (inner.outcome g own.received flit) ∷ own.received)))
     event done.matches.place in
     let here : MayHere retry adv own.half oth.half e = here_of rrp e may in
-    let record_is : Lands (setup line retry adv) (side_of q own.half mine told missing)
-    (side_of q oth.half theirs their_told their_missing) e (is_some rrp) (is_ran_start o)
+    let record_is : Lands (setup line retry adv) (side_of q own.half mine ack missing)
+    (side_of q oth.half theirs their_ack their_missing) e (is_some rrp) (is_ran_start o)
     next_missing
     (map flits_of
     (drop mine.taken (filter is_token (receipts.accepted q (Land flit o ∷ mine.receiver))))) =
     record {
       landing = is-landing e lands;
       may = subst (λ (m : moves). MayMove retry adv own.half oth.half m) (move-same rrp e) may;
-      proper = told_is.proper;
-      counted = told_is.counted;
-      ended = λ r. told_is.ended (ran-start o r);
-      few = told_is.few;
+      proper = facts_are.proper;
+      counted = facts_are.counted;
+      ended = λ r. facts_are.ended (ran-start o r);
+      few = facts_are.few;
       lacks = λ z.
           let spoilt =
           (subst (λ (x : Reached). IsAt g s (happens w e).first x
@@ -344,7 +346,7 @@ lands-may q line retry adv mine theirs s own oth told their_told missing their_m
         others = entries.others mine.sender;
         go_back = entries.go_back mine.sender;
         is_open = entries.is_open mine.sender;
-        told = told;
+        ack_sent = ack;
         steady = receipts.training q (Land flit o ∷ mine.receiver);
         missing = next_missing;
         queue = map flits_of (drop (entries.taken_fronts mine.sender) mine.handed);

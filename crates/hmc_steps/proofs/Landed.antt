@@ -1,5 +1,5 @@
 -- A landing on a link is a landing by numbers.
-use Rattle.std.proofs.Common.{◌≡◌, ◌≢◌, ◌∙◌, ◌+◌, ◌<◌, ◌≤◌, ℕ, suc, Bool, true, false, List, [], ◌∷◌, ◌++◌, length, Option, Some, None, refl, sym, ap, subst, arith}
+use Rattle.std.proofs.Common.{◌≡◌, ◌≢◌, ◌∙◌, ◌+◌, ◌≤◌, ℕ, suc, Bool, true, false, List, [], ◌∷◌, ◌++◌, length, Option, Some, None, refl, sym, ap, subst, arith}
 use Rattle.std.specs.Prelude.{◌==◌, ◌||◌, ◌&&◌, nat_lt, if◌then◌else◌, is_some}
 use Rattle.std.proofs.lemmas.Grind.{common_steps}
 use Rattle.hmc_codes.specs.Commands.{layout_of}
@@ -22,49 +22,24 @@ use Rattle.hmc_packet.specs.Landings.ReceiverEntry.{Land}
 use Rattle.hmc_packet.specs.Parts.{lng_of}
 use Rattle.hmc_packet.specs.Reading.{is_null}
 use Rattle.hmc_packet.specs.Receptions.{LandingView, landing_view, reception_of, reception_by, mode_reception, packet_reception, is_next, is_repeat, is_no_length, lng_with, checked, unchecked, flits_reception}
-use Rattle.hmc_numbers.specs.Events.{Reading, Event, Event as events}
+use Rattle.hmc_numbers.specs.Events.{Event, Event as events}
 use Rattle.hmc_numbers.specs.Pair.{Way as ways, way}
 use Rattle.hmc_wire.specs.EntryTurns.{reading_of, event_by, counted_move}
 use Rattle.hmc_wire.proofs.Actions.{SideOf, landing_event}
+use Rattle.hmc_wire.proofs.EntryTurns.{reading-same, event-same}
 use Rattle.hmc_wire.proofs.Grammar.{Kind as inner_kinds}
 use Rattle.hmc_wire.proofs.GrammarLandings as inner
 use Rattle.hmc_wire.proofs.GrammarLandings.{Outcome as inner_outcomes}
 use Rattle.hmc_wire.proofs.LandingCases.{Case, Case as case, case_of, is_short}
 use Rattle.hmc_wire.proofs.Matches as matches
 use Rattle.hmc_wire.proofs.PacketGrammar.{grammar, alone}
-use Rattle.hmc_wire.proofs.Readings.{pair_of, alone-same}
+use Rattle.hmc_wire.proofs.Readings.{alone-same}
 use Rattle.hmc_wire.proofs.Ways.{Lists, Way}
 use Rattle.hmc_wire.proofs.Words.{mode_as, outcome_as}
-use Rattle.hmc_drain.specs.Landing.{IsLanding, move_of}
+use Rattle.hmc_link_state.specs.Landing.{IsLanding, move_of}
+use Rattle.hmc_link_state.proofs.Chosen.{less_lt}
 use Rattle.hmc_steps.specs.Doings.{is_ran_start}
 use Rattle.hmc_steps.specs.SideIn.{lacking}
-
--- ---- the event by flits is that of the grammar (as in hmc_wire's proofs/EntryTurns)
-
-pub reading-same : (o : Option (outer.Kind × ℕ)) → matches.reading_of (pair_of o) ≡ reading_of o
-reading-same None = refl
-reading-same (Some (outer_kinds.Start, rrp)) = refl
-reading-same (Some (outer_kinds.Clear, rrp)) = refl
-
-touched-same : (touched changed : Bool) →
-    matches.gathers_or_spoils touched changed ≡ (if touched then Event.spoils changed
-    else Event.gathers)
-touched-same true changed = refl
-touched-same false changed = refl
-
-event-same : (m : outer_mode.Mode) (touched changed : Bool) (reading : Reading)
-    (o : outer_outcome.Outcome) →
-    matches.event_of (mode_as m) touched changed reading (outcome_as o) ≡ event_by m touched changed
-    reading o
-event-same outer_modes.Train touched changed reading out.Trained = refl
-event-same outer_modes.Train touched changed reading _ = refl
-event-same outer_modes.Abort touched changed reading (out.Ran outer_kinds.Clear) = refl
-event-same outer_modes.Abort touched changed reading (out.Ran outer_kinds.Start) = refl
-event-same outer_modes.Abort touched changed reading _ = refl
-event-same outer_modes.Good touched changed reading out.Gathered = touched-same touched changed
-event-same outer_modes.Good touched changed reading (out.Ran outer_kinds.Clear) = refl
-event-same outer_modes.Good touched changed reading (out.Ran outer_kinds.Start) = refl
-event-same outer_modes.Good touched changed reading _ = refl
 
 -- the event of a landing after these lists
 abbrev pub event_in : (q : Profile) → Lists q → (changed : Bool) → List ℕ → outer_outcome.Outcome →
@@ -237,15 +212,12 @@ pending-few q rs flit (out.AbortedBad bad) is few = tt
 pending-few q rs flit out.AbortedOrder is few = tt
 pending-few q rs flit (out.Ran k) is few = tt
 
-less_of : (a b : ℕ) → nat_lt a b ≡ true → a < b
-less_of a b e = grind (arith, common_steps)
-
 lacks-by : (p : List (List ℕ)) (flit : List ℕ) →
     nat_lt (length (p ++ flit ∷ [])) (lng_with p flit) ≡ true → IsFewFirst (p ++ flit ∷ []) →
     (1 ≤ lacking (p ++ flit ∷ [])) × (lacking (p ++ flit ∷ []) ≤ 16)
-lacks-by [] flit short few = let s = less_of 1 (lng_of flit) short in (omega arith, omega arith)
+lacks-by [] flit short few = let s = less_lt 1 (lng_of flit) short in (omega arith, omega arith)
 lacks-by (first ∷ rest) flit short few =
-    let s = less_of (length (first ∷ rest ++ flit ∷ [])) (lng_of first) short in
+    let s = less_lt (length (first ∷ rest ++ flit ∷ [])) (lng_of first) short in
     (omega arith, omega arith)
 
 -- after a landing that is gathered, its packet lacks 1 to 16 flits

@@ -12,17 +12,18 @@ use Rattle.hmc_packet.specs.Packet.{PacketFields, flits_of}
 use Rattle.hmc_send.specs.declared.sent.Sent as outer_sent
 use Rattle.hmc_send.specs.declared.sent.Sent.TheVariants.{Out}
 use Rattle.hmc_packet.specs.Spelling.{training_flit}
-use Rattle.hmc_send.specs.Choice.{SendView, view_after, is_train, burst_of, irtry_due, irtry_of, irtry_or, irtry_sent, again_or, going_on, first_time, may_take, may_return, part_what, what_of}
+use Rattle.hmc_send.specs.Choice.{SendView, view_after, is_train, irtry_due, irtry_of, irtry_or, irtry_sent, again_or, going_on, first_time, may_take, part_what, what_of}
 use Rattle.hmc_wire.proofs.SenderLists.{what_is}
 use Rattle.hmc_send.specs.Choice as outer_choice
 use Rattle.hmc_send.specs.Entries as entries
-use Rattle.hmc_send.specs.Entries.{SenderEntry, Given, Part, UnderWay, or_null, are_bursts, enough_others, unfinished, with_place}
+use Rattle.hmc_send.specs.Entries.{SenderEntry, Given, Part, UnderWay, or_null, are_bursts, enough_others, unfinished}
 use Rattle.hmc_send.specs.Places.{Place, place_at}
 use Rattle.hmc_packet.specs.Irtry.{irtry_flit}
 use Rattle.hmc_send.proofs.Cases.{Case, Case as case, IsBetween, IsFree, case_of}
 use Rattle.hmc_send.proofs.Steps.{nothing-begun, some-begun}
 use Rattle.hmc_wire.specs.EntryTurns.{left_of}
-use Rattle.hmc_drain.specs.Choice.{Sight, Choice, Choice as choices, choice, begun_choice, free_choice, packet_choice, new_choice, is_training, is_abort, fits, flits_or}
+use Rattle.hmc_link_state.specs.Choice.{Sight, Choice, Choice as choices, choice, begun_choice, free_choice, packet_choice, new_choice, is_training, is_abort, fits, flits_or}
+use Rattle.hmc_steps.proofs.Codes.{zero-not}
 
 -- ---- by numbers
 
@@ -131,9 +132,6 @@ pub record Sees (q : Profile) (retry : ℕ) (t : List SenderEntry) (given : Give
 
 zero-is : (n : ℕ) → n ≡ 0 → (n == 0) ≡ true
 zero-is n e = grind (arith, common_steps)
-
-some-not : (n : ℕ) → 1 ≤ n → (n == 0) ≡ false
-some-not n e = grind (arith, common_steps)
 
 part-next : (part : Part) (given : Given) →
     choice_of (Some part) given (part_what part) ≡ choices.next
@@ -338,7 +336,7 @@ by-case q retry t given s x flit w e chosen is (case.trains m) =
 by-case q retry t given s x flit w e chosen is (case.goes_on m begun some f next) =
     let u = under-some q retry t given begun some in
     next-picked s (e.training ∙ mode-is q retry t given false m)
-    (some-not s.left (let l = e.left ∙ ap left_of u in let p = e.parts begun.part u in
+    (zero-not s.left (let l = e.left ∙ ap left_of u in let p = e.parts begun.part u in
     omega arith)) e.is_there
     ∙ sym (part-next begun.part given)
     ∙ (λ i. choice_of (sym u i) given (what_is f flit (part_what begun.part) w is i))

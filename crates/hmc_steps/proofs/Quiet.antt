@@ -14,25 +14,25 @@ use Rattle.hmc_wire.proofs.Actions.{SideOf}
 use Rattle.hmc_wire.proofs.Others.{taken-up, lists_unlocked}
 use Rattle.hmc_wire.proofs.PacketGrammar.{grammar}
 use Rattle.hmc_wire.proofs.Ways.{Lists, Way}
-use Rattle.hmc_drain.specs.State.{Side}
-use Rattle.hmc_drain.specs.Steps.{Step, MayStep, own_step}
+use Rattle.hmc_link_state.specs.State.{Side}
+use Rattle.hmc_link_state.specs.Steps.{Step, MayStep, own_step}
 use Rattle.hmc_steps.proofs.LandStep.{buffer-sum}
 use Rattle.hmc_steps.proofs.Sides.{side_of, setup}
 
 -- A packet is handed
 
 pub handed-same : (q : Profile) (line retry adv : ℕ) (mine : Lists q) (own : Half) (other : Side)
-    (told missing : ℕ) (p : PacketFields) → entries.taken_fronts mine.sender ≤ length mine.handed →
-    own_step (setup line retry adv) (side_of q own mine told missing) other
+    (ack missing : ℕ) (p : PacketFields) → entries.taken_fronts mine.sender ≤ length mine.handed →
+    own_step (setup line retry adv) (side_of q own mine ack missing) other
     (Step.queues (flits_of p)) ≡ side_of q own (record mine { handed = mine.handed ++ p ∷ [] })
-    told missing
-handed-same q line retry adv mine own other told missing p few = λ i. record {
+    ack missing
+handed-same q line retry adv mine own other ack missing p few = λ i. record {
   half = own;
   starts = entries.starts mine.sender;
   others = entries.others mine.sender;
   go_back = entries.go_back mine.sender;
   is_open = entries.is_open mine.sender;
-  told = told;
+  ack_sent = ack;
   steady = receipts.training q mine.receiver;
   missing = missing;
   queue =
@@ -45,11 +45,11 @@ handed-same q line retry adv mine own other told missing p few = λ i. record {
 -- A packet is taken
 
 pub taken-may : (q : Profile) (retry : ℕ) (line adv : ℕ) (mine : Lists q) (own : SideOf (grammar q))
-    (other : Side) (told missing : ℕ) → Way q retry mine own →
-    MayStep (setup line retry adv) (side_of q own.half mine told missing) other
+    (other : Side) (ack missing : ℕ) → Way q retry mine own →
+    MayStep (setup line retry adv) (side_of q own.half mine ack missing) other
     (Step.leaves (flits_taken (suc mine.taken) (receipts.accepted q mine.receiver))
     (map flits_of (drop (suc mine.taken) (filter is_token (receipts.accepted q mine.receiver)))))
-taken-may q retry line adv mine own other told missing is =
+taken-may q retry line adv mine own other ack missing is =
     let up = taken-up mine.taken (receipts.accepted q mine.receiver) in
     let m = is.moved in
     let a = buffer-sum mine.taken (receipts.accepted q mine.receiver) in
@@ -57,16 +57,16 @@ taken-may q retry line adv mine own other told missing is =
     (omega arith, omega arith)
 
 pub taken-same : (q : Profile) (retry line adv : ℕ) (mine : Lists q) (own : SideOf (grammar q))
-    (other : Side) (told missing stamp : ℕ) → Way q retry mine own →
-    own_step (setup line retry adv) (side_of q own.half mine told missing) other
+    (other : Side) (ack missing stamp : ℕ) → Way q retry mine own →
+    own_step (setup line retry adv) (side_of q own.half mine ack missing) other
     (Step.leaves (flits_taken (suc mine.taken) (receipts.accepted q mine.receiver))
     (map flits_of (drop (suc mine.taken) (filter is_token (receipts.accepted q mine.receiver)))))
     ≡ side_of q
     (own_after own.half stamp
     (moves.moves (flits_taken (suc mine.taken) (receipts.accepted q mine.receiver) - flits_taken
     mine.taken (receipts.accepted q mine.receiver)))) (record mine { taken = suc mine.taken })
-    told missing
-taken-same q retry line adv mine own other told missing stamp is =
+    ack missing
+taken-same q retry line adv mine own other ack missing stamp is =
     let up = taken-up mine.taken (receipts.accepted q mine.receiver) in
     let m = is.moved in
     let same : flits_taken (suc mine.taken) (receipts.accepted q mine.receiver) ≡ own.half.moved
@@ -78,7 +78,7 @@ taken-same q retry line adv mine own other told missing stamp is =
       others = entries.others mine.sender;
       go_back = entries.go_back mine.sender;
       is_open = entries.is_open mine.sender;
-      told = told;
+      ack_sent = ack;
       steady = receipts.training q mine.receiver;
       missing = missing;
       queue = map flits_of (drop (entries.taken_fronts mine.sender) mine.handed);
@@ -90,17 +90,17 @@ taken-same q retry line adv mine own other told missing stamp is =
 -- A receiver is unlocked
 
 pub unlocked-same : (q : Profile) (line retry adv : ℕ) (mine : Lists q) (own : Half) (other : Side)
-    (told missing stamp : ℕ) →
-    own_step (setup line retry adv) (side_of q own mine told missing) other Step.unlocks ≡ side_of q
-    (own_after own stamp (moves.does events.unlocks)) (lists_unlocked mine) told missing
+    (ack missing stamp : ℕ) →
+    own_step (setup line retry adv) (side_of q own mine ack missing) other Step.unlocks ≡ side_of q
+    (own_after own stamp (moves.does events.unlocks)) (lists_unlocked mine) ack missing
 unfolding receipts.training receipts.accepted
-unlocked-same q line retry adv mine own other told missing stamp = λ i. record {
+unlocked-same q line retry adv mine own other ack missing stamp = λ i. record {
   half = event_at own 0 events.unlocks;
   starts = entries.starts mine.sender;
   others = entries.others mine.sender;
   go_back = entries.go_back mine.sender;
   is_open = entries.is_open mine.sender;
-  told = told;
+  ack_sent = ack;
   steady = 0;
   missing = missing;
   queue = map flits_of (drop (entries.taken_fronts mine.sender) mine.handed);

@@ -11,16 +11,16 @@ use Rattle.hmc_packet.specs.Packet.{PacketFields, flits_of}
 use Rattle.hmc_tokens.specs.Account.{tokens_of_code, code_for}
 use Rattle.hmc_send.specs.declared.sent.Sent as outer_sent
 use Rattle.hmc_send.specs.declared.sent.Sent.TheVariants.{Out}
-use Rattle.hmc_send.specs.Choice.{SendView, view_after, choice, what_of}
+use Rattle.hmc_send.specs.Choice.{view_after, choice}
 use Rattle.hmc_send.specs.Entries as entries
-use Rattle.hmc_send.specs.Entries.{SenderEntry, Given, Part, or_null, unfinished, part_after, shows_pointer, with_place}
+use Rattle.hmc_send.specs.Entries.{SenderEntry, Given, Part, or_null, unfinished, part_after, shows_pointer}
 use Rattle.hmc_send.specs.LinkLines.{StampedFlit}
-use Rattle.hmc_send.specs.Places.{is_token, tret_packet, place_at}
-use Rattle.hmc_send.proofs.Cases.{Case, Case as case, case_of}
+use Rattle.hmc_send.specs.Places.{is_token, tret_packet}
+use Rattle.hmc_send.proofs.Cases.{Case, case_of}
 use Rattle.hmc_numbers.specs.Direction.{Direction}
 use Rattle.hmc_numbers.specs.Events.{Event as events, happens}
 use Rattle.hmc_numbers.specs.Pair.{Move as moves, own_after}
-use Rattle.hmc_numbers.specs.Pointers.{window}
+use Rattle.hmc_codes.specs.Profile.{window_of as window}
 use Rattle.hmc_numbers.specs.Tokens.{due_tokens}
 use Rattle.hmc_wire.specs.Conditions.{AreFed}
 use Rattle.hmc_wire.specs.EntryTurns.{left_of, sent_event, unless_begun, next_place, weight}
@@ -28,13 +28,13 @@ use Rattle.hmc_wire.proofs.Actions.{SideOf}
 use Rattle.hmc_wire.proofs.Choices.{IsGood, sent-done}
 use Rattle.hmc_wire.proofs.Links.{given_by, fronts-good, accepted-count}
 use Rattle.hmc_wire.proofs.PacketGrammar.{grammar}
-use Rattle.hmc_wire.proofs.SenderLists.{what_is, irtry_other}
+use Rattle.hmc_wire.proofs.Queued.{front-some}
 use Rattle.hmc_wire.proofs.Ways.{Lists, lists_sent}
-use Rattle.hmc_drain.specs.Choice.{Choice, Choice as choices, tokens_for}
-use Rattle.hmc_drain.specs.Choice as drained
-use Rattle.hmc_drain.specs.Sees.{event_of}
-use Rattle.hmc_drain.specs.Round.{sight, sent, sent_by, starts_after, others_after, go_back_after, told_after, queue_after}
-use Rattle.hmc_drain.specs.Facts.{SideFacts}
+use Rattle.hmc_link_state.specs.Choice.{Choice, Choice as choices}
+use Rattle.hmc_link_state.specs.Choice as drained
+use Rattle.hmc_link_state.specs.Sees.{event_of}
+use Rattle.hmc_link_state.specs.Round.{sight, sent, sent_by, starts_after, others_after, go_back_after, ack_after, queue_after}
+use Rattle.hmc_link_state.specs.Facts.{SideFacts}
 use Rattle.hmc_steps.proofs.Codes.{tokens-same}
 use Rattle.hmc_steps.proofs.Picks.{choice_of, picked}
 use Rattle.hmc_steps.proofs.Sides.{side_of, setup, Here, env-here, sees, part-left}
@@ -177,81 +177,53 @@ abbrev IsOneLeft : What → (left : ℕ) → Type 0
 IsOneLeft what.Tret left = left ≡ 0
 IsOneLeft w left = Unit {0}
 
-told-by : (x : Choice) (n : ℕ) (told a : ℕ) → n ≡ 0 → ((told_after x 0 told a) ≡ a) →
-    told_after x n told a ≡ a
-told-by x n told a e h = ap (λ (m : ℕ). told_after x m told a) e ∙ h
+ack-by : (x : Choice) (n : ℕ) (ack a : ℕ) → n ≡ 0 → ((ack_after x 0 ack a) ≡ a) →
+    ack_after x n ack a ≡ a
+ack-by x n ack a e h = ap (λ (m : ℕ). ack_after x m ack a) e ∙ h
 
-last-told : (v : Option Part) → ((p : Part) → v ≡ Some p → 1 ≤ left_of (Some p)) →
-    (x : Choice) (told a : ℕ) → ((told_after x 0 told a) ≡ a) →
-    ((n : ℕ) → told_after x (suc n) told a ≡ told) →
-    told_after x (left_of v) told a ≡ (if is_none v then a else told)
-last-told None parts x told a z s = z
-last-told (Some p) parts x told a z s = by_left (left_of (Some p)) refl
+last-ack : (v : Option Part) → ((p : Part) → v ≡ Some p → 1 ≤ left_of (Some p)) →
+    (x : Choice) (ack a : ℕ) → ((ack_after x 0 ack a) ≡ a) →
+    ((n : ℕ) → ack_after x (suc n) ack a ≡ ack) →
+    ack_after x (left_of v) ack a ≡ (if is_none v then a else ack)
+last-ack None parts x ack a z s = z
+last-ack (Some p) parts x ack a z s = by_left (left_of (Some p)) refl
   where
-    by_left : (n : ℕ) → left_of (Some p) ≡ n → told_after x (left_of (Some p)) told a ≡ told
+    by_left : (n : ℕ) → left_of (Some p) ≡ n → ack_after x (left_of (Some p)) ack a ≡ ack
     by_left zero e = absurd (let m = parts p refl in omega arith)
-    by_left (suc n) e = ap (λ (m : ℕ). told_after x m told a) e ∙ s n
+    by_left (suc n) e = ap (λ (m : ℕ). ack_after x m ack a) e ∙ s n
 
-told-same : (u : Option Part) (given : Given) (w : What) (flit : List ℕ) (t : List SenderEntry)
-    (left told a : ℕ) → unfinished t ≡ u →
+ack-same : (u : Option Part) (given : Given) (w : What) (flit : List ℕ) (t : List SenderEntry)
+    (left ack a : ℕ) → unfinished t ≡ u →
     left ≡ left_of (unfinished (SenderEntry.sent given w flit ∷ t)) →
     ((p : Part) → unfinished (SenderEntry.sent given w flit ∷ t) ≡ Some p → 1 ≤ left_of (Some p)) →
     IsOneLeft w left →
-    told_after (choice_of u given w) left told a ≡ (if shows_pointer w flit (unfinished t) then a
-    else told)
+    ack_after (choice_of u given w) left ack a ≡ (if shows_pointer w flit (unfinished t) then a
+    else ack)
 unfolding unfinished
-told-same u given what.Train flit t left told a e l parts one = refl
-told-same u given what.Null flit t left told a e l parts one = refl
-told-same u given what.Pret flit t left told a e l parts one = refl
-told-same u given what.Start flit t left told a e l parts one = refl
-told-same u given what.Clear flit t left told a e l parts one = refl
-told-same u given what.Tret flit t left told a e l parts one =
-    told-by choices.tret left told a one refl
-told-same None given what.New flit t left told a e l parts one =
-    ap (λ (n : ℕ). told_after (choices.new (flits_of (or_null given.front))) n told a) l
-    ∙ last-told (part_after false flit (unfinished t)) parts
-    (choices.new (flits_of (or_null given.front))) told a refl (λ n. refl)
-told-same (Some part) given what.New flit t left told a e l parts one =
-    ap (λ (n : ℕ). told_after choices.next n told a) l
-    ∙ last-told (part_after false flit (unfinished t)) parts choices.next told a refl
+ack-same u given what.Train flit t left ack a e l parts one = refl
+ack-same u given what.Null flit t left ack a e l parts one = refl
+ack-same u given what.Pret flit t left ack a e l parts one = refl
+ack-same u given what.Start flit t left ack a e l parts one = refl
+ack-same u given what.Clear flit t left ack a e l parts one = refl
+ack-same u given what.Tret flit t left ack a e l parts one =
+    ack-by choices.tret left ack a one refl
+ack-same None given what.New flit t left ack a e l parts one =
+    ap (λ (n : ℕ). ack_after (choices.new (flits_of (or_null given.front))) n ack a) l
+    ∙ last-ack (part_after false flit (unfinished t)) parts
+    (choices.new (flits_of (or_null given.front))) ack a refl (λ n. refl)
+ack-same (Some part) given what.New flit t left ack a e l parts one =
+    ap (λ (n : ℕ). ack_after choices.next n ack a) l
+    ∙ last-ack (part_after false flit (unfinished t)) parts choices.next ack a refl
     (λ n. refl)
-told-same None given what.Again flit t left told a e l parts one =
-    ap (λ (n : ℕ). told_after choices.again n told a) l
-    ∙ last-told (part_after true flit (unfinished t)) parts choices.again told a refl
+ack-same None given what.Again flit t left ack a e l parts one =
+    ap (λ (n : ℕ). ack_after choices.again n ack a) l
+    ∙ last-ack (part_after true flit (unfinished t)) parts choices.again ack a refl
     (λ n. refl)
-told-same (Some part) given what.Again flit t left told a e l parts one =
-    ap (λ (n : ℕ). told_after choices.next n told a) l
-    ∙ last-told (part_after true flit (unfinished t)) parts choices.next told a refl (λ n. refl)
+ack-same (Some part) given what.Again flit t left ack a e l parts one =
+    ap (λ (n : ℕ). ack_after choices.next n ack a) l
+    ∙ last-ack (part_after true flit (unfinished t)) parts choices.next ack a refl (λ n. refl)
 
 -- ---- the front of the queue
-
-front-by : (q : Profile) (s : SendView) (x : outer_sent.Sent) → Case q s x → (flit : List ℕ) →
-    x ≡ Out flit what.New → s.under_way ≡ None → (p : PacketFields) × (s.given.front ≡ Some p)
-front-by q s x (case.begins f can) flit is none = (can.packet, can.front)
-front-by q s x (case.repeats b place again) flit is none =
-    let clash : what.Again ≡ what.New = what_is _ flit what.Again what.New is in absurd (cc clash)
-front-by q s x (case.goes_on t begun some f next) flit is none =
-    let clash : None ≡ Some begun = sym none ∙ some in absurd (cc clash)
-front-by q s x (case.trains t) flit is none =
-    let clash : what.Train ≡ what.New = what_is _ flit what.Train what.New is in absurd (cc clash)
-front-by q s x (case.starves t begun some next) flit is none = absurd cc
-front-by q s x (case.steers t nothing kind due) flit is none =
-    absurd (irtry_other kind what.New (what_is _ flit (what_of kind) what.New is) refl)
-front-by q s x (case.returns f opened due) flit is none =
-    let clash : what.Tret ≡ what.New = what_is _ flit what.Tret what.New is in absurd (cc clash)
-front-by q s x (case.points f other_rrp) flit is none =
-    let clash : what.Pret ≡ what.New = what_is _ flit what.Pret what.New is in absurd (cc clash)
-front-by q s x (case.idles f same_rrp) flit is none =
-    let clash : what.Null ≡ what.New = what_is _ flit what.Null what.New is in absurd (cc clash)
-
-pub front-some : (q : Profile) (retry : ℕ) (t : List SenderEntry) (given : Given) (flit : List ℕ) →
-    choice q (view_after q retry t given) ≡ Out flit what.New → unfinished t ≡ None →
-    (p : PacketFields) × (given.front ≡ Some p)
-unfolding view_after
-front-some q retry t given flit is none =
-    front-by q (view_after q retry t given) (choice q (view_after q retry t given))
-    (case_of q (view_after q retry t given)) flit is
-    (ap (with_place (place_at (entries.places q t) (entries.last_begun q t))) none)
 
 front-takes : (q : Profile) (retry : ℕ) (t : List SenderEntry) (given : Given) (flit : List ℕ)
     (w : What) (u : Option Part) → choice q (view_after q retry t given) ≡ Out flit w →
@@ -290,43 +262,43 @@ one-left q t given what.Again d = tt
 -- ---- a send
 
 -- where the pointer was shown last, with one more send
-abbrev pub told_with : (q : Profile) → (mine theirs : Lists q) → What → (flit : List ℕ) →
-    (told : ℕ) → ℕ
-told_with q mine theirs w flit told =
+abbrev pub ack_with : (q : Profile) → (mine theirs : Lists q) → What → (flit : List ℕ) →
+    (ack : ℕ) → ℕ
+ack_with q mine theirs w flit ack =
     if shows_pointer w flit (unfinished mine.sender) then length
-    (receipts.accepted q theirs.receiver) else told
+    (receipts.accepted q theirs.receiver) else ack
 
 abbrev pub stamped_by : (q : Profile) → (theirs : Lists q) → (flit : List ℕ) → StampedFlit
 stamped_by q theirs flit =
     record { flit = flit; stamp = length (receipts.accepted q theirs.receiver) }
 
 pub sent-same : (q : Profile) (line retry adv : ℕ) (mine theirs : Lists q)
-    (own oth : SideOf (grammar q)) (told their_told missing their_missing : ℕ) (feed : Feed)
-    (w : What) (flit : List ℕ) → retry ≤ window q → Here q retry adv mine theirs own oth told →
-    SideFacts (setup line retry adv) (side_of q own.half mine told missing)
-    (side_of q oth.half theirs their_told their_missing) →
-    SideFacts (setup line retry adv) (side_of q oth.half theirs their_told their_missing)
-    (side_of q own.half mine told missing) →
+    (own oth : SideOf (grammar q)) (ack their_ack missing their_missing : ℕ) (feed : Feed)
+    (w : What) (flit : List ℕ) → retry ≤ window q → Here q retry adv mine theirs own oth ack →
+    SideFacts (setup line retry adv) (side_of q own.half mine ack missing)
+    (side_of q oth.half theirs their_ack their_missing) →
+    SideFacts (setup line retry adv) (side_of q oth.half theirs their_ack their_missing)
+    (side_of q own.half mine ack missing) →
     nat_lt (length own.half.direction.line) line ≡ true →
     AreFed q (SenderEntry.sent (given_by q adv mine theirs feed) w flit ∷ mine.sender) →
     choice q (view_after q retry mine.sender (given_by q adv mine theirs feed)) ≡ Out flit w →
-    sent (setup line retry adv) (side_of q own.half mine told missing)
-    (side_of q oth.half theirs their_told their_missing)
+    sent (setup line retry adv) (side_of q own.half mine ack missing)
+    (side_of q oth.half theirs their_ack their_missing)
     ≡ side_of q
     (own_after own.half oth.half.direction.accepted
     (moves.does (sent_event q mine.sender (given_by q adv mine theirs feed) w)))
     (lists_sent mine (SenderEntry.sent (given_by q adv mine theirs feed) w flit)
-    (stamped_by q theirs flit)) (told_with q mine theirs w flit told) missing
+    (stamped_by q theirs flit)) (ack_with q mine theirs w flit ack) missing
 unfolding AreFed
-sent-same q line retry adv mine theirs own oth told their_told missing their_missing feed w flit few
+sent-same q line retry adv mine theirs own oth ack their_ack missing their_missing feed w flit few
     h f g some fed chosen =
     let c = setup line retry adv in
-    let x = side_of q own.half mine told missing in
-    let y = side_of q oth.half theirs their_told their_missing in
+    let x = side_of q own.half mine ack missing in
+    let y = side_of q oth.half theirs their_ack their_missing in
     let given = given_by q adv mine theirs feed in
     let t = mine.sender in
     let u = unfinished t in
-    let env = env-here q retry adv mine theirs own oth told feed h in
+    let env = env-here q retry adv mine theirs own oth ack feed h in
     let good = fronts-good q mine.handed (entries.taken_fronts t) h.way.handed in
     let taken : Case q (view_after q retry t given) (Out flit w) =
     subst (λ (z : outer_sent.Sent). Case q (view_after q retry t given) z) chosen
@@ -335,7 +307,7 @@ sent-same q line retry adv mine theirs own oth told their_told missing their_mis
     sent-done q h.s retry adv t given own.half oth.half env good fed.0 fed.1 w flit taken in
     let picked_is : drained.choice (sight c x y) ≡ choice_of u given w =
     picked q retry t given (sight c x y) flit w
-    (sees q line retry adv mine theirs own oth told their_told missing their_missing feed few h
+    (sees q line retry adv mine theirs own oth ack their_ack missing their_missing feed few h
     f g) chosen in
     let event : event_of (due_tokens adv oth.half own.half) (choice_of u given w) ≡ sent_event q t
     given w =
@@ -344,7 +316,7 @@ sent-same q line retry adv mine theirs own oth told their_told missing their_mis
     let count : oth.half.direction.accepted ≡ length (receipts.accepted q theirs.receiver) =
     sym (accepted-count q retry adv theirs h.t oth own h.other_way h.other_linked) in
     let left_is =
-    told-same u given w flit t (happens own.half.direction (sent_event q t given w)).left told
+    ack-same u given w flit t (happens own.half.direction (sent_event q t given w)).left ack
     (length (receipts.accepted q theirs.receiver)) refl done.sends.left
     (part-left q (SenderEntry.sent given w flit ∷ t) done.parts)
     (one-left q t given w own.half.direction) in
@@ -356,8 +328,8 @@ sent-same q line retry adv mine theirs own oth told their_told missing their_mis
       others = others-same u given w flit t i;
       go_back = back-same u given w flit t own.half.direction.clears h.way.sends.clears i;
       is_open = open-same given w flit t i;
-      told =
-          ((λ j. told_after (choice_of u given w) (happens own.half.direction (event j)).left told
+      ack_sent =
+          ((λ j. ack_after (choice_of u given w) (happens own.half.direction (event j)).left ack
           (count j)) ∙ left_is) i;
       steady = receipts.training q mine.receiver;
       missing = missing;

@@ -19,7 +19,8 @@ use Rattle.hmc_send.specs.declared.toward.Toward.{Toward}
 use Rattle.hmc_send.specs.declared.toward.Toward.TheVariants.{Forth, Back}
 use Rattle.hmc_send.specs.Entries.{SenderEntry, Given, Part, or_null, places, unfinished}
 use Rattle.hmc_send.specs.LinkEntries.{LinkEntry, LinkEntry as entry, receiver_entries}
-use Rattle.hmc_send.specs.LinkLines.{sent_flits, stamped_flit, landings, is_pending_changed, changes}
+use Rattle.hmc_packet.specs.Masks.{changes}
+use Rattle.hmc_send.specs.LinkLines.{sent_flits, stamped_flit, landings, is_pending_changed}
 use Rattle.hmc_send.specs.LinkSenders.{sender_entries, given_in}
 use Rattle.hmc_numbers.specs.Direction.{Direction, Item, Reached, Reached as far, Filler as fill, rest}
 use Rattle.hmc_numbers.specs.Direction.Item.{filler, clear, part}
@@ -39,8 +40,8 @@ use Rattle.hmc_wire.proofs.Matches.{IsAt}
 use Rattle.hmc_wire.proofs.PacketGrammar.{grammar}
 use Rattle.hmc_wire.proofs.Spelled.{Sent}
 use Rattle.hmc_wire.proofs.Words.{mode_as}
-use Rattle.hmc_drain.specs.State.{HaveNoStart, IsNoStart as IsNoStartItem, IsSettledSide}
-use Rattle.hmc_drain.specs.Steps.{IsSettledLink}
+use Rattle.hmc_link_state.specs.State.{HaveNoStart, IsNoStart as IsNoStartItem, IsSettledSide}
+use Rattle.hmc_link_state.specs.Steps.{IsSettledLink}
 use Rattle.hmc_journal.specs.Settled.{sent_whats, line_whats, IsSettledDirection, IsSettled}
 use Rattle.hmc_steps.specs.SideIn.{side_in, link_in}
 use Rattle.hmc_steps.proofs.Wired.{wired}
@@ -122,7 +123,7 @@ rest-map : (l : List Item) → map start_item (rest l) ≡ drop 1 (map start_ite
 rest-map [] = refl
 rest-map (x ∷ l) = refl
 
-drop-one : {X : Type 0} (n : ℕ) (l : List X) → drop 1 (drop n l) ≡ drop (suc n) l
+pub drop-one : {X : Type 0} (n : ℕ) (l : List X) → drop 1 (drop n l) ≡ drop (suc n) l
 drop-one zero l = refl
 drop-one (suc n) [] = refl
 drop-one (suc n) (x ∷ l) = drop-one n l

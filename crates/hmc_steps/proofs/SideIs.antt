@@ -22,7 +22,7 @@ use Rattle.hmc_wire.proofs.PacketGrammar.{grammar}
 use Rattle.hmc_wire.proofs.Places.{upto-all}
 use Rattle.hmc_wire.proofs.Senders.{begun-length, position-is}
 use Rattle.hmc_wire.proofs.Ways.{lists_in}
-use Rattle.hmc_drain.specs.State.{count_if, count_of}
+use Rattle.hmc_link_state.specs.State.{count_if, count_of}
 use Rattle.hmc_steps.specs.SideIn.{side_in, missing_in, lacking}
 use Rattle.hmc_steps.specs.SideIs.{SideIs}
 use Rattle.hmc_steps.proofs.LandStep.{buffer-used}

@@ -1,8 +1,7 @@
 -- A direction by numbers from hmc_wire's lists of it, and what a sender sees of it.
-use Rattle.std.proofs.Common.{◌≡◌, ◌∙◌, ◌-◌, ◌<◌, ◌≤◌, ℕ, Bool, true, false, List, [], ◌∷◌, length, drop, take, map, Option, Some, None, refl, sym, ap, arith}
+use Rattle.std.proofs.Common.{◌≡◌, ◌∙◌, ◌-◌, ◌≤◌, ℕ, Bool, true, false, List, [], ◌∷◌, length, drop, take, map, Option, Some, None, refl, sym, ap, arith}
 use Rattle.std.specs.Prelude.{◌==◌, nat_lt, filter, is_some, slice_get}
 use Rattle.std.proofs.lemmas.Bool.{eqb-true, eq-eqb}
-use Rattle.std.proofs.lemmas.Grind.{common_steps}
 use Rattle.std.proofs.lemmas.List.Sums.{sum_by-take-drop}
 use Rattle.std.proofs.lemmas.Option.{slice_get_within}
 use Rattle.hmc_codes.specs.declared.profile.Profile.{Profile}
@@ -14,13 +13,14 @@ use Rattle.hmc_packet.specs.Packet.{PacketFields, flits_of}
 use Rattle.hmc_send.specs.Choice.{is_train}
 use Rattle.hmc_send.specs.Choice as outer_choice
 use Rattle.hmc_send.specs.Entries as entries
-use Rattle.hmc_send.specs.Entries.{SenderEntry, Given, Part, unfinished, enough_others}
+use Rattle.hmc_send.specs.Entries.{SenderEntry, Part, unfinished}
 use Rattle.hmc_send.specs.Places.{Place, is_token, flits_at, flits_in}
 use Rattle.hmc_send.proofs.Lists.{get-none}
 use Rattle.hmc_numbers.specs.Weights.{Weight, flits_to}
 use Rattle.hmc_numbers.specs.Direction.{Direction, Reached, Reached as far, begun}
 use Rattle.hmc_numbers.specs.Pair.{Half}
-use Rattle.hmc_numbers.specs.Pointers.{pointer, window}
+use Rattle.hmc_codes.specs.Profile.{window_of as window}
+use Rattle.hmc_numbers.specs.Pointers.{pointer}
 use Rattle.hmc_wire.specs.Conditions.{AreFed}
 use Rattle.hmc_wire.specs.EntryTurns.{left_of}
 use Rattle.hmc_wire.proofs.Actions.{SideOf}
@@ -36,24 +36,25 @@ use Rattle.hmc_wire.proofs.Senders.{Env, begun-length, position-is}
 use Rattle.hmc_wire.proofs.Spelled.{Sent}
 use Rattle.hmc_wire.proofs.Ways.{Lists, Way}
 use Rattle.hmc_wire.proofs.Words.{mode_as}
-use Rattle.hmc_drain.specs.Choice.{is_training, is_abort}
-use Rattle.hmc_drain.specs.Sees.{mode_of}
-use Rattle.hmc_drain.specs.State.{Setup, Side, front_of}
-use Rattle.hmc_drain.specs.Round.{sight}
-use Rattle.hmc_drain.specs.Facts.{SideFacts}
-use Rattle.hmc_drain.proofs.StepFacts.{same_told}
+use Rattle.hmc_link_state.specs.Choice.{is_training, is_abort}
+use Rattle.hmc_link_state.specs.Sees.{mode_of}
+use Rattle.hmc_link_state.specs.State.{Setup, Side, front_of}
+use Rattle.hmc_link_state.specs.Round.{sight}
+use Rattle.hmc_link_state.specs.Facts.{SideFacts}
+use Rattle.hmc_link_state.proofs.StepFacts.{same_ack}
 use Rattle.hmc_steps.specs.SideIs.{mode_by}
 use Rattle.hmc_steps.proofs.Picks.{Sees, size_of}
+use Rattle.hmc_steps.proofs.Codes.{lt-not, lt-is}
 
 -- a direction with these numbers and lists
-abbrev pub side_of : (q : Profile) → Half → Lists q → (told missing : ℕ) → Side
-side_of q h mine told missing = record {
+abbrev pub side_of : (q : Profile) → Half → Lists q → (ack missing : ℕ) → Side
+side_of q h mine ack missing = record {
   half = h;
   starts = entries.starts mine.sender;
   others = entries.others mine.sender;
   go_back = entries.go_back mine.sender;
   is_open = entries.is_open mine.sender;
-  told = told;
+  ack_sent = ack;
   steady = receipts.training q mine.receiver;
   missing = missing;
   queue = map flits_of (drop (entries.taken_fronts mine.sender) mine.handed);
@@ -65,7 +66,7 @@ setup line retry adv = record { line = line; tokens = adv; retry = retry }
 
 -- what is known of a direction beside the other one
 pub record Here (q : Profile) (retry adv : ℕ) (mine theirs : Lists q) (own oth : SideOf (grammar q))
-    (told : ℕ) : Type 0 where
+    (ack : ℕ) : Type 0 where
   pub s : Sent (grammar q)
   pub t : Sent (grammar q)
   pub way : Way q retry mine own
@@ -75,12 +76,12 @@ pub record Here (q : Profile) (retry adv : ℕ) (mine theirs : Lists q) (own oth
   pub agree : AgreesWith q s mine.sender
   pub other_agree : AgreesWith q t theirs.sender
   pub fed : AreFed q mine.sender
-  pub shown : entries.shown_pointer mine.sender ≡ pointer q oth.half.direction.first told
+  pub shown : entries.shown_pointer mine.sender ≡ pointer q oth.half.direction.first ack
 
 pub env-here : (q : Profile) (retry adv : ℕ) (mine theirs : Lists q) (own oth : SideOf (grammar q))
-    (told : ℕ) (feed : Feed) (h : Here q retry adv mine theirs own oth told) →
+    (ack : ℕ) (feed : Feed) (h : Here q retry adv mine theirs own oth ack) →
     Env q h.s retry adv mine.sender (given_by q adv mine theirs feed) own.half oth.half
-env-here q retry adv mine theirs own oth told feed h =
+env-here q retry adv mine theirs own oth ack feed h =
     env-of q retry adv mine theirs h.s h.t own oth feed h.way h.other_way h.linked h.other_linked
     h.other_agree h.fed
 
@@ -149,16 +150,10 @@ both-same a b c d f g = by_tests (a == b) (c == d) refl refl
         let clash : true ≡ false = sym (eq-eqb a b (g (eqb-true c d h))) ∙ e in absurd (cc clash)
     by_tests false false e h = refl
 
-less : (a b : ℕ) → a < b → nat_lt a b ≡ true
-less a b lt = grind (arith, common_steps)
-
-not-less : (a b : ℕ) → b ≤ a → nat_lt a b ≡ false
-not-less a b le = grind (arith, common_steps)
-
 more-same : (l : List Place) (n : ℕ) (x : Option Place) → slice_get l n ≡ x →
     nat_lt n (length l) ≡ is_some x
-more-same l n None e = not-less n (length l) (get-none l n e)
-more-same l n (Some x) e = less n (length l) (slice_get_within l n x e)
+more-same l n None e = lt-not n (length l) (get-none l n e)
+more-same l n (Some x) e = lt-is n (length l) (slice_get_within l n x e)
 
 front-same : (l : List PacketFields) → front_of (map flits_of l) ≡ size_of (slice_get l 0)
 front-same [] = refl
@@ -182,19 +177,19 @@ pub part-left : (q : Profile) (t : List SenderEntry) → PartsFit q t → (p : P
 part-left q t parts p is = let m = (parts p is).more in omega arith
 
 pub sees : (q : Profile) (line retry adv : ℕ) (mine theirs : Lists q) (own oth : SideOf (grammar q))
-    (told their_told missing their_missing : ℕ) (feed : Feed) → retry ≤ window q →
-    Here q retry adv mine theirs own oth told →
-    SideFacts (setup line retry adv) (side_of q own.half mine told missing)
-    (side_of q oth.half theirs their_told their_missing) →
-    SideFacts (setup line retry adv) (side_of q oth.half theirs their_told their_missing)
-    (side_of q own.half mine told missing) →
+    (ack their_ack missing their_missing : ℕ) (feed : Feed) → retry ≤ window q →
+    Here q retry adv mine theirs own oth ack →
+    SideFacts (setup line retry adv) (side_of q own.half mine ack missing)
+    (side_of q oth.half theirs their_ack their_missing) →
+    SideFacts (setup line retry adv) (side_of q oth.half theirs their_ack their_missing)
+    (side_of q own.half mine ack missing) →
     Sees q retry mine.sender (given_by q adv mine theirs feed)
-    (sight (setup line retry adv) (side_of q own.half mine told missing)
-    (side_of q oth.half theirs their_told their_missing))
-sees q line retry adv mine theirs own oth told their_told missing their_missing feed few h f g =
-    let x = side_of q own.half mine told missing in
-    let y = side_of q oth.half theirs their_told their_missing in
-    let env = env-here q retry adv mine theirs own oth told feed h in
+    (sight (setup line retry adv) (side_of q own.half mine ack missing)
+    (side_of q oth.half theirs their_ack their_missing))
+sees q line retry adv mine theirs own oth ack their_ack missing their_missing feed few h f g =
+    let x = side_of q own.half mine ack missing in
+    let y = side_of q oth.half theirs their_ack their_missing in
+    let env = env-here q retry adv mine theirs own oth ack feed h in
     let mode = mode-here q retry adv theirs h.t oth own h.other_way h.other_linked in
     let sends = h.way.sends in
     let given = given_by q adv mine theirs feed in
@@ -217,9 +212,9 @@ sees q line retry adv mine theirs own oth told their_told missing their_missing 
       room = room-same q retry mine.sender own.half.direction sends;
       due = sym env.due;
       acknowledged =
-          both-same told oth.half.direction.accepted given.own.rrp
+          both-same ack oth.half.direction.accepted given.own.rrp
           (entries.shown_pointer mine.sender)
           (λ e. env.rrp ∙ ap (pointer q oth.half.direction.first) (sym e) ∙ sym h.shown)
-          (λ e. same_told q (setup line retry adv) few x y (f, g) (sym h.shown ∙ sym e ∙ env.rrp));
+          (λ e. same_ack q (setup line retry adv) few x y (f, g) (sym h.shown ∙ sym e ∙ env.rrp));
       parts = part-left q mine.sender h.way.parts;
     }

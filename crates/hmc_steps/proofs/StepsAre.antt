@@ -25,12 +25,12 @@ use Rattle.hmc_wire.specs.LinkLaws.{IsKept}
 use Rattle.hmc_wire.proofs.EntryTurns.{kept-before, turns-may}
 use Rattle.hmc_wire.proofs.Steps.{landings_on}
 use Rattle.hmc_wire.proofs.Ways.{lists_in}
-use Rattle.hmc_drain.specs.Facts.{SideFacts}
-use Rattle.hmc_drain.specs.Steps.{Step, Doing, Link, MayStep, own_step, other_step, MayDoing, MayAll, link_after}
-use Rattle.hmc_drain.proofs.Keeps.{Both}
-use Rattle.hmc_drain.proofs.StepFacts.{facts_after}
+use Rattle.hmc_link_state.specs.Facts.{SideFacts}
+use Rattle.hmc_link_state.specs.Steps.{Step, Doing, Link, MayStep, own_step, other_step, MayDoing, MayAll, link_after}
+use Rattle.hmc_link_state.proofs.Keeps.{Both}
+use Rattle.hmc_link_state.proofs.StepFacts.{facts_after}
 use Rattle.hmc_steps.specs.Doings.{doings_of, landing_step, AreWhole, AreSteps}
-use Rattle.hmc_steps.specs.SideIn.{setup_of, side_in, link_in, told_in, missing_in, buffer_flits}
+use Rattle.hmc_steps.specs.SideIn.{setup_of, side_in, link_in, ack_sent_in, missing_in, buffer_flits}
 use Rattle.hmc_steps.proofs.Along.{Shown, fed-of, shown-forth, shown-back, few-forth, few-back, fronts-forth, fronts-back}
 use Rattle.hmc_steps.proofs.LandStep.{lands-may, took-same, buffer-used}
 use Rattle.hmc_steps.proofs.Quiet.{handed-same, taken-may, taken-same, unlocked-same}
@@ -53,7 +53,7 @@ pub here : (link : LinkFields) (d : Toward) (past : List LinkEntry) → IsKept l
     Here link.profile link.retry link.tokens (lists_in link d past) (lists_in link (other d) past)
     (side_with link.profile (half_after link d past) w.flits w.received)
     (side_with link.profile (half_after link (other d) past) w.other_flits w.other_received)
-    (told_in link d past)
+    (ack_sent_in link d past)
 here link d past kept shown w = record {
   s = w.s;
   t = w.t;
@@ -85,7 +85,7 @@ sent-fits_forth : (link : LinkFields) (past : List LinkEntry) (feed : Feed) (w :
     SideFacts (setup_of link) (side_in link Forth past) (side_in link Back past) →
     SideFacts (setup_of link) (side_in link Back past) (side_in link Forth past) →
     StepFits link past (entry.sent Forth feed w flit) Forth Step.sends
-unfolding sender_entries receiver_entries sent_flits landings landings_on takes handed_packets is_pending_changed turns_of told_in missing_in given_after
+unfolding sender_entries receiver_entries sent_flits landings landings_on takes handed_packets is_pending_changed turns_of ack_sent_in missing_in given_after
 sent-fits_forth link past feed w flit kept f g =
     let before = kept-before link (entry.sent Forth feed w flit) past kept in
     let x = wired link Forth past before in
@@ -100,7 +100,7 @@ sent-fits_forth link past feed w flit kept f g =
           (lists_in link Back past)
           (side_with link.profile (half_after link Forth past) x.flits x.received)
           (side_with link.profile (half_after link Back past) x.other_flits x.other_received)
-          (told_in link Forth past) (told_in link Back past) (missing_in Forth past)
+          (ack_sent_in link Forth past) (ack_sent_in link Back past) (missing_in Forth past)
           (missing_in Back past) feed w flit kept.retry
           (here link Forth past before (shown-forth link past before) x) f g room
           (fed-of link Forth (entry.sent Forth feed w flit ∷ past) kept) is.chosen;
@@ -112,7 +112,7 @@ landed-fits_forth : (link : LinkFields) (past : List LinkEntry) (mask flit : Lis
     SideFacts (setup_of link) (side_in link Forth past) (side_in link Back past) →
     StepFits link past (entry.landed Forth mask flit o) Forth
     (landing_step link Forth past mask flit o)
-unfolding sender_entries receiver_entries sent_flits landings landings_on takes handed_packets is_pending_changed turns_of told_in missing_in line passes
+unfolding sender_entries receiver_entries sent_flits landings landings_on takes handed_packets is_pending_changed turns_of ack_sent_in missing_in line passes
 landed-fits_forth link past mask flit o kept f =
     let q = link.profile in
     let e = entry.landed Forth mask flit o in
@@ -129,7 +129,7 @@ landed-fits_forth link past mask flit o kept f =
     lands-may q link.line link.retry link.tokens (lists_in link Forth past)
     (lists_in link Back past) x.s (side_with q (half_after link Forth past) x.flits x.received)
     (side_with q (half_after link Back past) x.other_flits x.other_received)
-    (told_in link Forth past) (told_in link Back past) (missing_in Forth past)
+    (ack_sent_in link Forth past) (ack_sent_in link Back past) (missing_in Forth past)
     (missing_in Back past) (missing_in Forth (e ∷ past)) mask flit o is.front kept.retry x.way
     x.linked
     (record {
@@ -145,7 +145,7 @@ landed-fits_forth link past mask flit o kept f =
       other_is =
           took-same q link.line link.retry link.tokens (lists_in link Forth past)
           (lists_in link Back past) (half_after link Forth past) (half_after link Back past)
-          (told_in link Forth past) (told_in link Back past) (missing_in Forth past)
+          (ack_sent_in link Forth past) (ack_sent_in link Back past) (missing_in Forth past)
           (missing_in Back past) _ o
           (reception_of q (receiver_entries Forth past) flit).rrp (slice_get (line q Forth past) 0);
     }
@@ -155,7 +155,7 @@ taken-fits_forth : (link : LinkFields) (past : List LinkEntry) →
     StepFits link past (entry.taken Forth) Forth
     (Step.leaves (taken_in link.profile Forth (entry.taken Forth ∷ past))
     (buffer_flits link.profile Forth (entry.taken Forth ∷ past)))
-unfolding sender_entries receiver_entries sent_flits landings landings_on takes handed_packets is_pending_changed turns_of told_in missing_in
+unfolding sender_entries receiver_entries sent_flits landings landings_on takes handed_packets is_pending_changed turns_of ack_sent_in missing_in
 taken-fits_forth link past kept =
     let q = link.profile in
     let x = wired link Forth past (kept-before link (entry.taken Forth) past kept) in
@@ -163,11 +163,11 @@ taken-fits_forth link past kept =
       may =
           taken-may q link.retry link.line link.tokens (lists_in link Forth past)
           (side_with q (half_after link Forth past) x.flits x.received) (side_in link Back past)
-          (told_in link Forth past) (missing_in Forth past) x.way;
+          (ack_sent_in link Forth past) (missing_in Forth past) x.way;
       own =
           taken-same q link.retry link.line link.tokens (lists_in link Forth past)
           (side_with q (half_after link Forth past) x.flits x.received) (side_in link Back past)
-          (told_in link Forth past) (missing_in Forth past)
+          (ack_sent_in link Forth past) (missing_in Forth past)
           (half_after link Back past).direction.accepted x.way;
       other_is = refl;
     }
@@ -175,7 +175,7 @@ taken-fits_forth link past kept =
 handed-fits_forth : (link : LinkFields) (past : List LinkEntry) (packet : PacketFields) →
     IsKept link (entry.handed Forth packet ∷ past) →
     StepFits link past (entry.handed Forth packet) Forth (Step.queues (flits_of packet))
-unfolding sender_entries receiver_entries sent_flits landings landings_on takes handed_packets is_pending_changed turns_of told_in missing_in AreHanded
+unfolding sender_entries receiver_entries sent_flits landings landings_on takes handed_packets is_pending_changed turns_of ack_sent_in missing_in AreHanded
 handed-fits_forth link past packet kept =
     let before = kept-before link (entry.handed Forth packet) past kept in
     let few = flits_of-few packet kept.met.handed.0.packet_is in
@@ -183,19 +183,19 @@ handed-fits_forth link past packet kept =
       may = (omega arith, omega arith);
       own =
           handed-same link.profile link.line link.retry link.tokens (lists_in link Forth past)
-          (half_after link Forth past) (side_in link Back past) (told_in link Forth past)
+          (half_after link Forth past) (side_in link Back past) (ack_sent_in link Forth past)
           (missing_in Forth past) packet (fronts-forth link past before);
       other_is = refl;
     }
 
 unlocked-fits_forth : (link : LinkFields) (past : List LinkEntry) →
     StepFits link past (entry.unlocked Forth) Forth Step.unlocks
-unfolding sender_entries receiver_entries sent_flits landings landings_on takes handed_packets is_pending_changed turns_of told_in missing_in
+unfolding sender_entries receiver_entries sent_flits landings landings_on takes handed_packets is_pending_changed turns_of ack_sent_in missing_in
 unlocked-fits_forth link past = record {
   may = tt;
   own =
       unlocked-same link.profile link.line link.retry link.tokens (lists_in link Forth past)
-      (half_after link Forth past) (side_in link Back past) (told_in link Forth past)
+      (half_after link Forth past) (side_in link Back past) (ack_sent_in link Forth past)
       (missing_in Forth past) (half_after link Back past).direction.accepted;
   other_is = refl;
 }
@@ -207,7 +207,7 @@ sent-fits_back : (link : LinkFields) (past : List LinkEntry) (feed : Feed) (w : 
     SideFacts (setup_of link) (side_in link Back past) (side_in link Forth past) →
     SideFacts (setup_of link) (side_in link Forth past) (side_in link Back past) →
     StepFits link past (entry.sent Back feed w flit) Back Step.sends
-unfolding sender_entries receiver_entries sent_flits landings landings_on takes handed_packets is_pending_changed turns_of told_in missing_in given_after
+unfolding sender_entries receiver_entries sent_flits landings landings_on takes handed_packets is_pending_changed turns_of ack_sent_in missing_in given_after
 sent-fits_back link past feed w flit kept f g =
     let before = kept-before link (entry.sent Back feed w flit) past kept in
     let x = wired link Back past before in
@@ -222,7 +222,7 @@ sent-fits_back link past feed w flit kept f g =
           (lists_in link Forth past)
           (side_with link.profile (half_after link Back past) x.flits x.received)
           (side_with link.profile (half_after link Forth past) x.other_flits x.other_received)
-          (told_in link Back past) (told_in link Forth past) (missing_in Back past)
+          (ack_sent_in link Back past) (ack_sent_in link Forth past) (missing_in Back past)
           (missing_in Forth past) feed w flit kept.retry
           (here link Back past before (shown-back link past before) x) f g room
           (fed-of link Back (entry.sent Back feed w flit ∷ past) kept) is.chosen;
@@ -234,7 +234,7 @@ landed-fits_back : (link : LinkFields) (past : List LinkEntry) (mask flit : List
     SideFacts (setup_of link) (side_in link Back past) (side_in link Forth past) →
     StepFits link past (entry.landed Back mask flit o) Back
     (landing_step link Back past mask flit o)
-unfolding sender_entries receiver_entries sent_flits landings landings_on takes handed_packets is_pending_changed turns_of told_in missing_in line passes
+unfolding sender_entries receiver_entries sent_flits landings landings_on takes handed_packets is_pending_changed turns_of ack_sent_in missing_in line passes
 landed-fits_back link past mask flit o kept f =
     let q = link.profile in
     let e = entry.landed Back mask flit o in
@@ -251,7 +251,7 @@ landed-fits_back link past mask flit o kept f =
     lands-may q link.line link.retry link.tokens (lists_in link Back past)
     (lists_in link Forth past) x.s (side_with q (half_after link Back past) x.flits x.received)
     (side_with q (half_after link Forth past) x.other_flits x.other_received)
-    (told_in link Back past) (told_in link Forth past) (missing_in Back past)
+    (ack_sent_in link Back past) (ack_sent_in link Forth past) (missing_in Back past)
     (missing_in Forth past) (missing_in Back (e ∷ past)) mask flit o is.front kept.retry x.way
     x.linked
     (record {
@@ -267,7 +267,7 @@ landed-fits_back link past mask flit o kept f =
       other_is =
           took-same q link.line link.retry link.tokens (lists_in link Back past)
           (lists_in link Forth past) (half_after link Back past) (half_after link Forth past)
-          (told_in link Back past) (told_in link Forth past) (missing_in Back past)
+          (ack_sent_in link Back past) (ack_sent_in link Forth past) (missing_in Back past)
           (missing_in Forth past) _ o
           (reception_of q (receiver_entries Back past) flit).rrp (slice_get (line q Back past) 0);
     }
@@ -277,7 +277,7 @@ taken-fits_back : (link : LinkFields) (past : List LinkEntry) →
     StepFits link past (entry.taken Back) Back
     (Step.leaves (taken_in link.profile Back (entry.taken Back ∷ past))
     (buffer_flits link.profile Back (entry.taken Back ∷ past)))
-unfolding sender_entries receiver_entries sent_flits landings landings_on takes handed_packets is_pending_changed turns_of told_in missing_in
+unfolding sender_entries receiver_entries sent_flits landings landings_on takes handed_packets is_pending_changed turns_of ack_sent_in missing_in
 taken-fits_back link past kept =
     let q = link.profile in
     let x = wired link Back past (kept-before link (entry.taken Back) past kept) in
@@ -285,11 +285,11 @@ taken-fits_back link past kept =
       may =
           taken-may q link.retry link.line link.tokens (lists_in link Back past)
           (side_with q (half_after link Back past) x.flits x.received) (side_in link Forth past)
-          (told_in link Back past) (missing_in Back past) x.way;
+          (ack_sent_in link Back past) (missing_in Back past) x.way;
       own =
           taken-same q link.retry link.line link.tokens (lists_in link Back past)
           (side_with q (half_after link Back past) x.flits x.received) (side_in link Forth past)
-          (told_in link Back past) (missing_in Back past)
+          (ack_sent_in link Back past) (missing_in Back past)
           (half_after link Forth past).direction.accepted x.way;
       other_is = refl;
     }
@@ -297,7 +297,7 @@ taken-fits_back link past kept =
 handed-fits_back : (link : LinkFields) (past : List LinkEntry) (packet : PacketFields) →
     IsKept link (entry.handed Back packet ∷ past) →
     StepFits link past (entry.handed Back packet) Back (Step.queues (flits_of packet))
-unfolding sender_entries receiver_entries sent_flits landings landings_on takes handed_packets is_pending_changed turns_of told_in missing_in AreHanded
+unfolding sender_entries receiver_entries sent_flits landings landings_on takes handed_packets is_pending_changed turns_of ack_sent_in missing_in AreHanded
 handed-fits_back link past packet kept =
     let before = kept-before link (entry.handed Back packet) past kept in
     let few = flits_of-few packet kept.met.handed.0.packet_is in
@@ -305,19 +305,19 @@ handed-fits_back link past packet kept =
       may = (omega arith, omega arith);
       own =
           handed-same link.profile link.line link.retry link.tokens (lists_in link Back past)
-          (half_after link Back past) (side_in link Forth past) (told_in link Back past)
+          (half_after link Back past) (side_in link Forth past) (ack_sent_in link Back past)
           (missing_in Back past) packet (fronts-back link past before);
       other_is = refl;
     }
 
 unlocked-fits_back : (link : LinkFields) (past : List LinkEntry) →
     StepFits link past (entry.unlocked Back) Back Step.unlocks
-unfolding sender_entries receiver_entries sent_flits landings landings_on takes handed_packets is_pending_changed turns_of told_in missing_in
+unfolding sender_entries receiver_entries sent_flits landings landings_on takes handed_packets is_pending_changed turns_of ack_sent_in missing_in
 unlocked-fits_back link past = record {
   may = tt;
   own =
       unlocked-same link.profile link.line link.retry link.tokens (lists_in link Back past)
-      (half_after link Back past) (side_in link Forth past) (told_in link Back past)
+      (half_after link Back past) (side_in link Forth past) (ack_sent_in link Back past)
       (missing_in Back past) (half_after link Forth past).direction.accepted;
   other_is = refl;
 }
@@ -372,7 +372,7 @@ leads-back link past e step is fits =
     }
 
 none-steps : (link : LinkFields) → AreSteps link []
-unfolding sender_entries receiver_entries sent_flits landings landings_on takes handed_packets is_pending_changed turns_of told_in missing_in doings_of entries.starts entries.others entries.go_back entries.is_open entries.taken_fronts receipts.training receipts.accepted
+unfolding sender_entries receiver_entries sent_flits landings landings_on takes handed_packets is_pending_changed turns_of ack_sent_in missing_in doings_of entries.starts entries.others entries.go_back entries.is_open entries.taken_fronts receipts.training receipts.accepted
 none-steps link = record { may = tt; leads = refl }
 
 pub steps-are : (link : LinkFields) (past : List LinkEntry) → IsKept link past → AreWhole past →

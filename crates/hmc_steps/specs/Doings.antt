@@ -1,4 +1,4 @@
--- The steps of hmc_drain that the entries of a link are.
+-- The steps of hmc_link_state that the entries of a link are.
 use Rattle.std.specs.Prelude.{◌≡◌, ℕ, Bool, true, false, List, [], ◌∷◌, ◌++◌, is_some}
 use Rattle.hmc_codes.specs.Link.{LinkFields}
 use Rattle.hmc_packet.specs.declared.kind.Kind.TheVariants.{Start}
@@ -11,7 +11,7 @@ use Rattle.hmc_send.specs.declared.toward.Toward.{Toward}
 use Rattle.hmc_send.specs.declared.toward.Toward.TheVariants.{Forth, Back}
 use Rattle.hmc_send.specs.LinkEntries.{LinkEntry, receiver_entries}
 use Rattle.hmc_wire.specs.EntryTurns.{landed_event, taken_in}
-use Rattle.hmc_drain.specs.Steps.{Step, Doing, MayAll, link_after}
+use Rattle.hmc_link_state.specs.Steps.{Step, Doing, MayAll, link_after}
 use Rattle.hmc_steps.specs.SideIn.{setup_of, missing_in, buffer_flits, link_in}
 
 abbrev pub is_ran_start : Outcome → Bool

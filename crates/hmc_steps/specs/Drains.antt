@@ -3,9 +3,9 @@ use Rattle.std.specs.Prelude.{◌≡◌, ℕ, ◌+◌, ◌*◌, ◌≤◌, List}
 use Rattle.hmc_codes.specs.Link.{LinkFields}
 use Rattle.hmc_send.specs.LinkEntries.{LinkEntry}
 use Rattle.hmc_wire.specs.LinkLaws.{IsKept}
-use Rattle.hmc_drain.specs.Lemmas.{IsFit}
-use Rattle.hmc_drain.specs.Round.{Rounds}
-use Rattle.hmc_drain.specs.State.{State, under_way}
+use Rattle.hmc_link_state.specs.EachRound.{IsFit}
+use Rattle.hmc_link_state.specs.Round.{Rounds}
+use Rattle.hmc_link_state.specs.State.{State, under_way}
 use Rattle.hmc_steps.specs.Doings.{AreWhole}
 use Rattle.hmc_steps.specs.SideIn.{setup_of, link_in}
 

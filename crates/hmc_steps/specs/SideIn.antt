@@ -12,21 +12,21 @@ use Rattle.hmc_send.specs.LinkEntries.{LinkEntry, other, same_way, receiver_entr
 use Rattle.hmc_send.specs.LinkSenders.{sender_entries, queue_in}
 use Rattle.hmc_send.specs.Places.{is_token}
 use Rattle.hmc_wire.specs.FieldsAre.{half_after}
-use Rattle.hmc_drain.specs.State.{Setup, Side}
-use Rattle.hmc_drain.specs.Steps.{Link}
+use Rattle.hmc_link_state.specs.State.{Setup, Side}
+use Rattle.hmc_link_state.specs.Steps.{Link}
 
 abbrev pub setup_of : LinkFields → Setup
 setup_of link = record { line = link.line; tokens = link.tokens; retry = link.retry }
 
 -- the stamp of the flit that was sent last in a direction with its return pointer, 0 where none was
-unfoldable pub told_in : LinkFields → Toward → List LinkEntry → ℕ
-told_in link d [] = 0
-told_in link d (LinkEntry.sent way feed what flit ∷ past) =
+unfoldable pub ack_sent_in : LinkFields → Toward → List LinkEntry → ℕ
+ack_sent_in link d [] = 0
+ack_sent_in link d (LinkEntry.sent way feed what flit ∷ past) =
     if same_way d way
     then (if shows_pointer what flit (unfinished (sender_entries link d past)) then length
-    (accepted_packets link.profile (other d) past) else told_in link d past)
-    else told_in link d past
-told_in link d (_ ∷ past) = told_in link d past
+    (accepted_packets link.profile (other d) past) else ack_sent_in link d past)
+    else ack_sent_in link d past
+ack_sent_in link d (_ ∷ past) = ack_sent_in link d past
 
 -- the flits that pending ones lack, by the length that the first one names
 abbrev pub lacking : List (List ℕ) → ℕ
@@ -61,7 +61,7 @@ side_in link d past = record {
   others = others (sender_entries link d past);
   go_back = go_back (sender_entries link d past);
   is_open = is_open (sender_entries link d past);
-  told = told_in link d past;
+  ack_sent = ack_sent_in link d past;
   steady = training link.profile (receiver_entries d past);
   missing = missing_in d past;
   queue = queue_flits link d past;

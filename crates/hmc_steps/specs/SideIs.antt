@@ -15,9 +15,9 @@ use Rattle.hmc_numbers.specs.Direction.{begun, position}
 use Rattle.hmc_numbers.specs.Direction.Reached.{spoilt}
 use Rattle.hmc_numbers.specs.Tokens.{held_tokens, transit_tokens, used_tokens, due_tokens, returning_tokens}
 use Rattle.hmc_wire.specs.EntryTurns.{left_of}
-use Rattle.hmc_drain.specs.Choice.{Mode as drained}
-use Rattle.hmc_drain.specs.Sees.{mode_of}
-use Rattle.hmc_drain.specs.State.{Side, world, flits_of, crossing, room}
+use Rattle.hmc_link_state.specs.Choice.{Mode as drained}
+use Rattle.hmc_link_state.specs.Sees.{mode_of}
+use Rattle.hmc_link_state.specs.State.{Side, wire, flits_of, crossing, room}
 use Rattle.hmc_steps.specs.SideIn.{setup_of, lacking}
 
 abbrev pub mode_by : outer.Mode → drained
@@ -29,16 +29,16 @@ mode_by Good = drained.good
 pub record SideIs (link : LinkFields) (d : Toward) (past : List LinkEntry) (x y : Side) :
     Type 0 where
   -- the receiver
-  pub mode : mode_of (world x).far ≡ mode_by (mode (receiver_entries d past))
-  pub is_spoilt : (world x).far ≡ spoilt → is_pending_changed d past ≡ true
-  pub lacks : (world x).far ≡ spoilt → x.missing ≡ lacking (pending (receiver_entries d past))
-  pub accepted : (world x).accepted ≡ length (accepted_packets link.profile d past)
+  pub mode : mode_of (wire x).far ≡ mode_by (mode (receiver_entries d past))
+  pub is_spoilt : (wire x).far ≡ spoilt → is_pending_changed d past ≡ true
+  pub lacks : (wire x).far ≡ spoilt → x.missing ≡ lacking (pending (receiver_entries d past))
+  pub accepted : (wire x).accepted ≡ length (accepted_packets link.profile d past)
   -- the sender
-  pub clears : (world x).clears ≡ entries.clears (sender_entries link d past)
-  pub left : (world x).left ≡ left_of (entries.unfinished (sender_entries link d past))
-  pub begun : begun (world x) ≡ length (places_in link d past)
-  pub acked : (world x).acked ≡ entries.acked (sender_entries link d past)
-  pub position : position (world x) ≡ entries.position link.profile (sender_entries link d past)
+  pub clears : (wire x).clears ≡ entries.clears (sender_entries link d past)
+  pub left : (wire x).left ≡ left_of (entries.unfinished (sender_entries link d past))
+  pub begun : begun (wire x) ≡ length (places_in link d past)
+  pub acked : (wire x).acked ≡ entries.acked (sender_entries link d past)
+  pub position : position (wire x) ≡ entries.position link.profile (sender_entries link d past)
   pub room : room (setup_of link) x ≡ entries.room link.profile link.retry
       (sender_entries link d past)
   -- tokens

@@ -1,8 +1,7 @@
-//! The entries of a link are steps of hmc_drain's numbers: the link's half of the drain bound.
+//! The entries of a link are steps of hmc_link_state: the link's half of the drain bound.
 //!
 //! `doings_of` (specs/Doings) has the steps of a list of entries, and `link_in` (specs/SideIn) the
-//! numbers that the list shows. A link that is settled is so by these numbers too, and the other way
-//! round.
+//! numbers that the list shows. A link is settled exactly where it is so by these numbers.
 #![tactic(auto)]
 
 ghost use Rattle.std.specs.Prelude.{List};
@@ -10,7 +9,7 @@ ghost use Rattle.hmc_codes.specs.Link.{LinkFields};
 ghost use Rattle.hmc_send.specs.LinkEntries.{LinkEntry, other};
 ghost use Rattle.hmc_send.specs.declared.toward.Toward.{Toward};
 ghost use Rattle.hmc_wire.specs.LinkLaws.{IsKept};
-ghost use Rattle.hmc_drain.specs.Steps.{IsSettledLink};
+ghost use Rattle.hmc_link_state.specs.Steps.{IsSettledLink};
 ghost use Rattle.hmc_steps.specs.Doings.{AreWhole, AreSteps};
 ghost use Rattle.hmc_steps.specs.SideIn.{side_in, link_in};
 ghost use Rattle.hmc_steps.specs.SideIs.{SideIs};

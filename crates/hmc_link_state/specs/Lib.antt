@@ -1,0 +1,9 @@
+pub mod Choice
+pub mod Facts
+pub mod Landing
+pub mod EachRound
+pub mod Round
+pub mod Sees
+pub mod State
+pub mod Steps
+pub mod Tries
