@@ -62,7 +62,7 @@ use Rattle.hmc_laws.proofs.ForwardingLandings.{forwarded_landed, still_gathered}
 use Rattle.hmc_laws.proofs.ForwardingUnlocks.{forwarded_unlocked}
 use Rattle.hmc_laws.proofs.ForwardingThroughs.{forwarded_through}
 use Rattle.hmc_laws.proofs.ForwardingQuiet.{forwarded_same}
-use Rattle.hmc_journal.proofs.Packets.{no_front_is_empty}
+use Rattle.hmc_journal.proofs.Packets.{nothing-front}
 use Rattle.hmc_routes.proofs.Joined.{same_place-true}
 
 -- ---- a front has the first place
@@ -296,7 +296,7 @@ none_waits setup past direction flits keeps may =
     let sizes = sizes_on setup.topology direction in
     let view = view_in sizes (toward direction) (entries_on setup.topology direction past) Waiting in
     output_is setup.topology direction past keeps.gathered (keeps.links (direction / 2))
-    ∙ no_front_is_empty (queue_in sizes (toward direction) (entries_on setup.topology direction past)) (ap is_none (sym (front_viewed setup.topology direction past)) ∙ first_three (is_none view.given.front) (is_free view) (may_begin view flits) may)
+    ∙ nothing-front (queue_in sizes (toward direction) (entries_on setup.topology direction past)) (ap is_none (sym (front_viewed setup.topology direction past)) ∙ first_three (is_none view.given.front) (is_free view) (may_begin view flits) may)
 
 free_through : (setup : Setup) (m : Map) (past : List Entry) (moved : List Move) (cube port direction : ℕ) → Wired setup.topology → Kept setup past → Agrees setup.topology m past moved → HasThrough setup past cube port direction → AreFree setup.topology m past moved
     → AreFree setup.topology m (Through cube port direction ∷ past) moved

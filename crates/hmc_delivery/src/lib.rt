@@ -8,4 +8,4 @@
 
 mod laws;
 
-pub use laws::{journal_guarantees, lawful_awaits_answers, lawful_delivers};
+pub use laws::{journal_guarantees, lawful_awaits_answers, lawful_delivers, lawful_is_served};

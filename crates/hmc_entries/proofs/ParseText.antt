@@ -13,6 +13,7 @@ use Rattle.std.proofs.lemmas.Nat.{from_be_bytes-to_be_bytes_4}
 use Rattle.hex.specs.Hex.{encode_lower, decode_sized, lower_digits}
 use Rattle.hex.proofs.HexLemmas.{decode_sized-encode_lower, length-encode_with}
 use Rattle.hmc_codes.specs.Answer.{is_returned, IsAnswer}
+use Rattle.hmc_codes.proofs.BytesLemmas.{byte_at-small}
 use Rattle.hmc_codes.specs.Bytes.{IsBytes}
 use Rattle.hmc_codes.specs.Request.{RequestFields, IsRequest}
 use Rattle.hmc_codes.specs.Text.{flag_text, spaced_words}
@@ -113,10 +114,6 @@ flag_word false = record { some = refl; letters = refl }
 returned_word : (payload : List ℕ) → is_returned (length payload) ≡ true → IsWord (encode_lower payload)
 returned_word [] is = absurd (cc is)
 returned_word (b ∷ bs) is = IsWord-encode_lower b bs
-
-byte_at-small : (i n : ℕ) → byte_at i n < 256
-byte_at-small zero n = omega arith
-byte_at-small (suc i) n = omega arith
 
 IsBytes-high : (k n : ℕ) → IsBytes (bytes_high_first k n)
 IsBytes-high zero n i = lit< tt

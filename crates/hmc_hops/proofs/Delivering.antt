@@ -1,5 +1,6 @@
 -- Every flow is delivered in order, and wholly where nothing is on its way.
 use Rattle.std.proofs.Common.{◌≡◌, ◌≤◌, ◌∙◌, ℕ, Bool, true, false, Option, Some, None, List, [], ◌∷◌, ◌++◌, map, refl, sym, ap, ap₂, subst, arith, append-nil}
+use Rattle.std.proofs.lemmas.Bool.{false_from_ne_true}
 use Rattle.hmc_hops.specs.Packets.{Packet, Spot, is_live, is_token}
 use Rattle.hmc_hops.specs.Packets.Spot.{Bank, Registers}
 use Rattle.hmc_hops.specs.Map.{Map, IsMap, hops_at, route, leg}
@@ -9,7 +10,7 @@ use Rattle.hmc_hops.specs.Queues.QueueId.{Output, Line, Buffer, Vault, UnitQueue
 use Rattle.hmc_hops.specs.Moves.{Move, contents, MayAll}
 use Rattle.hmc_hops.specs.Flows.{Flow, item_if, pick, waiting_at, waiting_along, waiting_inside, requests_to, answers_to, given_to, executed_by, answers_lifted, answers_accepted, answers_taken}
 use Rattle.hmc_hops.specs.Delivered.{IsChain, request_route, answer_route, RequestsDelivered, AnswersDelivered, DeliveredInOrder, IsNoLine, NoTokens, IsDrained, AllServed}
-use Rattle.hmc_hops.proofs.SameQueue.{none_true, live_parts}
+use Rattle.hmc_hops.proofs.SameQueue.{live_parts}
 use Rattle.hmc_hops.proofs.Telescope.{nothing_waits, chain_along}
 use Rattle.hmc_hops.proofs.Requests.{requests_flow, requests_walk, given_is, first_hop, last_hop}
 use Rattle.hmc_hops.proofs.Replies.{answers_flow, answers_walk, answers_lifted_is, first_back, last_back}
@@ -56,7 +57,7 @@ unfolding pick
 none_of f [] live none = refl
 none_of f (x ∷ xs) live none =
     ap₂ (λ a b. a ++ b)
-    (ap (λ (b : Bool). item_if b (f.value x)) (none_true (f.mine x) (λ mine. let on : is_token x.kind ≡ true = (live_parts x (live x mine)).1 in let off : is_token x.kind ≡ false = none.0 in cc)))
+    (ap (λ (b : Bool). item_if b (f.value x)) (false_from_ne_true (f.mine x) (λ mine. let on : is_token x.kind ≡ true = (live_parts x (live x mine)).1 in let off : is_token x.kind ≡ false = none.0 in cc)))
     (none_of f xs live none.1)
 
 -- no packet of a flow is in any queue

@@ -1,5 +1,6 @@
 -- From a cut-through until a packet leaves the line, no packet of its flow enters the buffer or the output queue.
 use Rattle.std.proofs.Common.{◌≡◌, ◌∙◌, ◌==◌, ◌&&◌, ℕ, zero, suc, Bool, true, false, not, Option, Some, None, List, [], ◌∷◌, ◌++◌, refl, sym, ap, ap₂, subst, eqb-true, eq-eqb}
+use Rattle.std.proofs.lemmas.Bool.{and_parts, and_from, false_from_ne_true}
 use Rattle.hmc_hops.specs.Packets.{Packet, Spot, Kind, is_live, is_request, is_reply, same_spot, reply_to}
 use Rattle.hmc_hops.specs.Packets.Kind.{Asks, Posts, Replies, Returns}
 use Rattle.hmc_routes.specs.Route.{Goal}
@@ -11,14 +12,14 @@ use Rattle.hmc_hops.specs.Moves.{Move, packet_if, leaves, enters, answer_queue, 
 use Rattle.hmc_hops.specs.Moves.Move.{Rests, Comes, Goes, Executes}
 use Rattle.hmc_hops.specs.Flows.{Flow, requests_to, answers_to}
 use Rattle.hmc_hops.specs.CutThrough.{NoneOfFlow, HasFreeWay}
-use Rattle.hmc_hops.proofs.SameQueue.{both_true, and_true, none_true, spot_is, spot_same, queue_is, queue_same, at_is, live_parts}
+use Rattle.hmc_hops.proofs.SameQueue.{spot_is, spot_same, queue_is, queue_same, at_is, live_parts}
 use Rattle.hmc_hops.proofs.Legs.{Follows, follow, no_leg}
 use Rattle.hmc_hops.proofs.QueueLaws.{IsFlow}
 use Rattle.hmc_hops.specs.OnWay.{IsOnWay}
 use Rattle.hmc_hops.proofs.OnRoute.{mover_on_way, reply_goal, reply_if_live}
 use Rattle.hmc_hops.proofs.Junctions.{buffer_to, at_cube_output, buffer_output, buffer_back, answer_queue_off}
 use Rattle.hmc_hops.proofs.Requests.{requests_flow}
-use Rattle.hmc_hops.proofs.Replies.{answers_flow}
+use Rattle.hmc_hops.proofs.Replies.{answers_flow, reply_kind}
 
 -- what two packets of one flow share
 pub record IsSameFlow (x y : Packet) : Type 0 where
@@ -30,22 +31,22 @@ pub record IsSameFlow (x y : Packet) : Type 0 where
 
 is_same_flow : (x y : Packet) → same_flow x y ≡ true → IsSameFlow x y
 is_same_flow x y is =
-    let one = both_true (is_live x && is_live y) (((x.host == y.host) && (x.cube == y.cube)) && same_work (is_request x.kind && is_request y.kind) (is_reply x.kind && is_reply y.kind) (same_spot x.spot y.spot)) is in
-    let live = both_true (is_live x) (is_live y) one.0 in
-    let two = both_true ((x.host == y.host) && (x.cube == y.cube)) (same_work (is_request x.kind && is_request y.kind) (is_reply x.kind && is_reply y.kind) (same_spot x.spot y.spot)) one.1 in
-    let three = both_true (x.host == y.host) (x.cube == y.cube) two.0 in
+    let one = and_parts (is_live x && is_live y) (((x.host == y.host) && (x.cube == y.cube)) && same_work (is_request x.kind && is_request y.kind) (is_reply x.kind && is_reply y.kind) (same_spot x.spot y.spot)) is in
+    let live = and_parts (is_live x) (is_live y) one.0 in
+    let two = and_parts ((x.host == y.host) && (x.cube == y.cube)) (same_work (is_request x.kind && is_request y.kind) (is_reply x.kind && is_reply y.kind) (same_spot x.spot y.spot)) one.1 in
+    let three = and_parts (x.host == y.host) (x.cube == y.cube) two.0 in
     record { live = live.0; live_too = live.1; host = eqb-true x.host y.host three.0; cube = eqb-true x.cube y.cube three.1; party = two.1 }
 
 mine_request : (h c : ℕ) (s : Spot) (x : Packet) → is_live x ≡ true → is_request x.kind ≡ true → x.host ≡ h → x.cube ≡ c → x.spot ≡ s → (requests_to h c s).mine x ≡ true
 mine_request h c s x live request host cube spot =
-    and_true (not x.poisoned && is_request x.kind) (((x.host == h) && (x.cube == c)) && same_spot x.spot s)
-    (and_true (not x.poisoned) (is_request x.kind) (ap not (live_parts x live).0) request)
-    (and_true ((x.host == h) && (x.cube == c)) (same_spot x.spot s) (and_true (x.host == h) (x.cube == c) (eq-eqb x.host h host) (eq-eqb x.cube c cube)) (ap (same_spot x.spot) (sym spot) ∙ spot_same x.spot))
+    and_from (not x.poisoned && is_request x.kind) (((x.host == h) && (x.cube == c)) && same_spot x.spot s)
+    (and_from (not x.poisoned) (is_request x.kind) (ap not (live_parts x live).0) request)
+    (and_from ((x.host == h) && (x.cube == c)) (same_spot x.spot s) (and_from (x.host == h) (x.cube == c) (eq-eqb x.host h host) (eq-eqb x.cube c cube)) (ap (same_spot x.spot) (sym spot) ∙ spot_same x.spot))
 
 mine_answer : (c h : ℕ) (x : Packet) → is_live x ≡ true → x.kind ≡ Replies → x.host ≡ h → x.cube ≡ c → (answers_to c h).mine x ≡ true
 mine_answer c h x live reply host cube =
-    and_true (not x.poisoned && is_reply x.kind) ((x.host == h) && (x.cube == c)) (and_true (not x.poisoned) (is_reply x.kind) (ap not (live_parts x live).0) (ap is_reply reply))
-    (and_true (x.host == h) (x.cube == c) (eq-eqb x.host h host) (eq-eqb x.cube c cube))
+    and_from (not x.poisoned && is_reply x.kind) ((x.host == h) && (x.cube == c)) (and_from (not x.poisoned) (is_reply x.kind) (ap not (live_parts x live).0) (ap is_reply reply))
+    (and_from (x.host == h) (x.cube == c) (eq-eqb x.host h host) (eq-eqb x.cube c cube))
 
 -- the other is a request to the same unit, or an answer
 party_request : (q r spots : Bool) → same_work (true && q) r spots ≡ true → r ≡ false → (q ≡ true) × (spots ≡ true)
@@ -57,12 +58,6 @@ request_no_reply Asks l is = refl
 request_no_reply Posts l is = refl
 request_no_reply Replies l is = cc
 request_no_reply Returns l is = cc
-
-reply_kind : (k : Kind) → is_reply k ≡ true → k ≡ Replies
-reply_kind Asks is = cc
-reply_kind Posts is = cc
-reply_kind Replies is = refl
-reply_kind Returns is = cc
 
 -- so it comes into the output queue from the same buffer alone
 pub record FromThere (m : Map) (e d : ℕ) (y : Packet) : Type 0 where
@@ -96,7 +91,7 @@ one_source m map e d i x y false request both at goes = by (m.next (ToHost x.hos
     kind = reply_if_live x.kind (live_parts x both.live).1 request
 
     other : y.kind ≡ Replies
-    other = reply_kind y.kind (both_true (is_reply x.kind) (is_reply y.kind) (ap (λ (b : Bool). same_work (b && is_request y.kind) (is_reply x.kind && is_reply y.kind) (same_spot x.spot y.spot)) (sym request) ∙ both.party)).1
+    other = reply_kind y.kind (and_parts (is_reply x.kind) (is_reply y.kind) (ap (λ (b : Bool). same_work (b && is_request y.kind) (is_reply x.kind && is_reply y.kind) (same_spot x.spot y.spot)) (sym request) ∙ both.party)).1
 
     by : (o : Option ℕ) → m.next (ToHost x.host) x.cube ≡ o → FromThere m e d y
     by None next = absurd (no_leg m (goal_of x) i e (ap (λ (o : Option ℕ). leg m (goal_of x) o i) (sym ((reply_goal m x kind).1 ∙ next)) ∙ at))
@@ -126,7 +121,7 @@ apart_kept x (Goes from n y) queue xs all = apart-without_if x (same_queue from 
 apart_kept x (Executes c s n y answer) queue xs all = apart-without_if x (same_queue (UnitQueue c s) queue) n xs all
 
 apart_if : (x y : Packet) (here : Bool) → (here ≡ true → same_flow x y ≡ true → ⊥) → NoneOfFlow x (packet_if here y)
-apart_if x y true none = (none_true (same_flow x y) (none refl), tt)
+apart_if x y true none = (false_from_ne_true (same_flow x y) (none refl), tt)
 apart_if x y false none = tt
 
 -- nothing comes into the buffer
@@ -157,7 +152,7 @@ none_into m e (Comes (Vault c v) x) past may none = refl
 none_into m e (Comes (UnitQueue c s) x) past may none = refl
 none_into m e (Comes (Answers c l) x) past may none = refl
 none_into m e (Goes p n x) past may none =
-    ap (λ (b : Bool). packet_if b x) (none_true (is_at (next_queue m p x) (Buffer e)) (λ at. leaves_some p (Line e) n x (buffer_back m e p x (at_is (next_queue m p x) (Buffer e) at)) none))
+    ap (λ (b : Bool). packet_if b x) (false_from_ne_true (is_at (next_queue m p x) (Buffer e)) (λ at. leaves_some p (Line e) n x (buffer_back m e p x (at_is (next_queue m p x) (Buffer e) at)) none))
 none_into m e (Executes c s n x answer) past may none = ap (λ (b : Bool). packet_if b (reply_to x answer)) (answer_queue_off x.kind c s (Buffer e) tt)
 
 placed_nil : (n : ℕ) (x : Packet) (xs : List Packet) → xs ≡ [] → IsPlaced n x xs → ⊥

@@ -1,6 +1,7 @@
 -- Every packet is on its way: in each queue there are only packets that have to pass it.
 use Rattle.std.proofs.Common.{◌≡◌, ◌∙◌, ℕ, zero, suc, Bool, true, false, not, Option, Some, None, List, [], ◌∷◌, ◌++◌, All, refl, sym, ap, subst}
 use Rattle.std.proofs.lemmas.List.Elements.{All-nil, All-cons}
+use Rattle.std.proofs.lemmas.Bool.{and_from}
 use Rattle.hmc_codes.specs.declared.answer.Answer.{Answer}
 use Rattle.hmc_hops.specs.Packets.{Packet, Spot, Kind, is_live, is_token, is_request, reply_to}
 use Rattle.hmc_hops.specs.Packets.Spot.{Bank, Registers}
@@ -13,7 +14,7 @@ use Rattle.hmc_hops.specs.Queues.QueueId.{Output, Line, Buffer, Vault, UnitQueue
 use Rattle.hmc_hops.specs.Moves.{Move, packet_if, enters, answer_queue, without, without_if, remaining, contents, IsPlaced, IsGiven, IsSource, May, MayAll}
 use Rattle.hmc_hops.specs.Moves.Move.{Rests, Comes, Goes, Executes}
 use Rattle.hmc_hops.specs.OnWay.{IsKnown, IsOnRoute, IsInCube, IsFromCube, IsOnWay}
-use Rattle.hmc_hops.proofs.SameQueue.{and_true, live_parts, queue_is}
+use Rattle.hmc_hops.proofs.SameQueue.{live_parts, queue_is}
 use Rattle.hmc_hops.proofs.Legs.{Follows, follow}
 
 -- all packets of a list
@@ -113,7 +114,7 @@ buffer_on_way : (m : Map) (map : IsMap m) (d : ℕ) (x : Packet) (queue : QueueI
 buffer_on_way m map d x queue true end p ends t carried goes = cc
 buffer_on_way m map d x queue false (Host h) p ends t carried goes = cc
 buffer_on_way m map d x queue false (Cube c) p ends t carried goes =
-    let live : is_live x ≡ true = and_true (not x.poisoned) (is_token x.kind) (ap not p) carried in
+    let live : is_live x ≡ true = and_from (not x.poisoned) (is_token x.kind) (ap not p) carried in
     shift_on_way m map d c x queue (m.next (goal_of x) c) refl ends live (t live) goes
 
 line_on_way : (m : Map) (d : ℕ) (x : Packet) (queue : QueueId) (carried : Bool) → is_token x.kind ≡ carried → (is_live x ≡ true → IsOnRoute m d x) → after_line carried d ≡ Some queue → IsOnWay m queue x

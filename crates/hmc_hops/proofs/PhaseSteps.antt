@@ -1,6 +1,7 @@
 -- Each move keeps the phase of a tag.
 use Rattle.std.proofs.Common.{◌≡◌, ◌≤◌, ◌∙◌, ◌+◌, ◌==◌, ◌&&◌, ℕ, zero, suc, Bool, true, false, not, Option, Some, None, List, [], ◌∷◌, ◌++◌, length, All, refl, sym, ap, ap₂, eqb-true, eq-eqb, append-nil, length-append, arith}
 use Rattle.std.proofs.lemmas.List.Elements.{All-nil, All-cons}
+use Rattle.std.proofs.lemmas.Bool.{and_parts, and_from, not-true, false_from_ne_true}
 use Rattle.hmc_codes.specs.declared.answer.Answer.{Answer}
 use Rattle.hmc_codes.specs.declared.answer.Answer.TheVariants.{Silent}
 use Rattle.hmc_hops.specs.Packets.{Packet, Spot, Kind, is_live, is_token, is_request, is_reply, no_request, reply_to}
@@ -17,7 +18,7 @@ use Rattle.hmc_hops.specs.Flows.{is_host}
 use Rattle.hmc_hops.specs.Tags.{is_asks, is_tagged, Errand, errand_by, errands_of, asks_now, executes_now, takes_now, request_of, answer_of, asked_under, executed_under, replied_under, answers_under, is_out, KeepsTags, Phase, errands_if, held, asks_left, replies_left, is_held, HasPhase, IsAnswered}
 use Rattle.hmc_hops.specs.Tags.Errand.{Asked, Replied}
 use Rattle.hmc_hops.specs.Tags.Phase.{Free, Held}
-use Rattle.hmc_hops.proofs.SameQueue.{queue_same, both_true, and_true, not_true, none_true, live_parts}
+use Rattle.hmc_hops.proofs.SameQueue.{queue_same, live_parts}
 use Rattle.hmc_hops.proofs.Legs.{before_leg}
 use Rattle.hmc_hops.proofs.QueueLaws.{pick-append, pick_none}
 use Rattle.hmc_hops.specs.OnWay.{IsAnswerFor, IsOnWay, IsOnRoute}
@@ -25,6 +26,7 @@ use Rattle.hmc_hops.proofs.OnRoute.{Each, all_on_way, mover_on_way, request_goal
 use Rattle.hmc_hops.specs.Delivered.{IsDrained}
 use Rattle.hmc_hops.proofs.Delivering.{nothing_in}
 use Rattle.hmc_hops.proofs.Phases.{HasLeft, has_left, none_left, others_left, enters_held, accounts_still, accounts_asks, accounts_executes, accounts_takes, free_if, same_errand}
+use Rattle.hmc_hops.proofs.Replies.{host_is}
 
 -- a packet whose direction ends at a host is an answer to it
 goal_is : (m : Map) → IsMap m → (d k i : ℕ) (x : Packet) (request : Bool) → is_request x.kind ≡ request → is_live x ≡ true → m.is_goal (ToHost x.host) ≡ true → leg m (goal_of x) (first_of m x) i ≡ Some d → m.end_of d ≡ Host k → goal_of x ≡ ToHost k
@@ -97,10 +99,10 @@ pub record IsErrand (h t : ℕ) (x : Packet) : Type 0 where
 
 pub errand_is : (h t : ℕ) (x : Packet) → (errands_of h t).mine x ≡ true → IsErrand h t x
 errand_is h t x mine =
-    let one = both_true (not x.poisoned && is_tagged x.kind) ((x.host == h) && (x.tag == t)) mine in
-    let kind = both_true (not x.poisoned) (is_tagged x.kind) one.0 in
-    let two = both_true (x.host == h) (x.tag == t) one.1 in
-    record { clean = not_true x.poisoned kind.0; tagged = kind.1; host = eqb-true x.host h two.0; tag = eqb-true x.tag t two.1 }
+    let one = and_parts (not x.poisoned && is_tagged x.kind) ((x.host == h) && (x.tag == t)) mine in
+    let kind = and_parts (not x.poisoned) (is_tagged x.kind) one.0 in
+    let two = and_parts (x.host == h) (x.tag == t) one.1 in
+    record { clean = not-true x.poisoned kind.0; tagged = kind.1; host = eqb-true x.host h two.0; tag = eqb-true x.tag t two.1 }
 
 tagged_token : (k : Kind) → is_tagged k ≡ true → is_token k ≡ true
 tagged_token Asks is = refl
@@ -109,25 +111,21 @@ tagged_token Replies is = refl
 tagged_token Returns is = cc
 
 errand_live : (h t : ℕ) (x : Packet) → IsErrand h t x → is_live x ≡ true
-errand_live h t x is = and_true (not x.poisoned) (is_token x.kind) (ap not is.clean) (tagged_token x.kind is.tagged)
-
-host_is : (end : End) (h : ℕ) → is_host end h ≡ true → end ≡ Host h
-host_is (Host k) h is = ap Host (eqb-true k h is)
-host_is (Cube c) h is = cc
+errand_live h t x is = and_from (not x.poisoned) (is_token x.kind) (ap not is.clean) (tagged_token x.kind is.tagged)
 
 -- a packet that is taken under a tag is an answer under it
 taken_mine : (m : Map) → IsMap m → (h t d : ℕ) (x : Packet) → IsOnWay m (Buffer d) x → (is_host (m.end_of d) h && (not x.poisoned && (x.tag == t))) ≡ true → (errands_of h t).mine x ≡ true
 taken_mine m map h t d x own takes =
-    let one = both_true (is_host (m.end_of d) h) (not x.poisoned && (x.tag == t)) takes in
-    let two = both_true (not x.poisoned) (x.tag == t) one.1 in
-    let live : is_live x ≡ true = and_true (not x.poisoned) (is_token x.kind) two.0 own.0 in
+    let one = and_parts (is_host (m.end_of d) h) (not x.poisoned && (x.tag == t)) takes in
+    let two = and_parts (not x.poisoned) (x.tag == t) one.1 in
+    let live : is_live x ≡ true = and_from (not x.poisoned) (is_token x.kind) two.0 own.0 in
     let a = at_host m map d h x live (own.1 live) (host_is (m.end_of d) h one.0) in
-    and_true (not x.poisoned && is_tagged x.kind) ((x.host == h) && (x.tag == t)) (and_true (not x.poisoned) (is_tagged x.kind) two.0 (ap is_tagged a.0)) (and_true (x.host == h) (x.tag == t) (eq-eqb x.host h a.1) two.1)
+    and_from (not x.poisoned && is_tagged x.kind) ((x.host == h) && (x.tag == t)) (and_from (not x.poisoned) (is_tagged x.kind) two.0 (ap is_tagged a.0)) (and_from (x.host == h) (x.tag == t) (eq-eqb x.host h a.1) two.1)
 
 takes_false : (m : Map) → IsMap m → (h t : ℕ) (p : QueueId) (n : ℕ) (x : Packet) → IsOnWay m p x → (errands_of h t).mine x ≡ false → takes_now m h t (Goes p n x) ≡ false
 takes_false m map h t (Output d) n x own off = refl
 takes_false m map h t (Line d) n x own off = refl
-takes_false m map h t (Buffer d) n x own off = none_true (takes_now m h t (Goes (Buffer d) n x)) (λ on. let mine : (errands_of h t).mine x ≡ true = taken_mine m map h t d x own on in let o = off in let clash : true ≡ false = sym mine ∙ o in cc)
+takes_false m map h t (Buffer d) n x own off = false_from_ne_true (takes_now m h t (Goes (Buffer d) n x)) (λ on. let mine : (errands_of h t).mine x ≡ true = taken_mine m map h t d x own on in let o = off in let clash : true ≡ false = sym mine ∙ o in cc)
 takes_false m map h t (Vault c v) n x own off = refl
 takes_false m map h t (UnitQueue c s) n x own off = refl
 takes_false m map h t (Answers c l) n x own off = refl
@@ -139,8 +137,8 @@ host_goes_nowhere m d h x false queue end goes = let none : None ≡ Some queue 
 pub takes_not : (m : Map) (h t : ℕ) (p : QueueId) (n : ℕ) (x : Packet) (queue : QueueId) → next_queue m p x ≡ Some queue → takes_now m h t (Goes p n x) ≡ false
 takes_not m h t (Output d) n x queue goes = refl
 takes_not m h t (Line d) n x queue goes = refl
-takes_not m h t (Buffer d) n x queue goes = none_true (takes_now m h t (Goes (Buffer d) n x))
-    (λ on. host_goes_nowhere m d h x x.poisoned queue (host_is (m.end_of d) h (both_true (is_host (m.end_of d) h) (not x.poisoned && (x.tag == t)) on).0) goes)
+takes_not m h t (Buffer d) n x queue goes = false_from_ne_true (takes_now m h t (Goes (Buffer d) n x))
+    (λ on. host_goes_nowhere m d h x x.poisoned queue (host_is (m.end_of d) h (and_parts (is_host (m.end_of d) h) (not x.poisoned && (x.tag == t)) on).0) goes)
 takes_not m h t (Vault c v) n x queue goes = refl
 takes_not m h t (UnitQueue c s) n x queue goes = refl
 takes_not m h t (Answers c l) n x queue goes = refl
@@ -180,7 +178,7 @@ goes_out m h t past p n x has on left goes taken =
     let telling : f.value x ≡ Replied x.answer = ap (λ (k : Kind). errand_by (is_reply k) x) taken.reply in
     let takes : takes_now m h t (Goes p n x) ≡ true =
     ap (λ (r : QueueId). takes_now m h t (Goes r n x)) taken.queue
-    ∙ and_true (is_host (m.end_of taken.direction) h) (not x.poisoned && (x.tag == t)) (ap (λ (e : End). is_host e h) taken.ends ∙ eq-eqb x.host h is.host) (and_true (not x.poisoned) (x.tag == t) (ap not is.clean) (eq-eqb x.tag t is.tag)) in record {
+    ∙ and_from (is_host (m.end_of taken.direction) h) (not x.poisoned && (x.tag == t)) (ap (λ (e : End). is_host e h) taken.ends ∙ eq-eqb x.host h is.host) (and_from (not x.poisoned) (x.tag == t) (ap not is.clean) (eq-eqb x.tag t is.tag)) in record {
       phase = Free;
       places = λ here.
           pick-append f (without_if (same_queue p here) n (contents m past here)) (packet_if (is_at (next_queue m p x) here) x)
@@ -242,7 +240,7 @@ dead_step : (m : Map) (h t : ℕ) (past : List Move) (d : ℕ) (x : Packet) → 
 unfolding contents collect is_out
 dead_step m h t past d x dead has =
     let f = errands_of h t in
-    let off : f.mine x ≡ false = none_true (f.mine x) (λ on. let live : is_live x ≡ true = errand_live h t x (errand_is h t x on) in let clash : true ≡ false = sym live ∙ dead in cc) in record {
+    let off : f.mine x ≡ false = false_from_ne_true (f.mine x) (λ on. let live : is_live x ≡ true = errand_live h t x (errand_is h t x on) in let clash : true ≡ false = sym live ∙ dead in cc) in record {
       phase = has.phase;
       places = λ queue.
           pick-append f (contents m past queue) (packet_if (same_queue (Line d) queue) x)
@@ -291,7 +289,7 @@ executes_step m h t past c s n x answer false turns at own has =
 executes_step m h t past c s n x answer true turns at own has =
     let f = errands_of h t in
     let on : f.mine x ≡ true = executes_mine h t c s n x answer own.0.clean own.0.request ∙ turns in
-    let both = both_true (is_asks x.kind) ((x.host == h) && (x.tag == t)) turns in
+    let both = and_parts (is_asks x.kind) ((x.host == h) && (x.tag == t)) turns in
     let kind : x.kind ≡ Asks = asks_kind x.kind both.0 in
     let left = has_left f has.phase (UnitQueue c s) n x (contents m past (UnitQueue c s)) at on (has.places (UnitQueue c s)) in
     let asking : f.value x ≡ Asked x.request = ap (λ (b : Bool). errand_by b x) (request_no_reply x.kind own.0.request) in record {

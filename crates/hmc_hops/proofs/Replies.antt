@@ -1,5 +1,6 @@
 -- The answers of a cube to a host.
 use Rattle.std.proofs.Common.{◌≡◌, ◌≤◌, ◌∙◌, ◌+◌, ◌==◌, ◌&&◌, ℕ, zero, suc, Bool, true, false, not, Option, Some, None, List, [], ◌++◌, refl, sym, ap, ap₂, eqb-true, eq-eqb, arith}
+use Rattle.std.proofs.lemmas.Bool.{and_parts, and_from, not-true, false_from_ne_true}
 use Rattle.hmc_codes.specs.declared.lift.Lift.{Lift}
 use Rattle.hmc_hops.specs.Packets.{Packet, Kind, is_live, is_token, is_request, is_reply, reply_to, same_spot}
 use Rattle.hmc_hops.specs.Packets.Kind.{Asks, Posts, Replies, Returns}
@@ -13,7 +14,7 @@ use Rattle.hmc_hops.specs.Moves.{Move, packet_if, leaves, enters, same_flow, sam
 use Rattle.hmc_hops.specs.Moves.Move.{Rests, Comes, Goes, Executes}
 use Rattle.hmc_hops.specs.Flows.{TaggedAnswer, pick, flow_entered, flow_left, waiting_at, waiting_along, answers_to, lifted_packets, answers_lifted, is_host, taken_packets, answers_taken}
 use Rattle.hmc_hops.specs.Delivered.{IsPrefix}
-use Rattle.hmc_hops.proofs.SameQueue.{both_true, and_true, not_true, none_true, bool_same, at_is, at_of}
+use Rattle.hmc_hops.proofs.SameQueue.{bool_same, at_is, at_of}
 use Rattle.hmc_hops.proofs.Legs.{Follows, follows, follow, one_leg, hops_leg}
 use Rattle.hmc_hops.proofs.QueueLaws.{IsFlow, same_collected, pick_none}
 use Rattle.hmc_hops.specs.OnWay.{IsOnWay}
@@ -27,7 +28,7 @@ pub record IsAnswerOf (c h : ℕ) (x : Packet) : Type 0 where
   pub host : x.host ≡ h
   pub cube : x.cube ≡ c
 
-reply_kind : (k : Kind) → is_reply k ≡ true → k ≡ Replies
+pub reply_kind : (k : Kind) → is_reply k ≡ true → k ≡ Replies
 reply_kind Asks is = cc
 reply_kind Posts is = cc
 reply_kind Replies is = refl
@@ -35,18 +36,18 @@ reply_kind Returns is = cc
 
 pub answer_of_flow : (c h : ℕ) (x : Packet) → (answers_to c h).mine x ≡ true → IsAnswerOf c h x
 answer_of_flow c h x mine =
-    let one = both_true (not x.poisoned && is_reply x.kind) ((x.host == h) && (x.cube == c)) mine in
-    let kind = both_true (not x.poisoned) (is_reply x.kind) one.0 in
-    let two = both_true (x.host == h) (x.cube == c) one.1 in
-    record { clean = not_true x.poisoned kind.0; reply = reply_kind x.kind kind.1; host = eqb-true x.host h two.0; cube = eqb-true x.cube c two.1 }
+    let one = and_parts (not x.poisoned && is_reply x.kind) ((x.host == h) && (x.cube == c)) mine in
+    let kind = and_parts (not x.poisoned) (is_reply x.kind) one.0 in
+    let two = and_parts (x.host == h) (x.cube == c) one.1 in
+    record { clean = not-true x.poisoned kind.0; reply = reply_kind x.kind kind.1; host = eqb-true x.host h two.0; cube = eqb-true x.cube c two.1 }
 
 pub live_answer : (c h : ℕ) (x : Packet) → IsAnswerOf c h x → is_live x ≡ true
-live_answer c h x is = and_true (not x.poisoned) (is_token x.kind) (ap not is.clean) (ap is_token is.reply)
+live_answer c h x is = and_from (not x.poisoned) (is_token x.kind) (ap not is.clean) (ap is_token is.reply)
 
 answers_same_flow : (c h : ℕ) (x y : Packet) → IsAnswerOf c h x → IsAnswerOf c h y → same_flow x y ≡ true
 answers_same_flow c h x y a b =
-    and_true _ _ (and_true _ _ (live_answer c h x a) (live_answer c h y b))
-    (and_true _ _ (and_true _ _ (eq-eqb x.host y.host (a.host ∙ sym b.host)) (eq-eqb x.cube y.cube (a.cube ∙ sym b.cube)))
+    and_from _ _ (and_from _ _ (live_answer c h x a) (live_answer c h y b))
+    (and_from _ _ (and_from _ _ (eq-eqb x.host y.host (a.host ∙ sym b.host)) (eq-eqb x.cube y.cube (a.cube ∙ sym b.cube)))
     (ap₂ (λ (k l : Kind). same_work (is_request k && is_request l) (is_reply k && is_reply l) (same_spot x.spot y.spot)) a.reply b.reply))
 
 pub answers_flow : (m : Map) (c h first : ℕ) → m.next (ToHost h) c ≡ Some first → IsFlow m (answers_to c h) (ToHost h) first
@@ -77,7 +78,7 @@ goes_not : (m : Map) (c h first : ℕ) (p : QueueId) (x : Packet) (mine : Bool) 
 unfolding pick
 goes_not m c h first p x false is none = sym (pick_none (answers_to c h) (is_at (next_queue m p x) (Output first)) x is)
 goes_not m c h first p x true is none =
-    ap (λ (b : Bool). pick (answers_to c h) (packet_if b x)) (sym (none_true (is_at (next_queue m p x) (Output first)) (λ at. none refl (at_is (next_queue m p x) (Output first) at))))
+    ap (λ (b : Bool). pick (answers_to c h) (packet_if b x)) (sym (false_from_ne_true (is_at (next_queue m p x) (Output first)) (λ at. none refl (at_is (next_queue m p x) (Output first) at))))
 
 lift_goes : (m : Map) (c h first d : ℕ) (l : Lift) (x : Packet) (mine : Bool) → m.next (ToHost h) c ≡ Some first → (answers_to c h).mine x ≡ mine → IsOnWay m (Answers d l) x
     → pick (answers_to c h) (packet_if (d == c) x) ≡ pick (answers_to c h) (packet_if (is_at (after_answers (m.next (ToHost x.host) d)) (Output first)) x)
@@ -89,7 +90,7 @@ lift_goes m c h first d l x true next is own =
     ap (λ (b : Bool). pick (answers_to c h) (packet_if b x)) (eq-eqb d c here ∙ sym (at_of (after_answers (m.next (ToHost x.host) d)) (Output first) goes))
 
 request_not_mine : (c h : ℕ) (x : Packet) → is_request x.kind ≡ true → (answers_to c h).mine x ≡ false
-request_not_mine c h x request = none_true ((answers_to c h).mine x) (λ mine. let off : is_request x.kind ≡ false = ap is_request (answer_of_flow c h x mine).reply in cc)
+request_not_mine c h x request = false_from_ne_true ((answers_to c h).mine x) (λ mine. let off : is_request x.kind ≡ false = ap is_request (answer_of_flow c h x mine).reply in cc)
 
 line_no_output : (b : Bool) (d e : ℕ) → after_line b d ≡ Some (Output e) → ⊥
 line_no_output true d e is = cc
@@ -120,7 +121,7 @@ lifted_entered m c h first past map lawful next =
     agree (Executes d t n x answer) before may law = ap (λ (b : Bool). pick (answers_to c h) (packet_if b (reply_to x answer))) (sym (answer_queue_off x.kind d t (Output first) tt))
 
 -- The host's end.
-host_is : (end : End) (h : ℕ) → is_host end h ≡ true → end ≡ Host h
+pub host_is : (end : End) (h : ℕ) → is_host end h ≡ true → end ≡ Host h
 host_is (Host k) h is = ap Host (eqb-true k h is)
 host_is (Cube c) h is = cc
 

@@ -1,5 +1,6 @@
 -- The requests of a host to a unit.
 use Rattle.std.proofs.Common.{◌≡◌, ◌≤◌, ◌∙◌, ◌==◌, ◌&&◌, ℕ, zero, suc, Bool, true, false, not, Option, Some, None, List, [], ◌∷◌, ◌++◌, refl, sym, ap, subst, eqb-true, eq-eqb, append_assoc}
+use Rattle.std.proofs.lemmas.Bool.{and_parts, and_from, not-true, false_from_ne_true}
 use Rattle.hmc_hops.specs.Packets.{Packet, Spot, Kind, is_live, is_token, is_request, is_reply, reply_to, same_spot}
 use Rattle.hmc_hops.specs.Packets.Spot.{Bank, Registers}
 use Rattle.hmc_hops.specs.Packets.Kind.{Asks, Posts, Replies, Returns}
@@ -12,7 +13,7 @@ use Rattle.hmc_hops.specs.Moves.{Move, packet_if, leaves, enters, answer_queue, 
 use Rattle.hmc_hops.specs.Moves.Move.{Rests, Comes, Goes, Executes}
 use Rattle.hmc_hops.specs.Flows.{TaggedRequest, item_if, pick, flow_entered, flow_left, waiting_at, waiting_along, waiting_inside, tagged_request, requests_to, given_packets, executed_requests, given_to, executed_by}
 use Rattle.hmc_hops.specs.Delivered.{IsPrefix}
-use Rattle.hmc_hops.proofs.SameQueue.{both_true, and_true, not_true, none_true, spot_is, spot_same, queue_is, at_is}
+use Rattle.hmc_hops.proofs.SameQueue.{spot_is, spot_same, queue_is, at_is}
 use Rattle.hmc_hops.proofs.Legs.{follows}
 use Rattle.hmc_hops.proofs.QueueLaws.{IsFlow, queue_law, same_collected, pick_none}
 use Rattle.hmc_hops.specs.OnWay.{IsOnWay}
@@ -30,11 +31,11 @@ pub record IsRequestOf (h c : ℕ) (s : Spot) (x : Packet) : Type 0 where
 
 pub request_of_flow : (h c : ℕ) (s : Spot) (x : Packet) → (requests_to h c s).mine x ≡ true → IsRequestOf h c s x
 request_of_flow h c s x mine =
-    let one = both_true (not x.poisoned && is_request x.kind) (((x.host == h) && (x.cube == c)) && same_spot x.spot s) mine in
-    let kind = both_true (not x.poisoned) (is_request x.kind) one.0 in
-    let two = both_true ((x.host == h) && (x.cube == c)) (same_spot x.spot s) one.1 in
-    let three = both_true (x.host == h) (x.cube == c) two.0 in
-    record { clean = not_true x.poisoned kind.0; request = kind.1; host = eqb-true x.host h three.0; cube = eqb-true x.cube c three.1; spot = spot_is x.spot s two.1 }
+    let one = and_parts (not x.poisoned && is_request x.kind) (((x.host == h) && (x.cube == c)) && same_spot x.spot s) mine in
+    let kind = and_parts (not x.poisoned) (is_request x.kind) one.0 in
+    let two = and_parts ((x.host == h) && (x.cube == c)) (same_spot x.spot s) one.1 in
+    let three = and_parts (x.host == h) (x.cube == c) two.0 in
+    record { clean = not-true x.poisoned kind.0; request = kind.1; host = eqb-true x.host h three.0; cube = eqb-true x.cube c three.1; spot = spot_is x.spot s two.1 }
 
 request_token : (k : Kind) → is_request k ≡ true → is_token k ≡ true
 request_token Asks is = refl
@@ -43,12 +44,12 @@ request_token Replies is = refl
 request_token Returns is = cc
 
 pub live_request : (h c : ℕ) (s : Spot) (x : Packet) → IsRequestOf h c s x → is_live x ≡ true
-live_request h c s x is = and_true (not x.poisoned) (is_token x.kind) (ap not is.clean) (request_token x.kind is.request)
+live_request h c s x is = and_from (not x.poisoned) (is_token x.kind) (ap not is.clean) (request_token x.kind is.request)
 
 requests_same_flow : (h c : ℕ) (s : Spot) (x y : Packet) → IsRequestOf h c s x → IsRequestOf h c s y → same_flow x y ≡ true
 requests_same_flow h c s x y a b =
-    and_true _ _ (and_true _ _ (live_request h c s x a) (live_request h c s y b))
-    (and_true _ _ (and_true _ _ (eq-eqb x.host y.host (a.host ∙ sym b.host)) (eq-eqb x.cube y.cube (a.cube ∙ sym b.cube)))
+    and_from _ _ (and_from _ _ (live_request h c s x a) (live_request h c s y b))
+    (and_from _ _ (and_from _ _ (eq-eqb x.host y.host (a.host ∙ sym b.host)) (eq-eqb x.cube y.cube (a.cube ∙ sym b.cube)))
     (party (is_request x.kind) (is_request y.kind) (is_reply x.kind && is_reply y.kind) a.request b.request (ap (same_spot x.spot) (b.spot ∙ sym a.spot) ∙ spot_same x.spot)))
   where
     party : (p q r : Bool) → p ≡ true → q ≡ true → same_spot x.spot y.spot ≡ true → Rattle.hmc_hops.specs.Moves.same_work (p && q) r (same_spot x.spot y.spot) ≡ true
@@ -89,7 +90,7 @@ goes_not : (m : Map) (h c : ℕ) (s : Spot) → IsMap m → m.is_goal (ToHost h)
 unfolding pick
 goes_not m h c s map known p x false is own = sym (pick_none (requests_to h c s) (is_at (next_queue m p x) (Output (m.from_host h))) x is)
 goes_not m h c s map known p x true is own =
-    ap (λ (b : Bool). pick (requests_to h c s) (packet_if b x)) (sym (none_true (is_at (next_queue m p x) (Output (m.from_host h))) (λ at. no_way m h c s map known p x is own (at_is (next_queue m p x) (Output (m.from_host h)) at))))
+    ap (λ (b : Bool). pick (requests_to h c s) (packet_if b x)) (sym (false_from_ne_true (is_at (next_queue m p x) (Output (m.from_host h))) (λ at. no_way m h c s map known p x is own (at_is (next_queue m p x) (Output (m.from_host h)) at))))
 
 comes_given : (m : Map) (h c : ℕ) (s : Spot) (d : ℕ) (x : Packet) (mine : Bool) → (requests_to h c s).mine x ≡ mine → IsGiven m d x → pick (requests_to h c s) (x ∷ []) ≡ pick (requests_to h c s) (packet_if (d == m.from_host h) x)
 unfolding pick

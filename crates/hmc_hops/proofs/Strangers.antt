@@ -1,5 +1,6 @@
 -- No packet that counts is of a host or a cube that isn't there.
 use Rattle.std.proofs.Common.{◌≡◌, ◌∙◌, ◌==◌, ℕ, Bool, true, false, List, [], ◌∷◌, ◌++◌, refl, sym, ap, ap₂}
+use Rattle.std.proofs.lemmas.Bool.{false_from_ne_true}
 use Rattle.hmc_routes.specs.Route.Goal.{ToHost, ToCube}
 use Rattle.hmc_hops.specs.Packets.{Packet, Spot, is_live}
 use Rattle.hmc_hops.specs.Map.{Map, IsMap}
@@ -10,7 +11,6 @@ use Rattle.hmc_hops.specs.Moves.Move.{Rests, Comes, Goes, Executes}
 use Rattle.hmc_hops.specs.Flows.{Flow, TaggedRequest, item_if, pick, collect, flow_left, waiting_at, requests_to, answers_to, given_packets, lifted_packets, is_host, taken_packets, given_to, answers_lifted, answers_taken}
 use Rattle.hmc_hops.specs.OnWay.{IsKnown, IsOnWay}
 use Rattle.hmc_hops.specs.Delivered.{IsStranger, NoneOfRequests, NoneOfAnswers}
-use Rattle.hmc_hops.proofs.SameQueue.{none_true}
 use Rattle.hmc_hops.proofs.QueueLaws.{same_collected, pick_none}
 use Rattle.hmc_hops.proofs.OnRoute.{Each, all_on_way, mover_on_way}
 use Rattle.hmc_hops.proofs.Requests.{request_of_flow, live_request, executed_left}
@@ -30,7 +30,7 @@ pub record IsUnknown {X : Type 0} (m : Map) (f : Flow X) : Type 0 where
   pub unknown : (x : Packet) → f.mine x ≡ true → IsKnown m x → ⊥
 
 not_mine : {X : Type 0} (m : Map) (f : Flow X) (queue : QueueId) (x : Packet) → IsUnknown m f → IsOnWay m queue x → f.mine x ≡ false
-not_mine m f queue x u own = none_true (f.mine x) (λ mine. u.unknown x mine (known_of m queue x own (u.live x mine)))
+not_mine m f queue x u own = false_from_ne_true (f.mine x) (λ mine. u.unknown x mine (known_of m queue x own (u.live x mine)))
 
 collected_none : {X : Type 0} (past : List Move) → collect {X = X} (λ move. []) past ≡ []
 unfolding collect
@@ -86,7 +86,7 @@ none_given m h c s past lawful stranger = none_by m (λ move. pick (requests_to 
 
     none : (move : Move) (before : List Move) → May m before move → MayAll m before → pick (requests_to h c s) (given_packets move) ≡ []
     none Rests before may law = refl
-    none (Comes (Output d) x) before may law = pick_none (requests_to h c s) true x (none_true ((requests_to h c s).mine x) (λ mine. (unknown_requests m h c s stranger).unknown x mine (record { host = may.host; cube = may.cube })))
+    none (Comes (Output d) x) before may law = pick_none (requests_to h c s) true x (false_from_ne_true ((requests_to h c s).mine x) (λ mine. (unknown_requests m h c s stranger).unknown x mine (record { host = may.host; cube = may.cube })))
     none (Comes (Line d) x) before may law = refl
     none (Comes (Buffer d) x) before may law = refl
     none (Comes (Vault d v) x) before may law = refl

@@ -1,6 +1,7 @@
 -- The queues that packets wait in, and where a packet goes from each. This file alone has the table
 -- of moves.
 use Rattle.std.specs.Prelude.{ℕ, Bool, true, false, ◌==◌, ◌&&◌, Option, Some, None}
+use Rattle.hmc_codes.specs.Places.{same_lift}
 use Rattle.hmc_codes.specs.declared.lift.Lift.{Lift}
 use Rattle.hmc_codes.specs.declared.lift.Lift.TheVariants as lifts
 use Rattle.hmc_hops.specs.Packets.{Packet, Spot, same_spot, is_token}
@@ -19,12 +20,6 @@ pub data QueueId : Type 0 where
   Vault : (cube vault : ℕ) → QueueId
   UnitQueue : (cube : ℕ) → Spot → QueueId
   Answers : (cube : ℕ) → Lift → QueueId
-
--- the same queue of answers of a cube
-abbrev pub same_lift : Lift → Lift → Bool
-same_lift (lifts.Vault v) (lifts.Vault w) = v == w
-same_lift lifts.Registers lifts.Registers = true
-same_lift _ _ = false
 
 -- the same queue
 abbrev pub same_queue : QueueId → QueueId → Bool

@@ -3,7 +3,7 @@ use Rattle.std.proofs.Common.{◌≡◌, ◌≢◌, ◌≤◌, ◌<◌, ◌∙�
 use Rattle.std.specs.Prelude.{slice_get, Option, Some, None, is_none, nat_lt}
 use Rattle.std.specs.Option.{ForSome, option_map}
 use Rattle.std.specs.List.{position_or_len}
-use Rattle.std.proofs.lemmas.Bool.{and_parts, cases_lt, ltb-false}
+use Rattle.std.proofs.lemmas.Bool.{and_parts, cases_lt, ltb-false, not-true, not-false}
 use Rattle.std.proofs.lemmas.List.Sums.{fails_before_first}
 use Rattle.std.proofs.lemmas.List.Quantifiers.{position-Some}
 use Rattle.std.proofs.lemmas.Option.{slice_get_past, slice_get-get_or, slice_get_within}
@@ -17,23 +17,15 @@ use Rattle.hmc_host.specs.Give.{wants_tag, tag_for, gave_request, next_item, nex
 
 -- ---- tags
 
-not_out : (out : Bool) → not out ≡ true → out ≡ false
-not_out true is = absurd cc
-not_out false is = refl
-
-is_out : (out : Bool) → not out ≡ false → out ≡ true
-is_out true is = refl
-is_out false is = absurd cc
-
 -- the lowest tag that isn't out
 pub is_lowest : (tags : List Bool) (tag : ℕ) → lowest_free tags ≡ Some tag → IsLowestFree tags tag
 is_lowest tags tag is =
     let found = position-Some not tags tag true is in
     record {
-      free = slice_get-get_or tags tag true found.0 ∙ ap Some (not_out (get_or tags tag true) found.1);
+      free = slice_get-get_or tags tag true found.0 ∙ ap Some (not-true (get_or tags tag true) found.1);
       below = λ lower less.
           let within : lower < length tags = omega (arith, found.0) in
-          slice_get-get_or tags lower true within ∙ ap Some (is_out (get_or tags lower true) (found.2 lower less));
+          slice_get-get_or tags lower true within ∙ ap Some (not-false (get_or tags lower true) (found.2 lower less));
     }
 
 past_all : (tags : List Bool) (less : Bool) → nat_lt (position_or_len not tags) (length tags) ≡ less →
@@ -46,7 +38,7 @@ pub none_free : (tags : List Bool) → is_none (lowest_free tags) ≡ true → (
 none_free tags none tag within =
     let past : length tags ≤ position_or_len not tags = past_all tags (nat_lt (position_or_len not tags) (length tags)) refl none in
     let before : tag < position_or_len not tags = omega arith in
-    slice_get-get_or tags tag true within ∙ ap Some (is_out (get_or tags tag true) (fails_before_first not tags tag true before))
+    slice_get-get_or tags tag true within ∙ ap Some (not-false (get_or tags tag true) (fails_before_first not tags tag true before))
 
 -- ---- requests, by what holds them
 

@@ -43,7 +43,8 @@ use Rattle.hmc_send.specs.declared.sent.Sent.TheVariants.{Out, Starved}
 use Rattle.hmc_send.specs.Choice as cases
 use Rattle.hmc_send.specs.LinkCalls.{is_full, view_in, may_pass_on}
 use Rattle.hmc_send.specs.LinkEntries.{receiver_entries}
-use Rattle.hmc_send.specs.LinkLines.{StampedFlit, line, under_mask, passes}
+use Rattle.hmc_packet.specs.Masks.{under_mask}
+use Rattle.hmc_send.specs.LinkLines.{StampedFlit, line, passes}
 use Rattle.hmc_send.proofs.LinkLawful.{IsSend, IsLanding}
 use Rattle.hmc_journal.specs.Setup.{Setup, Topology, shape_of, graph_of, direction_from}
 use Rattle.hmc_journal.specs.Routes.{port_towards}

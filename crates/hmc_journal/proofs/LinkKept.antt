@@ -28,7 +28,8 @@ use Rattle.hmc_send.specs.IsSender.{IsFed}
 use Rattle.hmc_send.specs.Kept.{IsFedFor}
 use Rattle.hmc_send.specs.LinkCalls.{LinkCall, entry_if, has_room, holds_packet, view_in, may_pass_on, names_flits, sent_entry, landed_front, next_entry, IsLawful}
 use Rattle.hmc_send.specs.LinkEntries.{LinkEntry, receiver_entries, handed_packets}
-use Rattle.hmc_send.specs.LinkLines.{StampedFlit, line, under_mask, changes, is_pending_changed, passes}
+use Rattle.hmc_packet.specs.Masks.{changes, under_mask}
+use Rattle.hmc_send.specs.LinkLines.{StampedFlit, line, is_pending_changed, passes}
 use Rattle.hmc_send.specs.LinkSenders.{sender_entries, places_in, given_after, run_entries, acknowledgement}
 use Rattle.hmc_send.specs.Places.{Place, is_token, place_at}
 use Rattle.hmc_send.proofs.LinkLawful.{IsSend, IsLanding}

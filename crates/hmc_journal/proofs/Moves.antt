@@ -4,8 +4,8 @@ use Rattle.std.proofs.lemmas.Bool.{and_parts}
 use Rattle.hmc_journal.specs.Choice.{append_if}
 use Rattle.std.specs.Prelude.{option_map}
 use Rattle.std.proofs.lemmas.List.{take-append-le, drop_more, take_more}
-use Rattle.hmc_codes.specs.declared.lift.Lift.{Lift}
-use Rattle.hmc_codes.specs.declared.lift.Lift.TheVariants as lifts
+use Rattle.hmc_codes.proofs.General.{two_equal}
+use Rattle.hmc_codes.proofs.Places.{lift_is, lift_same}
 use Rattle.hmc_packet.specs.declared.what.What.TheVariants.{New}
 use Rattle.hmc_packet.specs.Packet.{PacketFields, null_packet}
 use Rattle.hmc_entries.specs.declared.entry.Entry.{Entry}
@@ -17,15 +17,6 @@ use Rattle.hmc_journal.specs.Queues.QueueId.{Output, Port, Host, Vault, Bank, Re
 use Rattle.hmc_journal.proofs.EntryRule.{EntryRule, HasFront}
 
 -- two queues with one name are one
-two_equal : (a b c d : ℕ) → ((a == b) && (c == d)) ≡ true → (a ≡ b) × (c ≡ d)
-two_equal a b c d is = let both = and_parts (a == b) (c == d) is in (eqb-true a b both.0, eqb-true c d both.1)
-
-lift_is : (from to : Lift) → same_lift from to ≡ true → from ≡ to
-lift_is (lifts.Vault v) (lifts.Vault w) is = ap lifts.Vault (eqb-true v w is)
-lift_is lifts.Registers lifts.Registers is = refl
-lift_is (lifts.Vault v) lifts.Registers is = cc
-lift_is lifts.Registers (lifts.Vault w) is = cc
-
 pub same_queue_is : (here there : QueueId) → same_queue here there ≡ true → here ≡ there
 same_queue_is (Output d) (Output e) is = ap Output (eqb-true d e is)
 same_queue_is (Port c p) (Port d q) is = let both = two_equal c d p q is in ap₂ Port both.0 both.1
@@ -41,10 +32,6 @@ same_queue_is (Registers c) (Registers d) is = ap Registers (eqb-true c d is)
 same_queue_is (Answers c from) (Answers d to) is =
     let both = and_parts (c == d) (same_lift from to) is in ap₂ Answers (eqb-true c d both.0) (lift_is from to both.1)
 same_queue_is _ _ is = cc
-
-lift_same : (from : Lift) → same_lift from from ≡ true
-lift_same (lifts.Vault v) = eq-eqb v v refl
-lift_same lifts.Registers = refl
 
 pub same_queue_refl : (here : QueueId) → same_queue here here ≡ true
 same_queue_refl (Output d) = eq-eqb d d refl

@@ -14,6 +14,7 @@ use Rattle.hmc_packet.specs.declared.head.Head.{Head}
 use Rattle.hmc_packet.specs.Head.{named_by, head_in}
 use Rattle.hmc_packet.specs.Reading.{command_in}
 use Rattle.hmc_wire.proofs.Filled.{head-lng}
+pub use Rattle.hmc_wire.proofs.Queued.{nothing-front}
 use Rattle.hmc_codes.specs.declared.family.Family.TheVariants as families
 use Rattle.hmc_codes.specs.declared.layout.Layout.TheVariants as layouts
 use Rattle.hmc_entries.specs.declared.outcome.Goal.TheVariants as goals
@@ -23,12 +24,6 @@ pub front_is_first : (packets : List PacketFields) (front : PacketFields) →
     slice_get packets 0 ≡ Some front → front_of packets ≡ front
 front_is_first [] front is = absurd cc
 front_is_first (packet ∷ packets) front is = cc
-
--- a queue without a front is empty
-pub no_front_is_empty : (packets : List PacketFields) →
-    is_none (slice_get packets 0) ≡ true → packets ≡ []
-no_front_is_empty [] is = refl
-no_front_is_empty (packet ∷ packets) is = absurd cc
 
 -- a front after n packets: the list is longer than n
 pub front_inside : (n : ℕ) (packets : List PacketFields) (front : PacketFields) →

@@ -1,7 +1,7 @@
 -- Small words of the definitions of queues.
 use Rattle.std.specs.Prelude.{ℕ, Bool, true, false, List, [], ◌∷◌, slice_index_or, Option, Some, None}
 use Rattle.hmc_packet.specs.Packet.{PacketFields, null_packet}
-pub use Rattle.hmc_hops.specs.Queues.{same_lift}
+pub use Rattle.hmc_codes.specs.Places.{same_lift}
 pub use Rattle.hmc_hops.specs.Moves.{one_if}
 
 -- the first packet, or a NULL where there is none

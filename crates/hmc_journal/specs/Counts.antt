@@ -12,7 +12,7 @@ use Rattle.hmc_packet.specs.declared.view.Mode.TheVariants as modes
 use Rattle.hmc_packet.specs.Landings.{ReceiverEntry, mode}
 use Rattle.hmc_send.specs.declared.toward.Toward.{Toward}
 use Rattle.hmc_send.specs.LinkEntries.{LinkEntry, same_way}
-use Rattle.hmc_send.specs.LinkLines.{changes}
+use Rattle.hmc_packet.specs.Masks.{changes}
 use Rattle.hmc_send.specs.LinkSenders.{tokens}
 use Rattle.hmc_entries.specs.declared.entry.Entry.{Entry}
 use Rattle.hmc_entries.specs.declared.entry.Entry.TheVariants.{Executed, Took, Dropped}

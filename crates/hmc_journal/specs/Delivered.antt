@@ -7,7 +7,7 @@ use Rattle.hmc_host.specs.Host.{items_of}
 use Rattle.hmc_packet.specs.declared.outcome.Outcome.TheVariants.{AbortedOrder}
 use Rattle.hmc_packet.specs.Packet.{PacketFields}
 use Rattle.hmc_script.specs.Items.{ItemFields}
-use Rattle.hmc_send.specs.LinkLines.{under_mask}
+use Rattle.hmc_packet.specs.Masks.{under_mask}
 use Rattle.hmc_send.specs.Places.{is_token}
 use Rattle.hmc_wire.specs.LinkLaws.{TokenLaws}
 pub use Rattle.hmc_hops.specs.Delivered.{IsPrefix, IsChain}

@@ -36,6 +36,7 @@ pub mod UnderWay
 pub mod Settled
 pub mod Counts
 pub mod Final
+pub mod Report
 pub mod Guarantees
 -- What their queues hold, what is kept while a packet is forwarded, and that the text of a journal
 -- shows it.

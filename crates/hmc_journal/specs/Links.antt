@@ -15,7 +15,8 @@ use Rattle.hmc_send.specs.declared.toward.Toward.{Toward}
 use Rattle.hmc_send.specs.declared.toward.Toward.TheVariants.{Forth, Back}
 use Rattle.hmc_send.specs.LinkEntries.{LinkEntry, put_if}
 use Rattle.hmc_send.specs.Entries.{through_at}
-use Rattle.hmc_send.specs.LinkLines.{StampedFlit, line, under_mask}
+use Rattle.hmc_packet.specs.Masks.{under_mask}
+use Rattle.hmc_send.specs.LinkLines.{StampedFlit, line}
 use Rattle.hmc_send.specs.LinkSenders.{sender_entries}
 use Rattle.hmc_entries.specs.declared.outcome.Goal.{Goal}
 use Rattle.hmc_entries.specs.declared.outcome.Goal.TheVariants as goals

@@ -1,4 +1,5 @@
 pub mod Serial
+pub mod GoesOn
 pub mod Wired
 pub mod LinkHanded
 pub mod KeptPast

@@ -17,7 +17,8 @@ use Rattle.hmc_journal.specs.Lawful.{Lawful, has_passed}
 use Rattle.hmc_journal.specs.Setup.{Topology, Setup}
 use Rattle.hmc_schedule.specs.declared.step.Step.TheVariants as steps
 use Rattle.hmc_send.specs.LinkEntries as links
-use Rattle.hmc_send.specs.LinkLines.{StampedFlit, line, landings, under_mask, sent_flits as links_sent}
+use Rattle.hmc_packet.specs.Masks.{under_mask}
+use Rattle.hmc_send.specs.LinkLines.{StampedFlit, line, landings, sent_flits as links_sent}
 use Rattle.hmc_journal.specs.Directions.{sent_flits, landed_flits, landed_masks, mask_of_step}
 use Rattle.hmc_journal.specs.Links.{toward, sizes_on, entries_on}
 use Rattle.hmc_journal.proofs.EntryRule.{EntryRule, HasGiven, entry_rule, lawful_past, not_passed}

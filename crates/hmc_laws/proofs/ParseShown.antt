@@ -28,7 +28,8 @@ use Rattle.hmc_packet.specs.declared.outcome.Outcome.{Outcome}
 use Rattle.hmc_schedule.specs.declared.step.Step.{Step}
 use Rattle.hmc_schedule.specs.declared.step.Step.TheVariants as steps
 use Rattle.hmc_send.specs.LinkEntries.{LinkEntry}
-use Rattle.hmc_send.specs.LinkLines.{StampedFlit, line, under_mask}
+use Rattle.hmc_packet.specs.Masks.{under_mask}
+use Rattle.hmc_send.specs.LinkLines.{StampedFlit, line}
 use Rattle.hmc_send.specs.declared.sent.Sent.{Sent as Sending}
 use Rattle.hmc_send.specs.declared.sent.Sent.TheVariants.{Out, Starved}
 use Rattle.hmc_serial.specs.Machine.{State, cube_state_at, answer_to}

@@ -30,7 +30,8 @@ use Rattle.hmc_journal.specs.Setup.{Topology}
 use Rattle.hmc_journal.proofs.Projections.{feed_in, came_at}
 use Rattle.hmc_laws.proofs.NoSends.{IsOfSends, IsNoSend, no-send, sent-elsewhere, sent-here, through-elsewhere, through-here}
 use Rattle.hmc_laws.proofs.OpenSends.{sent_on, open_sent}
-use Rattle.hmc_laws.proofs.Piping.{up_on, IsPiped, UpPiped, zero_is_flit, each-push, up_landed, up_unlocked, up_sent}
+use Rattle.hmc_codes.proofs.BytesLemmas.{zero_is_flit}
+use Rattle.hmc_laws.proofs.Piping.{up_on, IsPiped, UpPiped, each-push, up_landed, up_unlocked, up_sent}
 
 -- the packet under way on a direction takes what its pipe gives
 abbrev pub IsUp : Topology → ℕ → List Entry → Type 0

@@ -9,7 +9,7 @@ use Rattle.hmc_packet.specs.declared.outcome.Outcome.{Outcome}
 use Rattle.hmc_packet.specs.declared.outcome.Outcome.TheVariants as outcomes
 use Rattle.hmc_packet.specs.declared.what.What.{What}
 use Rattle.hmc_packet.specs.Copy.{last_feed}
-use Rattle.hmc_codes.proofs.BytesLemmas.{IsBytes-zeros}
+use Rattle.hmc_codes.proofs.BytesLemmas.{zero_is_flit}
 use Rattle.hmc_codes.specs.Link.{LinkFields}
 use Rattle.hmc_codes.specs.declared.profile.Profile.{Profile}
 use Rattle.hmc_through.specs.Pipe.{PipeFields, flit_at, whole_fed, last_fed, feed_at}
@@ -135,10 +135,6 @@ pub gave : (pipe : PipeFields) (at : ℕ) (flit : List ℕ) → feed_at pipe at 
 gave pipe at flit is = gave_by pipe at flit (suc at == pipe.flits) pipe.good refl is
 
 -- ---- a flit more comes, or the gathering ends
-
-pub zero_is_flit : IsFlit zero_flit
-unfolding zero_flit
-zero_is_flit = record { bytes = IsBytes-zeros 16; long = refl }
 
 pub came-push : (l : List (List ℕ)) (x : List ℕ) (k : ℕ) → k < length l → slice_index_or (l ++ x ∷ []) k zero_flit ≡ slice_index_or l k zero_flit
 came-push [] x k less = absurd (omega arith)

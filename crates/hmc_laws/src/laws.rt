@@ -1,6 +1,6 @@
 //! Laws of journals. Each is the contract of a function that does nothing.
 
-ghost use Rattle.std.specs.Prelude.{◌≡◌, ◌++◌, true, List, length};
+ghost use Rattle.std.specs.Prelude.{◌≡◌, ◌++◌, ◌∷◌, true, List, length};
 ghost use Rattle.hmc_entries.specs.declared.entry.Entry.{Entry};
 ghost use Rattle.hmc_journal.specs.Delivered.{IsScripted, LinksInOrder};
 ghost use Rattle.hmc_journal.specs.Drained.{IsDrained, is_drained};
@@ -21,6 +21,14 @@ pub fn one_journal()
         journal ≡ journal_of setup }
     ensures earlier { (setup : Setup) (later past : List Entry) → Lawful setup (later ++ past) →
         Lawful setup past }
+{}
+
+/// A lawful journal that isn't whole is a prefix of one with one entry more. So a case has one
+/// whole journal with these logic units, and by `one_journal` no other.
+pub fn lawful_goes_on()
+    ensures more { (setup : Setup) (past : List Entry) → Lawful setup past →
+        (IsWhole setup past → ⊥) → (entry : Entry) × Lawful setup (entry ∷ past) }
+    ensures one { (setup : Setup) → IsWhole setup (journal_of setup) }
 {}
 
 /// In a lawful journal the requests that each host gave are a prefix of those that the script has

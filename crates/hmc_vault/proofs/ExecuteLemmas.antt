@@ -1,10 +1,9 @@
 -- Executions.
-use Rattle.std.proofs.Common.{◌≡◌, ◌≤◌, ◌<◌, ◌∙◌, ◌+◌, ℕ, Bool, false, not, List, [], ◌∷◌, length, drop, set, leb, sum_by, Option, Some, refl, sym, ap, subst, arith}
+use Rattle.std.proofs.Common.{◌≡◌, ◌≤◌, ◌<◌, ◌∙◌, ◌+◌, ℕ, Bool, false, not, List, [], ◌∷◌, length, drop, set, leb, sum_by, Option, Some, refl, sym, ap, subst, arith, leb-false}
 use Rattle.std.specs.Prelude.{◌&&◌, nat_le, slice_get}
 use Rattle.std.specs.List.{All}
 use Rattle.std.proofs.lemmas.List.{length-set}
 use Rattle.std.proofs.lemmas.List.Elements.{All-same, All-drop, All-head}
-use Rattle.std.proofs.lemmas.Bool.Decides.{nat_tests}
 use Rattle.hmc_codes.specs.Commands.{is_posted}
 use Rattle.hmc_codes.specs.Request.{RequestFields, IsRequest}
 use Rattle.hmc_codes.specs.declared.answer.Answer.{Answer}
@@ -28,13 +27,10 @@ pub waits : (answers : List PacketFields) (size used room : ℕ) (posted : Bool)
 waits answers size used room posted is same cost =
     ap (leb size) (cost ∙ all_cost_one answers) ∙ ap (λ n. leb n (length answers)) same ∙ ap (λ b. not b && nat_le room (length answers)) (sym is)
 
-not_at_most : (m n : ℕ) → nat_le m n ≡ false → n < m
-not_at_most m n is = grind (arith, nat_tests)
-
 -- a reply that need not wait has room
 pub has_place : (answers : List PacketFields) (size : ℕ) (posted : Bool) → posted ≡ false → (not posted && nat_le size (length answers)) ≡ false → sum_by one answers + 1 ≤ size
 has_place answers size posted is room =
-    let below : length answers < size = not_at_most size (length answers) (ap (λ b. not b && nat_le size (length answers)) (sym is) ∙ room) in
+    let below : length answers < size = leb-false size (length answers) (ap (λ b. not b && nat_le size (length answers)) (sym is) ∙ room) in
     omega (arith, below, all_cost_one answers)
 
 pub cube_is : (banks : BanksFields) (registers : List ℕ) → IsBanks banks → IsRegisters registers → IsCube (cube_state_of banks registers)
