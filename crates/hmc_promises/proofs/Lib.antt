@@ -1,0 +1,2 @@
+pub mod Guaranteeing
+mod Worked
