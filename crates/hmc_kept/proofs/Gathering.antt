@@ -22,7 +22,8 @@ use Rattle.hmc_packet.specs.Parts.{lng_of}
 use Rattle.hmc_packet.specs.Reading.{is_null, read_of}
 use Rattle.hmc_send.specs.LinkCalls.{LinkCall, IsLawful, next_entry, entry_if, landed_front}
 use Rattle.hmc_send.specs.LinkEntries.{LinkEntry, receiver_entries}
-use Rattle.hmc_send.specs.LinkLines.{StampedFlit, line, under_mask, passes}
+use Rattle.hmc_packet.specs.Masks.{under_mask}
+use Rattle.hmc_send.specs.LinkLines.{StampedFlit, line, passes}
 use Rattle.hmc_send.specs.declared.toward.Toward.{Toward}
 use Rattle.hmc_send.specs.declared.toward.Toward.TheVariants.{Forth, Back}
 use Rattle.hmc_ends.specs.End.{flits_seen}

@@ -44,7 +44,7 @@ direction_shown setup past direction law fed = record {
   short = are_short (sizes_on setup.topology direction) (toward direction) (entries_on setup.topology direction past) law.kept.lawful;
 }
 
-number_is : (setup : Setup) (past : List Entry) (host : ℕ) → (host_of setup past host).number ≡ host
+pub number_is : (setup : Setup) (past : List Entry) (host : ℕ) → (host_of setup past host).number ≡ host
 unfolding host_of
 number_is setup past host = refl
 

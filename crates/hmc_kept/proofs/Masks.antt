@@ -8,7 +8,8 @@ use Rattle.hmc_codes.specs.Flit.{zero_flit}
 use Rattle.hmc_codes.specs.Link.{LinkFields}
 use Rattle.hmc_send.specs.declared.toward.Toward.{Toward}
 use Rattle.hmc_send.specs.LinkEntries.{LinkEntry}
-use Rattle.hmc_send.specs.LinkLines.{StampedFlit, line, under_mask}
+use Rattle.hmc_packet.specs.Masks.{under_mask}
+use Rattle.hmc_send.specs.LinkLines.{StampedFlit, line}
 use Rattle.hmc_journal.specs.Links.{mask_between, landing_mask}
 
 xor_twice : (a b : ℕ) → bit_xor a (bit_xor b a) ≡ b

@@ -1,17 +1,15 @@
 -- Pipes after what happens to them.
-use Rattle.std.proofs.Common.{◌≡◌, ◌<◌, ◌+◌, ◌==◌, ◌&&◌, ◌∙◌, ℕ, Bool, true, false, if◌then◌else◌, Option, Some, None, List, [], ◌∷◌, ◌++◌, length, refl, sym, ap, ap₂, subst, eqb-true, eq-eqb}
+use Rattle.std.proofs.Common.{◌≡◌, ◌<◌, ◌+◌, ◌==◌, ◌&&◌, ◌∙◌, ℕ, Bool, true, false, if◌then◌else◌, Option, Some, None, List, length, refl, sym, ap, ap₂, subst, eqb-true, eq-eqb}
 use Rattle.std.specs.Prelude.{is_none, option_map, slice_set, slice_index_or}
 use Rattle.std.proofs.lemmas.List.{length-set}
 use Rattle.hmc_packet.specs.declared.outcome.Outcome.{Outcome}
 use Rattle.hmc_packet.specs.declared.outcome.Outcome.TheVariants as outcomes
-use Rattle.hmc_packet.specs.declared.landed.Landed.{Landed as Landing}
-use Rattle.hmc_packet.specs.declared.landed.Landed.TheVariants as words
-use Rattle.hmc_through.specs.Pipe.{PipeFields, is_accepted as is_accepted_landing, is_whole}
+use Rattle.hmc_through.specs.Pipe.{PipeFields}
 use Rattle.hmc_ends.specs.declared.link_landed.LinkLanded.{LinkLanded}
 use Rattle.hmc_ends.specs.declared.link_landed.LinkLanded.TheVariants as landings
 use Rattle.hmc_journal.specs.Piped.{PipeFrom, while_gathered, with_landing, with_unlock, while_gathering}
 use Rattle.hmc_kept.specs.LinkAnswers.{outcome_of, after_landing}
-use Rattle.hmc_kept.specs.Pipes.{PipesHeld, AreCounted, forwarded_at, pipe_at, changed_pipe, after_begin, after_change, after_loss, MayLand, MayLose, is_whole_outcome, is_gathered}
+use Rattle.hmc_kept.specs.Pipes.{PipesHeld, AreCounted, forwarded_at, pipe_at, changed_pipe, after_begin, after_change, after_loss, MayLand, MayLose, is_whole_outcome}
 use Rattle.hmc_kept.proofs.Elements.{default_same}
 
 pub same_pipe : (a b : PipeFrom) → Some a ≡ Some b → a ≡ b
@@ -38,64 +36,6 @@ pub begin_counted : (held : PipesHeld) (n onto : ℕ) (p : PipeFrom) → AreCoun
 begin_counted held n onto p is = record { forwarded = length-set held.forwarded p.from (Some onto) ∙ is.forwarded; pipes = length-set held.pipes onto (Some p) ∙ is.pipes }
 
 -- ---- a landing by its outcome
-
-pub whole_by : (landed : Landing) → is_whole landed ≡ is_whole_outcome (outcome_of landed)
-whole_by words.Quiet = refl
-whole_by words.Trained = refl
-whole_by words.Gathered = refl
-whole_by (words.Accepted packet) = refl
-whole_by (words.Poisoned packet) = refl
-whole_by words.Repeat = refl
-whole_by (words.AbortedBad bad) = refl
-whole_by words.AbortedOrder = refl
-whole_by (words.Ran kind) = refl
-
--- a pipe after a landing that ends its gathering, and after one that doesn't
-pub landing_ended : (pipe : PipeFields) (flit : List ℕ) (landed : Landing) → is_gathered (outcome_of landed) ≡ false
-    → ◌≡◌ {A = PipeFields} (record pipe { came = pipe.came ++ flit ∷ []; good = Some (is_accepted_landing landed) }) (with_landing flit (outcome_of landed) pipe)
-landing_ended pipe flit words.Gathered on = absurd (cc)
-landing_ended pipe flit words.Quiet on = refl
-landing_ended pipe flit words.Trained on = refl
-landing_ended pipe flit (words.Accepted packet) on = refl
-landing_ended pipe flit (words.Poisoned packet) on = refl
-landing_ended pipe flit words.Repeat on = refl
-landing_ended pipe flit (words.AbortedBad bad) on = refl
-landing_ended pipe flit words.AbortedOrder on = refl
-landing_ended pipe flit (words.Ran kind) on = refl
-
-pub landing_more : (pipe : PipeFields) (flit : List ℕ) (landed : Landing) → is_gathered (outcome_of landed) ≡ true → ◌≡◌ {A = PipeFields} (record pipe { came = pipe.came ++ flit ∷ [] }) (with_landing flit (outcome_of landed) pipe)
-landing_more pipe flit words.Gathered on = refl
-landing_more pipe flit words.Quiet on = absurd (cc)
-landing_more pipe flit words.Trained on = absurd (cc)
-landing_more pipe flit (words.Accepted packet) on = absurd (cc)
-landing_more pipe flit (words.Poisoned packet) on = absurd (cc)
-landing_more pipe flit words.Repeat on = absurd (cc)
-landing_more pipe flit (words.AbortedBad bad) on = absurd (cc)
-landing_more pipe flit words.AbortedOrder on = absurd (cc)
-landing_more pipe flit (words.Ran kind) on = absurd (cc)
-
--- onto which direction a packet goes after a landing
-pub gathered_stays : (outcome : Outcome) (onto : Option ℕ) → is_gathered outcome ≡ true → while_gathered outcome onto ≡ onto
-gathered_stays outcomes.Gathered onto is = refl
-gathered_stays outcomes.Quiet onto is = absurd (cc)
-gathered_stays outcomes.Trained onto is = absurd (cc)
-gathered_stays outcomes.Accepted onto is = absurd (cc)
-gathered_stays outcomes.Poisoned onto is = absurd (cc)
-gathered_stays outcomes.Repeat onto is = absurd (cc)
-gathered_stays (outcomes.AbortedBad bad) onto is = absurd (cc)
-gathered_stays outcomes.AbortedOrder onto is = absurd (cc)
-gathered_stays (outcomes.Ran kind) onto is = absurd (cc)
-
-pub ended_goes : (outcome : Outcome) (onto : Option ℕ) → is_gathered outcome ≡ false → while_gathered outcome onto ≡ None
-ended_goes outcomes.Gathered onto is = absurd (cc)
-ended_goes outcomes.Quiet onto is = refl
-ended_goes outcomes.Trained onto is = refl
-ended_goes outcomes.Accepted onto is = refl
-ended_goes outcomes.Poisoned onto is = refl
-ended_goes outcomes.Repeat onto is = refl
-ended_goes (outcomes.AbortedBad bad) onto is = refl
-ended_goes outcomes.AbortedOrder onto is = refl
-ended_goes (outcomes.Ran kind) onto is = refl
 
 pub none_gathered : (outcome : Outcome) → while_gathered outcome None ≡ None
 none_gathered outcomes.Gathered = refl

@@ -2,3 +2,10 @@ pub mod Pipes
 pub mod Shown
 pub mod After
 pub mod LinkAnswers
+pub mod Called
+pub mod Hosts
+pub mod Quiet
+pub mod Ways
+pub mod Throughs
+pub mod InCubes
+pub mod Parts

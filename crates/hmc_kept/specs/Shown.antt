@@ -20,7 +20,7 @@ use Rattle.hmc_journal.specs.Queues.{landing_buffer}
 use Rattle.hmc_journal.specs.Queues.QueueId.{Output, Port, Host, Bank, Registers, Answers}
 use Rattle.hmc_journal.specs.Setup.{Topology, directions_in}
 use Rattle.hmc_journal.specs.StepView.{StepView}
-use Rattle.hmc_kept.specs.Pipes.{IsPlace}
+use Rattle.hmc_kept.specs.Pipes.{PipesHeld, AreCounted, IsPlace, forwarded_at, pipe_at}
 
 -- the flits that are gathered at the end of a direction
 abbrev pub gathered : StepView → (direction : ℕ) → List (List ℕ)
@@ -101,3 +101,11 @@ pub record KeepsLaws (topology : Topology) (view : StepView) : Type 0 where
       All (IsHostAnswer topology) (view.inside (Answers cube from))
   pub hosts : (host : ℕ) → All (IsAnswerFor (view.host host)) (view.inside (Host host))
   pub numbers : (host : ℕ) → (view.host host).number ≡ host
+
+-- The packets that are kept as forwarded are those of a view.
+pub record ShowsPipes (topology : Topology) (view : StepView) (piped : PipesHeld) : Type 0 where
+  pub counted : AreCounted (directions_in topology) piped
+  pub forwarded : (direction : ℕ) → direction < directions_in topology →
+      forwarded_at piped direction ≡ view.forwarded direction
+  pub pipes : (direction : ℕ) → direction < directions_in topology →
+      pipe_at piped direction ≡ view.pipe direction

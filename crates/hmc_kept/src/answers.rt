@@ -48,8 +48,8 @@ pub fn note_landed(last: &mut LastEntry, direction: u8, landed: &LinkLanded)
     }
 }
 
-// The outcome of a landing, without its packet.
-fn outcome_of(landed: &Landed) -> Outcome
+/// The outcome of a landing, without its packet.
+pub fn outcome_of(landed: &Landed) -> Outcome
     ensures { result ≡ outcome_of landed.now }
 {
     match landed {

@@ -1,3 +1,2 @@
 pub mod LinkCalls
-pub mod TokensTold
 pub mod NewLinks

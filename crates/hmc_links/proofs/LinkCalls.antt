@@ -1,5 +1,5 @@
 -- The links after a call of one of them.
-use Rattle.std.proofs.Common.{◌≡◌, ◌<◌, ◌*◌, ◌/◌, ◌==◌, ◌∙◌, ℕ, Bool, true, false, if◌then◌else◌, List, [], ◌∷◌, length, refl, sym, ap, subst, arith, eq-eqb}
+use Rattle.std.proofs.Common.{◌≡◌, ◌<◌, ◌*◌, ◌/◌, ◌∙◌, ℕ, true, List, [], ◌∷◌, length, sym, ap, subst, arith}
 use Rattle.std.specs.Prelude.{slice_set, slice_index_or}
 use Rattle.std.proofs.lemmas.List.{length-set, set-get_or}
 use Rattle.hmc_codes.specs.Link.{LinkFields}
@@ -15,33 +15,23 @@ use Rattle.hmc_send.specs.LinkEntries.{LinkEntry}
 use Rattle.hmc_send.specs.declared.toward.Toward.{Toward}
 use Rattle.hmc_send.specs.declared.toward.Toward.TheVariants.{Forth, Back}
 use Rattle.hmc_ends.proofs.Throughs.{ready-held}
-use Rattle.hmc_link.proofs.LinkThroughs.{may-in}
+use Rattle.hmc_ends.proofs.Begins.{may-in}
 use Rattle.hmc_wire.specs.LinkLaws.{IsKept}
 use Rattle.hmc_journal.specs.Links.{toward}
-use Rattle.hmc_links.specs.LinkList.{sizes_at, sizes_by, AreGoing, LinksStandFor, called, IsDirection}
+use Rattle.hmc_kept.specs.Called.{sizes_at, sizes_by, called}
+use Rattle.hmc_links.specs.LinkList.{LinksStandFor, IsDirection}
 use Rattle.hmc_kept.proofs.Elements.{each_set}
+use Rattle.hmc_kept.proofs.Called.{called_here, called_other}
 
 -- the link of a direction that is there
 pub link_there : (links : List LinkHeld) (direction : ℕ) → IsDirection links direction → direction / 2 < length links
 link_there links direction there = omega arith
-
-pub called_here : (rows : List LinkRow) (direction : ℕ) (call : Toward → LinkCall) (entries : ℕ → List LinkEntry)
-    → called rows direction call entries (direction / 2) ≡ after_call (sizes_by rows direction) (entries (direction / 2)) (call (toward direction))
-called_here rows direction call entries =
-    ap (λ (t : Bool). if t then after_call (sizes_by rows direction) (entries (direction / 2)) (call (toward direction)) else entries (direction / 2)) (eq-eqb (direction / 2) (direction / 2) refl)
-
-pub called_other : (rows : List LinkRow) (direction link : ℕ) (call : Toward → LinkCall) (entries : ℕ → List LinkEntry) → (direction / 2 == link) ≡ false → called rows direction call entries link ≡ entries link
-called_other rows direction link call entries is =
-    ap (λ (t : Bool). if t then after_call (sizes_at rows link) (entries link) (call (toward direction)) else entries link) is
 
 -- the link of a direction, as it is in the list
 pub stands_at : (rows : List LinkRow) (links : List LinkHeld) (entries : ℕ → List LinkEntry) (direction : ℕ) (held : LinkHeld) → LinksStandFor rows links entries → IsDirection links direction → held ≡ slice_index_or links (direction / 2) held
     → LinkStandsFor (sizes_by rows direction) held (entries (direction / 2))
 stands_at rows links entries direction held stand there is =
     subst (λ (h : LinkHeld). LinkStandsFor (sizes_by rows direction) h (entries (direction / 2))) (sym is) (stand.stand (direction / 2) held (link_there links direction there))
-
-pub going_at : (links : List LinkHeld) (direction : ℕ) (held : LinkHeld) → AreGoing links → IsDirection links direction → held ≡ slice_index_or links (direction / 2) held → held.going ≡ true
-going_at links direction held going there is = ap (λ (h : LinkHeld). h.going) is ∙ going (direction / 2) held (link_there links direction there)
 
 -- after a call of one link all stand for their entries
 pub one_called : (rows : List LinkRow) (links : List LinkHeld) (direction : ℕ) (call : Toward → LinkCall) (entries : ℕ → List LinkEntry) (now : LinkHeld) → LinksStandFor rows links entries → IsDirection links direction → now.going ≡ true

@@ -1,6 +1,5 @@
 -- The links of a network, and the calls of them by the numbers of directions.
-use Rattle.std.specs.Prelude.{◌≡◌, ◌<◌, ◌/◌, ◌*◌, ◌==◌, ℕ, Bool, true, List, Option, is_some, length, slice_index_or, if◌then◌else◌}
-use Rattle.hmc_codes.specs.Link.{LinkFields}
+use Rattle.std.specs.Prelude.{◌≡◌, ◌<◌, ◌/◌, ◌*◌, ℕ, Bool, true, List, Option, is_some, length, slice_index_or}
 use Rattle.hmc_packet.specs.Packet.{PacketFields}
 use Rattle.hmc_packet.specs.declared.feed.Feed.{Feed}
 use Rattle.hmc_packet.specs.declared.feed.Feed.TheVariants.{Waiting}
@@ -9,23 +8,15 @@ use Rattle.hmc_case.specs.declared.setup.LinkRow.{LinkRow}
 use Rattle.hmc_send.specs.Entries.{under_way, through_at}
 use Rattle.hmc_send.specs.Given.{IsTaken}
 use Rattle.hmc_send.specs.IsSender.{IsFed}
-use Rattle.hmc_send.specs.LinkCalls.{LinkCall, has_room, view_in, may_pass_on}
+use Rattle.hmc_send.specs.LinkCalls.{has_room, view_in, may_pass_on}
 use Rattle.hmc_send.specs.LinkEntries.{LinkEntry, receiver_entries}
 use Rattle.hmc_send.specs.LinkSenders.{sender_entries}
-use Rattle.hmc_send.specs.declared.toward.Toward.{Toward}
-use Rattle.hmc_ends.specs.Answers.{after_call, front_in}
+use Rattle.hmc_ends.specs.Answers.{front_in}
 use Rattle.hmc_link.specs.Held.{LinkHeld}
 use Rattle.hmc_ends.specs.End.{flits_seen}
 use Rattle.hmc_link.specs.StandsFor.{LinkStandsFor}
 use Rattle.hmc_journal.specs.Links.{toward}
-use Rattle.hmc_journal.specs.Setup.{no_link}
-
--- the sizes and the profile of a link, and of the link of a direction
-abbrev pub sizes_at : List LinkRow → (link : ℕ) → LinkFields
-sizes_at rows link = (slice_index_or rows link no_link).setup
-
-abbrev pub sizes_by : List LinkRow → (direction : ℕ) → LinkFields
-sizes_by rows direction = sizes_at rows (direction / 2)
+use Rattle.hmc_kept.specs.Called.{sizes_at, sizes_by}
 
 -- no landing of these links has passed
 abbrev pub AreGoing : List LinkHeld → Type 0
@@ -39,14 +30,6 @@ pub record LinksStandFor (rows : List LinkRow) (links : List LinkHeld)
   pub going : AreGoing links
   pub stand : (link : ℕ) (d : LinkHeld) → link < length links →
       LinkStandsFor (sizes_at rows link) (slice_index_or links link d) (entries link)
-
--- the entries of the links after a call of one of them, in a direction
-abbrev pub called : List LinkRow → (direction : ℕ) → (Toward → LinkCall) →
-    (ℕ → List LinkEntry) → ℕ → List LinkEntry
-called rows direction call entries link =
-    if direction / 2 == link
-    then after_call (sizes_at rows link) (entries link) (call (toward direction))
-    else entries link
 
 -- a direction of one of these links
 abbrev pub IsDirection : List LinkHeld → (direction : ℕ) → Type 0

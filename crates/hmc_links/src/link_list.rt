@@ -1,22 +1,22 @@
 //! The links of a network, called by the numbers of directions: link i has the direction 2i, which
 //! goes Forth, and 2i + 1, which goes Back.
 
-ghost use Rattle.std.specs.Prelude.{◌^◌, sum_by, ◌≡◌, ◌<◌, ◌≤◌, ◌/◌, ◌↔◌, [], ℕ, List, All, IfOk, IsTrue, false, true, length, slice_get, option_map};
+ghost use Rattle.std.specs.Prelude.{◌^◌, sum_by, ◌≡◌, ◌<◌, ◌≤◌, ◌/◌, ◌↔◌, [], ℕ, List, All, IfOk, IsTrue, false, true, length, option_map};
 ghost use Rattle.hmc_codes.specs.Limits.{most_links};
 ghost use Rattle.hmc_case.specs.declared.setup.LinkRow.{LinkRow};
 ghost use Rattle.hmc_journal.specs.Links.{toward};
-ghost use Rattle.hmc_ends.specs.Answers.{link_sent, sends_none};
-ghost use Rattle.hmc_ends.specs.Landings.{link_landed, landing_passed, lands_none};
+ghost use Rattle.hmc_ends.specs.Answers.{sends_none};
+ghost use Rattle.hmc_link_end.specs.Answers.{land_answer, send_answer};
+ghost use Rattle.hmc_ends.specs.Landings.{landing_passed, lands_none};
 ghost use Rattle.hmc_link.specs.Held.{held_on};
 ghost use Rattle.hmc_link.specs.StandsFor.{LinkStandsFor};
 ghost use Rattle.hmc_packet.specs.Head.{head_in};
-ghost use Rattle.hmc_send.specs.Choice.{choice};
-ghost use Rattle.hmc_send.specs.LinkCalls.{LinkCall, is_full, view_in, names_flits};
+ghost use Rattle.hmc_send.specs.LinkCalls.{LinkCall, names_flits};
 ghost use Rattle.hmc_packet.specs.Landings.{mode};
 ghost use Rattle.hmc_send.specs.LinkEntries.{LinkEntry, receiver_entries};
-ghost use Rattle.hmc_send.specs.LinkLines.{line};
 ghost use Rattle.hmc_send.specs.LinkSenders.{tokens};
-ghost use Rattle.hmc_links.specs.LinkList.{sizes_by, AreGoing, LinksStandFor, called, IsDirection, IsRoom, IsArrival, IsFrontAt, IsGathered, IsThroughAt, IsTaking, MayHand, MaySend, MayBegin};
+ghost use Rattle.hmc_kept.specs.Called.{sizes_by, called};
+ghost use Rattle.hmc_links.specs.LinkList.{AreGoing, LinksStandFor, IsDirection, IsRoom, IsArrival, IsFrontAt, IsGathered, IsThroughAt, IsTaking, MayHand, MaySend, MayBegin};
 ghost use Rattle.hmc_links.specs.Tokens.{tokens_at};
 ghost use Rattle.hmc_links.specs.Quiet.{IsQuietLink};
 
@@ -121,10 +121,8 @@ impl LinkList {
         requires may { MaySend self.old direction feed }
         ensures answer { (rows : List LinkRow) (entries : ℕ → List LinkEntry) →
             LinksStandFor rows self.old entries → result
-            ≡ link_sent
-            (is_full (sizes_by rows direction) (toward direction) (entries (direction / 2)))
-            (choice (sizes_by rows direction).profile (view_in (sizes_by rows direction)
-            (toward direction) (entries (direction / 2)) feed)) }
+            ≡ send_answer (sizes_by rows direction) (toward direction) (entries (direction / 2))
+            feed }
         ensures stand { (rows : List LinkRow) (entries : ℕ → List LinkEntry) →
             LinksStandFor rows self.old entries → LinksStandFor rows self.new
             (called rows direction (λ d. LinkCall.send d feed) entries) }
@@ -140,10 +138,8 @@ impl LinkList {
         requires going { AreGoing self.old }
         ensures answer { (rows : List LinkRow) (entries : ℕ → List LinkEntry) →
             LinksStandFor rows self.old entries → result
-            ≡ link_landed (sizes_by rows direction) (toward direction) (entries (direction / 2))
-            mask.now
-            (slice_get (line (sizes_by rows direction).profile (toward direction)
-            (entries (direction / 2))) 0) }
+            ≡ land_answer (sizes_by rows direction) (toward direction) (entries (direction / 2))
+            mask.now }
         ensures stand { (rows : List LinkRow) (entries : ℕ → List LinkEntry) →
             LinksStandFor rows self.old entries → landing_passed result ≡ false →
             LinksStandFor rows self.new

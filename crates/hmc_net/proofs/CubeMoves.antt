@@ -28,7 +28,7 @@ use Rattle.hmc_journal.specs.StepView.{view_of}
 use Rattle.hmc_journal.proofs.EntryRule.{EntryRule}
 use Rattle.hmc_journal.proofs.Moves.{arrives}
 use Rattle.hmc_net.specs.NetState.{cube_in, no_cube, packets_in, queue_cube, inside, IsQueueOf}
-use Rattle.hmc_net.specs.Sees.{IsCubeQueue}
+use Rattle.hmc_kept.specs.InCubes.{IsCubeQueue}
 use Rattle.hmc_net.specs.Apply.{cubes_after, IsEntryIn}
 use Rattle.hmc_kept.proofs.Elements.{changed_at}
 use Rattle.hmc_net.proofs.Moves.{without, with_arrival, IsThere, IsGoing}

@@ -1,9 +1,8 @@
 -- The steps in cubes: spread, bank and registers.
-use Rattle.std.proofs.Common.{◌≡◌, ◌≤◌, ◌<◌, ◌==◌, ◌%◌, ◌^◌, ◌∙◌, ℕ, Bool, true, false, not, nat_le, nat_lt, if◌then◌else◌, Option, Some, None, List, [], ◌∷◌, ◌++◌, length, drop, refl, sym, ap, ap₂, subst, arith, eqb-true}
+use Rattle.std.proofs.Common.{◌≡◌, ◌<◌, ◌==◌, ◌%◌, ◌^◌, ◌∙◌, ℕ, Bool, true, false, not, nat_le, nat_lt, if◌then◌else◌, Option, Some, None, List, [], ◌∷◌, ◌++◌, length, drop, refl, sym, ap, ap₂, subst, arith, eqb-true}
 use Rattle.std.specs.Prelude.{slice_set}
 use Rattle.std.specs.List.{All}
-use Rattle.std.proofs.Math.Nat.{pow-le-pow_right, mod-lt}
-use Rattle.std.proofs.lemmas.Bool.Decides.{nat_tests}
+use Rattle.std.proofs.Math.Nat.{mod-lt}
 use Rattle.std.proofs.lemmas.List.{length-set, set-get_or}
 use Rattle.std.proofs.lemmas.List.Elements.{All-head, All-get_or}
 use Rattle.std.proofs.lemmas.Nat.{pow_pos}
@@ -46,16 +45,20 @@ use Rattle.hmc_journal.specs.Queues.{tag_number, queue_of}
 use Rattle.hmc_journal.specs.Queues.QueueId.{Vault, Bank, Registers, Answers}
 use Rattle.hmc_journal.specs.Setup.{Topology, cube_setup, shape_of, cubes_in, unit_cube}
 use Rattle.hmc_journal.specs.StepView.{StepView}
-use Rattle.hmc_net.specs.Apply.{cubes_after, hosts_after, with_cube, IsEntryIn, IsHostIn, DoesStep}
+use Rattle.hmc_net.specs.Apply.{cubes_after, with_cube, IsEntryIn, DoesStep}
+use Rattle.hmc_kept.specs.Hosts.{hosts_after, IsHostIn}
 use Rattle.hmc_kept.specs.After.{slots_after, pipes_after, entries_after}
 use Rattle.hmc_kept.specs.Pipes.{PipesHeld}
 use Rattle.hmc_links.specs.LinkList.{LinksStandFor}
 use Rattle.hmc_net.specs.NetState.{NetState, cube_in, no_cube, IsQueueOf}
 use Rattle.hmc_wiring.specs.Ready.{IsVaultIn, IsBankIn}
 use Rattle.hmc_net.specs.Sees.{Sees, IsSized, CubeFits, IsReady}
-use Rattle.hmc_net.proofs.Doing.{with_all, with_parts, does_by, sized_units, units_seen, idle_does, front_none, no_front, below_is_room}
+use Rattle.hmc_net.proofs.Doing.{with_all, with_parts, does_by, sized_units, units_seen, idle_does}
+use Rattle.hmc_kept.proofs.Fronts.{front_none, no_front}
+use Rattle.hmc_codes.proofs.General.{below_is_room}
 use Rattle.hmc_kept.proofs.Elements.{changed_at}
-use Rattle.hmc_net.proofs.Standing.{own_cube, state_at}
+use Rattle.hmc_kept.proofs.Units.{own_cube}
+use Rattle.hmc_net.proofs.Standing.{state_at}
 
 -- ---- the sizes of cubes
 
@@ -88,10 +91,6 @@ vault_inside net cube vault sized parts there =
 
 pub vault_fits : (x : CubeFields) (vault : ℕ) → AreParts x → vault < length x.vaults → VaultFits x.state.shape x.size (vault_at x vault)
 vault_fits x vault parts there = All-get_or (VaultFits x.state.shape x.size) x.vaults vault no_vault there parts.are_vaults
-
-pub vault_shape : (net : NetState) (cube vault : ℕ) → IsSized net → IsVaultIn net.topology cube vault → vault < 2 ^ (cube_in net.cubes cube).state.shape.vault_bits
-vault_shape net cube vault sized there =
-    subst (λ (s : ShapeFields). vault < 2 ^ s.vault_bits) (sym (sized.fits cube (cube_inside net cube sized there.some_cube)).shape) there.some_vault
 
 pub bank_shape : (net : NetState) (cube vault bank : ℕ) → IsSized net → IsBankIn net.topology cube vault bank → bank < 2 ^ (cube_in net.cubes cube).state.shape.bank_bits
 bank_shape net cube vault bank sized there =

@@ -1,42 +1,29 @@
 -- What a step does of a network, part by part.
-use Rattle.std.proofs.Common.{◌≡◌, ◌<◌, ◌/◌, ◌==◌, ◌∙◌, ℕ, Bool, true, false, not, nat_le, nat_lt, Option, Some, None, List, [], ◌∷◌, length, slice_get, refl, sym, ap, subst, arith, eqb-true}
-use Rattle.std.specs.Prelude.{is_some, option_map}
-use Rattle.std.proofs.lemmas.Bool.Decides.{nat_tests}
-use Rattle.std.specs.List.{All}
-use Rattle.std.proofs.lemmas.List.Elements.{All-head}
+use Rattle.std.proofs.Common.{◌≡◌, ℕ, Bool, false, Option, Some, None, List, refl, sym, ap, subst, arith}
 use Rattle.hmc_codes.specs.declared.place.Place.{Place}
-use Rattle.hmc_packet.specs.Packet.{PacketFields}
-use Rattle.hmc_case.specs.declared.setup.LinkRow.{LinkRow}
 use Rattle.hmc_units.specs.Unit.{UnitFields}
 use Rattle.hmc_serial.specs.Machine.{State}
 use Rattle.hmc_cube.specs.Cube.{CubeFields}
 use Rattle.hmc_host.specs.Host.{HostFields}
-use Rattle.hmc_ends.specs.Answers.{after_call}
 use Rattle.hmc_link.specs.Held.{LinkHeld}
-use Rattle.hmc_routes.specs.Directions.{other}
-use Rattle.hmc_send.specs.LinkCalls.{LinkCall, has_room}
-use Rattle.hmc_send.specs.LinkEntries.{LinkEntry, put_if}
-use Rattle.hmc_send.specs.declared.toward.Toward.{Toward}
 use Rattle.hmc_schedule.specs.declared.step.Step.{Step}
 use Rattle.hmc_entries.specs.declared.outcome.Cause.{Cause}
-use Rattle.hmc_entries.specs.declared.outcome.Cause.TheVariants as causes
 use Rattle.hmc_entries.specs.declared.entry.Entry.{Entry}
 use Rattle.hmc_entries.specs.declared.entry.Entry.TheVariants.{Idle}
 use Rattle.hmc_entries.specs.Event.{cause_of, is_passed}
-use Rattle.hmc_journal.specs.Links.{toward, put_on, direction_to}
-use Rattle.hmc_journal.specs.Next.{choice, is_full, lacks_room, with_front}
-use Rattle.hmc_journal.specs.Queues.{buffer_at, output_from, front_of}
-use Rattle.hmc_journal.specs.Queues.QueueId.{Output}
+use Rattle.hmc_journal.specs.Links.{direction_to}
+use Rattle.hmc_journal.specs.Next.{choice}
 use Rattle.hmc_journal.specs.Setup.{directions_in, direction_from}
 use Rattle.hmc_journal.specs.StepView.{StepView}
-use Rattle.hmc_net.specs.Apply.{cubes_after, hosts_after, DoesStep, IsEntryIn, IsHostIn}
+use Rattle.hmc_net.specs.Apply.{cubes_after, DoesStep, IsEntryIn}
+use Rattle.hmc_kept.specs.Hosts.{hosts_after, IsHostIn}
 use Rattle.hmc_kept.specs.After.{slots_after, pipes_after, entries_after}
 use Rattle.hmc_kept.specs.Pipes.{PipesHeld, AreCounted}
-use Rattle.hmc_links.specs.LinkList.{sizes_by, LinksStandFor, called, IsDirection, IsRoom, IsArrival, IsFrontAt}
+use Rattle.hmc_links.specs.LinkList.{LinksStandFor, IsDirection, IsArrival, IsFrontAt}
 use Rattle.hmc_net.specs.NetState.{NetState}
 use Rattle.hmc_net.specs.Sees.{Sees, IsSized, IsReady}
-use Rattle.hmc_links.proofs.LinkCalls.{called_here, called_other}
 use Rattle.hmc_journal.proofs.DirectionEnds.{starts_there, ends_at}
+use Rattle.hmc_kept.proofs.Fronts.{no_packet}
 
 -- a network with other parts and another last entry
 abbrev pub with_all : NetState → List CubeFields → List HostFields → List (Option UnitFields) → List LinkHeld → Entry → NetState
@@ -132,85 +119,5 @@ ends_in net place d ready is = omega (arith, (ends_at net.topology place d is).t
 
 -- ---- what is seen of a direction
 
-pub below_is_room : (used size : ℕ) → nat_lt used size ≡ not (nat_le size used)
-below_is_room used size = grind (arith, nat_tests)
-
--- whether a direction has room
-pub room_seen : (net : NetState) (view : StepView) (direction : ℕ) (room : Bool) → Sees net view → direction < directions_in net.topology → IsRoom net.links direction room → room ≡ not (is_full net.topology view (Output direction))
-room_seen net view direction room sees there is =
-    is net.topology.links view.entries sees.shows.links
-    ∙ ap (λ (l : List PacketFields). nat_lt (length l) (sizes_by net.topology.links direction).output) (sym (sees.laws.directions direction there).output)
-    ∙ below_is_room (length (view.inside (Output direction))) (sizes_by net.topology.links direction).output
-
--- whether the direction that starts at a place has room
-pub place_room : (net : NetState) (view : StepView) (place : Place) (direction : ℕ) (room : Bool) → Sees net view → direction_from net.topology place ≡ Some direction → IsRoom net.links direction room
-    → room ≡ not (lacks_room net.topology view (output_from net.topology place))
-place_room net view place direction room sees from is =
-    room_seen net view direction room sees (starts_there net.topology place direction from) is
-    ∙ sym (ap (λ (d : Option ℕ). not (lacks_room net.topology view (option_map Output d))) from)
-
--- the same of the entries of its link
-pub place_has_room : (net : NetState) (view : StepView) (place : Place) (direction : ℕ) → Sees net view → direction_from net.topology place ≡ Some direction
-    → has_room (sizes_by net.topology.links direction) (toward direction) (view.entries (direction / 2)) ≡ not (lacks_room net.topology view (output_from net.topology place))
-place_has_room net view place direction sees from =
-    ap (λ (l : List PacketFields). nat_lt (length l) (sizes_by net.topology.links direction).output) (sym (sees.laws.directions direction (starts_there net.topology place direction from)).output)
-    ∙ below_is_room (length (view.inside (Output direction))) (sizes_by net.topology.links direction).output
-    ∙ sym (ap (λ (d : Option ℕ). not (lacks_room net.topology view (option_map Output d))) from)
-
--- the front of the buffer at a place
-pub front_seen : (net : NetState) (view : StepView) (place : Place) (direction : ℕ) (found : Option PacketFields) → Sees net view → direction_to net.topology place ≡ Some direction → IsFrontAt net.links direction found → slice_get (view.inside (buffer_at place)) 0 ≡ found
-front_seen net view place direction found sees to is =
-    let at = ends_at net.topology place direction to in
-    ap (λ (p : Place). slice_get (view.inside (buffer_at p)) 0) (sym at.ends)
-    ∙ ap (λ (l : List PacketFields). slice_get l 0) (sees.laws.directions direction at.there).buffer
-    ∙ sym (is net.topology.links view.entries sees.shows.links)
-
--- where no packet came there is no front
-no_packet : (arrived : Bool) (front : Option PacketFields) → arrived ≡ false → arrived ≡ is_some front → None ≡ front
-no_packet arrived None none is = refl
-no_packet arrived (Some front) none is = absurd (let clash : false ≡ true = sym none ∙ is in cc)
-
 pub none_arrived : (links : List LinkHeld) (direction : ℕ) (arrived : Bool) → arrived ≡ false → IsArrival links direction arrived → IsFrontAt links direction None
 none_arrived links direction arrived none is = λ rows entries stand. no_packet arrived _ none (is rows entries stand)
-
--- ---- a call of a link is an entry
-
-put_here : (rows : List LinkRow) (direction link : ℕ) (call : Toward → LinkCall) (entry : ℕ → Toward → LinkEntry) (entries : ℕ → List LinkEntry) (test : Bool) → (direction / 2 == link) ≡ test
-    → after_call (sizes_by rows direction) (entries (direction / 2)) (call (toward direction)) ≡ entry (direction / 2) (toward direction) ∷ entries (direction / 2) → called rows direction call entries link ≡ put_on link (Some direction) (entry link) (entries link)
-put_here rows direction link call entry entries false is same =
-    called_other rows direction link call entries is ∙ sym (ap (λ (t : Bool). put_if t (entry link (toward direction)) (entries link)) is)
-put_here rows direction link call entry entries true is same =
-    ap (called rows direction call entries) (sym (eqb-true (direction / 2) link is)) ∙ called_here rows direction call entries ∙ same
-    ∙ ap (λ (n : ℕ). entry n (toward direction) ∷ entries n) (eqb-true (direction / 2) link is) ∙ sym (ap (λ (t : Bool). put_if t (entry link (toward direction)) (entries link)) is)
-
-pub called_puts : (rows : List LinkRow) (direction link : ℕ) (call : Toward → LinkCall) (entry : ℕ → Toward → LinkEntry) (entries : ℕ → List LinkEntry)
-    → after_call (sizes_by rows direction) (entries (direction / 2)) (call (toward direction)) ≡ entry (direction / 2) (toward direction) ∷ entries (direction / 2) → called rows direction call entries link ≡ put_on link (Some direction) (entry link) (entries link)
-called_puts rows direction link call entry entries same = put_here rows direction link call entry entries (direction / 2 == link) refl same
-
--- a call that makes no entry
-stay_here : (rows : List LinkRow) (direction link : ℕ) (call : Toward → LinkCall) (entries : ℕ → List LinkEntry) (test : Bool) → (direction / 2 == link) ≡ test
-    → after_call (sizes_by rows direction) (entries (direction / 2)) (call (toward direction)) ≡ entries (direction / 2) → called rows direction call entries link ≡ entries link
-stay_here rows direction link call entries false is same = called_other rows direction link call entries is
-stay_here rows direction link call entries true is same =
-    ap (called rows direction call entries) (sym (eqb-true (direction / 2) link is)) ∙ called_here rows direction call entries ∙ same ∙ ap entries (eqb-true (direction / 2) link is)
-
-pub called_stays : (rows : List LinkRow) (direction link : ℕ) (call : Toward → LinkCall) (entries : ℕ → List LinkEntry)
-    → after_call (sizes_by rows direction) (entries (direction / 2)) (call (toward direction)) ≡ entries (direction / 2) → called rows direction call entries link ≡ entries link
-called_stays rows direction link call entries same = stay_here rows direction link call entries (direction / 2 == link) refl same
-
--- ---- fronts
-
-pub front_some : (step : Step) (packets : List PacketFields) (front : PacketFields) (does : PacketFields → Entry) → slice_get packets 0 ≡ Some front → with_front step packets does ≡ does front
-front_some step [] front does is = absurd (cc)
-front_some step (packet ∷ rest) front does is = let same : packet ≡ front = cc in ap does same
-
-pub front_none : (step : Step) (packets : List PacketFields) (does : PacketFields → Entry) → slice_get packets 0 ≡ None → with_front step packets does ≡ Idle step causes.Empty
-front_none step [] does is = refl
-front_none step (packet ∷ rest) does is = absurd (cc)
-
-pub no_front : (packets : List PacketFields) → packets ≡ [] → slice_get packets 0 ≡ None
-no_front packets none = ap (λ (l : List PacketFields). slice_get l 0) none
-
-pub front_all : (P : PacketFields → Type 0) (packets : List PacketFields) (front : PacketFields) → slice_get packets 0 ≡ Some front → All P packets → P front
-front_all P [] front is all = absurd (cc)
-front_all P (packet ∷ rest) front is all = let same : packet ≡ front = cc in subst P same (All-head P packet rest all)

@@ -1,32 +1,22 @@
 -- The steps of hosts.
-use Rattle.std.proofs.Common.{◌≡◌, ◌<◌, ◌/◌, ◌∙◌, ℕ, Bool, true, false, not, if◌then◌else◌, Option, Some, None, List, length, refl, sym, ap, ap₂, subst, arith}
-use Rattle.std.specs.Option.{unwrap_or}
+use Rattle.std.proofs.Common.{◌≡◌, ◌<◌, ◌/◌, ◌∙◌, ℕ, Bool, false, not, Option, Some, None, List, length, refl, sym, ap, ap₂, subst, arith}
 use Rattle.std.proofs.lemmas.List.{length-set, set-get_or}
 use Rattle.hmc_codes.specs.Request.{RequestFields, IsRequest}
-use Rattle.hmc_codes.specs.Table.{table_line}
-use Rattle.hmc_codes.specs.Commands.{layout_of, is_flow}
-use Rattle.hmc_codes.specs.declared.layout.Layout.{Layout}
-use Rattle.hmc_codes.specs.declared.layout.Layout.TheVariants as layouts
 use Rattle.hmc_codes.specs.declared.place.Place.TheVariants as places
-use Rattle.hmc_codes.specs.declared.profile.Profile.{Profile}
 use Rattle.hmc_case.specs.declared.setup.LinkRow.{LinkRow}
 use Rattle.hmc_packet.specs.Packet.{PacketFields}
 use Rattle.hmc_packet.specs.Transactions.{request_packet}
-use Rattle.hmc_packet.proofs.TransactionLemmas.{asks-layout}
-use Rattle.hmc_script.specs.Items.{ItemFields}
 use Rattle.hmc_host.specs.declared.given.Given.{Given}
 use Rattle.hmc_host.specs.declared.given.Given.TheVariants as givens
 use Rattle.hmc_host.specs.declared.given.Hindrance.{Hindrance}
-use Rattle.hmc_host.specs.declared.given.Hindrance.TheVariants as hindrances
 use Rattle.hmc_host.specs.declared.settled.Settled.{Settled}
 use Rattle.hmc_host.specs.declared.settled.Settled.TheVariants as settles
 use Rattle.hmc_host.specs.Host.{HostFields}
-use Rattle.hmc_host.specs.Give.{give_says, next_says, next_item, lacks_tag, tag_for, after_give, gave_request, hindrance_of}
+use Rattle.hmc_host.specs.Give.{give_says, after_give, hindrance_of}
 use Rattle.hmc_host.specs.Settle.{IsAwaited, settle_says, after_settle}
 use Rattle.hmc_units.specs.Unit.{UnitFields}
 use Rattle.hmc_cube.specs.Cube.{CubeFields}
 use Rattle.hmc_link.specs.Held.{LinkHeld}
-use Rattle.hmc_send.specs.Given.{IsTaken}
 use Rattle.hmc_send.specs.LinkCalls.{LinkCall}
 use Rattle.hmc_send.specs.LinkEntries.{LinkEntry}
 use Rattle.hmc_schedule.specs.declared.step.Step.TheVariants as steps
@@ -34,7 +24,7 @@ use Rattle.hmc_entries.specs.declared.outcome.Cause.{Cause}
 use Rattle.hmc_entries.specs.declared.outcome.Cause.TheVariants as causes
 use Rattle.hmc_entries.specs.declared.entry.Entry.{Entry}
 use Rattle.hmc_entries.specs.declared.entry.Entry.TheVariants.{Idle}
-use Rattle.hmc_entries.specs.Event.{is_passed, cause_of}
+use Rattle.hmc_entries.specs.Event.{cause_of}
 use Rattle.hmc_journal.specs.Links.{toward, put_on, direction_to}
 use Rattle.hmc_journal.specs.Next.{choice, gave_entry, took_entry}
 use Rattle.hmc_journal.specs.QueueInvariant.{IsAnswerFor}
@@ -42,50 +32,24 @@ use Rattle.hmc_journal.specs.Queues.{tag_number}
 use Rattle.hmc_journal.specs.Queues.QueueId.{Host}
 use Rattle.hmc_journal.specs.Setup.{hosts_in, direction_from, Topology}
 use Rattle.hmc_journal.specs.StepView.{StepView}
-use Rattle.hmc_net.specs.Apply.{cubes_after, hosts_after, with_host, DoesStep, IsEntryIn, IsHostIn}
+use Rattle.hmc_net.specs.Apply.{cubes_after, DoesStep, IsEntryIn}
+use Rattle.hmc_kept.specs.Hosts.{with_host, cause_by, host_in, no_host}
 use Rattle.hmc_kept.specs.After.{slots_after, pipes_after, entries_after}
-use Rattle.hmc_net.specs.Gives.{IsGiven, IsRequested, entries_given, cause_by}
+use Rattle.hmc_net.specs.Gives.{IsGiven, IsRequested, entries_given}
 use Rattle.hmc_kept.specs.Pipes.{PipesHeld}
-use Rattle.hmc_links.specs.LinkList.{sizes_by, LinksStandFor, called, IsRoom, IsFrontAt, MayHand}
-use Rattle.hmc_net.specs.NetState.{NetState, host_in, no_host}
+use Rattle.hmc_kept.specs.Called.{sizes_by, called}
+use Rattle.hmc_links.specs.LinkList.{LinksStandFor, IsRoom, IsFrontAt, MayHand}
+use Rattle.hmc_net.specs.NetState.{NetState}
 use Rattle.hmc_net.specs.Sees.{Sees, IsSized, IsReady}
-use Rattle.hmc_net.proofs.Doing.{with_parts, does_by, idle_does, place_room, front_seen, called_puts, front_some, front_none, front_all}
+use Rattle.hmc_net.proofs.Doing.{with_parts, does_by, idle_does}
+use Rattle.hmc_kept.proofs.Seen.{place_room, front_seen}
+use Rattle.hmc_kept.proofs.Called.{called_puts}
+use Rattle.hmc_kept.proofs.Fronts.{front_some, front_none, front_all}
 use Rattle.hmc_links.proofs.LinkCalls.{same_entries}
 use Rattle.hmc_kept.proofs.Linking.{handed_call, taken_call}
+use Rattle.hmc_kept.proofs.HostSteps.{IsGivenBy, given_is, asked_taken, hindered_entry, gave_hosts, took_hosts, gave_host_in, took_host_in, took_busy, took_entries}
 
 -- ---- what a host gives
-
-tag_is : (tag : Option ℕ) → unwrap_or tag 0 ≡ tag_number tag
-tag_is None = refl
-tag_is (Some tag) = refl
-
--- what is given where there is room: the packet of its request
-abbrev pub IsGivenBy : Given → (room : Bool) → (number : ℕ) → Type 0
-IsGivenBy (givens.Gave packet request tag poisoned) room number = (room ≡ true) × (packet ≡ request_packet request (tag_number tag) number poisoned)
-IsGivenBy _ room number = Unit {0}
-
-given_item : (host : HostFields) (item : ItemFields) (fence lacks room : Bool) (tag : Option ℕ)
-    → IsGivenBy (if fence then givens.Fence else if lacks then givens.Tags else if not room then givens.Full else gave_request host.number item tag) room host.number
-given_item host item true lacks room tag = tt
-given_item host item false true room tag = tt
-given_item host item false false false tag = tt
-given_item host item false false true tag = (refl, ap (λ (t : ℕ). request_packet item.request t host.number item.poisoned) (tag_is tag))
-
-given_next : (host : HostFields) (room : Bool) (found : Option ItemFields) → IsGivenBy (next_says host found room) room host.number
-given_next host room None = tt
-given_next host room (Some item) = given_item host item _ (lacks_tag item host.tags) room (tag_for item host.tags)
-
-given_is : (host : HostFields) (room : Bool) (given : Given) → given ≡ give_says host room → IsGivenBy given room host.number
-unfolding give_says
-given_is host room given is = subst (λ g. IsGivenBy g room host.number) (sym is) (given_next host room (next_item host))
-
--- a request takes tokens, and has no error number
-pub asked_taken : (profile : Profile) (request : RequestFields) (packet : PacketFields) (tag slid : ℕ) (poisoned : Bool) → IsRequest request → packet ≡ request_packet request tag slid poisoned → IsTaken profile packet
-unfolding request_packet table_line
-asked_taken profile request packet tag slid poisoned is packet_is = record {
-  token = ap (λ (p : PacketFields). is_flow (layout_of p.command)) packet_is ∙ ap is_flow (asks-layout (layout_of request.command) is.asks);
-  errstat = λ two. subst (λ (p : PacketFields). p.errstat < 8) (sym packet_is) (omega arith);
-}
 
 -- a packet of a request may be handed where there is room
 pub may_hand : (links : List LinkHeld) (direction : ℕ) (given : Given) (packet : PacketFields) (request : RequestFields) (tag : Option ℕ) (poisoned : Bool) → IsRequest request → IsGiven links direction given → given ≡ givens.Gave packet request tag poisoned → MayHand links direction packet
@@ -118,15 +82,7 @@ give_seen : (net : NetState) (view : StepView) (host direction : ℕ) (room : Bo
     → gave_entry host (give_says (host_in net.hosts host) room) ≡ choice net.topology view (steps.Give host)
 unfolding choice
 give_seen net view host direction room sees there from is =
-    ap₂ (λ (h : HostFields) (r : Bool). gave_entry host (give_says h r)) (sees.shows.hosts host there) (place_room net view (places.Host host) direction room sees from is)
-
--- where nothing is given, the entry is idle for that cause
-hindered_entry : (host : ℕ) (given : Given) (hindrance : Hindrance) → hindrance_of given ≡ Some hindrance → gave_entry host given ≡ Idle (steps.Give host) (cause_by hindrance)
-hindered_entry host givens.Ended hindrance is = let same : hindrances.Ended ≡ hindrance = cc in ap (λ h. Idle (steps.Give host) (cause_by h)) same
-hindered_entry host givens.Fence hindrance is = let same : hindrances.Fence ≡ hindrance = cc in ap (λ h. Idle (steps.Give host) (cause_by h)) same
-hindered_entry host givens.Tags hindrance is = let same : hindrances.Tags ≡ hindrance = cc in ap (λ h. Idle (steps.Give host) (cause_by h)) same
-hindered_entry host givens.Full hindrance is = let same : hindrances.Full ≡ hindrance = cc in ap (λ h. Idle (steps.Give host) (cause_by h)) same
-hindered_entry host (givens.Gave packet request tag poisoned) hindrance is = absurd (cc)
+    ap₂ (λ (h : HostFields) (r : Bool). gave_entry host (give_says h r)) (sees.shows.hosts host there) (place_room net.topology view (places.Host host) direction room sees.laws from (is net.topology.links view.entries sees.shows.links))
 
 pub hindered_does : (net now : NetState) (host direction : ℕ) (room : Bool) (hindrance : Hindrance) (cause : Cause) → IsSized net → host < hosts_in net.topology → direction_from net.topology (places.Host host) ≡ Some direction → IsRoom net.links direction room
     → hindrance_of (give_says (host_in net.hosts host) room) ≡ Some hindrance → cause ≡ cause_by hindrance → now ≡ record net { last = Idle (steps.Give host) cause } → DoesStep net now (steps.Give host)
@@ -134,13 +90,6 @@ hindered_does net now host direction room hindrance cause sized there from is he
     let inside : host < length net.hosts = omega (arith, there, sized.hosts) in
     idle_does net now (steps.Give host) (steps.Give host) cause same sized
     (λ view sees. ap (Idle (steps.Give host)) cause_is ∙ sym (hindered_entry host (give_says (host_in net.hosts host) room) hindrance held) ∙ give_seen net view host direction room sees inside from is)
-
-gave_hosts : (hosts : List HostFields) (host : ℕ) (given : Given) → with_host host (after_give given) hosts ≡ hosts_after (gave_entry host given) hosts
-gave_hosts hosts host givens.Ended = set-get_or hosts host no_host
-gave_hosts hosts host givens.Fence = set-get_or hosts host no_host
-gave_hosts hosts host givens.Tags = set-get_or hosts host no_host
-gave_hosts hosts host givens.Full = set-get_or hosts host no_host
-gave_hosts hosts host (givens.Gave packet request tag poisoned) = refl
 
 gave_links : (net : NetState) (view : StepView) (host direction : ℕ) (room : Bool) (given : Given) (links : List LinkHeld) → Sees net view → direction_from net.topology (places.Host host) ≡ Some direction → IsRoom net.links direction room → IsGivenBy given room host → IsRequested given
     → LinksStandFor net.topology.links links (entries_given net.topology.links direction given view.entries) → LinksStandFor net.topology.links links (entries_after net.topology view (gave_entry host given))
@@ -156,26 +105,12 @@ gave_links net view host direction room (givens.Gave packet request tag poisoned
     ∙ ap (λ (p : PacketFields). put_on link (Some direction) (λ d. LinkEntry.handed d p) (view.entries link)) by.1
     ∙ ap (λ (d : Option ℕ). put_on link d (λ w. LinkEntry.handed w (request_packet request (tag_number tag) host poisoned)) (view.entries link)) (sym from))
 
-gave_on : (host : ℕ) (given : Given) → is_passed (gave_entry host given) ≡ false
-gave_on host givens.Ended = refl
-gave_on host givens.Fence = refl
-gave_on host givens.Tags = refl
-gave_on host givens.Full = refl
-gave_on host (givens.Gave packet request tag poisoned) = refl
-
 gave_in : (cubes : List CubeFields) (host : ℕ) (given : Given) → IsEntryIn cubes (gave_entry host given)
 gave_in cubes host givens.Ended = tt
 gave_in cubes host givens.Fence = tt
 gave_in cubes host givens.Tags = tt
 gave_in cubes host givens.Full = tt
 gave_in cubes host (givens.Gave packet request tag poisoned) = tt
-
-gave_host_in : (hosts : List HostFields) (host : ℕ) (given : Given) → host < length hosts → IsHostIn hosts (gave_entry host given)
-gave_host_in hosts host givens.Ended there = tt
-gave_host_in hosts host givens.Fence there = tt
-gave_host_in hosts host givens.Tags there = tt
-gave_host_in hosts host givens.Full there = tt
-gave_host_in hosts host (givens.Gave packet request tag poisoned) there = there
 
 gave_cubes : (view : StepView) (cubes : List CubeFields) (host : ℕ) (given : Given) → cubes ≡ cubes_after view (gave_entry host given) cubes
 gave_cubes view cubes host givens.Ended = refl
@@ -236,17 +171,13 @@ pub awaited_front : (net : NetState) (host direction : ℕ) (front : PacketField
 awaited_front net host direction front ready there to is good =
     let inside : host < length net.hosts = omega (arith, there, ready.sized.hosts) in
     subst (λ (h : HostFields). IsAwaited h front) (sym (ready.sees.shows.hosts host inside))
-    (front_all (IsAnswerFor (ready.view.host host)) (ready.view.inside (Host host)) front (front_seen net ready.view (places.Host host) direction (Some front) ready.sees to is) (ready.sees.laws.hosts host) good)
+    (front_all (IsAnswerFor (ready.view.host host)) (ready.view.inside (Host host)) front (front_seen net.topology ready.view (places.Host host) direction (Some front) ready.sees.laws to (is net.topology.links ready.view.entries ready.sees.shows.links)) (ready.sees.laws.hosts host) good)
 
 pub nothing_taken : (net now : NetState) (host direction : ℕ) → IsSized net → direction_to net.topology (places.Host host) ≡ Some direction → IsFrontAt net.links direction None → now ≡ record net { last = Idle (steps.Take host) causes.Empty } → DoesStep net now (steps.Take host)
 unfolding choice
 nothing_taken net now host direction sized to is same =
     idle_does net now (steps.Take host) (steps.Take host) causes.Empty same sized
-    (λ view sees. sym (front_none (steps.Take host) (view.inside (Host host)) (λ f. took_entry host (settle_says f)) (front_seen net view (places.Host host) direction None sees to is)))
-
-took_hosts : (hosts : List HostFields) (host : ℕ) (settled : Settled) → with_host host (after_settle settled) hosts ≡ hosts_after (took_entry host settled) hosts
-took_hosts hosts host settles.Discarded = set-get_or hosts host no_host
-took_hosts hosts host (settles.Took tag answer) = refl
+    (λ view sees. sym (front_none (steps.Take host) (view.inside (Host host)) (λ f. took_entry host (settle_says f)) (front_seen net.topology view (places.Host host) direction None sees.laws to (is net.topology.links view.entries sees.shows.links))))
 
 took_cubes : (view : StepView) (cubes : List CubeFields) (host : ℕ) (settled : Settled) → cubes ≡ cubes_after view (took_entry host settled) cubes
 took_cubes view cubes host settles.Discarded = refl
@@ -264,18 +195,6 @@ took_in : (cubes : List CubeFields) (host : ℕ) (settled : Settled) → IsEntry
 took_in cubes host settles.Discarded = tt
 took_in cubes host (settles.Took tag answer) = tt
 
-took_host_in : (hosts : List HostFields) (host : ℕ) (settled : Settled) → host < length hosts → IsHostIn hosts (took_entry host settled)
-took_host_in hosts host settles.Discarded there = tt
-took_host_in hosts host (settles.Took tag answer) there = there
-
-took_busy : (host : ℕ) (settled : Settled) (cause : Cause) → cause_of (took_entry host settled) ≡ Some cause → ⊥
-took_busy host settles.Discarded cause is = absurd (cc)
-took_busy host (settles.Took tag answer) cause is = absurd (cc)
-
-took_entries : (net : NetState) (view : StepView) (host direction link : ℕ) (settled : Settled) → direction_to net.topology (places.Host host) ≡ Some direction → put_on link (Some direction) LinkEntry.taken (view.entries link) ≡ entries_after net.topology view (took_entry host settled) link
-took_entries net view host direction link settles.Discarded to = ap (λ (d : Option ℕ). put_on link d LinkEntry.taken (view.entries link)) (sym to)
-took_entries net view host direction link (settles.Took tag answer) to = ap (λ (d : Option ℕ). put_on link d LinkEntry.taken (view.entries link)) (sym to)
-
 pub take_does : (net now : NetState) (host direction : ℕ) (front : PacketFields) (settled : Settled) (links : List LinkHeld) → IsReady net → host < hosts_in net.topology → direction_to net.topology (places.Host host) ≡ Some direction → IsFrontAt net.links direction (Some front)
     → settled ≡ settle_says front
     → ((rows : List LinkRow) (entries : ℕ → List LinkEntry) → LinksStandFor rows net.links entries → LinksStandFor rows links (called rows direction LinkCall.take entries))
@@ -284,7 +203,7 @@ unfolding choice
 take_does net now host direction front settled links ready there to is says take now_is =
     let inside : host < length net.hosts = omega (arith, there, ready.sized.hosts) in
     does_by net now net.cubes (with_host host (after_settle settled) net.hosts) net.slots links (took_entry host settled) (steps.Take host) now_is (record {
-      chosen = λ view sees. ap (took_entry host) says ∙ sym (front_some (steps.Take host) (view.inside (Host host)) front (λ f. took_entry host (settle_says f)) (front_seen net view (places.Host host) direction (Some front) sees to is));
+      chosen = λ view sees. ap (took_entry host) says ∙ sym (front_some (steps.Take host) (view.inside (Host host)) front (λ f. took_entry host (settle_says f)) (front_seen net.topology view (places.Host host) direction (Some front) sees.laws to (is net.topology.links view.entries sees.shows.links)));
       cubes_are = λ view sees. took_cubes view net.cubes host settled;
       hosts_are = took_hosts net.hosts host settled;
       slots_are = λ view sees. took_slots view net.slots host settled;
@@ -292,7 +211,7 @@ take_does net now host direction front settled links ready there to is says take
       links_are = λ view sees on. same_entries net.topology.links links (called net.topology.links direction LinkCall.take view.entries) (entries_after net.topology view (took_entry host settled)) (take net.topology.links view.entries sees.shows.links)
           (λ link. called_puts net.topology.links direction link LinkCall.take (λ _. LinkEntry.taken) view.entries
           (taken_call (sizes_by net.topology.links direction) (view.entries (direction / 2)) (toward direction) front (sym (is net.topology.links view.entries sees.shows.links)))
-          ∙ took_entries net view host direction link settled to);
+          ∙ took_entries net.topology view host direction link settled to);
       there = took_in net.cubes host settled;
       host = took_host_in net.hosts host settled inside;
       sized = sized_host net host (after_settle settled) links (took_entry host settled) ready.sized;

@@ -8,9 +8,10 @@ use Rattle.hmc_units.specs.Unit.{UnitFields}
 use Rattle.hmc_link.specs.Held.{LinkHeld}
 use Rattle.hmc_entries.specs.declared.entry.Entry.{Entry}
 use Rattle.hmc_journal.specs.Setup.{Topology, cubes_in, hosts_in}
-use Rattle.hmc_net.specs.Apply.{with_cube, with_host}
+use Rattle.hmc_net.specs.Apply.{with_cube}
+use Rattle.hmc_kept.specs.Hosts.{with_host, host_in, no_host}
 use Rattle.hmc_tally.specs.Tally.{TallyFields}
-use Rattle.hmc_net.specs.NetState.{NetState, cube_in, no_cube, host_in, no_host}
+use Rattle.hmc_net.specs.NetState.{NetState, cube_in, no_cube}
 use Rattle.hmc_kept.specs.Pipes.{PipesHeld}
 use Rattle.hmc_net.specs.Sees.{IsSized}
 use Rattle.hmc_kept.proofs.Elements.{default_same}

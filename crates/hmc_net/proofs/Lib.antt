@@ -17,11 +17,8 @@ pub mod Stillness
 pub mod NewCubes
 pub mod LinkDoes
 pub mod Opening
-pub mod Cases
 pub mod Quiet
-pub mod Telling
 pub mod Still
-pub mod Sizes
 pub mod FinalStands
 pub mod HeldIs
 mod Worked

@@ -20,17 +20,18 @@ use Rattle.hmc_journal.specs.Links.{toward}
 use Rattle.hmc_journal.specs.Piped.{fed}
 use Rattle.hmc_journal.specs.Setup.{directions_in}
 use Rattle.hmc_net.specs.Apply.{DoesStep}
-use Rattle.hmc_links.specs.LinkList.{sizes_by, LinksStandFor, called, IsThroughAt}
+use Rattle.hmc_kept.specs.Called.{sizes_by, called, taken_where}
+use Rattle.hmc_links.specs.LinkList.{LinksStandFor, IsThroughAt}
 use Rattle.hmc_kept.specs.LinkAnswers.{sent_by, landed_by, landing_goes_on, after_landing, IsCameFlit}
-use Rattle.hmc_net.specs.Links.{taken_where}
 use Rattle.hmc_kept.specs.Pipes.{PipesHeld, AreCounted, pipe_at, after_loss}
 use Rattle.hmc_net.specs.NetState.{NetState}
 use Rattle.hmc_wiring.specs.Ready.{IsLandingIn}
 use Rattle.hmc_net.specs.Sees.{IsReady}
 use Rattle.hmc_net.proofs.Doing.{with_parts}
-use Rattle.hmc_net.proofs.LinkSteps.{send_does, feed_seen, land_does, unlock_does}
+use Rattle.hmc_net.proofs.LinkSteps.{send_does, land_does, unlock_does}
+use Rattle.hmc_kept.proofs.Sending.{feed_seen}
 use Rattle.hmc_kept.proofs.PipeLemmas.{landing_counted, loss_counted}
-use Rattle.hmc_net.proofs.Forwarding.{holds_landed}
+use Rattle.hmc_kept.proofs.Landing.{holds_landed}
 
 does_for : (own old now : NetState) (step : Step) → own ≡ old → IsReady old → (IsReady own → DoesStep own now step) → DoesStep old now step
 does_for own old now step same ready does = subst (λ (n : NetState). DoesStep n now step) same (does (subst IsReady (sym same) ready))
@@ -44,7 +45,7 @@ pub send_for : (own old : NetState) (now : List LinkHeld) (last : Entry) (direct
 send_for own old now last direction place feed sent same ready there last_is at fed_is answer stand none =
     does_for own old (record own { links = now; last = last }) (steps.Send direction) same ready
     (λ is. send_does own (record own { links = now; last = last }) direction feed sent now is
-    (λ view sees. feed_seen own view direction place feed sees (subst (λ (n : NetState). direction < directions_in n.topology) (sym same) there) at fed_is) answer stand none (ap (λ (e : Entry). with_parts own own.cubes own.hosts now e) last_is))
+    (λ view sees. feed_seen own.topology view own.piped direction place feed (sees.shows.pipes direction (subst (λ (n : NetState). direction < directions_in n.topology) (sym same) there)) (at own.topology.links view.entries sees.shows.links) fed_is) answer stand none (ap (λ (e : Entry). with_parts own own.cubes own.hosts now e) last_is))
 
 pub land_for : (own old : NetState) (between now : List LinkHeld) (piped : PipesHeld) (last : Entry) (direction : ℕ) (mask : List ℕ) (landed : LinkLanded) → own ≡ old → IsReady old → IsLandingIn old.topology direction (length mask) → last ≡ landed_by direction landed → IsCameFlit landed
     → ((rows : List LinkRow) (entries : ℕ → List LinkEntry) → LinksStandFor rows own.links entries → landed
@@ -61,7 +62,7 @@ land_for own old between now piped last direction mask landed same ready there l
     (let here = subst (λ (n : NetState). IsLandingIn n.topology direction (length mask)) (sym same) there in
     land_does own (record own { links = now; piped = piped; last = last }) direction mask landed between now piped is here answer stand none take stay piped_is
     (subst (AreCounted (directions_in own.topology)) (sym piped_is) (landing_counted own.piped direction (directions_in own.topology) landed is.sized.piped))
-    (λ view sees. holds_landed own view direction mask landed here sees (answer own.topology.links view.entries sees.shows.links) size)
+    (λ view sees. holds_landed own.topology view own.piped direction mask landed sees.laws here.some_direction (sees.shows.forwarded direction here.some_direction) (answer own.topology.links view.entries sees.shows.links) size)
     (ap (λ (e : Entry). record own { links = now; piped = piped; last = e }) last_is)))
 
 pub unlock_for : (own old : NetState) (now : List LinkHeld) (piped : PipesHeld) (last : Entry) (direction : ℕ) → own ≡ old → IsReady old → last ≡ Unlocked direction

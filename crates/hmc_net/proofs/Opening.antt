@@ -1,8 +1,7 @@
 -- A new network stands for its case and the empty journal.
-use Rattle.std.proofs.Common.{◌≡◌, ◌≤◌, ◌<◌, ◌+◌, ◌^◌, ◌∙◌, ℕ, zero, suc, Result, Ok, Err, IfOk, Option, None, List, [], ◌∷◌, length, map, refl, sym, ap, ap₂, subst, arith}
+use Rattle.std.proofs.Common.{◌≡◌, ◌<◌, ◌+◌, ◌^◌, ◌∙◌, ℕ, zero, suc, Option, List, [], ◌∷◌, length, map, refl, sym, ap, ap₂, subst, arith}
 use Rattle.std.specs.Prelude.{replicate, slice_index_or}
 use Rattle.std.specs.List.{All}
-use Rattle.std.proofs.lemmas.List.Elements.{All-cons}
 use Rattle.hmc_codes.specs.Shape.{ShapeFields}
 use Rattle.hmc_codes.specs.declared.lift.Lift.TheVariants as lifts
 use Rattle.hmc_packet.specs.Packet.{PacketFields}
@@ -11,33 +10,26 @@ use Rattle.hmc_serial.specs.Cube.{CubeState, opening}
 use Rattle.hmc_serial.specs.Machine.{State, openings_from, opening_state}
 use Rattle.hmc_vault.specs.Vault.{VaultFields, opening_vault, bank_at}
 use Rattle.hmc_cube.specs.Cube.{CubeFields, no_vault, opening_cube}
-use Rattle.hmc_host.specs.Host.{opening_host}
 use Rattle.hmc_case.specs.Setup.{CubeSetupFields}
-use Rattle.hmc_case.specs.declared.setup.LinkRow.{LinkRow}
-use Rattle.hmc_send.specs.LinkEntries.{LinkEntry}
-use Rattle.hmc_journal.specs.Hosts.{host_of, given_count, tags_out}
-use Rattle.hmc_journal.specs.Lawful.{Lawful}
 use Rattle.hmc_journal.specs.Links.{link_entries}
 use Rattle.hmc_journal.specs.Network.{IsNetwork}
-use Rattle.hmc_journal.specs.Queues.{QueueId, left, entered, contents}
+use Rattle.hmc_journal.specs.Queues.{QueueId}
 use Rattle.hmc_journal.specs.Queues.QueueId.{Output, Port, Host, Vault, Bank, Registers, Answers}
-use Rattle.hmc_journal.specs.Piped.{forwarded_onto, pipe_onto}
 use Rattle.hmc_journal.specs.Serial.{state_after}
 use Rattle.hmc_journal.specs.Setup.{Topology, Setup, no_setup, cube_setup, cubes_in, hosts_in, directions_in}
 use Rattle.hmc_journal.specs.StepView.{state_of}
 use Rattle.hmc_kept.specs.Pipes.{AreCounted}
-use Rattle.hmc_net.specs.NetState.{NetState, cube_in, no_cube, no_host, packets_in, queue_cube, inside, machine_in}
+use Rattle.hmc_net.specs.NetState.{NetState, cube_in, no_cube, packets_in, queue_cube, inside, machine_in}
+use Rattle.hmc_kept.specs.Hosts.{no_host}
 use Rattle.hmc_net.specs.Opening.{AreNewCubes, IsOpening}
 use Rattle.hmc_wiring.specs.Ready.{IsStepFor}
 use Rattle.hmc_net.specs.Sees.{CubeFits, IsSized}
 use Rattle.hmc_net.specs.Stands.{StandsFor}
-use Rattle.hmc_tally.specs.Tally.{no_counters, no_host_steps, no_cube_counts, opening_tally, CountersWithin, HostWithin, CubeWithin, IsWithin}
-use Rattle.hmc_wiring.specs.Wiring.{IsLaidOut}
+use Rattle.hmc_tally.specs.Tally.{IsWithin}
 use Rattle.hmc_links.proofs.LinkCalls.{same_entries}
 use Rattle.hmc_tally.proofs.TallyLaw.{tally_none}
-
-pub laid_out : (setup : Setup) → IsNetwork setup → IsLaidOut setup.topology
-laid_out setup network = record { few_links = network.few_links; graph = network.graph; one_part = network.one_part; hosts = network.hosts }
+use Rattle.hmc_kept.proofs.Opening.{nothing_in, within_nothing, lawful_nothing, opening_host_is, no_entries, nothing_forwarded, nothing_piped}
+use Rattle.hmc_tally.proofs.Opening.{opening_within}
 
 -- ---- nothing waits
 
@@ -85,18 +77,6 @@ nothing_inside setups cubes queue new =
     anywhere (λ (x : CubeFields). packets_in x queue ≡ []) cubes no_cube (queue_cube queue) (no_packets queue)
     (λ k less. ap (λ (x : CubeFields). packets_in x queue) (new.each k no_setup no_cube (omega (arith, new.counted))) ∙ opening_packets k (slice_index_or setups k no_setup).shape (slice_index_or setups k no_setup).queue queue)
 
-nothing_in : (topology : Topology) (queue : QueueId) → contents topology [] queue ≡ []
-unfolding contents left entered
-nothing_in topology queue = refl
-
-within_nothing : (topology : Topology) (queue : QueueId) → left [] queue ≤ length (entered topology [] queue)
-unfolding left entered
-within_nothing topology queue = omega arith
-
-lawful_nothing : (setup : Setup) → Lawful setup []
-unfolding Lawful
-lawful_nothing setup = tt
-
 -- ---- the states of new cubes
 
 states_from : (setups : List CubeSetupFields) (cubes : List CubeFields) (n : ℕ) → length cubes ≡ length setups
@@ -133,35 +113,6 @@ opening_sized net topology same cubes hosts piped = record {
       (cubes.each cube no_setup no_cube (omega (arith, cubes.counted))) (ap (λ (t : Topology). cube_setup t cube) (sym same));
 }
 
-opening_host_is : (setup : Setup) (host : ℕ) → opening_host host setup.script ≡ host_of setup [] host
-unfolding host_of given_count tags_out
-opening_host_is setup host = refl
-
-no_entries : (topology : Topology) (link : ℕ) → ◌≡◌ {A = List LinkEntry} [] (link_entries topology link [])
-unfolding link_entries
-no_entries topology link = refl
-
-nothing_forwarded : (topology : Topology) (direction : ℕ) → None ≡ forwarded_onto topology direction []
-unfolding forwarded_onto
-nothing_forwarded topology direction = refl
-
-nothing_piped : (topology : Topology) (direction : ℕ) → None ≡ pipe_onto topology direction []
-unfolding pipe_onto
-nothing_piped topology direction = refl
-
-within_copies : {X : Type 0} (P : X → Type 0) (x : X) (n : ℕ) → P x → All P (replicate n x)
-within_copies P x zero is = λ k d there. absurd (omega arith)
-within_copies P x (suc n) is = All-cons P x (replicate n x) is (within_copies P x n is)
-
-opening_within : (topology : Topology) → IsWithin 0 (opening_tally topology)
-opening_within topology =
-    let none : 0 ≤ 0 = omega arith in
-    record {
-      directions = within_copies (CountersWithin 0) no_counters (directions_in topology) (record { sent = none; landed = none; changed = none; accepted = none; repeats = none; aborts = none });
-      hosts = within_copies (HostWithin 0) no_host_steps (hosts_in topology) (record { given = none; taken = none });
-      cubes = within_copies (CubeWithin 0) no_cube_counts (cubes_in topology) (record { executed = none; dropped = none });
-    }
-
 pub opening_stands : (setup : Setup) (net : NetState) → IsNetwork setup → All (IsStepFor setup.topology) setup.schedule → length setup.schedule < 2 ^ 32 → IsOpening net setup.topology setup.slots setup.script → StandsFor net setup []
 opening_stands setup net network steps few is = record {
   network = network;
@@ -180,12 +131,3 @@ opening_stands setup net network steps few is = record {
   within = subst (IsWithin 0) (sym is.tally) (opening_within setup.topology);
   tally = λ on. is.tally ∙ tally_none setup.topology;
 }
-
--- what holds of each value holds of a good answer
-pub ok_then : {A E : Type 0} (P Q : A → Type 0) (result : Result A E) → ((x : A) → P x → Q x) → IfOk result P → IfOk result Q
-ok_then P Q (Ok x) more is = more x is
-ok_then P Q (Err e) more is = tt
-
--- the topology of these cubes and links
-pub topology_is : (cubes own : List CubeSetupFields) (links rows : List LinkRow) → cubes ≡ own → links ≡ rows → ◌≡◌ {A = Topology} (record { cubes = cubes; links = links }) (record { cubes = own; links = rows })
-topology_is cubes own links rows cubes_is links_is = ap₂ (λ (c : List CubeSetupFields) (l : List LinkRow). record { cubes = c; links = l }) cubes_is links_is

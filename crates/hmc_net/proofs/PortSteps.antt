@@ -1,38 +1,23 @@
 -- The steps at the ports of cubes: shift and lift.
-use Rattle.std.proofs.Common.{◌≡◌, ◌≤◌, ◌<◌, ◌/◌, ◌==◌, ◌%◌, ◌^◌, ◌∙◌, ℕ, Bool, true, false, not, nat_le, if◌then◌else◌, Option, Some, None, List, ◌∷◌, length, slice_get, refl, sym, ap, ap₂, subst, arith}
-use Rattle.std.specs.Prelude.{option_map}
-use Rattle.std.proofs.Math.Nat.{pow-le-pow_right, mod-lt}
-use Rattle.std.proofs.lemmas.Bool.Decides.{nat_tests}
+use Rattle.std.proofs.Common.{◌≡◌, ◌<◌, ◌/◌, ◌^◌, ◌∙◌, ℕ, Bool, true, false, not, nat_le, Option, Some, None, List, length, slice_get, refl, sym, ap, ap₂, subst, arith}
 use Rattle.std.proofs.lemmas.Bool.{lt-leb}
-use Rattle.std.proofs.lemmas.Nat.{pow_pos}
-use Rattle.hmc_codes.specs.Commands.{is_flow, layout_of, family_of, family_of_layout}
-use Rattle.hmc_codes.specs.Graph.{GraphFields}
-use Rattle.hmc_codes.specs.Link.{LinkFields}
-use Rattle.hmc_codes.specs.Shape.{ShapeFields, vault_of}
-use Rattle.hmc_codes.specs.declared.family.Family.{Family}
-use Rattle.hmc_codes.specs.declared.family.Family.TheVariants as families
-use Rattle.hmc_codes.specs.declared.layout.Layout.{Layout}
-use Rattle.hmc_codes.specs.declared.layout.Layout.TheVariants as layouts
+use Rattle.hmc_codes.specs.Shape.{ShapeFields}
 use Rattle.hmc_codes.specs.declared.lift.Lift.{Lift}
 use Rattle.hmc_codes.specs.declared.lift.Lift.TheVariants as lifts
 use Rattle.hmc_codes.specs.declared.place.Place.TheVariants as places
-use Rattle.hmc_codes.specs.declared.profile.Profile.{Profile}
 use Rattle.hmc_case.specs.declared.setup.LinkRow.{LinkRow}
 use Rattle.hmc_packet.specs.Packet.{PacketFields}
 use Rattle.hmc_serial.specs.Unit.{is_for_registers}
 use Rattle.hmc_crossbar.specs.declared.to.To.{To}
 use Rattle.hmc_crossbar.specs.declared.to.To.TheVariants as tos
-use Rattle.hmc_crossbar.specs.To.{into_cube, out_of_cube, request_to, unpoisoned_to, where_to, HasGoal, HasWay}
+use Rattle.hmc_crossbar.specs.To.{where_to, HasWay}
 use Rattle.hmc_cube.specs.Cube.{CubeFields}
 use Rattle.hmc_cube.specs.After.{after_enter, after_lift}
 use Rattle.hmc_cube.specs.Places.{IsHere, IsFor, HasLift, entrance, answers_at}
 use Rattle.hmc_cube.specs.Parts.{AreParts}
 use Rattle.hmc_link.specs.Held.{LinkHeld}
-use Rattle.hmc_send.specs.Given.{IsTaken}
 use Rattle.hmc_send.specs.LinkCalls.{LinkCall, has_room}
-use Rattle.hmc_send.specs.LinkEntries.{LinkEntry, put_if, handed_packets}
-use Rattle.hmc_send.specs.LinkSenders.{sender_entries}
-use Rattle.hmc_send.specs.declared.toward.Toward.{Toward}
+use Rattle.hmc_send.specs.LinkEntries.{LinkEntry}
 use Rattle.hmc_schedule.specs.declared.step.Step.TheVariants as steps
 use Rattle.hmc_entries.specs.declared.outcome.Cause.TheVariants as causes
 use Rattle.hmc_entries.specs.declared.outcome.Goal.{Goal}
@@ -42,84 +27,51 @@ use Rattle.hmc_journal.specs.Links.{toward, put_on, direction_to}
 use Rattle.hmc_journal.specs.Next.{choice, unless_full, lacks_room, goal_at, shift_entry, shifted_entry, lifted_entry}
 use Rattle.hmc_journal.specs.QueueInvariant.{IsOnItsWay, IsHostAnswer}
 use Rattle.hmc_journal.specs.Queues.{front_of, output_from, goal_queue}
-use Rattle.hmc_journal.specs.Queues.QueueId.{Output, Port, Vault, Registers, Answers}
+use Rattle.hmc_journal.specs.Queues.QueueId.{Port, Vault, Registers, Answers}
 use Rattle.hmc_journal.specs.Routes.{port_towards}
-use Rattle.hmc_journal.specs.Setup.{Topology, graph_of, shape_of, cube_setup, cubes_in, direction_from}
+use Rattle.hmc_journal.specs.Setup.{graph_of, shape_of, cube_setup, cubes_in, direction_from}
 use Rattle.hmc_journal.specs.StepView.{StepView}
 use Rattle.hmc_net.specs.Apply.{to_of, cubes_after, with_cube, IsEntryIn, DoesStep}
 use Rattle.hmc_kept.specs.After.{entries_after}
-use Rattle.hmc_links.specs.LinkList.{sizes_by, LinksStandFor, called, IsDirection, IsRoom, IsFrontAt, MayHand}
+use Rattle.hmc_kept.specs.Called.{sizes_by, called}
+use Rattle.hmc_links.specs.LinkList.{LinksStandFor, IsDirection, IsRoom, IsFrontAt, MayHand}
 use Rattle.hmc_net.specs.NetState.{NetState, cube_in}
-use Rattle.hmc_net.specs.Ports.{IsShifting, IsInner, IsWayOut}
+use Rattle.hmc_net.specs.Ports.{IsShifting, IsWayOut}
+use Rattle.hmc_kept.specs.Ways.{IsInner}
 use Rattle.hmc_wiring.specs.Ready.{IsLiftIn}
 use Rattle.hmc_net.specs.Sees.{Sees, IsSized, IsReady}
 use Rattle.hmc_net.proofs.CubeSteps.{sized_cube, cube_inside}
-use Rattle.hmc_net.proofs.Doing.{with_parts, does_by, idle_does, starts_in, sized_links, place_room, place_has_room, front_seen, called_puts, front_some, front_none, front_all}
+use Rattle.hmc_net.proofs.Doing.{with_parts, does_by, idle_does, starts_in, sized_links}
+use Rattle.hmc_kept.proofs.Seen.{place_room, place_has_room, front_seen, taken_entries, room_after}
+use Rattle.hmc_kept.proofs.Called.{called_puts}
+use Rattle.hmc_kept.proofs.Fronts.{front_some, front_none, front_all}
 use Rattle.hmc_links.proofs.LinkCalls.{same_entries}
-use Rattle.hmc_kept.proofs.Linking.{handed_call, taken_call}
-use Rattle.hmc_journal.proofs.Packets.{front_is_first, reply_layout, inside_goal}
-use Rattle.hmc_journal.proofs.LinkKept.{room_taken}
+use Rattle.hmc_kept.proofs.Linking.{handed_call}
+use Rattle.hmc_journal.proofs.Packets.{front_is_first}
+use Rattle.hmc_kept.proofs.Ways.{has_way, way_taken, goes_good, answer_taken, lacks_by, IsGoingIn, vault_below, for_vault, for_registers, at_most, shift_links, going_in}
 
 -- ---- packets at ports
 
 pub port_front : (net : NetState) (view : StepView) (cube port direction : ℕ) (found : Option PacketFields) → Sees net view → direction_to net.topology (places.Port cube port) ≡ Some direction → IsFrontAt net.links direction found → slice_get (view.inside (Port cube port)) 0 ≡ found
-port_front net view cube port direction found sees to is = front_seen net view (places.Port cube port) direction found sees to is
+port_front net view cube port direction found sees to is = front_seen net.topology view (places.Port cube port) direction found sees.laws to (is net.topology.links view.entries sees.shows.links)
 
 on_way : (net : NetState) (cube port direction : ℕ) (front : PacketFields) → IsReady net → direction_to net.topology (places.Port cube port) ≡ Some direction → IsFrontAt net.links direction (Some front) → IsOnItsWay net.topology front
 on_way net cube port direction front ready to is =
     front_all (IsOnItsWay net.topology) (ready.view.inside (Port cube port)) front (port_front net ready.view cube port direction (Some front) ready.sees to is) (ready.sees.laws.ports cube port)
 
-has_way : (graph : GraphFields) (packet : PacketFields) (poisoned : Bool) → HasGoal graph packet (family_of packet.command) → HasWay graph packet poisoned
-has_way graph packet true goal = tt
-has_way graph packet false goal = goal
-
 pub front_way : (net : NetState) (cube port direction : ℕ) (front : PacketFields) → IsReady net → direction_to net.topology (places.Port cube port) ≡ Some direction → IsFrontAt net.links direction (Some front) → HasWay (graph_of net.topology) front front.poisoned
 front_way net cube port direction front ready to is = has_way (graph_of net.topology) front front.poisoned (on_way net cube port direction front ready to is).goal
 
--- a packet with a goal takes tokens
-goal_layout : (graph : GraphFields) (packet : PacketFields) (layout : Layout) → HasGoal graph packet (family_of_layout layout) → is_flow layout ≡ false
-goal_layout graph packet layouts.Reply goal = refl
-goal_layout graph packet layouts.Ask goal = refl
-goal_layout graph packet layouts.Null goal = absurd goal
-goal_layout graph packet layouts.Pret goal = absurd goal
-goal_layout graph packet layouts.Tret goal = absurd goal
-goal_layout graph packet layouts.Irtry goal = absurd goal
-
-way_taken : (profile : Profile) (topology : Topology) (packet : PacketFields) → IsOnItsWay topology packet → packet.poisoned ≡ false → IsTaken profile packet
-way_taken profile topology packet is good = record { token = goal_layout (graph_of topology) packet (layout_of packet.command) is.goal; errstat = λ two. is.errstat good }
-
--- a packet that goes somewhere is not poisoned
-goes_good : (topology : Topology) (cube : ℕ) (packet : PacketFields) (goal : Goal) → goal_at (where_to (graph_of topology) (shape_of topology cube) cube packet) ≡ Some goal → packet.poisoned ≡ false
-goes_good topology cube packet goal is = by_poison packet.poisoned refl
-  where
-    by_poison : (poisoned : Bool) → packet.poisoned ≡ poisoned → packet.poisoned ≡ false
-    by_poison false at = at
-    by_poison true at =
-        let nowhere = sym (ap (λ (t : Bool). goal_at (if t then tos.Nowhere else unpoisoned_to (graph_of topology) (shape_of topology cube) cube packet (family_of packet.command))) at) ∙ is in absurd (cc)
-
-answer_taken : (profile : Profile) (topology : Topology) (packet : PacketFields) → IsHostAnswer topology packet → IsTaken profile packet
-answer_taken profile topology packet is = record { token = reply_layout (layout_of packet.command) is.replies; errstat = λ two. is.errstat }
-
 -- ---- the way out of a cube
-
-lacks_by : (room lacks : Bool) → room ≡ not lacks → lacks ≡ not room
-lacks_by room true is = sym (ap not is)
-lacks_by room false is = sym (ap not is)
 
 pub way_out : (net : NetState) (cube port direction : ℕ) (room : Bool) → direction_from net.topology (places.Port cube port) ≡ Some direction → IsRoom net.links direction room
     → (view : StepView) → Sees net view → lacks_room net.topology view (output_from net.topology (places.Port cube port)) ≡ not room
-way_out net cube port direction room from is view sees = lacks_by room _ (place_room net view (places.Port cube port) direction room sees from is)
-
-pub no_way_out : (net : NetState) (cube port : ℕ) → direction_from net.topology (places.Port cube port) ≡ None → IsWayOut net cube port None
-no_way_out net cube port none = record {
-  room = λ view sees. ap (λ (d : Option ℕ). lacks_room net.topology view (option_map Output d)) none;
-  from = λ direction is. absurd (cc);
-}
+way_out net cube port direction room from is view sees = lacks_by room _ (place_room net.topology view (places.Port cube port) direction room sees.laws from (is net.topology.links view.entries sees.shows.links))
 
 -- where there is a way out its direction has room
 pub way_room : (net : NetState) (view : StepView) (cube port direction : ℕ) → Sees net view → IsWayOut net cube port (Some direction) → has_room (sizes_by net.topology.links direction) (toward direction) (view.entries (direction / 2)) ≡ true
 way_room net view cube port direction sees is =
-    place_has_room net view (places.Port cube port) direction sees (is.from direction refl) ∙ ap not (is.room view sees)
+    place_has_room net.topology view (places.Port cube port) direction sees.laws (is.from direction refl) ∙ ap not (is.room view sees)
 
 -- ---- shift
 
@@ -137,14 +89,6 @@ shift_none net now cube port direction sized to is now_is =
     idle_does net now (steps.Shift cube port) (steps.Shift cube port) causes.Empty now_is sized
     (λ view sees. sym (front_none (steps.Shift cube port) (view.inside (Port cube port)) (shift_entry net.topology view cube port) (port_front net view cube port direction None sees to is)))
 
--- the entries of the links after a take
-taken_entries : (net : NetState) (view : StepView) (cube port direction link : ℕ) (front : PacketFields) → Sees net view → direction_to net.topology (places.Port cube port) ≡ Some direction → IsFrontAt net.links direction (Some front)
-    → called net.topology.links direction LinkCall.take view.entries link ≡ put_on link (direction_to net.topology (places.Port cube port)) LinkEntry.taken (view.entries link)
-taken_entries net view cube port direction link front sees to is =
-    called_puts net.topology.links direction link LinkCall.take (λ _. LinkEntry.taken) view.entries
-    (taken_call (sizes_by net.topology.links direction) (view.entries (direction / 2)) (toward direction) front (sym (is net.topology.links view.entries sees.shows.links)))
-    ∙ ap (λ (d : Option ℕ). put_on link d LinkEntry.taken (view.entries link)) (sym to)
-
 pub dropped_does : (net now : NetState) (cube port direction : ℕ) (front : PacketFields) (to : To) (links : List LinkHeld) → IsReady net → direction_to net.topology (places.Port cube port) ≡ Some direction → IsFrontAt net.links direction (Some front)
     → to ≡ where_to (graph_of net.topology) (shape_of net.topology cube) cube front → to ≡ tos.Nowhere
     → ((rows : List LinkRow) (entries : ℕ → List LinkEntry) → LinksStandFor rows net.links entries → LinksStandFor rows links (called rows direction LinkCall.take entries))
@@ -158,7 +102,7 @@ dropped_does net now cube port direction front to links ready ends is to_is nowh
   slots_are = λ view sees. refl;
   piped_are = λ view sees. refl;
   links_are = λ view sees on. same_entries net.topology.links links (called net.topology.links direction LinkCall.take view.entries) (entries_after net.topology view (entries.Dropped cube port)) (take net.topology.links view.entries sees.shows.links)
-      (λ link. taken_entries net view cube port direction link front sees ends is);
+      (λ link. taken_entries net.topology view (places.Port cube port) direction link front ends (is net.topology.links view.entries sees.shows.links));
   there = tt;
   host = tt;
   sized = sized_links net links (entries.Dropped cube port) ready.sized;
@@ -167,36 +111,6 @@ dropped_does net now cube port direction front to links ready ends is to_is nowh
 
 -- ---- into the cube
 
--- what goes into its cube is an unpoisoned request
-record IsGoingIn (shape : ShapeFields) (packet : PacketFields) (goal : Goal) : Type 0 where
-  pub unpoisoned : packet.poisoned ≡ false
-  pub asks : family_of packet.command ≡ families.Ask
-  pub goal_is : (if is_for_registers packet.command then goals.Registers else goals.Vault (vault_of shape packet.address)) ≡ goal
-
-out_inner : (found : Option ℕ) (goal : Goal) → IsInner goal → goal_at (out_of_cube found) ≡ Some goal → ⊥
-out_inner None goal inner is = let no : None ≡ Some goal = is in absurd (cc)
-out_inner (Some port) goal inner is = let same : goals.Port port ≡ goal = cc in absurd (subst IsInner (sym same) inner)
-
-ask_in : (graph : GraphFields) (shape : ShapeFields) (cube : ℕ) (packet : PacketFields) (here : Bool) (goal : Goal) → IsInner goal → goal_at (request_to graph shape cube packet here) ≡ Some goal → (if is_for_registers packet.command then goals.Registers else goals.Vault (vault_of shape packet.address)) ≡ goal
-ask_in graph shape cube packet true goal inner is = inside_goal (is_for_registers packet.command) (vault_of shape packet.address) goal is
-ask_in graph shape cube packet false goal inner is = absurd (out_inner _ goal inner is)
-
-family_in : (graph : GraphFields) (shape : ShapeFields) (cube : ℕ) (packet : PacketFields) (family : Family) (goal : Goal) → IsInner goal → packet.poisoned ≡ false → family_of packet.command ≡ family → goal_at (unpoisoned_to graph shape cube packet family) ≡ Some goal → IsGoingIn shape packet goal
-family_in graph shape cube packet families.Reply goal inner clean family is = absurd (out_inner _ goal inner is)
-family_in graph shape cube packet families.Ask goal inner clean family is = record { unpoisoned = clean; asks = family; goal_is = ask_in graph shape cube packet (packet.cube == cube) goal inner is }
-family_in graph shape cube packet families.Flow goal inner clean family is = let no : None ≡ Some goal = is in absurd (cc)
-
-poisoned_in : (graph : GraphFields) (shape : ShapeFields) (cube : ℕ) (packet : PacketFields) (poisoned : Bool) (goal : Goal) → IsInner goal → packet.poisoned ≡ poisoned → goal_at (if poisoned then tos.Nowhere else unpoisoned_to graph shape cube packet (family_of packet.command)) ≡ Some goal → IsGoingIn shape packet goal
-poisoned_in graph shape cube packet true goal inner is goes = let no : None ≡ Some goal = goes in absurd (cc)
-poisoned_in graph shape cube packet false goal inner is goes = family_in graph shape cube packet (family_of packet.command) goal inner is refl goes
-
-going_in : (net : NetState) (cube port direction : ℕ) (front : PacketFields) (goal : Goal) → IsShifting net cube port direction front goal → IsInner goal → IsGoingIn (shape_of net.topology cube) front goal
-going_in net cube port direction front goal is inner = poisoned_in (graph_of net.topology) (shape_of net.topology cube) cube front front.poisoned goal inner refl is.goes
-
-vault_below : (shape : ShapeFields) (packet : PacketFields) (registers : Bool) (vault : ℕ) → (if registers then goals.Registers else goals.Vault (vault_of shape packet.address)) ≡ goals.Vault vault → vault < 2 ^ shape.vault_bits
-vault_below shape packet true vault is = absurd (cc)
-vault_below shape packet false vault is = let same : vault_of shape packet.address ≡ vault = cc in subst (λ (n : ℕ). n < 2 ^ shape.vault_bits) same (mod-lt (packet.address / shape.block) (pow_pos shape.vault_bits))
-
 here_by : (x : CubeFields) (shape : ShapeFields) (packet : PacketFields) (goal : Goal) → x.state.shape ≡ shape → IsInner goal → IsGoingIn shape packet goal → IsHere x (to_of goal)
 here_by x shape packet (goals.Vault vault) same inner is = subst (λ (s : ShapeFields). vault < 2 ^ s.vault_bits) (sym same) (vault_below shape packet (is_for_registers packet.command) vault is.goal_is)
 here_by x shape packet goals.Registers same inner is = tt
@@ -204,27 +118,16 @@ here_by x shape packet (goals.Port port) same inner is = absurd inner
 
 pub shift_here : (net : NetState) (cube port direction : ℕ) (front : PacketFields) (goal : Goal) → IsSized net → cube < cubes_in net.topology → IsShifting net cube port direction front goal → IsInner goal → IsHere (cube_in net.cubes cube) (to_of goal)
 shift_here net cube port direction front goal sized there is inner =
-    here_by (cube_in net.cubes cube) (shape_of net.topology cube) front goal (sized.fits cube (cube_inside net cube sized there)).shape inner (going_in net cube port direction front goal is inner)
-
-for_vault : (shape : ShapeFields) (packet : PacketFields) (registers : Bool) (vault : ℕ) → is_for_registers packet.command ≡ registers → (if registers then goals.Registers else goals.Vault (vault_of shape packet.address)) ≡ goals.Vault vault → is_for_registers packet.command ≡ false
-for_vault shape packet true vault test is = absurd (cc)
-for_vault shape packet false vault test is = test
-
-for_registers : (shape : ShapeFields) (packet : PacketFields) (registers : Bool) → is_for_registers packet.command ≡ registers → (if registers then goals.Registers else goals.Vault (vault_of shape packet.address)) ≡ goals.Registers → is_for_registers packet.command ≡ true
-for_registers shape packet true test is = test
-for_registers shape packet false test is = absurd (cc)
+    here_by (cube_in net.cubes cube) (shape_of net.topology cube) front goal (sized.fits cube (cube_inside net cube sized there)).shape inner (going_in net.topology cube front goal is.goes inner)
 
 pub shift_for : (net : NetState) (cube port direction : ℕ) (front : PacketFields) (goal : Goal) → IsShifting net cube port direction front goal → IsInner goal → IsFor (to_of goal) front
 shift_for net cube port direction front (goals.Vault vault) is inner =
-    let going = going_in net cube port direction front (goals.Vault vault) is inner in
+    let going = going_in net.topology cube front (goals.Vault vault) is.goes inner in
     record { asks = going.asks; unpoisoned = going.unpoisoned; not_for_registers = for_vault (shape_of net.topology cube) front (is_for_registers front.command) vault refl going.goal_is }
 shift_for net cube port direction front goals.Registers is inner =
-    let going = going_in net cube port direction front goals.Registers is inner in
+    let going = going_in net.topology cube front goals.Registers is.goes inner in
     record { unpoisoned = going.unpoisoned; for_registers = for_registers (shape_of net.topology cube) front (is_for_registers front.command) refl going.goal_is }
 shift_for net cube port direction front (goals.Port port') is inner = absurd inner
-
-at_most : (size used : ℕ) → (used < size → ⊥) → nat_le size used ≡ true
-at_most size used full = grind (arith, nat_tests)
 
 -- whether the goal is full, by its queue
 inner_lacks : (net : NetState) (view : StepView) (cube : ℕ) (goal : Goal) (test : Bool) → Sees net view → IsInner goal → (cube_in net.cubes cube).size ≡ (cube_setup net.topology cube).queue → nat_le (cube_in net.cubes cube).size (length (entrance (cube_in net.cubes cube) (to_of goal))) ≡ test
@@ -251,11 +154,6 @@ shift_cubes view cubes cube port (goals.Vault vault) front inner is = ap (λ (p 
 shift_cubes view cubes cube port goals.Registers front inner is = ap (λ (p : PacketFields). with_cube cube (after_enter tos.Registers p) cubes) (sym is)
 shift_cubes view cubes cube port (goals.Port out) front inner is = absurd inner
 
-shift_links : (topology : Topology) (view : StepView) (cube port link : ℕ) (goal : Goal) → IsInner goal → put_on link (direction_to topology (places.Port cube port)) LinkEntry.taken (view.entries link) ≡ entries_after topology view (entries.Shifted cube port goal) link
-shift_links topology view cube port link (goals.Vault vault) inner = refl
-shift_links topology view cube port link goals.Registers inner = refl
-shift_links topology view cube port link (goals.Port out) inner = absurd inner
-
 shift_entry_in : (cubes : List CubeFields) (cube port : ℕ) (goal : Goal) → cube < length cubes → AreParts (cube_in cubes cube) → IsHere (cube_in cubes cube) (to_of goal) → IsInner goal → IsEntryIn cubes (entries.Shifted cube port goal)
 shift_entry_in cubes cube port (goals.Vault vault) there parts here inner = (there, subst (λ (n : ℕ). vault < n) (sym parts.vaults) here)
 shift_entry_in cubes cube port goals.Registers there parts here inner = (there, tt)
@@ -278,7 +176,7 @@ shift_in_does net now cube port direction front goal links ready there is inner 
       slots_are = λ view sees. refl;
       piped_are = λ view sees. refl;
       links_are = λ view sees on. same_entries net.topology.links links (called net.topology.links direction LinkCall.take view.entries) (entries_after net.topology view (entries.Shifted cube port goal)) (take net.topology.links view.entries sees.shows.links)
-          (λ link. taken_entries net view cube port direction link front sees is.ends is.is_front ∙ shift_links net.topology view cube port link goal inner);
+          (λ link. taken_entries net.topology view (places.Port cube port) direction link front is.ends (is.is_front net.topology.links view.entries sees.shows.links) ∙ shift_links net.topology view cube port link goal inner);
       there = shift_entry_in net.cubes cube port goal less parts (shift_here net cube port direction front goal sized there is inner) inner;
       host = tt;
       sized = sized_cube net cube (after_enter (to_of goal) front (cube_in net.cubes cube)) links (entries.Shifted cube port goal) sized less kept.0 kept.1;
@@ -287,27 +185,13 @@ shift_in_does net now cube port direction front goal links ready there is inner 
 
 -- ---- on through another port
 
--- a take leaves the room of all directions
-room_put : (rows : List LinkRow) (direction onward : ℕ) (past : List LinkEntry) (test : Bool) → has_room (sizes_by rows onward) (toward onward) (put_if test (LinkEntry.taken (toward direction)) past) ≡ has_room (sizes_by rows onward) (toward onward) past
-room_put rows direction onward past true = room_taken (sizes_by rows onward) (toward onward) (toward direction) past
-room_put rows direction onward past false = refl
-
--- the room of a direction after a take at a port
-pub room_after : (net : NetState) (view : StepView) (cube port direction onward : ℕ) (front : PacketFields) → Sees net view → direction_to net.topology (places.Port cube port) ≡ Some direction → IsFrontAt net.links direction (Some front)
-    → has_room (sizes_by net.topology.links onward) (toward onward) (called net.topology.links direction LinkCall.take view.entries (onward / 2)) ≡ has_room (sizes_by net.topology.links onward) (toward onward) (view.entries (onward / 2))
-room_after net view cube port direction onward front sees to is =
-    ap (has_room (sizes_by net.topology.links onward) (toward onward))
-    (called_puts net.topology.links direction (onward / 2) LinkCall.take (λ _. LinkEntry.taken) view.entries
-    (taken_call (sizes_by net.topology.links direction) (view.entries (direction / 2)) (toward direction) front (sym (is net.topology.links view.entries sees.shows.links))))
-    ∙ room_put net.topology.links direction onward (view.entries (onward / 2)) (direction / 2 == onward / 2)
-
 pub shift_out_may : (net : NetState) (cube port direction out onward : ℕ) (front : PacketFields) (links : List LinkHeld) → IsReady net → IsShifting net cube port direction front (goals.Port out) → IsWayOut net cube out (Some onward)
     → ((rows : List LinkRow) (entries : ℕ → List LinkEntry) → LinksStandFor rows net.links entries → LinksStandFor rows links (called rows direction LinkCall.take entries)) → MayHand links onward front
 shift_out_may net cube port direction out onward front links ready is way take = record {
   rows = net.topology.links;
   entries = called net.topology.links direction LinkCall.take ready.view.entries;
   stand = take net.topology.links ready.view.entries ready.sees.shows.links;
-  room = room_after net ready.view cube port direction onward front ready.sees is.ends is.is_front ∙ way_room net ready.view cube out onward ready.sees way;
+  room = room_after net.topology ready.view direction onward front (is.is_front net.topology.links ready.view.entries ready.sees.shows.links) ∙ way_room net ready.view cube out onward ready.sees way;
   fit = way_taken (sizes_by net.topology.links onward).profile net.topology front (on_way net cube port direction front ready is.ends is.is_front) (goes_good net.topology cube front (goals.Port out) is.goes);
 }
 
@@ -341,8 +225,8 @@ shift_out_does net now cube port direction out onward front taken links ready is
       same_entries rows links (called rows onward (λ d. LinkCall.hand d front) after) (entries_after net.topology view (entries.Shifted cube port (goals.Port out)))
       (hand rows after (take rows view.entries sees.shows.links))
       (λ link. called_puts rows onward link (λ d. LinkCall.hand d front) (λ _ d. LinkEntry.handed d front) after
-      (handed_call (sizes_by rows onward) (after (onward / 2)) (toward onward) front (room_after net view cube port direction onward front sees is.ends is.is_front ∙ way_room net view cube out onward sees way) (ap not fit.token))
-      ∙ ap (λ (past : List LinkEntry). put_on link (Some onward) (λ d. LinkEntry.handed d front) past) (taken_entries net view cube port direction link front sees is.ends is.is_front)
+      (handed_call (sizes_by rows onward) (after (onward / 2)) (toward onward) front (room_after net.topology view direction onward front (is.is_front net.topology.links view.entries sees.shows.links) ∙ way_room net view cube out onward sees way) (ap not fit.token))
+      ∙ ap (λ (past : List LinkEntry). put_on link (Some onward) (λ d. LinkEntry.handed d front) past) (taken_entries net.topology view (places.Port cube port) direction link front is.ends (is.is_front net.topology.links view.entries sees.shows.links))
       ∙ ap₂ (λ (d : Option ℕ) (p : PacketFields). put_on link d (λ w. LinkEntry.handed w p) (put_on link (direction_to net.topology (places.Port cube port)) LinkEntry.taken (view.entries link)))
       (sym (way.from onward refl)) (sym (front_is_first (view.inside (Port cube port)) front (port_front net view cube port direction (Some front) sees is.ends is.is_front)))));
   there = tt;

@@ -10,7 +10,8 @@ use Rattle.hmc_cube.specs.Cube.{CubeFields, vault_at, with_vault, no_vault}
 use Rattle.hmc_journal.specs.Queues.{QueueId, same_queue, same_lift}
 use Rattle.hmc_journal.specs.Queues.QueueId.{Output, Port, Host, Vault, Bank, Registers, Answers}
 use Rattle.hmc_net.specs.NetState.{packets_in, queue_cube, cube_in, no_cube, inside, IsIn, IsQueueOf}
-use Rattle.hmc_net.specs.Sees.{IsCubeQueue}
+use Rattle.hmc_kept.specs.InCubes.{IsCubeQueue, change_if}
+use Rattle.hmc_kept.proofs.InCubes.{outside}
 use Rattle.hmc_kept.proofs.Elements.{other_than}
 
 -- the packets that are there after a change
@@ -25,10 +26,6 @@ changed_in x (Registers c) f = record x { register_queue = f x.register_queue }
 changed_in x (Answers c (lifts.Vault v)) f = with_vault x v (record (vault_at x v) { answers = f (vault_at x v).answers })
 changed_in x (Answers c lifts.Registers) f = record x { answers = f x.answers }
 changed_in x _ f = x
-
-abbrev pub change_if : Bool → Change → Change
-change_if true f packets = f packets
-change_if false f packets = packets
 
 -- the same queue of the same cube or of another one
 abbrev pub same_inner : QueueId → QueueId → Bool
@@ -155,28 +152,6 @@ inner_changed : (cubes : List CubeFields) (r q : QueueId) (f : Change) → IsCub
 inner_changed cubes r q f here there less is =
     set_changed cubes (queue_cube r) (changed_in (cube_in cubes (queue_cube r)) r f) q (same_inner r q) (queue_cube r == queue_cube q) f refl less (packets_changed (cube_in cubes (queue_cube r)) r q f here there is)
     ∙ ap (λ (t : Bool). change_if t f (inside cubes q)) (sym (same_split r q here there))
-
--- a queue of a link is none of a cube
-pub outside : (r q : QueueId) → (IsCubeQueue r → ⊥) → IsCubeQueue q → same_queue r q ≡ false
-outside (Vault c v) q off there = absurd (off tt)
-outside (Bank c v b) q off there = absurd (off tt)
-outside (Registers c) q off there = absurd (off tt)
-outside (Answers c from) q off there = absurd (off tt)
-outside (Output d) (Vault c v) off there = refl
-outside (Output d) (Bank c v b) off there = refl
-outside (Output d) (Registers c) off there = refl
-outside (Output d) (Answers c from) off there = refl
-outside (Port c p) (Vault e v) off there = refl
-outside (Port c p) (Bank e v b) off there = refl
-outside (Port c p) (Registers e) off there = refl
-outside (Port c p) (Answers e from) off there = refl
-outside (Host h) (Vault c v) off there = refl
-outside (Host h) (Bank c v b) off there = refl
-outside (Host h) (Registers c) off there = refl
-outside (Host h) (Answers c from) off there = refl
-outside r (Output e) off there = absurd there
-outside r (Port d p) off there = absurd there
-outside r (Host h) off there = absurd there
 
 no_change : (cubes : List CubeFields) (r q : QueueId) (f : Change) → (IsCubeQueue r → ⊥) → IsCubeQueue q → inside cubes q ≡ change_if (same_queue r q) f (inside cubes q)
 no_change cubes r q f off there = sym (ap (λ (t : Bool). change_if t f (inside cubes q)) (outside r q off there))

@@ -1,7 +1,5 @@
 -- The step retire.
-use Rattle.std.proofs.Common.{◌≡◌, ◌∙◌, ℕ, Bool, true, false, if◌then◌else◌, Option, Some, None, List, refl, sym, ap}
-use Rattle.std.specs.Prelude.{slice_index_or, slice_set, is_some}
-use Rattle.std.proofs.lemmas.List.{set-get_or}
+use Rattle.std.proofs.Common.{◌≡◌, ◌∙◌, ℕ, Bool, true, false, if◌then◌else◌, Option, List, refl, sym, ap}
 use Rattle.hmc_units.specs.Unit.{UnitFields}
 use Rattle.hmc_units.specs.Bench.{is_live, retired_slots}
 use Rattle.hmc_schedule.specs.declared.step.Step.TheVariants as steps
@@ -9,6 +7,7 @@ use Rattle.hmc_entries.specs.declared.outcome.Cause.TheVariants as causes
 use Rattle.hmc_entries.specs.declared.entry.Entry.TheVariants.{Retired, Idle}
 use Rattle.hmc_journal.specs.Next.{choice}
 use Rattle.hmc_journal.specs.StepView.{StepView}
+use Rattle.hmc_kept.proofs.Units.{empty_stays}
 use Rattle.hmc_net.specs.Apply.{DoesStep}
 use Rattle.hmc_net.specs.Links.{retired_by}
 use Rattle.hmc_net.specs.NetState.{NetState}
@@ -19,14 +18,6 @@ live_seen : (net : NetState) (view : StepView) (slot : ℕ) (live : Bool) → Se
 unfolding choice
 live_seen net view slot true sees is = ap (λ (t : Bool). if t then Retired slot else Idle (steps.Retire slot) causes.Empty) (sym is ∙ ap (λ (s : List (Option UnitFields)). is_live s slot) (units_seen net view sees))
 live_seen net view slot false sees is = ap (λ (t : Bool). if t then Retired slot else Idle (steps.Retire slot) causes.Empty) (sym is ∙ ap (λ (s : List (Option UnitFields)). is_live s slot) (units_seen net view sees))
-
--- an empty slot stays
-empty_stays : (slots : List (Option UnitFields)) (slot : ℕ) → is_live slots slot ≡ false → retired_slots slots slot ≡ slots
-empty_stays slots slot is = by_unit (slice_index_or slots slot None) refl is
-  where
-    by_unit : (unit : Option UnitFields) → slice_index_or slots slot None ≡ unit → is_some unit ≡ false → retired_slots slots slot ≡ slots
-    by_unit None at gone = ap (slice_set slots slot) (sym at) ∙ set-get_or slots slot None
-    by_unit (Some unit) at gone = absurd (cc)
 
 retired_does : (net now : NetState) (slot : ℕ) → IsSized net → is_live net.slots slot ≡ true → now ≡ record net { slots = retired_slots net.slots slot; last = Retired slot } → DoesStep net now (steps.Retire slot)
 retired_does net now slot sized live now_is = does_by net now net.cubes net.hosts (retired_slots net.slots slot) net.links (Retired slot) (steps.Retire slot) now_is (record {

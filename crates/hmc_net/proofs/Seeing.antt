@@ -1,7 +1,5 @@
 -- What a step sees of a network is what it sees of the journal that the network stands for.
-use Rattle.std.proofs.Common.{◌≡◌, ◌<◌, ℕ, zero, suc, false, Some, List, [], ◌∷◌, length, slice_get, sym, ap, subst}
-use Rattle.std.specs.List.{All}
-use Rattle.std.proofs.lemmas.List.Elements.{All-head, All-tail}
+use Rattle.std.proofs.Common.{◌≡◌, ◌<◌, ℕ, false, List, length, sym, ap, subst}
 use Rattle.hmc_schedule.specs.declared.step.Step.{Step}
 use Rattle.hmc_entries.specs.declared.entry.Entry.{Entry}
 use Rattle.hmc_journal.specs.Lawful.{has_passed}
@@ -9,15 +7,16 @@ use Rattle.hmc_journal.specs.Links.{link_entries}
 use Rattle.hmc_journal.specs.Piped.{forwarded_onto, pipe_onto}
 use Rattle.hmc_journal.specs.Next.{next, choice}
 use Rattle.hmc_journal.specs.Setup.{Topology, Setup, directions_in}
-use Rattle.hmc_journal.specs.StepView.{view_of}
+use Rattle.hmc_journal.specs.StepView.{StepView, view_of}
 use Rattle.hmc_links.specs.LinkList.{LinksStandFor}
 use Rattle.hmc_net.specs.NetState.{NetState}
 use Rattle.hmc_kept.specs.Pipes.{forwarded_at, pipe_at}
 use Rattle.hmc_wiring.specs.Ready.{IsStepFor}
-use Rattle.hmc_kept.specs.Shown.{KeepsLaws}
-use Rattle.hmc_net.specs.Sees.{Shows, Sees, IsReady}
+use Rattle.hmc_kept.specs.Shown.{KeepsLaws, ShowsPipes}
+use Rattle.hmc_net.specs.Sees.{Shows, Sees, IsSized, IsReady}
 use Rattle.hmc_net.specs.Stands.{StandsFor, IsNext}
 use Rattle.hmc_kept.proofs.LawsShown.{IsLawBound, laws_kept}
+use Rattle.hmc_wiring.proofs.Cases.{step_at}
 
 shown : (net : NetState) (past : List Entry) (setup : Setup) → StandsFor net setup past → has_passed past ≡ false → Shows net (view_of setup past)
 unfolding view_of
@@ -45,11 +44,10 @@ choice_seen net past setup step stands = ap (λ (t : Topology). choice t (view_o
 
 -- ---- the step
 
-step_at : (P : Step → Type 0) (schedule : List Step) (at : ℕ) (step : Step) → All P schedule → slice_get schedule at ≡ Some step → P step
-step_at P [] at step all is = absurd (cc)
-step_at P (first ∷ rest) zero step all is = let same : first ≡ step = cc in subst P same (All-head P first rest all)
-step_at P (first ∷ rest) (suc at) step all is = step_at P rest at step (All-tail P first rest all) is
-
 pub step_there : (net : NetState) (past : List Entry) (setup : Setup) (step : Step) → IsNext net setup past step → IsStepFor net.topology step
 step_there net past setup step is =
     subst (λ (t : Topology). IsStepFor t step) (sym is.stands.topology) (step_at (IsStepFor setup.topology) setup.schedule (length past) step is.stands.steps is.step_is)
+
+-- the packets that are kept as forwarded are those that are seen
+pub shows_pipes : (net : NetState) (view : StepView) → IsSized net → Sees net view → ShowsPipes net.topology view net.piped
+shows_pipes net view sized sees = record { counted = sized.piped; forwarded = sees.shows.forwarded; pipes = sees.shows.pipes }

@@ -1,24 +1,15 @@
 -- A network that stands for a journal stands for it with one more entry.
-use Rattle.std.proofs.Common.{◌≡◌, ◌<◌, ◌+◌, ◌^◌, ◌==◌, ◌∙◌, ℕ, suc, Bool, true, false, if◌then◌else◌, Option, Some, None, List, ◌∷◌, length, map, refl, sym, ap, ap₂, subst, arith, eqb-true}
+use Rattle.std.proofs.Common.{◌≡◌, ◌<◌, ◌+◌, ◌^◌, ◌∙◌, ℕ, suc, Bool, true, false, if◌then◌else◌, Option, Some, None, List, ◌∷◌, length, map, refl, sym, ap, ap₂, subst, arith}
 use Rattle.std.specs.Prelude.{slice_set}
 use Rattle.std.proofs.lemmas.Option.{slice_get_within}
-use Rattle.std.proofs.lemmas.List.{map-set, length-set}
+use Rattle.std.proofs.lemmas.List.{map-set}
 use Rattle.std.proofs.Math.Seq.{map-set_same}
 use Rattle.std.proofs.Math.ListN.{get_or-map}
 use Rattle.hmc_codes.specs.Request.{RequestFields}
 use Rattle.hmc_codes.specs.declared.lift.Lift.TheVariants as lifts
 use Rattle.hmc_codes.specs.declared.unit.Unit.{Unit as RequestUnit}
 use Rattle.hmc_codes.specs.declared.unit.Unit.TheVariants as units
-use Rattle.hmc_packet.specs.Packet.{PacketFields}
-use Rattle.hmc_packet.specs.Transactions.{request_in}
-use Rattle.std.specs.List.{All}
-use Rattle.std.proofs.lemmas.List.Elements.{All-head}
-use Rattle.hmc_codes.specs.Commands.{layout_of, is_ask}
 use Rattle.hmc_codes.specs.declared.answer.Answer.{Answer}
-use Rattle.hmc_script.specs.Items.{ItemFields}
-use Rattle.hmc_host.specs.Tags.{with_out}
-use Rattle.hmc_host.specs.Settle.{after_settle}
-use Rattle.hmc_host.specs.declared.settled.Settled.TheVariants as settles
 use Rattle.hmc_units.specs.Unit.{UnitFields}
 use Rattle.hmc_serial.specs.Cube.{CubeState}
 use Rattle.hmc_serial.specs.Machine.{State, apply, retire, cube_state_at}
@@ -28,36 +19,31 @@ use Rattle.hmc_vault.specs.declared.execute.Executed.TheVariants.{Ran}
 use Rattle.hmc_vault.specs.declared.spread.Spread.TheVariants.{Moved}
 use Rattle.hmc_cube.specs.Cube.{CubeFields}
 use Rattle.hmc_cube.specs.After.{after_enter, after_spread, after_execute, after_registers, after_lift}
-use Rattle.hmc_host.specs.Host.{HostFields, items_of}
+use Rattle.hmc_host.specs.Host.{HostFields}
 use Rattle.hmc_schedule.specs.declared.step.Step.{Step}
-use Rattle.hmc_journal.specs.Choice.{choose}
 use Rattle.hmc_entries.specs.declared.outcome.Goal.TheVariants as goals
 use Rattle.hmc_entries.specs.declared.entry.Entry.{Entry}
 use Rattle.hmc_entries.specs.declared.entry.Entry.TheVariants.{Gave, Sent, Landed, Shifted, Dropped, Spread, Executed, Lifted, Took, Discarded, Through, Unlocked, Retired, Passed, Idle}
 use Rattle.hmc_entries.specs.declared.outcome.Cause.{Cause}
 use Rattle.hmc_entries.specs.declared.event.Event.TheVariants as events
-use Rattle.hmc_entries.specs.Event.{event_of, cause_of, is_passed, IsLongFlit}
-use Rattle.hmc_journal.specs.Hosts.{host_of, given_count, tags_out, count_if}
+use Rattle.hmc_entries.specs.Event.{event_of, cause_of, is_passed}
+use Rattle.hmc_journal.specs.Hosts.{host_of}
 use Rattle.hmc_journal.specs.Lawful.{Follows, Lawful}
-use Rattle.hmc_codes.specs.declared.place.Place.{Place}
-use Rattle.hmc_codes.specs.declared.place.Place.TheVariants as places
-use Rattle.hmc_packet.specs.Landings.{ReceiverEntry, pending}
 use Rattle.hmc_send.specs.LinkEntries.{receiver_entries}
 use Rattle.hmc_journal.specs.Directions.{receiver_of}
-use Rattle.hmc_journal.specs.Links.{toward, entries_on, link_entries, gathered_at, forwarded_on}
-use Rattle.hmc_journal.specs.Piped.{pipe_of}
+use Rattle.hmc_journal.specs.Links.{toward, entries_on, link_entries}
 use Rattle.hmc_journal.specs.Next.{next}
-use Rattle.hmc_journal.specs.QueueInvariant.{IsCubeRequest}
-use Rattle.hmc_journal.specs.Queues.{contents, front_of, tag_number}
-use Rattle.hmc_journal.specs.Queues.QueueId.{Port, Bank, Registers}
+use Rattle.hmc_journal.specs.Queues.{front_of, tag_number}
+use Rattle.hmc_journal.specs.Queues.QueueId.{Port}
 use Rattle.hmc_journal.specs.Serial.{state_after}
-use Rattle.hmc_journal.specs.Setup.{Topology, Setup, unit_cube, directions_in, direction_to}
+use Rattle.hmc_journal.specs.Setup.{Topology, Setup, unit_cube, directions_in}
 use Rattle.hmc_journal.specs.StepView.{StepView, state_of, view_of}
 use Rattle.hmc_journal.proofs.EntryRule.{EntryRule, next_rule}
-use Rattle.hmc_net.specs.Apply.{after_unit, cubes_after, hosts_after, IsAfter, DoesStep, IsEntryIn, IsHostIn, gave_one, with_cube, with_host}
-use Rattle.hmc_kept.specs.After.{slots_after, gathered_from, pipes_after, entries_after}
+use Rattle.hmc_net.specs.Apply.{after_unit, cubes_after, IsAfter, DoesStep, IsEntryIn, with_cube}
+use Rattle.hmc_kept.specs.Hosts.{hosts_after, IsHostIn, host_in}
+use Rattle.hmc_kept.specs.After.{slots_after, pipes_after, entries_after}
 use Rattle.hmc_links.specs.LinkList.{LinksStandFor}
-use Rattle.hmc_net.specs.NetState.{NetState, cube_in, no_cube, host_in, no_host, inside, machine_in}
+use Rattle.hmc_net.specs.NetState.{NetState, cube_in, no_cube, inside, machine_in}
 use Rattle.hmc_kept.specs.Pipes.{AreCounted}
 use Rattle.hmc_net.specs.Sees.{Sees}
 use Rattle.hmc_net.specs.Stands.{StandsFor, IsNext}
@@ -66,14 +52,16 @@ use Rattle.hmc_net.specs.Went.{went_by, went_of}
 use Rattle.hmc_net.specs.declared.went.Went.TheVariants as wents
 use Rattle.hmc_net.proofs.CubeMoves.{moves_of}
 use Rattle.hmc_journal.proofs.DirectionEnds.{ends_at}
-use Rattle.hmc_kept.proofs.Elements.{changed_at}
-use Rattle.hmc_kept.proofs.PipedThen.{ArePiped, AreLawful, piped_then}
+use Rattle.hmc_kept.proofs.PipedThen.{ArePiped, piped_then}
 use Rattle.hmc_links.proofs.LinkCalls.{same_entries}
-use Rattle.hmc_net.proofs.Moves.{left_by_rule, queues_step, within_step}
+use Rattle.hmc_kept.proofs.InCubes.{left_by_rule, within_step}
+use Rattle.hmc_net.proofs.Moves.{queues_step}
 use Rattle.hmc_kept.proofs.LawsShown.{IsLawBound}
 use Rattle.hmc_net.proofs.Seeing.{sees_of, choice_seen}
 use Rattle.hmc_tally.proofs.TallyLaw.{IsToldBy, tally_next}
-use Rattle.hmc_net.proofs.Telling.{told_by}
+use Rattle.hmc_kept.proofs.Telling.{told_by}
+use Rattle.hmc_kept.proofs.Leaving.{hosts_then, entries_then, lawful_pipes}
+use Rattle.hmc_kept.proofs.Units.{IsOwn, own_of}
 
 -- ---- the plain machine
 
@@ -93,11 +81,6 @@ state_run cubes slots c f request own run =
     ap {B = State} (λ (l : List CubeState). record { cubes = l; slots = left }) (map-set (λ (x : CubeFields). x.state) cubes c (f (cube_in cubes c)))
     ∙ ap {B = State} (λ (s : CubeState). record { cubes = slice_set (map (λ (x : CubeFields). x.state) cubes) c s; slots = left }) (run ∙ ap (λ (s : CubeState). (perform_on s slots request).cube) (sym (state_at cubes slots c)))
     ∙ ap {B = State} (λ (n : ℕ). record { cubes = slice_set (map (λ (x : CubeFields). x.state) cubes) n (perform_on (cube_state_at (machine_in cubes slots) n) slots request).cube; slots = (perform_on (cube_state_at (machine_in cubes slots) n) slots request).slots }) (sym own)
-
--- an executed request is one of the unit's cube
-abbrev pub IsOwn : Entry → Type 0
-IsOwn (Executed unit host tag request answer) = request.cube ≡ unit_cube unit
-IsOwn _ = Unit {0}
 
 -- what the step saw of the machine is what it has
 seen_first : (view : StepView) (cubes : List CubeFields) (slots : List (Option UnitFields)) (unit : RequestUnit) (host : ℕ) (tag : Option ℕ) (request : RequestFields) (answer : Answer) → view.state ≡ machine_in cubes slots
@@ -130,102 +113,6 @@ state_then view setup past (Through cube port direction) cubes slots own seen sa
 state_then view setup past (Unlocked direction) cubes slots own seen same = same
 state_then view setup past (Passed direction flit) cubes slots own seen same = same
 state_then view setup past (Idle step cause) cubes slots own seen same = same
-
--- a front of a unit's queue that is executed is a request to its cube
-asked_of : (ask : Bool) (request found : RequestFields) → (if ask then Some found else None) ≡ Some request → found ≡ request
-asked_of true request found is = cc
-asked_of false request found is = cc
-
-pub own_cube : (packet : PacketFields) (request : RequestFields) (own : ℕ) → request_in packet ≡ Some request → packet.cube ≡ own → request.cube ≡ own
-unfolding request_in
-own_cube packet request own is here = sym (ap (λ (r : RequestFields). r.cube) (asked_of (is_ask (layout_of packet.command)) request _ is)) ∙ here
-
-front_asks : (packets rest : List PacketFields) (front : PacketFields) (own : ℕ) → packets ≡ front ∷ rest → All (IsCubeRequest own) packets → front.cube ≡ own
-front_asks packets rest front own is asks = (All-head (IsCubeRequest own) front rest (subst (All (IsCubeRequest own)) is asks)).cube
-
-own_of : (setup : Setup) (past : List Entry) (entry : Entry) → IsLawBound setup past → EntryRule setup past entry → IsOwn entry
-own_of setup past (Executed (units.Bank cube vault bank) host tag request answer) law rule =
-    own_cube rule.at.front request cube rule.is_request (front_asks (contents setup.topology past (Bank cube vault bank)) rule.at.rest rule.at.front cube rule.at.is (law.queues.banks cube vault bank))
-own_of setup past (Executed (units.Registers cube) host tag request answer) law rule =
-    own_cube rule.at.front request cube rule.is_request (front_asks (contents setup.topology past (Registers cube)) rule.at.rest rule.at.front cube rule.at.is (law.queues.registers cube))
-own_of setup past _ law rule = tt
-
--- ---- hosts
-
--- one host is changed by an entry
-host_changed : (hosts : List HostFields) (h host : ℕ) (f : HostFields → HostFields) (before after : ℕ → HostFields) (test : Bool) → (h == host) ≡ test → h < length hosts → ((k : ℕ) → k < length hosts → host_in hosts k ≡ before k)
-    → after host ≡ choose test (f (before host)) (before host) → host < length hosts → host_in (with_host h f hosts) host ≡ after host
-host_changed hosts h host f before after true is inside same next there =
-    let here : h ≡ host = eqb-true h host is in
-    changed_at hosts h host (f (host_in hosts h)) no_host true is inside ∙ ap f (ap (host_in hosts) here ∙ same host there) ∙ sym next
-host_changed hosts h host f before after false is inside same next there =
-    changed_at hosts h host (f (host_in hosts h)) no_host false is inside ∙ same host there ∙ sym next
-
-gave_by : (test : Bool) (n : ℕ) (items : List ItemFields) (given : ℕ) (tags : List Bool) (tag : Option ℕ)
-    → ◌≡◌ {A = HostFields} (record { number = n; items = items; given = count_if test given; tags = choose test (with_out tag tags) tags })
-    (choose test (gave_one tag (record { number = n; items = items; given = given; tags = tags })) (record { number = n; items = items; given = given; tags = tags }))
-gave_by true n items given tags tag = refl
-gave_by false n items given tags tag = refl
-
-gave_host : (setup : Setup) (past : List Entry) (h host : ℕ) (tag : Option ℕ) (poisoned : Bool) (request : RequestFields)
-    → host_of setup (Gave h tag poisoned request ∷ past) host ≡ choose (h == host) (gave_one tag (host_of setup past host)) (host_of setup past host)
-unfolding host_of given_count tags_out
-gave_host setup past h host tag poisoned request = gave_by (h == host) host (items_of host setup.script) (given_count host past) (tags_out host past) tag
-
-took_by : (test : Bool) (n : ℕ) (items : List ItemFields) (given : ℕ) (tags : List Bool) (tag : ℕ) (answer : Answer)
-    → ◌≡◌ {A = HostFields} (record { number = n; items = items; given = given; tags = choose test (slice_set tags tag false) tags })
-    (choose test (after_settle (settles.Took tag answer) (record { number = n; items = items; given = given; tags = tags })) (record { number = n; items = items; given = given; tags = tags }))
-took_by true n items given tags tag answer = refl
-took_by false n items given tags tag answer = refl
-
-took_host : (setup : Setup) (past : List Entry) (h host tag : ℕ) (answer : Answer)
-    → host_of setup (Took h tag answer ∷ past) host ≡ choose (h == host) (after_settle (settles.Took tag answer) (host_of setup past host)) (host_of setup past host)
-unfolding host_of given_count tags_out
-took_host setup past h host tag answer = took_by (h == host) host (items_of host setup.script) (given_count host past) (tags_out host past) tag answer
-
-hosts_then : (setup : Setup) (past : List Entry) (entry : Entry) (hosts : List HostFields) → IsHostIn hosts entry → ((k : ℕ) → k < length hosts → host_in hosts k ≡ host_of setup past k)
-    → (host : ℕ) → host < length (hosts_after entry hosts) → host_in (hosts_after entry hosts) host ≡ host_of setup (entry ∷ past) host
-unfolding host_of given_count tags_out
-hosts_then setup past (Gave h tag poisoned request) hosts is same host there =
-    host_changed hosts h host (gave_one tag) (host_of setup past) (host_of setup (Gave h tag poisoned request ∷ past)) (h == host) refl is same (gave_host setup past h host tag poisoned request) (omega (arith, length-set hosts h (gave_one tag (host_in hosts h))))
-hosts_then setup past (Took h tag answer) hosts is same host there =
-    host_changed hosts h host (after_settle (settles.Took tag answer)) (host_of setup past) (host_of setup (Took h tag answer ∷ past)) (h == host) refl is same (took_host setup past h host tag answer) (omega (arith, length-set hosts h (after_settle (settles.Took tag answer) (host_in hosts h))))
-hosts_then setup past _ hosts is same host there = same host there
-
--- ---- links
-
--- the flits that are gathered at the end of a direction
-gathered_same : (setup : Setup) (past : List Entry) (from : Option ℕ) → ((d : ℕ) → from ≡ Some d → receiver_of d past ≡ receiver_entries (toward d) (entries_on setup.topology d past)) → gathered_from (view_of setup past) from ≡ gathered_at from past
-unfolding view_of
-gathered_same setup past None receivers = refl
-gathered_same setup past (Some d) receivers = ap pending (sym (receivers d refl))
-
-entries_then : (setup : Setup) (past : List Entry) (entry : Entry) (link : ℕ) → ((d : ℕ) (place : Place) → direction_to setup.topology place ≡ Some d → receiver_of d past ≡ receiver_entries (toward d) (entries_on setup.topology d past))
-    → entries_after setup.topology (view_of setup past) entry link ≡ link_entries setup.topology link (entry ∷ past)
-unfolding link_entries view_of
-entries_then setup past (Through cube port direction) link receivers =
-    let to = direction_to setup.topology (places.Port cube port) in
-    ap (λ (came : List (List ℕ)). forwarded_on link direction came (link_entries setup.topology link past)) (gathered_same setup past to (λ d is. receivers d (places.Port cube port) is))
-entries_then setup past (Gave host tag poisoned request) link receivers = refl
-entries_then setup past (Sent direction what flit) link receivers = refl
-entries_then setup past (Landed direction flit outcome) link receivers = refl
-entries_then setup past (Shifted cube port goal) link receivers = refl
-entries_then setup past (Dropped cube port) link receivers = refl
-entries_then setup past (Lifted cube from port) link receivers = refl
-entries_then setup past (Took host tag answer) link receivers = refl
-entries_then setup past (Discarded host) link receivers = refl
-entries_then setup past (Unlocked direction) link receivers = refl
-entries_then setup past _ link receivers = refl
-
--- ---- the packets that are forwarded
-
-lawful_pipes : (setup : Setup) (past : List Entry) → IsLawBound setup past → ((d : ℕ) → d < directions_in setup.topology → receiver_of d past ≡ receiver_entries (toward d) (entries_on setup.topology d past)) → AreLawful setup.topology past
-unfolding view_of
-lawful_pipes setup past law receivers = record {
-  there = λ d onto inside is. (law.forwarded d onto inside is).there;
-  pipe = λ d onto inside is. (law.forwarded d onto inside is).pipe ∙ ap (λ (r : List ReceiverEntry). Some (pipe_of setup.topology d (pending r))) (sym (receivers d inside));
-  source = λ d p inside found unended. (law.onward d inside).source p found unended;
-}
 
 -- ---- the journal
 
@@ -277,11 +164,11 @@ stands_by net now tally changed was_good past setup step entry last is law next_
 
 -- the network stands for the journal with the entry of the step
 pub stands_stepped : (net now : NetState) (tally : TallyFields) (was_good : Bool) (past : List Entry) (setup : Setup) (step : Step) → IsNext net setup past step → IsLawBound setup past → DoesStep net now step
-    → IsLongFlit now.last → ((view : StepView) → Sees net view → was_good ≡ unlocks_good view step) → tally ≡ tallied (step_changes step) was_good (event_of now.last) now.tally → ((most : ℕ) → IsWithin most now.tally → IsWithin (most + 1) tally)
+    → ((view : StepView) → Sees net view → was_good ≡ unlocks_good view step) → tally ≡ tallied (step_changes step) was_good (event_of now.last) now.tally → ((most : ℕ) → IsWithin most now.tally → IsWithin (most + 1) tally)
     → StandsFor (record now { tally = tally }) setup (next setup past step ∷ past)
-stands_stepped net now tally was_good past setup step is law does long good tally_is within =
+stands_stepped net now tally was_good past setup step is law does good tally_is within =
     let last = chosen_next net now past setup step is law does in
-    let told = told_by net past setup step is (subst IsLongFlit last long) in
+    let told = told_by past setup step law is.stands.steps is.step_is in
     let good_is : was_good ≡ unlocks_good (view_of setup past) step = good (view_of setup past) (sees_of net past setup is.stands is.goes_on law) in
     stands_by net now tally (step_changes step) was_good past setup step (next setup past step) (sym last) is law refl (next_rule setup past step is.step_is) does
     (tally_is ∙ ap (λ (e : Entry). tallied (step_changes step) was_good (event_of e) now.tally) last ∙ ap (tallied (step_changes step) was_good (event_of (next setup past step))) does.tally)

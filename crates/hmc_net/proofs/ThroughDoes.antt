@@ -1,16 +1,14 @@
 -- The step through.
-use Rattle.std.proofs.Common.{◌≡◌, ◌<◌, ◌/◌, ◌&&◌, ◌||◌, ◌∙◌, ℕ, Bool, true, false, not, if◌then◌else◌, Option, Some, None, List, [], ◌∷◌, refl, sym, ap, ap₂, subst}
-use Rattle.std.specs.Prelude.{is_none, slice_get, slice_index_or, option_and_then}
-use Rattle.hmc_codes.specs.declared.place.Place.{Place}
+use Rattle.std.proofs.Common.{◌≡◌, ◌<◌, ◌/◌, ◌∙◌, ℕ, Bool, true, false, Option, Some, None, List, [], refl, sym, ap, ap₂, subst}
+use Rattle.std.specs.Prelude.{slice_get, slice_index_or}
 use Rattle.hmc_codes.specs.declared.place.Place.TheVariants as places
 use Rattle.hmc_packet.specs.declared.feed.Feed.TheVariants.{Waiting}
 use Rattle.hmc_packet.specs.declared.head.Head.{Head}
 use Rattle.hmc_packet.specs.Head.{head_in}
 use Rattle.hmc_packet.specs.Parts.{lng_of}
 use Rattle.hmc_case.specs.declared.setup.LinkRow.{LinkRow}
-use Rattle.hmc_ends.specs.Answers.{after_call}
 use Rattle.hmc_link.specs.Held.{LinkHeld}
-use Rattle.hmc_send.specs.LinkCalls.{LinkCall, next_entry, with_entry, entry_if, view_in, may_pass_on, names_flits}
+use Rattle.hmc_send.specs.LinkCalls.{LinkCall, view_in, may_pass_on, names_flits}
 use Rattle.hmc_send.specs.LinkEntries.{LinkEntry}
 use Rattle.hmc_schedule.specs.declared.step.Step.TheVariants as steps
 use Rattle.hmc_entries.specs.declared.outcome.Cause.TheVariants as causes
@@ -19,14 +17,13 @@ use Rattle.hmc_entries.specs.declared.entry.Entry.TheVariants.{Through, Idle}
 use Rattle.hmc_journal.specs.Links.{toward, direction_to, forwarded_on}
 use Rattle.hmc_journal.specs.Next.{choice}
 use Rattle.hmc_journal.specs.Piped.{pipe_of}
-use Rattle.hmc_journal.specs.Queues.{buffer_at}
-use Rattle.hmc_journal.specs.Queues.QueueId.{Port}
-use Rattle.hmc_journal.specs.Setup.{Topology, directions_in, direction_from}
+use Rattle.hmc_journal.specs.Setup.{directions_in}
 use Rattle.hmc_journal.specs.StepView.{StepView}
-use Rattle.hmc_journal.specs.ThroughSteps.{gathered_head, onward_port, is_forwarded, takes_on, forwarded_entry, through_head}
+use Rattle.hmc_journal.specs.ThroughSteps.{onward_port, forwarded_entry}
 use Rattle.hmc_net.specs.Apply.{DoesStep}
 use Rattle.hmc_kept.specs.After.{gathered_from, begun_from}
-use Rattle.hmc_links.specs.LinkList.{sizes_by, LinksStandFor, called, IsGathered}
+use Rattle.hmc_kept.specs.Called.{sizes_by, called}
+use Rattle.hmc_links.specs.LinkList.{LinksStandFor, IsGathered}
 use Rattle.hmc_net.specs.NetState.{NetState}
 use Rattle.hmc_kept.specs.Pipes.{PipesHeld, AreCounted, after_begin}
 use Rattle.hmc_through.specs.Pipe.{PipeFields}
@@ -34,75 +31,36 @@ use Rattle.hmc_codes.specs.declared.profile.Profile.{Profile}
 use Rattle.hmc_journal.specs.Directions.{profile_of}
 use Rattle.hmc_net.specs.Sees.{Sees, IsSized, IsReady}
 use Rattle.hmc_kept.specs.Shown.{gathered}
-use Rattle.hmc_net.specs.Throughs.{IsHeadAt, IsOnto, is_free, IsFree, IsComing, pipe_fields}
-use Rattle.hmc_net.proofs.Doing.{links_do, idle_does, called_puts}
-use Rattle.hmc_journal.proofs.DirectionEnds.{ends_at, starts_there}
+use Rattle.hmc_net.specs.Throughs.{IsHeadAt, IsFree, IsComing}
+use Rattle.hmc_kept.specs.Throughs.{IsOnto, pipe_fields}
+use Rattle.hmc_net.proofs.Doing.{links_do, idle_does}
+use Rattle.hmc_kept.proofs.Called.{called_puts, begin_call}
+use Rattle.hmc_journal.proofs.DirectionEnds.{ends_at}
 use Rattle.hmc_links.proofs.LinkCalls.{same_entries}
 use Rattle.hmc_kept.proofs.PipeLemmas.{begin_counted}
 use Rattle.hmc_net.proofs.ThroughFacts.{going_on}
-
--- the entry by the head of the packet that is gathered at the port
-by_head : (net : NetState) (view : StepView) (cube port from : ℕ) (head : Option Head) → direction_to net.topology (places.Port cube port) ≡ Some from → head ≡ gathered_head view (Some from) → through_head net.topology view cube port head ≡ choice net.topology view (steps.Through cube port)
-unfolding choice
-by_head net view cube port from head ends is =
-    ap (through_head net.topology view cube port) (is ∙ ap (gathered_head view) (sym ends))
+use Rattle.hmc_kept.proofs.Throughs.{by_head, free_entry, free_seen, forwarded_first, onto_by}
 
 pub nothing_gathered : (net now : NetState) (cube port from : ℕ) → IsSized net → direction_to net.topology (places.Port cube port) ≡ Some from → IsHeadAt net from None → now ≡ record net { last = Idle (steps.Through cube port) causes.NoPacket } → DoesStep net now (steps.Through cube port)
 nothing_gathered net now cube port from sized ends is now_is =
-    idle_does net now (steps.Through cube port) (steps.Through cube port) causes.NoPacket now_is sized (λ view sees. by_head net view cube port from None ends (is view sees))
+    idle_does net now (steps.Through cube port) (steps.Through cube port) causes.NoPacket now_is sized (λ view sees. by_head net.topology view cube port from None ends (is view sees))
 
-pub no_way_on : (net now : NetState) (cube port from : ℕ) (head : Head) → IsSized net → direction_to net.topology (places.Port cube port) ≡ Some from → IsHeadAt net from (Some head) → IsOnto net cube port head None → now ≡ record net { last = Idle (steps.Through cube port) causes.NoPacket } → DoesStep net now (steps.Through cube port)
+pub no_way_on : (net now : NetState) (cube port from : ℕ) (head : Head) → IsSized net → direction_to net.topology (places.Port cube port) ≡ Some from → IsHeadAt net from (Some head) → IsOnto net.topology cube port head None → now ≡ record net { last = Idle (steps.Through cube port) causes.NoPacket } → DoesStep net now (steps.Through cube port)
 no_way_on net now cube port from head sized ends is goes now_is =
     idle_does net now (steps.Through cube port) (steps.Through cube port) causes.NoPacket now_is sized
-    (λ view sees. ap (forwarded_entry net.topology view cube port head) goes ∙ by_head net view cube port from (Some head) ends (is view sees))
+    (λ view sees. ap (forwarded_entry net.topology view cube port head) goes ∙ by_head net.topology view cube port from (Some head) ends (is view sees))
 
--- busy exactly where it isn't free
-busy_by : (forwarded empty taken : Bool) → (forwarded || not empty || not taken) ≡ not ((not forwarded && empty) && taken)
-busy_by true true true = refl
-busy_by true true false = refl
-busy_by true false true = refl
-busy_by true false false = refl
-busy_by false true true = refl
-busy_by false true false = refl
-busy_by false false true = refl
-busy_by false false false = refl
-
--- the entry of a packet that has a way, by whether it can go on now
-abbrev free_entry : (cube port onto : ℕ) → Bool → Entry
-free_entry cube port onto free = if not free then Idle (steps.Through cube port) causes.Busy else Through cube port onto
-
-free_seen : (net : NetState) (view : StepView) (cube port from onto : ℕ) (head : Head) → direction_to net.topology (places.Port cube port) ≡ Some from
-    → free_entry cube port onto (is_free net view from onto head.flits) ≡ forwarded_entry net.topology view cube port head (Some onto)
-free_seen net view cube port from onto head ends =
-    let at = ends_at net.topology (places.Port cube port) from ends in
-    let empty = is_none (slice_get (view.inside (Port cube port)) 0) in
-    ap (λ (p : Place). free_entry cube port onto ((not (is_forwarded view (Some from)) && is_none (slice_get (view.inside (buffer_at p)) 0)) && takes_on net.topology view onto head.flits)) at.ends
-    ∙ ap (λ (t : Bool). if t then Idle (steps.Through cube port) causes.Busy else Through cube port onto) (sym (busy_by (is_forwarded view (Some from)) empty (takes_on net.topology view onto head.flits)))
-    ∙ ap (λ (d : Option ℕ). if is_forwarded view d || not empty || not (takes_on net.topology view onto head.flits) then Idle (steps.Through cube port) causes.Busy else Through cube port onto) (sym ends)
-
-chosen_free : (net : NetState) (view : StepView) (cube port from onto : ℕ) (head : Head) (free : Bool) → Sees net view → direction_to net.topology (places.Port cube port) ≡ Some from → IsHeadAt net from (Some head) → IsOnto net cube port head (Some onto) → IsFree net from onto head.flits free
+chosen_free : (net : NetState) (view : StepView) (cube port from onto : ℕ) (head : Head) (free : Bool) → Sees net view → direction_to net.topology (places.Port cube port) ≡ Some from → IsHeadAt net from (Some head) → IsOnto net.topology cube port head (Some onto) → IsFree net from onto head.flits free
     → free_entry cube port onto free ≡ choice net.topology view (steps.Through cube port)
 chosen_free net view cube port from onto head free sees ends is goes can =
-    ap (free_entry cube port onto) (can view sees) ∙ free_seen net view cube port from onto head ends ∙ ap (forwarded_entry net.topology view cube port head) goes ∙ by_head net view cube port from (Some head) ends (is view sees)
+    ap (free_entry cube port onto) (can view sees) ∙ free_seen net.topology view cube port from onto head ends ∙ ap (forwarded_entry net.topology view cube port head) goes ∙ by_head net.topology view cube port from (Some head) ends (is view sees)
 
-pub busy_now : (net now : NetState) (cube port from onto : ℕ) (head : Head) → IsSized net → direction_to net.topology (places.Port cube port) ≡ Some from → IsHeadAt net from (Some head) → IsOnto net cube port head (Some onto) → IsFree net from onto head.flits false
+pub busy_now : (net now : NetState) (cube port from onto : ℕ) (head : Head) → IsSized net → direction_to net.topology (places.Port cube port) ≡ Some from → IsHeadAt net from (Some head) → IsOnto net.topology cube port head (Some onto) → IsFree net from onto head.flits false
     → now ≡ record net { last = Idle (steps.Through cube port) causes.Busy } → DoesStep net now (steps.Through cube port)
 busy_now net now cube port from onto head sized ends is goes can now_is =
     idle_does net now (steps.Through cube port) (steps.Through cube port) causes.Busy now_is sized (λ view sees. chosen_free net view cube port from onto head false sees ends is goes can)
 
 -- ---- a packet goes on
-
--- a cut-through that may begin is an entry
-begin_call : (rows : List LinkRow) (onto : ℕ) (head : List ℕ) (flits : ℕ) (entries : ℕ → List LinkEntry) → may_pass_on (view_in (sizes_by rows onto) (toward onto) (entries (onto / 2)) Waiting) flits ≡ true → names_flits flits (head_in head) ≡ true
-    → after_call (sizes_by rows onto) (entries (onto / 2)) (LinkCall.begin (toward onto) head flits) ≡ LinkEntry.through (toward onto) head flits ∷ entries (onto / 2)
-unfolding next_entry
-begin_call rows onto head flits entries may named =
-    ap₂ (λ (a b : Bool). with_entry (entries (onto / 2)) (entry_if (a && b) (LinkEntry.through (toward onto) head flits))) may named
-
--- the first flit of what is gathered
-forwarded_first : (link onto : ℕ) (came : List (List ℕ)) (past : List LinkEntry) (first : List ℕ) → slice_get came 0 ≡ Some first → forwarded_on link onto came past ≡ forwarded_on link onto (first ∷ []) past
-forwarded_first link onto [] past first is = absurd (cc)
-forwarded_first link onto (head ∷ rest) past first is = let same : head ≡ first = cc in ap (λ (h : List ℕ). forwarded_on link onto (h ∷ []) past) same
 
 pub begin_does : (net now : NetState) (cube port from onto : ℕ) (first : List ℕ) (own : List LinkHeld) (piped : PipesHeld) → IsReady net → IsComing net cube port from onto → onto < directions_in net.topology
     → ((view : StepView) → Sees net view → slice_get (gathered view from) 0 ≡ Some first)
@@ -130,12 +88,7 @@ begin_does net now cube port from onto first own piped ready coming there gets m
       idle = λ cause is. absurd (cc);
     })
 
--- a direction onto which a packet goes is there
-onto_by : (topology : Topology) (cube onto : ℕ) (onward : Option ℕ) → Some onto ≡ option_and_then (λ (p : ℕ). direction_from topology (places.Port cube p)) onward → onto < directions_in topology
-onto_by topology cube onto None is = absurd (cc)
-onto_by topology cube onto (Some p) is = starts_there topology (places.Port cube p) onto (sym is)
-
-pub onto_there : (net : NetState) (cube port onto : ℕ) (head : Head) → IsOnto net cube port head (Some onto) → onto < directions_in net.topology
+pub onto_there : (net : NetState) (cube port onto : ℕ) (head : Head) → IsOnto net.topology cube port head (Some onto) → onto < directions_in net.topology
 onto_there net cube port onto head is = onto_by net.topology cube onto (onward_port net.topology cube port head) is
 
 -- the same where the network is read through its fields

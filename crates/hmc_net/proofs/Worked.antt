@@ -29,9 +29,9 @@ use Rattle.hmc_journal.specs.Queues.QueueId.{Output, Host, Registers, Answers}
 use Rattle.hmc_journal.specs.StepView.{StepView}
 use Rattle.hmc_net.specs.declared.went.Went.TheVariants as wents
 use Rattle.hmc_kept.specs.After.{slots_after}
-use Rattle.hmc_net.specs.Gives.{cause_by}
-use Rattle.hmc_links.specs.LinkList.{called}
-use Rattle.hmc_net.specs.NetState.{no_cube, no_host, inside}
+use Rattle.hmc_kept.specs.Hosts.{cause_by, no_host}
+use Rattle.hmc_kept.specs.Called.{called}
+use Rattle.hmc_net.specs.NetState.{no_cube, inside}
 use Rattle.hmc_net.specs.Went.{went_of}
 
 -- idle with its cause; a NULL that is sent is something, and so are a packet that is dropped, an

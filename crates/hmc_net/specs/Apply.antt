@@ -1,5 +1,5 @@
 -- What an entry leaves of the parts of a network.
-use Rattle.std.specs.Prelude.{◌≡◌, ◌+◌, ◌<◌, ℕ, false, List, length, slice_set, Option, Some}
+use Rattle.std.specs.Prelude.{◌≡◌, ℕ, false, List, slice_set, Option, Some}
 use Rattle.hmc_codes.specs.declared.unit.Unit.{Unit as RequestUnit}
 use Rattle.hmc_codes.specs.declared.unit.Unit.TheVariants as units
 use Rattle.hmc_units.specs.Unit.{UnitFields}
@@ -9,25 +9,22 @@ use Rattle.hmc_vault.specs.declared.execute.Executed.TheVariants.{Ran}
 use Rattle.hmc_vault.specs.declared.spread.Spread.TheVariants.{Moved}
 use Rattle.hmc_cube.specs.Cube.{CubeFields}
 use Rattle.hmc_cube.specs.After.{after_enter, after_spread, after_execute, after_registers, after_lift}
-use Rattle.hmc_host.specs.Host.{HostFields}
-use Rattle.hmc_host.specs.Tags.{with_out}
-use Rattle.hmc_host.specs.declared.settled.Settled.TheVariants as settles
-use Rattle.hmc_host.specs.Settle.{after_settle}
 use Rattle.hmc_schedule.specs.declared.step.Step.{Step}
 use Rattle.hmc_entries.specs.declared.outcome.Cause.{Cause}
 use Rattle.hmc_entries.specs.declared.outcome.Goal.{Goal}
 use Rattle.hmc_entries.specs.declared.outcome.Goal.TheVariants as goals
 use Rattle.hmc_entries.specs.declared.entry.Entry.{Entry}
-use Rattle.hmc_entries.specs.declared.entry.Entry.TheVariants.{Gave, Shifted, Spread, Executed, Lifted, Took}
+use Rattle.hmc_entries.specs.declared.entry.Entry.TheVariants.{Shifted, Spread, Executed, Lifted}
 use Rattle.hmc_entries.specs.Event.{is_passed, cause_of}
 use Rattle.hmc_journal.specs.Next.{choice}
 use Rattle.hmc_journal.specs.Queues.{front_of, tag_number, queue_of}
 use Rattle.hmc_journal.specs.Queues.QueueId.{Port, Vault, Bank, Registers, Answers}
 use Rattle.hmc_journal.specs.StepView.{StepView}
 use Rattle.hmc_links.specs.LinkList.{LinksStandFor}
-use Rattle.hmc_net.specs.NetState.{NetState, cube_in, host_in, IsQueueOf}
+use Rattle.hmc_net.specs.NetState.{NetState, cube_in, IsQueueOf}
 use Rattle.hmc_net.specs.Sees.{Sees, IsSized}
 use Rattle.hmc_kept.specs.After.{slots_after, pipes_after, entries_after}
+use Rattle.hmc_kept.specs.Hosts.{IsHostIn, hosts_after}
 
 -- the place in a cube that a goal is
 abbrev pub to_of : Goal → To
@@ -38,10 +35,6 @@ to_of (goals.Port port) = tos.Port port
 -- one of the cubes is changed, by its number
 abbrev pub with_cube : ℕ → (CubeFields → CubeFields) → List CubeFields → List CubeFields
 with_cube cube changed cubes = slice_set cubes cube (changed (cube_in cubes cube))
-
--- one of the hosts is changed
-abbrev pub with_host : ℕ → (HostFields → HostFields) → List HostFields → List HostFields
-with_host host changed hosts = slice_set hosts host (changed (host_in hosts host))
 
 -- a unit executed the front of its queue
 abbrev pub after_unit : RequestUnit → Entry → List (Option UnitFields) → List CubeFields →
@@ -72,23 +65,6 @@ IsEntryIn cubes (Spread cube vault bank) = IsQueueOf cubes (Bank cube vault bank
 IsEntryIn cubes (Executed unit host tag request answer) = IsQueueOf cubes (queue_of unit)
 IsEntryIn cubes (Lifted cube from port) = IsQueueOf cubes (Answers cube from)
 IsEntryIn cubes _ = Unit {0}
-
--- the host of an entry is there
-abbrev pub IsHostIn : List HostFields → Entry → Type 0
-IsHostIn hosts (Gave host tag poisoned request) = host < length hosts
-IsHostIn hosts (Took host tag answer) = host < length hosts
-IsHostIn hosts _ = Unit {0}
-
--- a request goes out under its tag
-abbrev pub gave_one : (tag : Option ℕ) → HostFields → HostFields
-gave_one tag host = record host { given = host.given + 1; tags = with_out tag host.tags }
-
--- the hosts
-abbrev pub hosts_after : Entry → List HostFields → List HostFields
-hosts_after (Gave host tag poisoned request) hosts = with_host host (gave_one tag) hosts
-hosts_after (Took host tag answer) hosts =
-    with_host host (after_settle (settles.Took tag answer)) hosts
-hosts_after _ hosts = hosts
 
 -- What a step leaves, by its entry and by what it saw: of the links only unless a landing passed.
 pub record IsAfter (view : StepView) (old new : NetState) : Type 0 where

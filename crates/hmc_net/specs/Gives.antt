@@ -5,24 +5,14 @@ use Rattle.hmc_packet.specs.Packet.{PacketFields}
 use Rattle.hmc_case.specs.declared.setup.LinkRow.{LinkRow}
 use Rattle.hmc_host.specs.declared.given.Given.{Given}
 use Rattle.hmc_host.specs.declared.given.Given.TheVariants.{Gave}
-use Rattle.hmc_host.specs.declared.given.Hindrance.{Hindrance}
-use Rattle.hmc_host.specs.declared.given.Hindrance.TheVariants as hindrances
 use Rattle.hmc_link.specs.Held.{LinkHeld}
 use Rattle.hmc_packet.specs.Transactions.{request_packet}
 use Rattle.hmc_send.specs.LinkCalls.{LinkCall, has_room}
 use Rattle.hmc_send.specs.LinkEntries.{LinkEntry}
-use Rattle.hmc_entries.specs.declared.outcome.Cause.{Cause}
-use Rattle.hmc_entries.specs.declared.outcome.Cause.TheVariants as causes
 use Rattle.hmc_journal.specs.Links.{toward}
 use Rattle.hmc_journal.specs.Queues.{tag_number}
-use Rattle.hmc_links.specs.LinkList.{sizes_by, LinksStandFor, called}
-
--- the cause that a host gives nothing
-abbrev pub cause_by : Hindrance → Cause
-cause_by hindrances.Ended = causes.Ended
-cause_by hindrances.Fence = causes.Fence
-cause_by hindrances.Tags = causes.Tags
-cause_by hindrances.Full = causes.Full
+use Rattle.hmc_kept.specs.Called.{sizes_by, called}
+use Rattle.hmc_links.specs.LinkList.{LinksStandFor}
 
 -- the entries of the links after a give: a packet is handed to a direction where one is given
 abbrev pub entries_given : List LinkRow → (direction : ℕ) → Given → (ℕ → List LinkEntry) →

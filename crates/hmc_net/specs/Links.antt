@@ -3,14 +3,11 @@ use Rattle.std.specs.Prelude.{ℕ, Bool, true, false, List}
 use Rattle.hmc_ends.specs.declared.link_landed.LinkLanded.{LinkLanded}
 use Rattle.hmc_ends.specs.declared.link_landed.LinkLanded.TheVariants as landings
 use Rattle.hmc_schedule.specs.declared.step.Step.TheVariants as steps
-use Rattle.hmc_case.specs.declared.setup.LinkRow.{LinkRow}
 use Rattle.hmc_link.specs.Held.{LinkHeld}
-use Rattle.hmc_send.specs.LinkCalls.{LinkCall}
-use Rattle.hmc_send.specs.LinkEntries.{LinkEntry}
 use Rattle.hmc_entries.specs.declared.outcome.Cause.TheVariants as causes
 use Rattle.hmc_entries.specs.declared.entry.Entry.{Entry}
 use Rattle.hmc_entries.specs.declared.entry.Entry.TheVariants.{Retired, Idle}
-use Rattle.hmc_links.specs.LinkList.{AreGoing, IsDirection, called}
+use Rattle.hmc_links.specs.LinkList.{AreGoing, IsDirection}
 use Rattle.hmc_kept.specs.Pipes.{PipesHeld, AreGathering, IsLastOf}
 use Rattle.hmc_kept.specs.LinkAnswers.{outcome_of}
 
@@ -18,12 +15,6 @@ use Rattle.hmc_kept.specs.LinkAnswers.{outcome_of}
 abbrev pub retired_by : (slot : ℕ) → (live : Bool) → Entry
 retired_by slot true = Retired slot
 retired_by slot false = Idle (steps.Retire slot) causes.Empty
-
--- the entries of the links, where what landed in a direction is taken at once if it is forwarded
-abbrev pub taken_where : Bool → List LinkRow → (direction : ℕ) → (ℕ → List LinkEntry) → ℕ →
-    List LinkEntry
-taken_where true rows direction entries = called rows direction LinkCall.take entries
-taken_where false rows direction entries = entries
 
 -- what a landing rests on: the direction is there, no landing has passed, flits are still to come
 -- of what is forwarded, and none is missing of a packet that came whole

@@ -66,14 +66,6 @@ no_cube = record {
 abbrev pub cube_in : List CubeFields → ℕ → CubeFields
 cube_in cubes cube = slice_index_or cubes cube no_cube
 
--- in place of a host that isn't there: one without requests
-abbrev pub no_host : HostFields
-no_host = record { number = 0; items = []; given = 0; tags = [] }
-
--- the host with a number
-abbrev pub host_in : List HostFields → ℕ → HostFields
-host_in hosts host = slice_index_or hosts host no_host
-
 -- the packets that a cube has in a queue; none in the queues of links, which the links hold
 abbrev pub packets_in : CubeFields → QueueId → List PacketFields
 packets_in cube (Vault c vault) = (vault_at cube vault).vault_queue

@@ -4,12 +4,12 @@ use Rattle.hmc_script.specs.Items.{ItemFields}
 use Rattle.hmc_case.specs.Setup.{CubeSetupFields}
 use Rattle.hmc_units.specs.Unit.{UnitFields}
 use Rattle.hmc_cube.specs.Cube.{CubeFields, opening_cube}
-use Rattle.hmc_host.specs.Host.{HostFields, opening_host}
 use Rattle.hmc_journal.specs.Setup.{Topology, hosts_in, directions_in}
 use Rattle.hmc_links.specs.LinkList.{LinksStandFor}
 use Rattle.hmc_kept.specs.Pipes.{AreCounted, AreUnused}
 use Rattle.hmc_net.specs.NetState.{NetState}
 use Rattle.hmc_tally.specs.Tally.{opening_tally}
+use Rattle.hmc_kept.specs.Hosts.{AreNewHosts}
 
 -- empty cubes with these setups, numbered from 0
 pub record AreNewCubes (setups : List CubeSetupFields) (cubes : List CubeFields) : Type 0 where
@@ -17,13 +17,6 @@ pub record AreNewCubes (setups : List CubeSetupFields) (cubes : List CubeFields)
   pub each : (cube : ℕ) (d : CubeSetupFields) (e : CubeFields) → cube < length setups →
       slice_index_or cubes cube e
       ≡ opening_cube cube (slice_index_or setups cube d).shape (slice_index_or setups cube d).queue
-
--- so many hosts that have given none of their requests of a script
-pub record AreNewHosts (count : ℕ) (script : List ItemFields) (hosts : List HostFields)
-    : Type 0 where
-  pub counted : length hosts ≡ count
-  pub each : (host : ℕ) (d : HostFields) → host < count →
-      slice_index_or hosts host d ≡ opening_host host script
 
 -- Nothing happened: the cubes and the hosts are new, the logic units are those that were handed in,
 -- no packet is forwarded, the links stand for no entries, and nothing is counted.

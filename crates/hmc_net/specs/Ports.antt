@@ -4,7 +4,6 @@ use Rattle.hmc_codes.specs.declared.place.Place.TheVariants as places
 use Rattle.hmc_packet.specs.Packet.{PacketFields}
 use Rattle.hmc_crossbar.specs.To.{where_to}
 use Rattle.hmc_entries.specs.declared.outcome.Goal.{Goal}
-use Rattle.hmc_entries.specs.declared.outcome.Goal.TheVariants as goals
 use Rattle.hmc_journal.specs.Links.{direction_to}
 use Rattle.hmc_journal.specs.Next.{goal_at, lacks_room}
 use Rattle.hmc_journal.specs.Queues.{output_from}
@@ -21,11 +20,6 @@ pub record IsShifting (net : NetState) (cube port direction : ℕ) (front : Pack
   pub is_front : IsFrontAt net.links direction (Some front)
   pub goes : goal_at (where_to (graph_of net.topology) (shape_of net.topology cube) cube front)
       ≡ Some goal
-
--- a goal in the cube
-abbrev pub IsInner : Goal → Type 0
-IsInner (goals.Port port) = ⊥
-IsInner goal = Unit {0}
 
 -- this is the direction that starts at a port, where its output queue has room
 pub record IsWayOut (net : NetState) (cube port : ℕ) (found : Option ℕ) : Type 0 where

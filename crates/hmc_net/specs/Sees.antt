@@ -3,20 +3,14 @@ use Rattle.std.specs.Prelude.{◌≡◌, ◌<◌, ℕ, length}
 use Rattle.hmc_case.specs.Setup.{CubeSetupFields}
 use Rattle.hmc_cube.specs.Cube.{CubeFields}
 use Rattle.hmc_journal.specs.Queues.{QueueId}
-use Rattle.hmc_journal.specs.Queues.QueueId.{Output, Port, Host}
 use Rattle.hmc_journal.specs.Setup.{cubes_in, hosts_in, directions_in, cube_setup}
 use Rattle.hmc_journal.specs.StepView.{StepView}
 use Rattle.hmc_links.specs.LinkList.{LinksStandFor}
 use Rattle.hmc_kept.specs.Pipes.{AreCounted, forwarded_at, pipe_at}
-use Rattle.hmc_net.specs.NetState.{NetState, cube_in, host_in, inside, machine_in}
+use Rattle.hmc_net.specs.NetState.{NetState, cube_in, inside, machine_in}
+use Rattle.hmc_kept.specs.InCubes.{IsCubeQueue}
+use Rattle.hmc_kept.specs.Hosts.{host_in}
 use Rattle.hmc_kept.specs.Shown.{KeepsLaws}
-
--- a queue of a cube that is no buffer of a link
-abbrev pub IsCubeQueue : QueueId → Type 0
-IsCubeQueue (Output direction) = ⊥
-IsCubeQueue (Port cube port) = ⊥
-IsCubeQueue (Host host) = ⊥
-IsCubeQueue _ = Unit {0}
 
 -- a cube is as large as its setup says
 pub record CubeFits (setup : CubeSetupFields) (cube : CubeFields) : Type 0 where

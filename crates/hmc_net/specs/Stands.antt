@@ -12,9 +12,11 @@ use Rattle.hmc_journal.specs.Setup.{Setup, directions_in}
 use Rattle.hmc_journal.specs.StepView.{state_of}
 use Rattle.hmc_links.specs.LinkList.{LinksStandFor}
 use Rattle.hmc_kept.specs.Pipes.{forwarded_at, pipe_at}
-use Rattle.hmc_net.specs.NetState.{NetState, host_in, inside, machine_in}
+use Rattle.hmc_net.specs.NetState.{NetState, inside, machine_in}
+use Rattle.hmc_kept.specs.InCubes.{IsCubeQueue}
+use Rattle.hmc_kept.specs.Hosts.{host_in}
 use Rattle.hmc_wiring.specs.Ready.{IsStepFor}
-use Rattle.hmc_net.specs.Sees.{IsCubeQueue, IsSized}
+use Rattle.hmc_net.specs.Sees.{IsSized}
 use Rattle.hmc_tally.specs.Tally.{IsWithin, tally_of}
 
 -- The parts of the network are as this journal says, which is a lawful journal of the case, and the

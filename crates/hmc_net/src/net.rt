@@ -13,8 +13,10 @@ ghost use Rattle.hmc_entries.specs.declared.entry.Entry.{Entry};
 ghost use Rattle.hmc_rounds.specs.Single.{IsSingle};
 ghost use Rattle.hmc_rounds.specs.Rounds.{RoundsFollow};
 ghost use Rattle.hmc_journal.specs.UnderWay.{under_way};
+ghost use Rattle.hmc_promises.specs.StepGuarantees.{StepGuarantees};
 ghost use Rattle.hmc_net.specs.Journaled.{journaled_of, NetStandsFor, IsNetNext};
-ghost use Rattle.hmc_net.specs.NetState.{net_of, cube_in, host_in};
+ghost use Rattle.hmc_net.specs.NetState.{net_of, cube_in};
+ghost use Rattle.hmc_kept.specs.Hosts.{host_in};
 ghost use Rattle.hmc_net.specs.Went.{went_of};
 
 use crate::{Network, Went};
@@ -75,6 +77,12 @@ impl<B: Workbench> Net<B> {
             IsNetNext (journaled_of B.slots self.old) setup step.now →
             self.new.journal.past ≡ next setup self.old.journal.past step.now ∷
             self.old.journal.past }
+
+        // The journal with the new entry keeps what is promised after each step: it is lawful,
+        // serial and delivered in order, its links are in order, and its tokens add up.
+        ensures guarantees { (setup : Setup) →
+            IsNetNext (journaled_of B.slots self.old) setup step.now →
+            StepGuarantees setup self.new.journal.past }
 
         // Idle or passed exactly where the entry is; an idle step changes nothing else.
         ensures went { (setup : Setup) →

@@ -3,7 +3,6 @@
 ghost use Rattle.std.specs.Prelude.{ℕ, ◌++◌, true, ◌+◌, ◌^◌, sum_by, ◌≡◌, ◌≤◌, ◌<◌, ◌*◌, ◌↔◌, List, [], ◌∷◌, IfOk, IsTrue, false, length};
 ghost use Rattle.std.specs.List.{All};
 ghost use Rattle.hmc_bound.specs.Bound.{drain_bound};
-ghost use Rattle.hmc_codes.specs.Limits.{most_hosts};
 ghost use Rattle.hmc_cube.specs.Cube.{held_in_cube};
 ghost use Rattle.hmc_cube.specs.Parts.{AreParts};
 ghost use Rattle.hmc_host.specs.Tags.{number_out};
@@ -13,29 +12,29 @@ ghost use Rattle.hmc_entries.specs.declared.outcome.Cause.{Cause};
 ghost use Rattle.hmc_journal.specs.Drained.{is_drained};
 ghost use Rattle.hmc_journal.specs.Lawful.{has_passed};
 ghost use Rattle.hmc_journal.specs.Next.{next};
-ghost use Rattle.hmc_journal.specs.Setup.{Setup, setup_of, hosts_in};
+ghost use Rattle.hmc_journal.specs.Setup.{Setup, setup_of};
 ghost use Rattle.hmc_journal.specs.UnderWay.{under_way};
 ghost use Rattle.hmc_rounds.specs.Rounds.{RoundsFollow};
 ghost use Rattle.hmc_rounds.specs.Single.{IsSingle};
+ghost use Rattle.hmc_promises.specs.StepGuarantees.{StepGuarantees};
 ghost use Rattle.hmc_net.specs.Apply.{DoesStep};
-ghost use Rattle.hmc_net.specs.NetState.{net_of, cube_in, host_in};
-ghost use Rattle.hmc_net.specs.Opening.{IsOpening};
+ghost use Rattle.hmc_net.specs.NetState.{net_of, cube_in};
+ghost use Rattle.hmc_kept.specs.Hosts.{host_in};
 ghost use Rattle.hmc_net.specs.Quiescent.{IsQuiescent, IsEmptyCube};
 ghost use Rattle.hmc_wiring.specs.Ready.{IsStepFor};
 ghost use Rattle.hmc_net.specs.Sees.{IsReady};
 ghost use Rattle.hmc_net.specs.Stands.{StandsFor, IsNext};
 ghost use Rattle.hmc_net.specs.Went.{went_of};
-ghost use Rattle.hmc_wiring.specs.Wiring.{IsLaidOut};
 
 use crate::Went;
 use crate::went::went_of;
 use hmc_bound::{drains, under_way_by_parts};
-use hmc_case::{Case, CubeSetup, LinkRow};
+use hmc_case::Case;
 use hmc_codes::{Memory, TokenRow};
 use hmc_cube::Cube;
 use hmc_entries::LastEntry;
 use hmc_host::Host;
-use hmc_kept::Pipes;
+use hmc_kept::{Parts, Pipes};
 use hmc_links::LinkList;
 use hmc_schedule::Step;
 use hmc_script::Script;
@@ -55,7 +54,7 @@ mod ports;
 mod throughs;
 mod units;
 
-use opening::{new_cubes, new_hosts, new_tally};
+use opening::new_cubes;
 
 /// A network of 1 to 8 cubes, 1 to 32 links and 1 to 8 hosts, and the entry of its latest step.
 #[derive(Drop)]
@@ -94,48 +93,17 @@ impl<B: Workbench> Network<B> {
         ensures { IfOk result (λ network. StandsFor (net_of B.slots network)
             (setup_of case.now (B.slots bench)) []) }
     {
-        case.invariant();
-        case.script().invariant();
-        let _ = case.schedule().len();
-        Self::opening(
-            alloc,
-            case.cubes(),
-            case.links(),
-            case.hosts(),
-            case.script(),
-            bench,
-        )
-    }
-
-    // A network in which nothing happened yet.
-    fn opening(
-        alloc: Global,
-        cubes: &[CubeSetup],
-        links: &[LinkRow],
-        hosts: u8,
-        script: &Script,
-        bench: B,
-    ) -> Result<Self, Memory>
-        requires laid_out { IsLaidOut (record { cubes = cubes.now; links = links.now }) }
-        requires hosts { hosts ≡ hosts_in (record { cubes = cubes.now; links = links.now }) }
-        requires few { hosts ≤ most_hosts }
-        ensures { IfOk result (λ network. IsOpening (net_of B.slots network)
-            (record { cubes = cubes.now; links = links.now }) (B.slots bench) script.now) }
-    {
-        let wiring = Wiring::build(alloc, cubes, links)?;
-        let tally = new_tally(alloc, cubes, links, hosts)?;
-        let cubes = new_cubes(alloc, cubes)?;
-        let hosts = new_hosts(alloc, hosts, script)?;
-        let piped = Pipes::build(alloc, 2 * links.len())?;
-        let links = LinkList::build(alloc, links)?;
+        let parts = Parts::build(alloc, case)?;
+        let cubes = new_cubes(alloc, case.cubes())?;
+        let links = LinkList::build(alloc, case.links())?;
         Ok(Network {
-            wiring,
+            wiring: parts.wiring,
             cubes,
-            hosts,
+            hosts: parts.hosts,
             bench,
             links,
-            piped,
-            tally,
+            piped: parts.piped,
+            tally: parts.tally,
             last: LastEntry::new(),
         })
     }
@@ -157,6 +125,12 @@ impl<B: Workbench> Network<B> {
         ensures last { (setup : Setup) (past : List Entry) →
             IsNext (net_of B.slots self.old) setup past step.now →
             self.new.last ≡ next setup past step.now }
+
+        // The entries with the new one keep what is promised after each step: they are lawful,
+        // serial and delivered in order, their links are in order, and their tokens add up.
+        ensures guarantees { (setup : Setup) (past : List Entry) →
+            IsNext (net_of B.slots self.old) setup past step.now →
+            StepGuarantees setup (next setup past step.now ∷ past) }
 
         // Idle or passed exactly where the entry is; an idle step changes nothing else.
         ensures went { (setup : Setup) (past : List Entry) →

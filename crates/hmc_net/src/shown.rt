@@ -1,10 +1,9 @@
-//! What cubes and hosts show at the end, by their numbers. One that isn't there shows nothing.
+//! What cubes show at the end, by their numbers. One that isn't there shows nothing.
 
 ghost use Rattle.std.specs.Prelude.{◌≡◌, ◌≤◌, ◌<◌, ◌+◌, ◌%◌, ◌^◌, length, slice_get, slice_range};
-ghost use Rattle.hmc_net.specs.Finished.{memory_of, registers_of, out_of};
+ghost use Rattle.hmc_net.specs.Finished.{memory_of, registers_of};
 
 use hmc_cube::Cube;
-use hmc_host::Host;
 
 const NO_REGISTERS: [u32; 16] = [0; 16];
 
@@ -77,15 +76,5 @@ pub fn register_at(cubes: &[Cube], number: u8, register: u64) -> Option<u32>
     match cubes.get(usize::from(number)) {
         Some(cube) => register_in(cube, register),
         None => no_register(register),
-    }
-}
-
-/// How many tags of the host with this number are out.
-pub fn tags_out(hosts: &[Host], number: u8) -> u32
-    ensures { result ≡ out_of (slice_get hosts.now number) }
-{
-    match hosts.get(usize::from(number)) {
-        Some(host) => u32::from(host.out()),
-        None => 0,
     }
 }

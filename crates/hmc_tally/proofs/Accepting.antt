@@ -18,13 +18,12 @@ use Rattle.hmc_packet.specs.Landings.{ReceiverEntry, pending, accepted_by, packe
 use Rattle.hmc_packet.specs.Irtry.{kind_of, irtry_in}
 use Rattle.hmc_packet.specs.Parts.{lng_of}
 use Rattle.hmc_packet.specs.Reading.{is_null, read_of}
-use Rattle.hmc_packet.specs.Receptions.{LandingView, landing_view, reception_by, reception_of, unchecked, checked, irtry_reception, abort_reception, is_next, is_repeat, packet_reception, read_reception, flits_reception, is_no_length, lng_with, good_reception, mode_reception}
+use Rattle.hmc_packet.specs.Receptions.{LandingView, landing_view, reception_by, reception_of, unchecked, checked, irtry_reception, abort_reception, is_next, is_repeat, packet_reception, read_reception, flits_reception, is_no_length, lng_with, good_reception, mode_reception, is_arrival}
 use Rattle.hmc_journal.specs.Choice.{choose}
-use Rattle.hmc_tally.specs.Tally.{counts_as_accepted}
 
 -- so many packets are accepted over these pending flits
 abbrev pub IsCounted : Profile → (pending : List (List ℕ)) → (flit : List ℕ) → Outcome → Type 0
-IsCounted q flits flit outcome = length (accepted_by q flits (ReceiverEntry.Land flit outcome)) ≡ choose (counts_as_accepted outcome) 1 0
+IsCounted q flits flit outcome = length (accepted_by q flits (ReceiverEntry.Land flit outcome)) ≡ choose (is_arrival outcome) 1 0
 
 outcome_if : (q : Profile) (flits : List (List ℕ)) (flit : List ℕ) (test : Bool) (left right : Outcome) → IsCounted q flits flit left → IsCounted q flits flit right → IsCounted q flits flit (if test then left else right)
 outcome_if q flits flit true left right one other = one

@@ -6,10 +6,11 @@ use Rattle.hmc_codes.specs.declared.counts.CubeCounts.{CubeCounts}
 use Rattle.hmc_codes.specs.declared.profile.Profile.{Profile}
 use Rattle.hmc_packet.specs.Landings as receivers
 use Rattle.hmc_packet.specs.Landings.{ReceiverEntry, mode, pending}
+use Rattle.hmc_packet.specs.Receptions.{is_arrival}
 use Rattle.hmc_packet.specs.declared.outcome.Outcome.{Outcome}
 use Rattle.hmc_packet.specs.declared.outcome.Outcome.TheVariants.{Repeat, AbortedBad, AbortedOrder}
 use Rattle.hmc_send.specs.LinkEntries.{LinkEntry, same_way, put_if}
-use Rattle.hmc_send.specs.LinkLines.{changes}
+use Rattle.hmc_packet.specs.Masks.{changes}
 use Rattle.hmc_send.specs.declared.toward.Toward.{Toward}
 use Rattle.hmc_journal.specs.Choice.{choose, append_if}
 use Rattle.hmc_journal.specs.Counts.{taken_count, executed_count, dropped_count, cube_counts, changed_landings, repeats, is_good, aborts, direction_counts}
@@ -21,7 +22,7 @@ use Rattle.hmc_journal.specs.Setup.{Topology, unit_cube, cubes_in, hosts_in, dir
 use Rattle.hmc_entries.specs.declared.entry.Entry.{Entry}
 use Rattle.hmc_entries.specs.declared.entry.Entry.TheVariants.{Gave, Sent, Landed, Shifted, Dropped, Executed, Lifted, Took, Discarded, Through, Unlocked, Passed}
 use Rattle.hmc_journal.proofs.Projections.{IsBlind, feed_in, goes_at, came_at, put_on-same, taken_if-same, forwarded_on-same, shifted-same, same_direction, IsNoLanding}
-use Rattle.hmc_tally.specs.Tally.{no_counters, no_host_steps, no_cube_counts, counts_as_accepted, is_repeat, is_abort, one_more_sent, one_landed, one_unlocked, one_given, one_taken, one_executed, one_dropped, directions_after, host_steps_after, cube_counts_after, tallied, host_steps, opening_tally, tally_of}
+use Rattle.hmc_tally.specs.Tally.{no_counters, no_host_steps, no_cube_counts, is_repeat, is_abort, one_more_sent, one_landed, one_unlocked, one_given, one_taken, one_executed, one_dropped, directions_after, host_steps_after, cube_counts_after, tallied, host_steps, opening_tally, tally_of}
 use Rattle.hmc_tally.specs.declared.tally.HostSteps.{HostSteps}
 use Rattle.hmc_tally.proofs.Accepting.{IsCounted}
 use Rattle.hmc_tally.proofs.Rows.{rows_same, rows_changed, rows_opened}
@@ -87,11 +88,11 @@ more_by true n = refl
 more_by false n = omega arith
 
 accepted_put : (here : Bool) (q : Profile) (rs : List ReceiverEntry) (flit : List ℕ) (outcome : Outcome) → (here ≡ true → IsCounted q (pending rs) flit outcome)
-    → length (receivers.accepted q (put_if here (ReceiverEntry.Land flit outcome) rs)) ≡ count_if (here && counts_as_accepted outcome) (length (receivers.accepted q rs))
+    → length (receivers.accepted q (put_if here (ReceiverEntry.Land flit outcome) rs)) ≡ count_if (here && is_arrival outcome) (length (receivers.accepted q rs))
 unfolding receivers.accepted
 accepted_put true q rs flit outcome told =
     length-append (receivers.accepted q rs) (receivers.accepted_by q (pending rs) (ReceiverEntry.Land flit outcome))
-    ∙ ap (λ (n : ℕ). length (receivers.accepted q rs) + n) (told refl) ∙ more_by (counts_as_accepted outcome) (length (receivers.accepted q rs))
+    ∙ ap (λ (n : ℕ). length (receivers.accepted q rs) + n) (told refl) ∙ more_by (is_arrival outcome) (length (receivers.accepted q rs))
 accepted_put false q rs flit outcome told = refl
 
 accepted_unlocked : (here : Bool) (q : Profile) (rs : List ReceiverEntry) → length (receivers.accepted q (put_if here ReceiverEntry.Unlock rs)) ≡ length (receivers.accepted q rs)
@@ -132,7 +133,7 @@ sent_by true row = refl
 sent_by false row = refl
 
 landed_by : (here changed : Bool) (outcome : Outcome) (row : Counters)
-    → ◌≡◌ {A = Counters} (record row { landed = count_if here row.landed; changed = count_if (here && changed) row.changed; accepted = count_if (here && counts_as_accepted outcome) row.accepted; repeats = count_if (here && is_repeat outcome) row.repeats; aborts = count_if (here && is_abort outcome) row.aborts })
+    → ◌≡◌ {A = Counters} (record row { landed = count_if here row.landed; changed = count_if (here && changed) row.changed; accepted = count_if (here && is_arrival outcome) row.accepted; repeats = count_if (here && is_repeat outcome) row.repeats; aborts = count_if (here && is_abort outcome) row.aborts })
     (choose here (one_landed changed outcome row) row)
 landed_by true changed outcome row = refl
 landed_by false changed outcome row = refl

@@ -4,12 +4,13 @@ use Rattle.hmc_codes.specs.Numbers.{upto}
 use Rattle.hmc_codes.specs.declared.counts.Counters.{Counters}
 use Rattle.hmc_codes.specs.declared.counts.CubeCounts.{CubeCounts}
 use Rattle.hmc_packet.specs.Landings.{mode}
+use Rattle.hmc_packet.specs.Receptions.{is_arrival}
 use Rattle.hmc_packet.specs.declared.outcome.Outcome.{Outcome}
-use Rattle.hmc_packet.specs.declared.outcome.Outcome.TheVariants.{Accepted, Poisoned, Repeat, AbortedBad, AbortedOrder}
+use Rattle.hmc_packet.specs.declared.outcome.Outcome.TheVariants.{Repeat, AbortedBad, AbortedOrder}
 use Rattle.hmc_schedule.specs.declared.step.Step.{Step}
 use Rattle.hmc_schedule.specs.declared.step.Step.TheVariants as steps
 use Rattle.hmc_send.specs.LinkEntries.{receiver_entries}
-use Rattle.hmc_send.specs.LinkLines.{changes}
+use Rattle.hmc_packet.specs.Masks.{changes}
 use Rattle.hmc_journal.specs.Counts.{taken_count, cube_counts, direction_counts, is_good}
 use Rattle.hmc_journal.specs.Hosts.{given_count, count_if}
 use Rattle.hmc_journal.specs.Links.{toward}
@@ -71,13 +72,7 @@ with_row none number changed rows =
 abbrev pub one_more_sent : Counters → Counters
 one_more_sent counts = record counts { sent = counts.sent + 1 }
 
--- outcomes that are counted: of a packet that is accepted, poisoned or not, of one that was
--- accepted before, and of an abort
-abbrev pub counts_as_accepted : Outcome → Bool
-counts_as_accepted Accepted = true
-counts_as_accepted Poisoned = true
-counts_as_accepted _ = false
-
+-- outcomes that are counted beside arrivals: of a packet that was accepted before, and of an abort
 abbrev pub is_repeat : Outcome → Bool
 is_repeat Repeat = true
 is_repeat _ = false
@@ -92,7 +87,7 @@ abbrev pub one_landed : (changed : Bool) → Outcome → Counters → Counters
 one_landed changed outcome counts = record counts {
   landed = counts.landed + 1;
   changed = count_if changed counts.changed;
-  accepted = count_if (counts_as_accepted outcome) counts.accepted;
+  accepted = count_if (is_arrival outcome) counts.accepted;
   repeats = count_if (is_repeat outcome) counts.repeats;
   aborts = count_if (is_abort outcome) counts.aborts;
 }

@@ -2,15 +2,15 @@
 
 ghost use Rattle.std.specs.Prelude.{◌≡◌, ◌<◌, ◌+◌, ◌^◌, ℕ, IfOk, length, replicate};
 ghost use Rattle.std.specs.List.{All};
+ghost use Rattle.hmc_packet.specs.Receptions.{is_arrival};
 ghost use Rattle.hmc_journal.specs.Counts.{is_good};
 ghost use Rattle.hmc_journal.specs.Hosts.{count_if};
 ghost use Rattle.hmc_journal.specs.Setup.{unit_cube};
-ghost use Rattle.hmc_tally.specs.Tally.{no_counters, no_host_steps, no_cube_counts, direction_row, host_row, cube_row, counts_as_accepted, is_repeat, is_abort, one_landed, directions_after, host_steps_after, cube_counts_after, tallied, step_changes, CountersWithin, HostWithin, CubeWithin, IsWithin, with_row, one_executed};
+ghost use Rattle.hmc_tally.specs.Tally.{no_counters, no_host_steps, no_cube_counts, direction_row, host_row, cube_row, is_repeat, is_abort, one_landed, directions_after, host_steps_after, cube_counts_after, tallied, step_changes, CountersWithin, HostWithin, CubeWithin, IsWithin, with_row, one_executed};
 
 use hmc_codes::{Counters, CubeCounts, Memory, Unit};
-use hmc_ends::changes;
 use hmc_entries::Event;
-use hmc_packet::{Mode, Outcome};
+use hmc_packet::{Mode, Outcome, changes};
 use hmc_schedule::Step;
 use std::alloc::Global;
 use std::marker::Model;
@@ -68,8 +68,8 @@ fn unit_cube(unit: Unit) -> u8
 }
 
 // Whether a packet is accepted.
-fn counts_as_accepted(outcome: Outcome) -> bool
-    ensures { result ≡ counts_as_accepted outcome }
+fn is_arrival(outcome: Outcome) -> bool
+    ensures { result ≡ is_arrival outcome }
 {
     matches!(outcome, Outcome::Accepted | Outcome::Poisoned)
 }
@@ -103,7 +103,7 @@ fn add_landing(row: &mut Counters, changed: bool, outcome: Outcome)
 {
     row.landed += 1;
     row.changed = count_if(changed, row.changed);
-    row.accepted = count_if(counts_as_accepted(outcome), row.accepted);
+    row.accepted = count_if(is_arrival(outcome), row.accepted);
     row.repeats = count_if(is_repeat(outcome), row.repeats);
     row.aborts = count_if(is_abort(outcome), row.aborts);
 }

@@ -2,7 +2,6 @@
 
 ghost use Rattle.std.specs.Prelude.{◌≡◌, ◌≤◌, length};
 ghost use Rattle.hmc_codes.specs.Limits.{most_links};
-ghost use Rattle.hmc_codes.specs.Places.{same_place};
 ghost use Rattle.hmc_routes.specs.Directions.{direction_from};
 ghost use Rattle.hmc_wiring.specs.Wiring.{AreHostStarts, ArePortStarts};
 
@@ -14,33 +13,16 @@ pub const HOSTS: usize = MOST_HOSTS as usize;
 /// One entry for each port of each cube that there can be.
 pub const PORT_PLACES: usize = MOST_CUBES as usize * PORTS as usize;
 
-// Whether the two are one host or one port.
-fn same_place(place: Place, other: Place) -> bool
-    ensures { result ≡ same_place place other }
-{
-    match (place, other) {
-        (Place::Host(host), Place::Host(other)) => host == other,
-        (
-            Place::Port { cube, port },
-            Place::Port {
-                cube: other,
-                port: other_port,
-            },
-        ) => cube == other && port == other_port,
-        _ => false,
-    }
-}
-
 // The first direction that starts at a place, if one does.
 fn direction_from(joins: &[Join], place: Place) -> Option<u8>
     requires { length joins.now ≤ most_links }
     ensures { result ≡ direction_from joins.now place }
 {
     for (i, join) in joins.iter().enumerate() {
-        if same_place(join.a, place) {
+        if join.a.is(place) {
             return Some(2 * i as u8);
         }
-        if same_place(join.b, place) {
+        if join.b.is(place) {
             return Some(2 * i as u8 + 1);
         }
     }

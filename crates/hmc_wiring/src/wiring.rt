@@ -16,7 +16,7 @@ ghost use Rattle.hmc_wiring.specs.Wiring.{IsLaidOut, towards_cube, towards_host}
 
 use crate::starts::{HOSTS, PORT_PLACES, host_starts, port_starts};
 use hmc_case::{CubeSetup, LinkRow};
-use hmc_codes::{Family, Graph, Join, Memory, PORTS, Profile};
+use hmc_codes::{Family, Graph, Join, Memory, PORTS, Profile, Shape};
 use hmc_crossbar::{To, way_of};
 use hmc_packet::{Head, Packet};
 use hmc_routes::{RouteFault, Routes};
@@ -171,6 +171,14 @@ impl Wiring {
         ensures { result ≡ profile_of self.now direction }
     {
         self.links[usize::from(direction / 2)].setup.profile
+    }
+
+    /// The shape of a cube.
+    pub fn shape(&self, cube: u8) -> Shape
+        requires { cube < cubes_in self.now }
+        ensures { result ≡ shape_of self.now cube }
+    {
+        self.cubes[usize::from(cube)].shape
     }
 
     /// The port through which an answer leaves a cube towards a host.

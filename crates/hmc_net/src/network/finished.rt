@@ -11,8 +11,9 @@ ghost use Rattle.hmc_net.specs.NetState.{net_of};
 ghost use Rattle.hmc_net.specs.Stands.{StandsFor};
 
 use crate::Network;
-use crate::shown::{block_at, memory_size, register_at, tags_out};
+use crate::shown::{block_at, memory_size, register_at};
 use hmc_codes::{Counters, CubeCounts, HostCounts, TokenRow};
+use hmc_kept::counts_of_host;
 use hmc_report::Finished;
 use hmc_units::Workbench;
 
@@ -76,12 +77,7 @@ impl<B: Workbench> Finished for Network<B> {
     }
 
     fn host_counts(&self, host: u8) -> HostCounts {
-        let steps = self.tally.host(host);
-        HostCounts {
-            given: steps.given,
-            taken: steps.taken,
-            out: tags_out(&self.hosts, host),
-        }
+        counts_of_host(&self.tally, &self.hosts, host)
     }
 
     fn cube_counts(&self, cube: u8) -> CubeCounts {

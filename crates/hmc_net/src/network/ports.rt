@@ -3,7 +3,8 @@
 ghost use Rattle.std.specs.Prelude.{◌≡◌, ◌<◌};
 ghost use Rattle.hmc_journal.specs.Setup.{cubes_in};
 ghost use Rattle.hmc_net.specs.Apply.{DoesStep, to_of};
-ghost use Rattle.hmc_net.specs.Ports.{IsShifting, IsInner, IsWayOut};
+ghost use Rattle.hmc_net.specs.Ports.{IsShifting, IsWayOut};
+ghost use Rattle.hmc_kept.specs.Ways.{IsInner};
 ghost use Rattle.hmc_net.specs.NetState.{net_of};
 ghost use Rattle.hmc_wiring.specs.Ready.{IsPortIn, IsLiftIn};
 ghost use Rattle.hmc_net.specs.Sees.{IsReady};

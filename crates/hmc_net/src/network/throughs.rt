@@ -1,20 +1,19 @@
 //! The step through: a packet is forwarded that is still being gathered at a port.
 
-ghost use Rattle.std.specs.Prelude.{◌≡◌, ◌<◌, ◌≤◌, ◌*◌, ◌&&◌, not, [], length, slice_index_or};
+ghost use Rattle.std.specs.Prelude.{◌<◌, ◌*◌, length};
 ghost use Rattle.hmc_packet.specs.Head.{head_in};
-ghost use Rattle.hmc_packet.specs.Parts.{lng_of};
 ghost use Rattle.hmc_net.specs.Apply.{DoesStep};
 ghost use Rattle.hmc_net.specs.NetState.{net_of};
 ghost use Rattle.hmc_wiring.specs.Ready.{IsPortIn};
 ghost use Rattle.hmc_net.specs.Sees.{IsReady};
-ghost use Rattle.hmc_net.specs.Throughs.{IsHeadAt, IsOnto, IsFree, IsComing, pipe_fields};
+ghost use Rattle.hmc_net.specs.Throughs.{IsHeadAt, IsFree, IsComing};
+ghost use Rattle.hmc_kept.specs.Throughs.{IsOnto};
 
 use crate::Network;
-use hmc_codes::{Flit, Profile};
 use hmc_entries::Cause;
+use hmc_kept::{may_go, pipe_of};
 use hmc_packet::{Head, head_of, lng_of};
 use hmc_schedule::Step;
-use hmc_through::Pipe;
 use hmc_units::Workbench;
 
 impl<B: Workbench> Network<B> {
@@ -56,7 +55,7 @@ impl<B: Workbench> Network<B> {
     fn way_on(&self, cube: u8, port: u8, head: &Head) -> Option<u8>
         requires there { IsPortIn self.now.topology cube port }
         requires ready { IsReady (net_of B.slots self.now) }
-        ensures { IsOnto (net_of B.slots self.now) cube port head.now result }
+        ensures { IsOnto self.now.topology cube port head.now result }
     {
         let onward = self.wiring.onward_port(cube, port, head)?;
         self.wiring.from_port(cube, onward)
@@ -93,26 +92,4 @@ impl<B: Workbench> Network<B> {
         self.piped.begin(from, onto, pipe);
         self.last.through(cube, port, onto);
     }
-}
-
-// A packet may be forwarded if it is not yet, no packet waits at its port, and the other direction
-// is ready for it.
-fn may_go(forwarded: bool, arrived: bool, ready: bool) -> bool
-    ensures { result ≡ ((not forwarded && not arrived) && ready) }
-{
-    !forwarded && !arrived && ready
-}
-
-// A pipe of the flits that came so far.
-fn pipe_of(came: &[Flit], profile: Profile) -> Pipe
-    requires some { 1 ≤ length came.now }
-    requires more { length came.now < lng_of (slice_index_or came.now 0 []) }
-    requires few { lng_of (slice_index_or came.now 0 []) ≤ 17 }
-    ensures { result ≡ pipe_fields came.now profile }
-{
-    let mut pipe = Pipe::new(came[0], lng_of(&came[0]), profile);
-    for flit in &came[1..] {
-        pipe.more(*flit);
-    }
-    pipe
 }

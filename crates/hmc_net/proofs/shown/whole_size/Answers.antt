@@ -1,6 +1,6 @@
 -- A memory is whole blocks, and no shape has more than 2 ^ 27 bytes.
 use Rattle.std.proofs.Common.{◌≤◌, ◌%◌, ◌^◌, ◌∙◌, ap, sym, subst}
-use Rattle.hmc_net.proofs.Sizes.{capacity_blocks, capacity_most}
+use Rattle.hmc_kept.proofs.Sizes.{capacity_blocks, capacity_most}
 use Rattle.hmc_net.proofs.shown.whole_size.Goals as goal
 
 pub returns-clause-blocks : goal.returns-clause-blocks

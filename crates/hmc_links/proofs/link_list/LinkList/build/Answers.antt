@@ -6,7 +6,7 @@ use Rattle.hmc_codes.specs.Link.{LinkFields}
 use Rattle.hmc_case.specs.declared.setup.LinkRow.{LinkRow}
 use Rattle.hmc_link.specs.StandsFor.{LinkStandsFor}
 use Rattle.hmc_journal.specs.Setup.{no_link}
-use Rattle.hmc_links.specs.LinkList.{sizes_at}
+use Rattle.hmc_kept.specs.Called.{sizes_at}
 use Rattle.hmc_links.proofs.NewLinks.{AreNewLinks, new_more}
 use Rattle.hmc_links.proofs.link_list.LinkList.build.Goals as goal
 

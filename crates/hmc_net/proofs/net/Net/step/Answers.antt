@@ -1,6 +1,7 @@
 -- What the network does in a step, with its entry in the journal.
 use Rattle.std.proofs.Common.{◌≡◌, ◌≤◌, ◌∷◌, ◌∙◌, ap, sym, subst, length}
 use Rattle.hmc_journal.specs.Next.{next}
+use Rattle.hmc_promises.proofs.Guaranteeing.{step_guarantees}
 use Rattle.hmc_net.specs.Journaled.{JournaledNet, journaled_of, IsNetNext}
 use Rattle.hmc_net.specs.NetState.{net_of}
 use Rattle.hmc_net.specs.Stands.{StandsFor, IsNext}
@@ -18,6 +19,11 @@ returns-clause-stands g c = λ setup is.
       stands = subst (λ now. StandsFor (net_of slots c.step-went.new.self) setup now) (sym (c.note.ensures.past ∙ ap (λ e. e ∷ past) entry)) (c.step-went.ensures.stands setup past due);
       most = subst (λ most. length setup.schedule ≤ most) (sym c.note.ensures.most) here.stands.most;
     }
+
+pub returns-clause-guarantees : goal.returns-clause-guarantees
+returns-clause-guarantees g c = λ setup is.
+    let now = (returns-clause-stands g c setup is).stands in
+    step_guarantees setup _ now.network now.lawful
 
 pub returns-clause-went : goal.returns-clause-went
 returns-clause-went g c = λ setup is.

@@ -3,7 +3,7 @@ use Rattle.std.proofs.Common.{◌≡◌, [], ap, subst}
 use Rattle.hmc_cube.specs.Cube.{CubeFields}
 use Rattle.hmc_cube.specs.Places.{answers_at}
 use Rattle.hmc_net.specs.NetState.{net_of, NetState, cube_in}
-use Rattle.hmc_net.proofs.Doing.{no_front}
+use Rattle.hmc_kept.proofs.Fronts.{no_front}
 use Rattle.hmc_net.proofs.Indexed.{cube_found, entry_changed}
 use Rattle.hmc_net.proofs.PortSteps.{lift_none}
 use Rattle.hmc_net.proofs.network.Network.lift.Goals as goal

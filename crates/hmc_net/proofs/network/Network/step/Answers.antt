@@ -4,6 +4,7 @@ use Rattle.hmc_journal.specs.Next.{next}
 use Rattle.hmc_net.specs.NetState.{net_of, NetState}
 use Rattle.hmc_net.specs.Stands.{StandsFor}
 use Rattle.hmc_tally.specs.Tally.{step_changes}
+use Rattle.hmc_promises.proofs.Guaranteeing.{step_guarantees}
 use Rattle.hmc_net.specs.Went.{went_of}
 use Rattle.hmc_kept.proofs.Laws.{law_bound}
 use Rattle.hmc_net.proofs.Seeing.{ready_of, step_there}
@@ -34,7 +35,12 @@ returns-clause-stands g c = λ setup past is.
     let slots = g.B.Workbench.slots in
     subst (λ (n : NetState). StandsFor n setup (next setup past c.args.step.now ∷ past)) (sym (ap (net_of slots) c.count.ensures.counted))
     (stands_stepped (net_of slots c.args.self.now) (net_of slots c.act.new.self) c.count.new.self.tally c.unlocks_good-was_good.result past setup c.args.step.now is (law_bound setup past is.stands.network is.stands.lawful) c.act.ensures
-    c.count.ensures.long c.unlocks_good-was_good.ensures c.count.ensures.tally c.count.ensures.within)
+    c.unlocks_good-was_good.ensures c.count.ensures.tally c.count.ensures.within)
+
+pub returns-clause-guarantees : goal.returns-clause-guarantees
+returns-clause-guarantees g c = λ setup past is.
+    let now = returns-clause-stands g c setup past is in
+    step_guarantees setup (next setup past c.args.step.now ∷ past) now.network now.lawful
 
 pub returns-clause-last : goal.returns-clause-last
 returns-clause-last g c = λ setup past is.

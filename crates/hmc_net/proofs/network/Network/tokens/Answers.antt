@@ -3,7 +3,7 @@ use Rattle.std.proofs.Common.{◌∙◌, sym, subst, ap}
 use Rattle.hmc_journal.specs.Links.{link_entries}
 use Rattle.hmc_links.specs.LinkList.{LinksStandFor}
 use Rattle.hmc_net.specs.NetState.{net_of, NetState}
-use Rattle.hmc_links.proofs.TokensTold.{tokens_told}
+use Rattle.hmc_kept.proofs.Called.{tokens_told}
 use Rattle.hmc_net.proofs.network.Network.tokens.Goals as goal
 
 pub returns : goal.returns

@@ -3,7 +3,7 @@ use Rattle.std.proofs.Common.{◌∙◌, Bool, ap, subst}
 use Rattle.hmc_journal.specs.Piped.{goes_on}
 use Rattle.hmc_links.specs.LinkList.{LinksStandFor}
 use Rattle.hmc_kept.specs.LinkAnswers.{outcome_of}
-use Rattle.hmc_net.specs.Links.{taken_where}
+use Rattle.hmc_kept.specs.Called.{taken_where}
 use Rattle.hmc_net.proofs.network.links.forward_came.Goals as goal
 
 pub returns-clause-stands : goal.returns-clause-stands

@@ -3,7 +3,7 @@ use Rattle.std.proofs.Common.{sym, subst}
 use Rattle.hmc_ends.specs.declared.link_landed.LinkLanded.{LinkLanded}
 use Rattle.hmc_links.specs.LinkList.{LinksStandFor}
 use Rattle.hmc_kept.specs.LinkAnswers.{landing_goes_on}
-use Rattle.hmc_net.specs.Links.{taken_where}
+use Rattle.hmc_kept.specs.Called.{taken_where}
 use Rattle.hmc_net.proofs.network.links.forward_landed.Goals as goal
 
 pub returns-in-Came-clause-stands : goal.returns-in-Came-clause-stands

@@ -1,7 +1,7 @@
 -- The packet is taken where it has gone on.
 use Rattle.std.proofs.Common.{Bool, sym, subst}
 use Rattle.hmc_links.specs.LinkList.{LinksStandFor}
-use Rattle.hmc_net.specs.Links.{taken_where}
+use Rattle.hmc_kept.specs.Called.{taken_where}
 use Rattle.hmc_net.proofs.network.links.take_where.Goals as goal
 
 pub returns-then-goes-clause-stands : goal.returns-then-goes-clause-stands

@@ -1,7 +1,7 @@
 use Rattle.std.proofs.Common.{◌≡◌, ℕ, ◌<◌, length}
 use Rattle.std.specs.Prelude.{slice_index_or}
 use Rattle.hmc_host.specs.Host.{HostFields, opening_host}
-use Rattle.hmc_net.proofs.network.opening.new_hosts.Given as goal
+use Rattle.hmc_kept.proofs.parts.new_hosts.Given as goal
 
 abbrev pub invariant-loop-number : goal.invariant-loop-number
 invariant-loop-number l = record {

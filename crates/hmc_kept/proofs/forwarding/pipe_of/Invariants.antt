@@ -3,7 +3,7 @@ use Rattle.std.proofs.Common.{◌≡◌, None, [], ◌∷◌, take}
 use Rattle.std.specs.Prelude.{slice_index_or}
 use Rattle.hmc_packet.specs.Parts.{lng_of}
 use Rattle.hmc_through.specs.Pipe.{PipeFields}
-use Rattle.hmc_net.proofs.network.throughs.pipe_of.Given as goal
+use Rattle.hmc_kept.proofs.forwarding.pipe_of.Given as goal
 
 abbrev pub invariant-loop-flit : goal.invariant-loop-flit
 invariant-loop-flit l = ◌≡◌ {A = PipeFields} l.pipe (record {

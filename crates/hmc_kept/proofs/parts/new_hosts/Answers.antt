@@ -4,7 +4,7 @@ use Rattle.std.specs.Prelude.{slice_index_or, ◌<◌}
 use Rattle.std.proofs.lemmas.List.{length_push}
 use Rattle.hmc_host.specs.Host.{HostFields, opening_host}
 use Rattle.hmc_kept.proofs.Pushed.{each_pushed}
-use Rattle.hmc_net.proofs.network.opening.new_hosts.Goals as goal
+use Rattle.hmc_kept.proofs.parts.new_hosts.Goals as goal
 
 pub loop-number-preserved : goal.loop-number-preserved
 loop-number-preserved c =

@@ -1,9 +1,10 @@
 -- The steps of a case are steps of the parts of its topology.
-use Rattle.std.proofs.Common.{◌≡◌, ◌<◌, ◌+◌, ◌^◌, ◌||◌, ◌∙◌, ℕ, zero, suc, Bool, true, false, if◌then◌else◌, Option, Some, List, [], ◌∷◌, length, map, slice_get, refl, sym, ap, subst, arith}
+use Rattle.std.proofs.Common.{◌≡◌, ◌<◌, ◌+◌, ◌^◌, ◌||◌, ◌∙◌, ℕ, zero, suc, Bool, true, false, if◌then◌else◌, Option, Some, List, [], ◌∷◌, length, map, slice_get, refl, sym, ap, subst, arith, ap₂}
 use Rattle.std.specs.Prelude.{slice_index_or}
 use Rattle.std.specs.List.{All}
 use Rattle.std.specs.Option.{option_map_or}
 use Rattle.std.proofs.lemmas.List.FromFn.{get_or-map-range_with_len}
+use Rattle.std.proofs.lemmas.List.Elements.{All-head, All-tail}
 use Rattle.hmc_codes.specs.Limits.{ports}
 use Rattle.hmc_codes.specs.Places.{same_place}
 use Rattle.hmc_codes.specs.declared.lift.Lift.{Lift}
@@ -22,8 +23,10 @@ use Rattle.hmc_case.specs.Setup.{CubeSetupFields}
 use Rattle.hmc_case.specs.declared.setup.LinkRow.{LinkRow}
 use Rattle.hmc_case.proofs.PlanLemmas.{length-plans_of}
 use Rattle.hmc_units.specs.Unit.{UnitFields}
-use Rattle.hmc_journal.specs.Setup.{Topology, setup_of, no_setup, hosts_in}
+use Rattle.hmc_journal.specs.Setup.{Topology, setup_of, no_setup, hosts_in, Setup}
 use Rattle.hmc_wiring.specs.Ready.{IsPortIn, IsVaultIn, IsBankIn, IsLiftIn, IsStepFor}
+use Rattle.hmc_journal.specs.Network.{IsNetwork}
+use Rattle.hmc_wiring.specs.Wiring.{IsLaidOut}
 
 -- the plan of a cube
 plan_at : (links : List LinkRow) (n : ℕ) (cubes : List CubeSetupFields) (k : ℕ) → k < length cubes → slice_get (plans_of links n cubes) k ≡ Some (ports_of links (n + k) (slice_index_or cubes k no_setup))
@@ -109,3 +112,16 @@ step_fits net (steps.Retire slot) hosts is has = tt
 
 pub steps_fit : (case : CaseFields) (slots : List (Option UnitFields)) → IsCase case → All (IsStepFor (setup_of case slots).topology) case.schedule
 steps_fit case slots is = λ k d there. step_fits case.net (slice_index_or case.schedule k d) is.net.all_hosts (is.schedule k d there) (is.masks k d there)
+
+-- a step of the schedule is one of these steps
+pub step_at : (P : Step → Type 0) (schedule : List Step) (at : ℕ) (step : Step) → All P schedule → slice_get schedule at ≡ Some step → P step
+step_at P [] at step all is = absurd (cc)
+step_at P (first ∷ rest) zero step all is = let same : first ≡ step = cc in subst P same (All-head P first rest all)
+step_at P (first ∷ rest) (suc at) step all is = step_at P rest at step (All-tail P first rest all) is
+
+pub laid_out : (setup : Setup) → IsNetwork setup → IsLaidOut setup.topology
+laid_out setup network = record { few_links = network.few_links; graph = network.graph; one_part = network.one_part; hosts = network.hosts }
+
+-- the topology of these cubes and links
+pub topology_is : (cubes own : List CubeSetupFields) (links rows : List LinkRow) → cubes ≡ own → links ≡ rows → ◌≡◌ {A = Topology} (record { cubes = cubes; links = links }) (record { cubes = own; links = rows })
+topology_is cubes own links rows cubes_is links_is = ap₂ (λ (c : List CubeSetupFields) (l : List LinkRow). record { cubes = c; links = l }) cubes_is links_is

@@ -5,7 +5,7 @@ use Rattle.std.proofs.lemmas.List.{length-take, length-take-le, take_all, take_m
 use Rattle.hmc_codes.specs.declared.profile.Profile.{Profile}
 use Rattle.hmc_packet.specs.Parts.{lng_of}
 use Rattle.hmc_through.specs.Pipe.{PipeFields}
-use Rattle.hmc_net.proofs.network.throughs.pipe_of.Goals as goal
+use Rattle.hmc_kept.proofs.forwarding.pipe_of.Goals as goal
 
 abbrev pipe_with : ℕ → Profile → List (List ℕ) → PipeFields
 pipe_with flits profile came = record { flits = flits; profile = profile; came = came; good = None }
