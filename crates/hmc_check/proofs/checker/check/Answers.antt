@@ -1,0 +1,7 @@
+-- The network stands for the case.
+use Rattle.std.proofs.Common.{refl, sym}
+use Rattle.hmc_check.proofs.Following.{opening_at, memory_verdict}
+use Rattle.hmc_check.proofs.checker.check.Goals as goal
+
+pub check_in-requires : goal.check_in-requires
+check_in-requires g c = (_, opening_at _ _ _ c.in-Ok.ensures (sym c.schedule.ensures))

@@ -1,0 +1,37 @@
+-- The queue of the unit is empty.
+use Rattle.std.proofs.Common.{◌≡◌, ◌≤◌, ◌<◌, ◌++◌, ◌∷◌, ◌∙◌, [], List, ℕ, Bool, true, false, Option, Some, None, length, drop, refl, sym, ap, ap₂, subst, arith}
+use Rattle.std.specs.Prelude.{nat_lt, slice_get}
+use Rattle.std.proofs.lemmas.Bool.Decides.{nat_tests}
+use Rattle.hmc_codes.specs.Answer.{CanReply}
+use Rattle.hmc_codes.specs.declared.answer.Answer.{Answer}
+use Rattle.hmc_packet.specs.Packet.{PacketFields}
+use Rattle.hmc_packet.specs.Transactions.{request_in, reply_packet}
+use Rattle.hmc_units.specs.Unit.{UnitFields}
+use Rattle.hmc_serial.specs.Machine.{machine_of, answer_to}
+use Rattle.hmc_queues.specs.Queues.{CubeQueuesFields, IsQueue, packets_at, size_at, with_packets}
+use Rattle.hmc_queues.specs.declared.queue_name.QueueName.{QueueName}
+use Rattle.hmc_queues.specs.declared.queue_name.QueueName.TheVariants as names
+use Rattle.hmc_schedule.specs.declared.step.Step.{Step}
+use Rattle.hmc_schedule.specs.declared.step.Step.TheVariants as steps
+use Rattle.hmc_entries.specs.declared.outcome.Cause.TheVariants as causes
+use Rattle.hmc_entries.specs.declared.entry.Entry.{Entry}
+use Rattle.hmc_entries.specs.declared.entry.Entry.TheVariants.{Executed, Idle}
+use Rattle.hmc_journal.specs.Setup.{unit_cube}
+use Rattle.hmc_kept.proofs.Fronts.{no_front}
+use Rattle.hmc_check.specs.Past.{PastFields, PastParts}
+use Rattle.hmc_check.specs.Units.{step_of, queue_name, answers_name, IsRequestAt}
+use Rattle.hmc_check.proofs.Holding.{of_parts, some_of, idle_takes}
+use Rattle.hmc_check.proofs.Spreading.{some_there, spread_empty, queue_still}
+use Rattle.hmc_check.proofs.Executing.{queue_there, answers_there, request_own, unit_empty, unit_bare, unit_full, posted_takes, answered_takes, can_reply, machine_there}
+use Rattle.hmc_check.proofs.past.Past.execute.Goals as goal
+
+pub returns-then-is_empty : goal.returns-then-is_empty
+returns-then-is_empty g c =
+    let i = c.self.inside in
+    let old : PastFields = record { topology = i.wiring; queues = i.queues; cubes = i.plain; slots = g.B.Workbench.slots i.bench; hosts = i.hosts.items; ends = i.ends; piped = i.piped; tally = i.tally; last = i.last } in
+    let unit = c.args.unit in
+    let none : packets_at i.queues (unit_cube unit) (queue_name unit) ≡ [] =
+    ap₂ (λ (n : ℕ) (r : QueueName). packets_at i.queues n r) (sym c.cube_of-cube.ensures) (sym c.queue_of.ensures) ∙ c.is_empty.ensures.0 c.if-is_empty.true in
+    of_parts g.B.Workbench.slots _ c.args.self.now _ (step_of c.args.unit) c.self.view_is
+    (idle_takes old _ (step_of unit) (step_of unit) causes.Empty (ap (λ (e : Entry). record old { last = e }) (c.idle.ensures ∙ ap (λ (s : Step). Idle s causes.Empty) c.step_of.ensures))
+    (λ setup past is. unit_empty setup past old unit is (no_front (packets_at i.queues (unit_cube unit) (queue_name unit)) none)))

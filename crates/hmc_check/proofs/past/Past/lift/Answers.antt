@@ -1,0 +1,19 @@
+-- No answer waits.
+use Rattle.std.proofs.Common.{ap}
+use Rattle.hmc_entries.specs.declared.entry.Entry.{Entry}
+use Rattle.hmc_kept.proofs.Fronts.{no_front}
+use Rattle.hmc_schedule.specs.declared.step.Step.TheVariants as steps
+use Rattle.hmc_queues.specs.Queues.{packets_at}
+use Rattle.hmc_queues.specs.declared.queue_name.QueueName.TheVariants as names
+use Rattle.hmc_check.specs.Past.{PastFields}
+use Rattle.hmc_check.proofs.Holding.{of_parts, some_of}
+use Rattle.hmc_check.proofs.Lifting.{lift_empty}
+use Rattle.hmc_check.proofs.past.Past.lift.Goals as goal
+
+pub returns-then-is_empty : goal.returns-then-is_empty
+returns-then-is_empty g c =
+    let i = c.self.inside in
+    let old : PastFields = record { topology = i.wiring; queues = i.queues; cubes = i.plain; slots = g.B.Workbench.slots i.bench; hosts = i.hosts.items; ends = i.ends; piped = i.piped; tally = i.tally; last = i.last } in
+    let some = some_of g.B.Workbench.slots _ c.args.self.now (steps.Lift c.args.cube c.args.from) c.self.view_is c.requires in
+    of_parts g.B.Workbench.slots _ c.args.self.now _ (steps.Lift c.args.cube c.args.from) c.self.view_is
+    (lift_empty old _ c.args.cube c.args.from (no_front (packets_at i.queues c.args.cube (names.Answers c.args.from)) (c.is_empty.ensures.0 c.if-is_empty.true)) (ap (λ (e : Entry). record old { last = e }) c.idle.ensures))

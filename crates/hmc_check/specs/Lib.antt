@@ -1,0 +1,13 @@
+pub mod Fronts
+pub mod Verdict
+pub mod Differs
+pub mod Kept
+pub mod Inner
+pub mod Inside
+pub mod Past
+pub mod Opening
+pub mod Finished
+pub mod Units
+pub mod Following
+pub mod Due
+pub mod Moving

@@ -1,0 +1,86 @@
+//! The line that is due.
+
+ghost use Rattle.std.specs.Prelude.{◌≡◌, ◌≤◌, ◌∷◌, [], List, ℕ, length, slice_get, option_map, IfOk};
+ghost use Rattle.hmc_entries.specs.declared.entry.Entry.{Entry};
+ghost use Rattle.hmc_entries.specs.Lines.{line_of};
+ghost use Rattle.hmc_journal.specs.Lawful.{journal_of};
+ghost use Rattle.hmc_journal.specs.Setup.{Setup, setup_of};
+ghost use Rattle.hmc_report.specs.Final.{final_lines};
+ghost use Rattle.hmc_check.specs.Due.{IsDue};
+ghost use Rattle.hmc_check.specs.Following.{IsAt};
+ghost use Rattle.hmc_check.specs.Past.{past_of};
+ghost use Rattle.hmc_journal.specs.Report.{report_lines};
+
+use crate::checker::take_step;
+use crate::past::Past;
+use hmc_case::Case;
+use hmc_codes::{LineText, Memory};
+use hmc_report::{Finished, Lines, Part};
+use hmc_schedule::Schedule;
+use hmc_units::Workbench;
+use std::alloc::Global;
+
+// The line of the latest entry.
+fn last_line<B: Workbench>(past: &Past<B>) -> LineText
+    ensures { result.bytes ≡ line_of past.now.last }
+{
+    let mut line = LineText::new();
+    past.last().line(&mut line);
+    line
+}
+
+// The final line that comes after so many others.
+fn final_line<N: Finished>(net: &N, before: u32) -> Option<LineText>
+    ensures { option_map (λ text. text.bytes) result
+        ≡ slice_get (final_lines (N.final_values net.now)) before }
+{
+    let mut lines = Lines::new(net, Part::Memory);
+    let mut left = before;
+    'lines: while let Some(line) = lines.next() {
+        if left == 0 {
+            return Some(line);
+        }
+        left -= 1;
+    }
+    None
+}
+
+// The line that comes after so many others.
+fn due_after<B: Workbench>(past: &mut Past<B>, schedule: &Schedule, before: u32) -> Option<LineText>
+    requires { (setup : Setup) × IsAt (past_of B.slots past.old) setup schedule.now [] 0 }
+    ensures { (setup : Setup) → IsAt (past_of B.slots past.old) setup schedule.now [] 0 →
+        option_map (λ text. text.bytes) result
+        ≡ slice_get (report_lines setup (journal_of setup)) before }
+{
+    'steps: for at in 0..schedule.len() {
+        let passed = take_step(past, schedule, at);
+        if at == before {
+            return Some(last_line(past));
+        }
+        if passed {
+            return None;
+        }
+    }
+    past.shows_journal();
+    final_line(past, before - schedule.len())
+}
+
+/// The line that is due: the one with this number, from 1, in the text of the whole lawful journal
+/// of a case, with its line feed. `None` where the text has no such line.
+///
+/// `Memory` if out of memory.
+pub fn due_line<B: Workbench>(
+    alloc: Global,
+    case: &Case,
+    bench: B,
+    line: u32,
+) -> Result<Option<LineText>, Memory>
+    ensures { IfOk result (λ due. IsDue (setup_of case.now (B.slots bench)) line
+        (option_map (λ text. text.bytes) due)) }
+{
+    let mut past = Past::new(alloc, case, bench)?;
+    if line == 0 {
+        return Ok(None);
+    }
+    Ok(due_after(&mut past, case.schedule(), line - 1))
+}

@@ -1,0 +1,47 @@
+-- The end where a direction lands has one packet less.
+use Rattle.std.proofs.Common.{◌≡◌, ◌≤◌, ◌<◌, ◌/◌, ◌++◌, ◌∷◌, ◌∙◌, [], List, ℕ, Bool, Option, Some, length, refl, sym, ap, subst, arith}
+use Rattle.std.specs.Prelude.{slice_index_or, slice_get, is_some}
+use Rattle.hmc_routes.specs.Directions.{other}
+use Rattle.hmc_packet.specs.Landings.{ReceiverEntry, mode, pending}
+use Rattle.hmc_packet.specs.Packet.{PacketFields}
+use Rattle.hmc_send.specs.LinkCalls.{LinkCall}
+use Rattle.hmc_ends.specs.End.{EndFields, flits_seen, row_held}
+use Rattle.hmc_ends.specs.StandsFor.{EndsStandFor}
+use Rattle.hmc_ends.proofs.Calls.{hand-steps, take-from, due-few, unlock-steps}
+use Rattle.hmc_ends.proofs.Begins.{begin-both}
+use Rattle.hmc_ends.proofs.SendNext.{send-steps, answer-is}
+use Rattle.hmc_ends.proofs.TokenRows.{row-is}
+use Rattle.hmc_journal.specs.Links.{toward}
+use Rattle.hmc_kept.specs.Called.{sizes_by}
+use Rattle.hmc_directions.proofs.Calls.{hold_after, changed_here, changed_there, other_there}
+use Rattle.hmc_directions.proofs.Standing.{read_at, any_at, both_at, room_of, fit_of, front_by, received_by, fed_of, ready_of, can_pass, put_is}
+use Rattle.hmc_directions.proofs.ends.Ends.take.Goals as goal
+
+pub take-requires : goal.take-requires
+take-requires c =
+    let rows = c.requires.some.rows in
+    let entries = c.requires.some.entries in
+    let hold = c.requires.some.hold in
+    let own = c.args.self.now in
+    let d = c.args.direction in
+    let l = c.index_mut.result.now in
+    let there = other_there rows own entries d hold c.requires.there in
+    let far = read_at c.self.inside.ends.items own c.from.result (other d) l c.self.view_is (c.from.ensures ∙ c.other.ensures) there c.index_mut.ensures.value in
+    let s = slice_index_or own d l in
+    let near = any_at own d l c.requires.there in
+    let both = both_at rows own entries d s l hold c.requires.there near far in
+    due-few (toward d) s l (sizes_by rows d) (entries (d / 2)) both
+
+pub returns : goal.returns
+returns c = λ rows entries hold.
+    let own = c.args.self.now in
+    let d = c.args.direction in
+    let l = c.index_mut.result.now in
+    let there = other_there rows own entries d hold c.requires.there in
+    let far = read_at c.self.inside.ends.items own c.from.result (other d) l c.self.view_is (c.from.ensures ∙ c.other.ensures) there c.index_mut.ensures.value in
+    let s = slice_index_or own d l in
+    let near = any_at own d l c.requires.there in
+    let both = both_at rows own entries d s l hold c.requires.there near far in
+    let stands = (take-from (toward d) s l c.take.new.self c.take.result c.take.ensures.front c.take.ensures.left).after (sizes_by rows d) (entries (d / 2)) both in
+    put_is rows c.self.inside.ends.items own c.from.result (other d) c.take.new.self _ c.self.view_is (c.from.ensures ∙ c.other.ensures)
+    (hold_after rows own _ entries d LinkCall.take s c.take.new.self hold (changed_there rows own entries d s c.take.new.self hold c.requires.there near) stands)
