@@ -6,8 +6,8 @@ use Rattle.hmc_codes.specs.Request.{RequestFields}
 use Rattle.hmc_script.specs.Items.{ItemFields}
 use Rattle.hmc_text.specs.declared.fault.TextFault.{TextFault}
 use Rattle.hmc_text.specs.declared.fault.TextFault.TheVariants as faults
-use Rattle.hmc_trace.specs.declared.fault.TraceKind.{TraceKind}
-use Rattle.hmc_trace.specs.Compiled.{item_of}
+use Rattle.hmc_accesses.specs.declared.fault.TraceKind.{TraceKind}
+use Rattle.hmc_accesses.specs.Compiled.{item_of}
 use Rattle.hmc_trace.specs.Appending.{Appends}
 
 pub appends_none : (line : ℕ) (a : List ItemFields) → length a ≤ 65536 → Appends line a [] a (Ok tt)

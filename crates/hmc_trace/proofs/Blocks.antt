@@ -8,11 +8,12 @@ use Rattle.std.proofs.lemmas.List.FromFn.{map-range_with_len_more}
 use Rattle.hmc_codes.specs.Request.{RequestFields}
 use Rattle.hmc_script.specs.Items.{ItemFields}
 use Rattle.hmc_text.specs.declared.fault.TextFault.{TextFault}
-use Rattle.hmc_trace.specs.declared.fault.TraceKind.{TraceKind}
+use Rattle.hmc_accesses.specs.declared.fault.TraceKind.{TraceKind}
 use Rattle.hmc_trace.specs.Appending.{Appends}
-use Rattle.hmc_trace.specs.Requests.{Span, in_block, cut_by_blocks, up}
+use Rattle.hmc_accesses.specs.declared.span.Span.{Span}
+use Rattle.hmc_accesses.specs.Requests.{in_block, cut_by_blocks, up}
 use Rattle.hmc_trace.proofs.Appending.{appends_none, appends_more, appends_less}
-use Rattle.hmc_trace.proofs.Loading.{range-append}
+use Rattle.hmc_accesses.proofs.Loading.{range-append}
 
 -- the requests of the blocks from k up to j
 abbrev pub up_to : (Span → List RequestFields) → Span → (k j : ℕ) → List RequestFields

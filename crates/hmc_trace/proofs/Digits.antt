@@ -6,7 +6,7 @@ use Rattle.std.specs.Result.{result_ok}
 use Rattle.hex.specs.Hex.{decode_of, is_hex_digit}
 use Rattle.hex.specs.declared.error.FromHexError.{FromHexError}
 use Rattle.hex.proofs.HexLemmas.{decode_of-digits, decode_of-ok}
-use Rattle.hmc_trace.specs.Meaning.{bytes_in, bytes_or_none, bytes_of_digits}
+use Rattle.hmc_accesses.specs.Meaning.{bytes_in, bytes_or_none, bytes_of_digits}
 
 -- the test of the digits
 pub digits_test : (digits : List ℕ) (b : Bool) → length digits % 2 ≡ 0 →

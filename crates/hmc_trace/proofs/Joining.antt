@@ -9,10 +9,10 @@ use Rattle.hmc_entries.specs.declared.entry.Entry.{Entry}
 use Rattle.hmc_entries.specs.declared.entry.Entry.TheVariants.{Gave, Took}
 use Rattle.hmc_journal.specs.Filters.{answers_under}
 use Rattle.hmc_script.specs.Items.{ItemFields}
-use Rattle.hmc_trace.specs.declared.load.Load.{Load}
-use Rattle.hmc_trace.specs.InOrder.{gave_tag, took_answer, answer_in_order, known_answer, count_tag, match_under}
-use Rattle.hmc_trace.specs.Compiled.{CompiledFields}
-use Rattle.hmc_trace.specs.Value.{tags_given, answer_under, answer_of, bytes_at, joined, cut, load_value, value_in, read_bytes, size_of}
+use Rattle.hmc_accesses.specs.declared.load.Load.{Load}
+use Rattle.hmc_accesses.specs.InOrder.{gave_tag, took_answer, answer_in_order, known_answer, count_tag, match_under}
+use Rattle.hmc_accesses.specs.Compiled.{CompiledFields}
+use Rattle.hmc_accesses.specs.Value.{tags_given, answer_under, answer_of, bytes_at, joined, cut, load_value, value_in, read_bytes, size_of}
 
 -- ---- the loop
 
@@ -190,7 +190,8 @@ pub same_answer : (journal : List Entry) (n : ℕ) →
     answer_in_order journal n ≡ answer_of (reverse journal) n
 unfolding answer_of
 same_answer journal n =
-    ap (λ l. option_and_then (under_in_order journal n) (slice_get l n)) (sym (tags_in_order journal))
+    ap (λ l. option_and_then (under_in_order journal n) (slice_get l n))
+    (sym (tags_in_order journal))
     ∙ by_tag (slice_get (tags_given 0 (reverse journal)) n)
   where
     by_tag : (o : Option (Option ℕ)) →
@@ -222,7 +223,8 @@ same_joined f g script n (suc count) same =
 -- the value by the answers is the value by the journal
 pub known_value : (answers : List (Option Answer)) (journal : List Entry) (script : List ItemFields)
     (load : Load) → ((n : ℕ) → known_answer answers n ≡ answer_in_order journal n) →
-    load_value (known_answer answers) script load ≡ load_value (answer_of (reverse journal)) script load
+    load_value (known_answer answers) script load ≡ load_value (answer_of (reverse journal)) script
+    load
 unfolding load_value
 known_value answers journal script load known =
     ap (option_map (cut load))
@@ -236,7 +238,7 @@ joined_zero answer script n count bs none empty = ap Some empty
     ∙ ap (joined answer script n) (sym none)
 
 -- the value of a load, as the call promises it
-pub value_told : {V E : Type 0} (items : V → List ℕ) (result : Result (Option V) E)
+pub value_gives : {V E : Type 0} (items : V → List ℕ) (result : Result (Option V) E)
     (compiled : CompiledFields) (script : List ItemFields) (answers : List (Option Answer))
     (journal : List Entry) (i : ℕ) (load : Load) → script ≡ compiled.script →
     slice_get compiled.loads i ≡ Some load →
@@ -244,25 +246,26 @@ pub value_told : {V E : Type 0} (items : V → List ℕ) (result : Result (Optio
     IfOk result (λ b. option_map items b ≡ load_value (known_answer answers) script load) →
     IfOk result (λ b. (own : Load) → slice_get compiled.loads i ≡ Some own →
     option_map items b ≡ value_in compiled (reverse journal) own)
-value_told items (Ok b) compiled script answers journal i load script_is at known told = λ own own_at.
+value_gives items (Ok b) compiled script answers journal i load script_is at known gives =
+    λ own own_at.
     let same : load ≡ own = same_some load own (sym at ∙ own_at) in
-    told ∙ known_value answers journal script load known
+    gives ∙ known_value answers journal script load known
     ∙ ap (λ s. load_value (answer_of (reverse journal)) s load) script_is
     ∙ ap (λ l. load_value (answer_of (reverse journal)) compiled.script l) same
   where
     same_some : (x y : Load) → ◌≡◌ {A = Option Load} (Some x) (Some y) → x ≡ y
     same_some x y is = cc
-value_told items (Err e) compiled script answers journal i load script_is at known told = tt
+value_gives items (Err e) compiled script answers journal i load script_is at known gives = tt
 
 -- the values of all loads
-pub values_told : {V E : Type 0} (shown : V → List (Option (List ℕ))) (result : Result V E)
+pub values_give : {V E : Type 0} (shown : V → List (Option (List ℕ))) (result : Result V E)
     (compiled : CompiledFields) (script : List ItemFields) (loads : List Load)
     (answers : List (Option Answer)) (journal : List Entry) → script ≡ compiled.script →
     loads ≡ compiled.loads → ((n : ℕ) → known_answer answers n ≡ answer_in_order journal n) →
     IfOk result (λ v. shown v ≡ map (load_value (known_answer answers) script) loads) →
     IfOk result (λ v. shown v ≡ map (value_in compiled (reverse journal)) compiled.loads)
-values_told shown (Ok v) compiled script loads answers journal script_is loads_are known told =
-    told ∙ all loads ∙ ap (map (value_in compiled (reverse journal))) loads_are
+values_give shown (Ok v) compiled script loads answers journal script_is loads_are known gives =
+    gives ∙ all loads ∙ ap (map (value_in compiled (reverse journal))) loads_are
   where
     one : (load : Load) →
         load_value (known_answer answers) script load ≡ value_in compiled (reverse journal) load
@@ -276,7 +279,7 @@ values_told shown (Ok v) compiled script loads answers journal script_is loads_a
     all (load ∷ more) =
         ap (λ x. x ∷ map (load_value (known_answer answers) script) more) (one load)
         ∙ ap (λ l. value_in compiled (reverse journal) load ∷ l) (all more)
-values_told shown (Err e) compiled script loads answers journal script_is loads_are known told = tt
+values_give shown (Err e) compiled script loads answers journal script_is loads_are known gives = tt
 
 pub get_at : {X : Type 0} (xs all : List X) (i : ℕ) (d : X) → xs ≡ all → i < length all →
     slice_get all i ≡ Some (slice_index_or xs i d)

@@ -14,20 +14,20 @@ use Rattle.hmc_text.specs.Reading.{◌>>=◌}
 use Rattle.hmc_text.specs.InTurn.{after_lines, at_line, Numbered, IsNextLine, ReportsBy, fault_of}
 use Rattle.hmc_text.specs.declared.fault.TextFault.{TextFault}
 use Rattle.hmc_text.specs.declared.fault.TextFault.TheVariants as faults
-use Rattle.hmc_trace.specs.declared.fault.TraceKind.{TraceKind}
-use Rattle.hmc_trace.specs.declared.fault.TraceKind.TheVariants as kinds
-use Rattle.hmc_trace.specs.declared.load.Load.{Load}
+use Rattle.hmc_accesses.specs.declared.fault.TraceKind.{TraceKind}
+use Rattle.hmc_accesses.specs.declared.fault.TraceKind.TheVariants as kinds
+use Rattle.hmc_accesses.specs.declared.load.Load.{Load}
 use Rattle.hmc_trace.specs.Appending.{Appends}
-use Rattle.hmc_trace.specs.Compiled.{CompiledFields, requests_of, item_of, loads_of, with_access}
+use Rattle.hmc_accesses.specs.Compiled.{CompiledFields, requests_of, item_of, loads_of, with_access}
 use Rattle.std.specs.Borrow.{Bor}
-use Rattle.hmc_trace.specs.declared.meaning.Deed.{Deed}
-use Rattle.hmc_trace.specs.declared.meaning.Deed.TheVariants as deeds
-use Rattle.hmc_trace.specs.Deeds.{deed_access}
-use Rattle.hmc_trace.specs.Meaning.{bytes_of_digits}
+use Rattle.hmc_trace.specs.declared.meaning.Parsed.{Parsed}
+use Rattle.hmc_trace.specs.declared.meaning.Parsed.TheVariants as variants
+use Rattle.hmc_trace.specs.Parsed.{parsed_access}
+use Rattle.hmc_accesses.specs.Meaning.{bytes_of_digits}
 use Rattle.hmc_trace.specs.Making.{Made, compile_access, Compiles, make_line, made_lines}
-use Rattle.hmc_trace.specs.Requests.{load_requests, store_requests}
-use Rattle.hmc_trace.specs.Trace.{Access}
-use Rattle.hmc_trace.specs.Trace.Access.{load, store}
+use Rattle.hmc_accesses.specs.Requests.{load_requests, store_requests}
+use Rattle.hmc_accesses.specs.Trace.{Access}
+use Rattle.hmc_accesses.specs.Trace.Access.{load, store}
 
 -- an access for which there is room
 pub appended_ok : (line : ℕ) (old : CompiledFields) (script : List ItemFields) (loads : List Load)
@@ -80,19 +80,19 @@ load_noted line old script cube place size first count skip appends first_is cou
     ap (λ f. made f count skip) first_is ∙ ap (λ n. made (length old) n skip) many
     ∙ ap (made (length old) (length (load_requests cube place size))) skip_is
 
-pub stored_compiles : (line : ℕ) (a b : List ItemFields) (loads : List Load) (deed : Deed)
+pub stored_compiles : (line : ℕ) (a b : List ItemFields) (loads : List Load) (parsed : Parsed)
     (cube place : ℕ) (digits : Bor (List ℕ)) (result : Result (Unit {0}) (TextFault TraceKind)) →
-    deed ≡ deeds.Store cube place digits →
+    parsed ≡ variants.Store cube place digits →
     Appends line a (store_requests cube place (bytes_of_digits digits.now)) b result →
-    Compiles line (record { script = a; loads = loads }) (deed_access deed)
+    Compiles line (record { script = a; loads = loads }) (parsed_access parsed)
     (record { script = b; loads = loads }) result
-stored_compiles line a b loads deed cube place digits (Ok x) is appends =
-    subst (λ d. Compiles line (record { script = a; loads = loads }) (deed_access d)
+stored_compiles line a b loads parsed cube place digits (Ok x) is appends =
+    subst (λ d. Compiles line (record { script = a; loads = loads }) (parsed_access d)
     (record { script = b; loads = loads }) (Ok x)) (sym is)
     (appended_ok line (record { script = a; loads = loads }) b loads
     (store cube place (bytes_of_digits digits.now)) appends (sym (append-nil loads)))
-stored_compiles line a b loads deed cube place digits (Err e) is appends =
-    subst (λ d. Compiles line (record { script = a; loads = loads }) (deed_access d)
+stored_compiles line a b loads parsed cube place digits (Err e) is appends =
+    subst (λ d. Compiles line (record { script = a; loads = loads }) (parsed_access d)
     (record { script = b; loads = loads }) (Err e)) (sym is)
     (appended_err line (record { script = a; loads = loads }) b
     (store cube place (bytes_of_digits digits.now)) e appends)

@@ -5,7 +5,7 @@ use Rattle.std.specs.Prelude.{slice_index_or, filter, option_and_then, if◌then
 use Rattle.std.specs.List.{filter_map, slice_get, cons_option}
 use Rattle.std.proofs.lemmas.List.{drop_more, drop_all, append_assoc}
 use Rattle.hmc_trace.specs.Queues.{queue_of, IsAdded, IsMatched, first_under}
-use Rattle.hmc_trace.specs.InOrder.{gave_tag, took_answer, tagged_answer, count_tag, match_of, match_under}
+use Rattle.hmc_accesses.specs.InOrder.{gave_tag, took_answer, tagged_answer, count_tag, match_of, match_under}
 use Rattle.hmc_codes.specs.declared.answer.Answer.{Answer}
 use Rattle.hmc_entries.specs.declared.entry.Entry.{Entry}
 use Rattle.hmc_entries.specs.declared.entry.Entry.TheVariants.{Took}
@@ -26,7 +26,8 @@ took_some : (t tag : ℕ) (answer : Answer) (e : Entry) → tagged_answer e ≡ 
     took_answer t e ≡ (if tag == t then Some answer else None)
 took_some t tag answer (Took host own given) is = by (host == 0) is
   where
-    by : (b : Bool) → ◌≡◌ {A = Option (ℕ × Answer)} (if b then Some (own, given) else None) (Some (tag, answer)) →
+    by : (b : Bool) → ◌≡◌ {A = Option (ℕ × Answer)} (if b then Some (own, given) else None)
+        (Some (tag, answer)) →
         (if b && (own == t) then Some given else None) ≡ (if tag == t then Some answer else None)
     by true is =
         let pair : (own, given) ≡ (tag, answer) = cc in
@@ -66,10 +67,12 @@ pub nothing_added : (journal : List Entry) (i : ℕ) (e : Entry) (queues : List 
 nothing_added journal i e queues less at is so_far t =
     ap (λ l. queue_of queues t ++ l)
     (sym (next_mapped (took_answer t) journal i e less at
-    ∙ ap (λ o. cons_option o (filter_map (took_answer t) (drop (i + 1) journal))) (took_none t e is)))
+    ∙ ap (λ o. cons_option o (filter_map (took_answer t) (drop (i + 1) journal)))
+    (took_none t e is)))
     ∙ so_far t
 
-pub one_added : (journal : List Entry) (i : ℕ) (e : Entry) (old new : List (List Answer)) (tag : ℕ) (answer : Answer)
+pub one_added : (journal : List Entry) (i : ℕ) (e : Entry) (old new : List (List Answer)) (tag : ℕ)
+    (answer : Answer)
     → i < length journal → e ≡ slice_index_or journal i e → tagged_answer e ≡ Some (tag, answer) →
     IsAdded old new tag answer →
     ((t : ℕ) → queue_of old t ++ filter_map (took_answer t) (drop i journal)
@@ -101,7 +104,8 @@ pub record Matches {X : Type 0} (given rest : List (Option ℕ)) (took : ℕ →
       queue_of queues t ≡ drop (count_tag (take (length answers) given) t) (took t)
   pub known : (k : ℕ) → k < length answers → slice_get answers k ≡ Some (match_of given took k)
 
-pub matched_start : {X : Type 0} (given : List (Option ℕ)) (took : ℕ → List X) (queues : List (List X))
+pub matched_start : {X : Type 0} (given : List (Option ℕ)) (took : ℕ → List X)
+    (queues : List (List X))
     → ((t : ℕ) → queue_of queues t ≡ took t) → Matches given given took queues []
 matched_start given took queues same = record {
   rest_is = refl;
@@ -153,9 +157,12 @@ count_more (other ∷ tags) tag t = by (same_tag other t) (same_tag tag t) (coun
   where
     by : (a b : Bool) →
         count_tag (tags ++ tag ∷ []) t ≡ (if b then suc (count_tag tags t) else count_tag tags t) →
-        length (if a then other ∷ filter (λ o. same_tag o t) (tags ++ tag ∷ []) else filter (λ o. same_tag o t) (tags ++ tag ∷ []))
-        ≡ (if b then suc (length (if a then other ∷ filter (λ o. same_tag o t) tags else filter (λ o. same_tag o t) tags))
-        else length (if a then other ∷ filter (λ o. same_tag o t) tags else filter (λ o. same_tag o t) tags))
+        length (if a then other ∷ filter (λ o. same_tag o t) (tags ++ tag ∷ []) else filter (λ o.
+        same_tag o t) (tags ++ tag ∷ []))
+        ≡ (if b then suc (length (if a then other ∷ filter (λ o. same_tag o t) tags else
+        filter (λ o. same_tag o t) tags))
+        else length (if a then other ∷ filter (λ o. same_tag o t) tags else filter (λ o.
+        same_tag o t) tags))
     by true true is = ap suc is
     by true false is = ap suc is
     by false true is = is
@@ -178,7 +185,8 @@ get_past (y ∷ xs) (suc k) most = get_past xs k (omega arith)
 
 -- one request more has its answer
 pub matched_one : {X : Type 0} (given rest : List (Option ℕ)) (took : ℕ → List X)
-    (queues queues' : List (List X)) (answers : List (Option X)) (tag : Option ℕ) (answer : Option X)
+    (queues queues' : List (List X)) (answers : List (Option X)) (tag : Option ℕ)
+    (answer : Option X)
     → Matches given (tag ∷ rest) took queues answers → answer ≡ first_under queues tag →
     IsMatched queues queues' tag → Matches given rest took queues' (answers ++ answer ∷ [])
 matched_one {X = X} given rest took queues queues' answers tag answer matches first moved = record {
@@ -199,13 +207,16 @@ matched_one {X = X} given rest took queues queues' answers tag answer matches fi
         ∙ count_more (take n given) tag t
 
     after : (o : Option ℕ) (t : ℕ) → IsMatched queues queues' o → queue_of queues' t
-        ≡ drop (if same_tag o t then suc (count_tag (take n given) t) else count_tag (take n given) t) (took t)
+        ≡ drop (if same_tag o t then suc (count_tag (take n given) t) else count_tag (take n given)
+        t) (took t)
     after None t moved = moved t ∙ matches.queues_are t
     after (Some own) t moved = moved t ∙ by (own == t)
       where
         by : (b : Bool) → (if b then drop 1 (queue_of queues t) else queue_of queues t)
-            ≡ drop (if b then suc (count_tag (take n given) t) else count_tag (take n given) t) (took t)
-        by true = ap (drop 1) (matches.queues_are t) ∙ drop_one (took t) (count_tag (take n given) t)
+            ≡ drop (if b then suc (count_tag (take n given) t) else count_tag (take n given) t)
+            (took t)
+        by true = ap (drop 1) (matches.queues_are t)
+            ∙ drop_one (took t) (count_tag (take n given) t)
         by false = matches.queues_are t
 
     queue : (t : ℕ) → queue_of queues' t ≡ drop (count_tag (take (suc n) given) t) (took t)
@@ -218,7 +229,8 @@ matched_one {X = X} given rest took queues queues' answers tag answer matches fi
 
     is_match : answer ≡ match_of given took n
     is_match = first ∙ found tag
-        ∙ ap (option_and_then (match_under given took n)) (sym (first_left given rest n tag matches.rest_is))
+        ∙ ap (option_and_then (match_under given took n))
+        (sym (first_left given rest n tag matches.rest_is))
 
     known_at : (k : ℕ) → k < length (answers ++ answer ∷ []) → (k < n) ⊎ (n ≤ k) →
         slice_get (answers ++ answer ∷ []) k ≡ Some (match_of given took k)
@@ -234,16 +246,19 @@ past_all (x ∷ xs) zero is = absurd (cc)
 past_all (x ∷ xs) (suc n) is = let more = past_all xs n is in omega arith
 
 -- all requests have theirs
-pub matched_all : {X : Type 0} (given : List (Option ℕ)) (took : ℕ → List X) (queues : List (List X))
+pub matched_all : {X : Type 0} (given : List (Option ℕ)) (took : ℕ → List X)
+    (queues : List (List X))
     (answers : List (Option X)) → Matches given [] took queues answers → (n : ℕ) →
     option_and_then (λ found. found) (slice_get answers n) ≡ match_of given took n
 matched_all {X = X} given took queues answers matches n = by (nat_lt n (length answers)) refl
   where
     by : (b : Bool) → nat_lt n (length answers) ≡ b →
         option_and_then (λ found. found) (slice_get answers n) ≡ match_of given took n
-    by true is = ap (option_and_then (λ found. found)) (matches.known n (ltb-true n (length answers) is))
+    by true is = ap (option_and_then (λ found. found))
+        (matches.known n (ltb-true n (length answers) is))
     by false is =
         let most : length answers ≤ n = ltb-false n (length answers) is in
         let all = past_all given (length answers) matches.rest_is in
         ap (option_and_then (λ found. found)) (get_past answers n most)
-        ∙ sym (ap (option_and_then (match_under given took n)) (get_past given n (omega (arith, all, most))))
+        ∙ sym (ap (option_and_then (match_under given took n))
+        (get_past given n (omega (arith, all, most))))

@@ -11,17 +11,17 @@ use Rattle.hmc_journal.specs.Setup.{Setup, shapes_of}
 use Rattle.hmc_text.specs.InTurn.{Answers}
 use Rattle.hmc_text.specs.Reading.{◌>>=◌}
 use Rattle.hmc_text.specs.declared.fault.TextFault.{TextFault}
-use Rattle.hmc_trace.specs.declared.fault.TraceKind.{TraceKind}
-use Rattle.hmc_trace.specs.declared.load.Load.{Load}
-use Rattle.hmc_trace.specs.Compiled.{CompiledFields, compiled_of}
-use Rattle.hmc_trace.specs.Laws.{IsPerformed}
-use Rattle.hmc_trace.specs.Text.{trace_of, compiled_text}
-use Rattle.hmc_trace.specs.Trace.{Trace, IsTrace, loaded}
-use Rattle.hmc_trace.specs.Value.{value_in}
-use Rattle.hmc_trace.proofs.Drained.{all_are_loaded}
-use Rattle.hmc_trace.proofs.Loaded.{values_are_loaded}
-use Rattle.hmc_trace.proofs.Performed.{is_performed}
-use Rattle.hmc_trace.proofs.Sound.{trace_kept}
+use Rattle.hmc_accesses.specs.declared.fault.TraceKind.{TraceKind}
+use Rattle.hmc_accesses.specs.declared.load.Load.{Load}
+use Rattle.hmc_accesses.specs.Compiled.{CompiledFields, compiled_of}
+use Rattle.hmc_accesses.specs.Laws.{IsPerformed}
+use Rattle.hmc_accesses.specs.Text.{trace_of, compiled_text}
+use Rattle.hmc_accesses.specs.Trace.{Trace, IsTrace, loaded}
+use Rattle.hmc_accesses.specs.Value.{value_in}
+use Rattle.hmc_accesses.proofs.Drained.{all_are_loaded}
+use Rattle.hmc_accesses.proofs.Loaded.{values_are_loaded}
+use Rattle.hmc_accesses.proofs.Performed.{is_performed}
+use Rattle.hmc_accesses.proofs.Sound.{trace_kept}
 use Rattle.hmc_units.specs.Unit.{UnitFields}
 
 -- the text compiles to its trace
@@ -55,27 +55,29 @@ pub loaded_by : {V E : Type 0} (items : V → List ℕ) (result : Result (Option
     Lawful setup (reverse journal) → shapes_of setup.topology ≡ trace.cubes →
     setup.script ≡ compiled.script
     → IfOk result (λ found. IfSome found (λ b. slice_get (loaded trace) i ≡ Some (items b)))
-loaded_by items (Ok (Some b)) compiled journal i own trace setup at told is same network lawful
+loaded_by items (Ok (Some b)) compiled journal i own trace setup at gives is same network lawful
     cubes script =
     values_are_loaded trace setup (reverse journal) is network lawful cubes (script
     ∙ ap (λ c. c.script) same) i own (items b)
     (ap (λ c. slice_get c.loads i) (sym same) ∙ at) (ap (λ c. value_in c (reverse journal) own)
-    (sym same) ∙ sym (told own at))
-loaded_by items (Ok None) compiled journal i own trace setup at told is same network lawful cubes
+    (sym same) ∙ sym (gives own at))
+loaded_by items (Ok None) compiled journal i own trace setup at gives is same network lawful cubes
     script = tt
-loaded_by items (Err e) compiled journal i own trace setup at told is same network lawful cubes
+loaded_by items (Err e) compiled journal i own trace setup at gives is same network lawful cubes
     script = tt
 
 pub all_loaded_by : {V E : Type 0} (shown : V → List (Option (List ℕ))) (result : Result V E)
     (compiled : CompiledFields) (journal : List Entry) (trace : Trace) (setup : Setup) →
     IfOk result (λ v. shown v ≡ map (value_in compiled (reverse journal)) compiled.loads) →
-    IsTrace trace → compiled ≡ compiled_of trace → IsNetwork setup → Lawful setup (reverse journal) →
-    shapes_of setup.topology ≡ trace.cubes → setup.script ≡ compiled.script →
+    IsTrace trace → compiled ≡ compiled_of trace → IsNetwork setup → Lawful setup (reverse journal)
+    → shapes_of setup.topology ≡ trace.cubes → setup.script ≡ compiled.script →
     length (given_by 0 (reverse journal)) ≡ length setup.script →
     is_drained setup.topology (reverse journal) ≡ true →
     IfOk result (λ v. shown v ≡ map Some (loaded trace))
-all_loaded_by shown (Ok v) compiled journal trace setup told is same network lawful cubes script given drained =
-    told ∙ ap (λ c. map (value_in c (reverse journal)) c.loads) same
+all_loaded_by shown (Ok v) compiled journal trace setup gives is same network lawful cubes script
+    given drained =
+    gives ∙ ap (λ c. map (value_in c (reverse journal)) c.loads) same
     ∙ all_are_loaded trace setup (reverse journal) is network lawful cubes
     (script ∙ ap (λ c. c.script) same) given drained
-all_loaded_by shown (Err e) compiled journal trace setup told is same network lawful cubes script given drained = tt
+all_loaded_by shown (Err e) compiled journal trace setup gives is same network lawful cubes script
+    given drained = tt

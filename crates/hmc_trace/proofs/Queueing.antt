@@ -33,7 +33,8 @@ set_to view f xs i x less is t = by (i == t) refl
         let same = eqb-true i t here in
         ap (queue_of (map view (slice_set xs i x))) (sym same) ∙ set_here view xs i x less ∙ is
         ∙ ap (λ k. f (queue_of (map view xs) k)) same
-    by false here = set_apart view xs i x t (λ same. let wrong = eq-eqb i t (sym same) in absurd (cc))
+    by false here = set_apart view xs i x t (λ same. let wrong = eq-eqb i t (sym same) in
+        absurd (cc))
 
 -- an empty queue more
 pub one_more : {X Y : Type 0} (view : X → List Y) (xs : List X) (x : X) → view x ≡ [] → (t : ℕ) →
@@ -50,7 +51,8 @@ queue_at view [] i x d less is = absurd (omega arith)
 queue_at view (y ∷ xs) zero x d less is = ap view (sym is)
 queue_at view (y ∷ xs) (suc i) x d less is = queue_at view xs i x d (omega arith) is
 
-pub is_taken_out : {X Y : Type 0} (view : X → List Y) (old : List (List Y)) (xs : List X) (i tag : ℕ)
+pub is_taken_out : {X Y : Type 0} (view : X → List Y) (old : List (List Y)) (xs : List X)
+    (i tag : ℕ)
     (x was : X) → old ≡ map view xs → i ≡ tag → i < length xs → was ≡ slice_index_or xs i was →
     view x ≡ drop 1 (view was) → IsTakenOut old (map view (slice_set xs i x)) tag
 is_taken_out view old xs i tag x was seen same less is rest t =
@@ -59,10 +61,13 @@ is_taken_out view old xs i tag x was seen same less is rest t =
     ∙ ap (λ o. if tag == t then drop 1 (queue_of o t) else queue_of o t) (sym seen)
   where
     here : view x ≡ drop 1 (queue_of (map view xs) tag)
-    here = rest ∙ ap (drop 1) (sym (queue_at view xs i was was less is) ∙ ap (queue_of (map view xs)) same)
+    here = rest ∙ ap (drop 1) (sym (queue_at view xs i was was less is)
+        ∙ ap (queue_of (map view xs)) same)
 
-pub is_added : {X Y T E : Type 0} (view : X → List Y) (result : Result T E) (old seen : List (List Y))
-    (xs : List X) (i tag : ℕ) (x was : X) (answer : Y) → ((t : ℕ) → queue_of seen t ≡ queue_of old t)
+pub is_added : {X Y T E : Type 0} (view : X → List Y) (result : Result T E)
+    (old seen : List (List Y))
+    (xs : List X) (i tag : ℕ) (x was : X) (answer : Y) →
+    ((t : ℕ) → queue_of seen t ≡ queue_of old t)
     → seen ≡ map view xs → i ≡ tag → tag < length seen → was ≡ slice_index_or xs i was →
     OnOk result (view x ≡ view was ++ answer ∷ []) →
     OnOk result (IsAdded old (map view (slice_set xs i x)) tag answer)
@@ -77,4 +82,6 @@ is_added view (Ok done) old seen xs i tag x was answer kept shows same there is 
     less = subst (λ n. tag < n) (ap length shows ∙ length-map xs view) there
 
     here : view x ≡ queue_of (map view xs) tag ++ answer ∷ []
-    here = more ∙ ap (λ l. l ++ answer ∷ []) (sym (queue_at view xs i was was (subst (λ k. k < length xs) (sym same) less) is) ∙ ap (queue_of (map view xs)) same)
+    here = more ∙ ap (λ l. l ++ answer ∷ [])
+        (sym (queue_at view xs i was was (subst (λ k. k < length xs) (sym same) less) is)
+        ∙ ap (queue_of (map view xs)) same)

@@ -5,18 +5,19 @@ use Rattle.std.specs.List.{range_with_len}
 use Rattle.std.proofs.lemmas.List.{ext_get_or, get_or-take, get_or-drop, get_or_append_left, get_or-append_right, length-append}
 use Rattle.std.proofs.lemmas.List.FromFn.{length-map-range_with_len, get_or-map-range_with_len}
 use Rattle.hmc_serial.proofs.AnswerLemmas.{length-range}
-use Rattle.hmc_trace.proofs.Storing.{half_request}
+use Rattle.hmc_accesses.proofs.Storing.{half_request}
 use Rattle.std.proofs.lemmas.Bool.{eq-eqb, ne_eqb, lt-ltb, le-ltb, cases_lt}
 use Rattle.hmc_codes.specs.Request.{RequestFields, IsRequest}
 use Rattle.hmc_codes.specs.declared.command.Command.TheVariants as commands
 use Rattle.hmc_script.specs.Items.{ItemFields}
 use Rattle.hmc_text.specs.declared.fault.TextFault.{TextFault}
-use Rattle.hmc_trace.specs.declared.fault.TraceKind.{TraceKind}
+use Rattle.hmc_accesses.specs.declared.fault.TraceKind.{TraceKind}
 use Rattle.hmc_trace.specs.Appending.{Appends, IsPart}
 use Rattle.hmc_trace.proofs.Appending.{appends_none, appends_more, appends_less}
-use Rattle.hmc_trace.specs.Requests.{Span, read_at, write_at, bytes_from, masked_byte, mask_byte, masked_bytes, masked_half, run_of, cut_run}
-use Rattle.hmc_trace.proofs.Sizes.{IsSize, few, whole}
-use Rattle.hmc_trace.proofs.Valid.{read_is, write_is, half_is}
+use Rattle.hmc_accesses.specs.declared.span.Span.{Span}
+use Rattle.hmc_accesses.specs.Requests.{read_at, write_at, bytes_from, masked_byte, mask_byte, masked_bytes, masked_half, run_of, cut_run}
+use Rattle.hmc_accesses.proofs.Sizes.{IsSize, few, whole}
+use Rattle.hmc_accesses.proofs.Valid.{read_is, write_is}
 
 pub part_size : (blocks : ℕ) → IsPart blocks → IsSize blocks
 part_size blocks part = elim part.1 as (λ _. IsSize blocks) [
@@ -105,12 +106,6 @@ pub write_part : (cube place : ℕ) (bytes : List ℕ) (address blocks : ℕ) �
 write_part cube place bytes address blocks small part less below =
     write_is cube place bytes address blocks (λ a. small (a - place)) (part_size blocks part) less
     below
-
-pub half_part : (cube place : ℕ) (bytes : List ℕ) (span : Span) (half : ℕ) →
-    ((k : ℕ) → slice_index bytes k < 256) → cube < 8 → half < 2 ^ 34 →
-    IsRequest (half_request cube place bytes span half)
-half_part cube place bytes span half small less below =
-    half_is cube place bytes span half (λ a. small (a - place)) less below
 
 -- the bytes from an address on
 pub part_bytes : (place : ℕ) (bytes : List ℕ) (address size : ℕ) → place ≤ address →

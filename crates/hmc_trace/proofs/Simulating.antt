@@ -10,13 +10,13 @@ use Rattle.hmc_text.specs.InTurn.{after_lines, at_line, next_number}
 use Rattle.hmc_text.specs.Lines.{lines_of}
 use Rattle.hmc_text.specs.Reading.{◌>>=◌}
 use Rattle.hmc_text.specs.Words.{words_of, is_passed_over}
-use Rattle.hmc_trace.specs.declared.fault.TraceKind.{TraceKind}
-use Rattle.hmc_trace.specs.declared.fault.TraceKind.TheVariants as kinds
-use Rattle.hmc_trace.specs.Compiled.{CompiledFields, requests_of, with_access, nothing_compiled, compiled_after, compiled_of}
-use Rattle.hmc_trace.specs.Making.{Made, nothing_made, compile_access, make_cube, make_access, make_access_line, make_statement, make_line, made_lines, made_text}
-use Rattle.hmc_trace.specs.Meaning.{access_of}
-use Rattle.hmc_trace.specs.Text.{nothing_yet, total, cube_of, has_begun, cube_line, add_access, access_line, statement, after_line, with_cubes, trace_of, compiled_text}
-use Rattle.hmc_trace.specs.Trace.{Access, Trace}
+use Rattle.hmc_accesses.specs.declared.fault.TraceKind.{TraceKind}
+use Rattle.hmc_accesses.specs.declared.fault.TraceKind.TheVariants as kinds
+use Rattle.hmc_accesses.specs.Compiled.{CompiledFields, requests_of, with_access, nothing_compiled, compiled_after, compiled_of}
+use Rattle.hmc_trace.specs.Making.{Made, nothing_made, compile_access, make_cube, make_access, make_from_line, make_statement, make_line, made_lines, made_text}
+use Rattle.hmc_accesses.specs.Meaning.{access_of}
+use Rattle.hmc_accesses.specs.Text.{nothing_yet, total, cube_of, has_begun, cube_line, add_access, access_line, statement, after_line, with_cubes, trace_of, compiled_text}
+use Rattle.hmc_accesses.specs.Trace.{Access, Trace}
 
 -- what a trace makes
 abbrev made_by : Trace → Made
@@ -97,9 +97,9 @@ sim_access trace access =
         (sym (more_compiled trace access))
     by_test false = refl
 
-sim_access_line : (trace : Trace) (words : List (List ℕ)) → make_access_line (made_by trace) words
+sim_access_line : (trace : Trace) (words : List (List ℕ)) → make_from_line (made_by trace) words
     ≡ made_result (access_line trace words)
-unfolding make_access_line access_line
+unfolding make_from_line access_line
 sim_access_line trace words = by_access (access_of trace.cubes words)
   where
     by_access : (access : Result Access TraceKind) → (access >>= make_access (made_by trace))
@@ -113,7 +113,7 @@ unfolding make_statement statement
 sim_statement trace [] = refl
 sim_statement trace (word ∷ words) =
     elim (bytes_eq word (codes "cube")) as (λ b.
-    (if b then make_cube (made_by trace) words else make_access_line (made_by trace)
+    (if b then make_cube (made_by trace) words else make_from_line (made_by trace)
     (word ∷ words)) ≡ made_result (if b then cube_line trace words else access_line trace
     (word ∷ words))) [
       | true ↦ sim_cube trace words

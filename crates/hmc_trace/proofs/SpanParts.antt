@@ -3,9 +3,10 @@ use Rattle.std.proofs.Common.{◌≡◌, ◌∙◌, ◌-◌, ◌/◌, ℕ, List,
 use Rattle.hmc_codes.specs.Request.{RequestFields}
 use Rattle.hmc_script.specs.Items.{ItemFields}
 use Rattle.hmc_text.specs.declared.fault.TextFault.{TextFault}
-use Rattle.hmc_trace.specs.declared.fault.TraceKind.{TraceKind}
+use Rattle.hmc_accesses.specs.declared.fault.TraceKind.{TraceKind}
 use Rattle.hmc_trace.specs.Appending.{Appends}
-use Rattle.hmc_trace.specs.Requests.{Span, run_of, cut_run, write_at, masked_span, write_span, store_span, head_end, tail_start}
+use Rattle.hmc_accesses.specs.declared.span.Span.{Span}
+use Rattle.hmc_accesses.specs.Requests.{run_of, cut_run, write_at, masked_span, write_span, store_span, head_end, tail_start}
 use Rattle.hmc_trace.proofs.Appending.{appends_more, appends_less}
 
 abbrev parts_at : (cube place : ℕ) → (bytes : List ℕ) → Span → (head tail : ℕ) → List RequestFields

@@ -1,15 +1,5 @@
-pub mod Kind
-pub mod Line
-pub mod Trace
-pub mod Requests
-pub mod Compiled
-pub mod Meaning
-pub mod Text
-pub mod Value
-pub mod Serial
-pub mod Laws
 pub mod Appending
-pub mod Deeds
+pub mod Line
 pub mod Making
-pub mod InOrder
+pub mod Parsed
 pub mod Queues

@@ -2,8 +2,8 @@
 use Rattle.std.specs.Prelude.{ℕ, List, [], ◌∷◌, codes}
 use Rattle.std.specs.Fmt.{decimal}
 use Rattle.hmc_codes.specs.Text.{line}
-use Rattle.hmc_trace.specs.declared.fault.TraceKind.{TraceKind}
-use Rattle.hmc_trace.specs.Kind.{kind_word}
+use Rattle.hmc_accesses.specs.declared.fault.TraceKind.{TraceKind}
+use Rattle.hmc_accesses.specs.Kind.{kind_word}
 
 -- the line of the trace, and what is wrong there
 unfoldable pub bad_line : ℕ × TraceKind → List ℕ

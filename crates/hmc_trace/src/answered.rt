@@ -1,9 +1,9 @@
-//! The answers to the requests of host 0, by a journal: one pass over its entries finds the answers,
-//! and one the requests.
+//! The answers to the requests of host 0, by a journal: one pass over its entries finds the
+//! answers, and one the requests.
 
 ghost use Rattle.std.specs.Prelude.{ℕ, ◌≡◌, IfOk};
 ghost use Rattle.std.specs.List.{filter_map};
-ghost use Rattle.hmc_trace.specs.InOrder.{gave_tag, tagged_answer, took_answer, answer_in_order, known_answer};
+ghost use Rattle.hmc_accesses.specs.InOrder.{gave_tag, tagged_answer, took_answer, answer_in_order, known_answer};
 ghost use Rattle.hmc_trace.specs.Queues.{queue_of, first_under, IsMatched};
 
 use crate::append::append;

@@ -6,20 +6,20 @@ ghost use Rattle.hmc_codes.specs.Shape.{capacity_of};
 ghost use Rattle.hmc_text.specs.InTurn.{at_line, Answers};
 ghost use Rattle.hmc_text.specs.Words.{words_of};
 ghost use Rattle.hmc_trace.specs.Appending.{Appends};
-ghost use Rattle.hmc_trace.specs.Deeds.{deed_access, IsDeedIn, IsSmallDeed, AreDigits};
-ghost use Rattle.hmc_trace.specs.Making.{made_of, IsProgress, make_cube, make_access, make_access_line, make_line, make_statement, made_lines, made_text, Compiles};
-ghost use Rattle.hmc_trace.specs.Meaning.{bytes_of_digits};
-ghost use Rattle.hmc_trace.specs.Requests.{store_requests};
-ghost use Rattle.hmc_trace.specs.Text.{cube_of, trace_of, compiled_text};
-ghost use Rattle.hmc_trace.specs.Laws.{IsPerformed};
-ghost use Rattle.hmc_trace.specs.Trace.{Trace};
+ghost use Rattle.hmc_trace.specs.Parsed.{parsed_access, IsParsedIn, IsSmallParsed, AreDigits};
+ghost use Rattle.hmc_trace.specs.Making.{made_of, IsProgress, make_cube, make_access, make_from_line, make_line, make_statement, made_lines, made_text, Compiles};
+ghost use Rattle.hmc_accesses.specs.Meaning.{bytes_of_digits};
+ghost use Rattle.hmc_accesses.specs.Requests.{store_requests};
+ghost use Rattle.hmc_accesses.specs.Text.{cube_of, trace_of, compiled_text};
+ghost use Rattle.hmc_accesses.specs.Laws.{IsPerformed};
+ghost use Rattle.hmc_accesses.specs.Trace.{Trace};
 ghost use Rattle.hmc_units.specs.Unit.{UnitFields};
-ghost use Rattle.hmc_trace.specs.Trace.Access.{load};
+ghost use Rattle.hmc_accesses.specs.Trace.Access.{load};
 
 use crate::append::append;
-use crate::meaning::{Deed, MOST, access_of, shape_of};
-use crate::requests::{add_load, add_store};
-use crate::{Load, TraceFault, TraceKind};
+use crate::meaning::{MOST, Parsed, access_of, shape_of};
+use crate::requests::{Stored, add_load, add_store};
+use hmc_accesses::{Load, TraceFault, TraceKind};
 use hmc_codes::{Memory, Shape};
 use hmc_script::Script;
 use hmc_text::lines::Lines;
@@ -43,7 +43,7 @@ pub struct Progress {
 }
 
 // The shape of one more cube.
-#[tactic(auto, unfolding(crate::specs::Text::cube_of))]
+#[tactic(auto, unfolding(hmc_accesses::specs::Text::cube_of))]
 fn next_cube(begun: bool, cubes: usize, bytes: u64, line: &[u8]) -> Result<Shape, TraceKind>
     requires most { bytes ≤ most_memory }
     ensures value { result ≡ cube_of begun cubes bytes (words_of line.now) }
@@ -104,7 +104,8 @@ fn add_stored(
     let bytes = &mut buffer[..digits.len() / 2];
     let decoded = hex::decode_to_slice(digits, bytes);
     prove!(decoded.is_ok());
-    add_store(script, number, cube, place, bytes)
+    let stored = Stored { cube, place, bytes };
+    add_store(script, number, &stored)
 }
 
 // A load: its requests, and where they are.
@@ -143,31 +144,37 @@ fn perform(
     script: &mut Script,
     loads: &mut Vec<Load>,
     number: u32,
-    deed: &Deed,
+    parsed: &Parsed,
 ) -> Result<(), TraceFault>
-    requires { IsSmallDeed deed.now }
+    requires { IsSmallParsed parsed.now }
     ensures { Compiles number (record { script = script.old; loads = loads.old.items })
-        (deed_access deed.now) (record { script = script.new; loads = loads.new.items }) result }
+        (parsed_access parsed.now) (record { script = script.new; loads = loads.new.items })
+        result }
 {
-    match deed {
-        Deed::Load(cube, place, length) => add_loaded(
+    match parsed {
+        Parsed::Load(cube, place, length) => add_loaded(
             script, loads, number, *cube, *place, *length,
         ),
-        Deed::Store(cube, place, digits) => add_stored(script, number, *cube, *place, digits),
+        Parsed::Store(cube, place, digits) => add_stored(script, number, *cube, *place, digits),
     }
 }
 
 // The load or store of a line is added.
-#[tactic(auto, unfolding(crate::specs::Making::make_access_line, crate::specs::Making::make_access))]
+#[tactic(auto, unfolding(crate::specs::Making::make_from_line, crate::specs::Making::make_access))]
 fn access_line(progress: &mut Progress, number: u32, line: &[u8]) -> Result<(), TraceFault>
     requires { IsProgress progress.old }
     ensures value { Answers (λ _. made_of progress.new) result
-        (at_line number (make_access_line (made_of progress.old) (words_of line.now))) }
+        (at_line number (make_from_line (made_of progress.old) (words_of line.now))) }
     ensures kept { OnOk result (IsProgress progress.new) }
 {
     match access_of(&progress.cubes, line) {
-        Ok(deed) => {
-            if let Err(fault) = perform(&mut progress.script, &mut progress.loads, number, &deed) {
+        Ok(parsed) => {
+            if let Err(fault) = perform(
+                &mut progress.script,
+                &mut progress.loads,
+                number,
+                &parsed,
+            ) {
                 return Err(fault);
             }
             progress.begun = true;
@@ -218,7 +225,7 @@ pub struct Compiled {
 }
 
 impl Model for Compiled {
-    ghost use Rattle.hmc_trace.specs.Compiled.{CompiledFields};
+    ghost use Rattle.hmc_accesses.specs.Compiled.{CompiledFields};
 
     ghost Value = { CompiledFields };
 

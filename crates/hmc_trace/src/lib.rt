@@ -1,13 +1,12 @@
-//! Byte traces.
+//! Traces of loads and stores: the script that performs a trace, and the values of its loads.
+//!
+//! What a trace means, and the laws that the contracts here rest on, are in hmc_accesses.
 #![tactic(auto)]
 
 mod answered;
 mod append;
 mod compiled;
-mod fault;
-mod laws;
 mod line;
-mod load;
 mod loaded_value;
 mod meaning;
 mod queues;
@@ -16,8 +15,9 @@ mod requests;
 mod words;
 
 pub use compiled::{Compiled, compile};
-pub use fault::{TraceFault, TraceKind};
-pub use laws::{all_are_loaded, compiled_is_performed, read_is_trace, values_are_loaded};
+pub use hmc_accesses::{
+    Load, TraceFault, TraceKind, all_are_loaded, compiled_is_performed, read_is_trace,
+    values_are_loaded,
+};
 pub use line::{bad_line, item_line, no_text_line};
-pub use load::Load;
 pub use loaded_value::{value, values};

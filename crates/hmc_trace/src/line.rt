@@ -4,7 +4,7 @@ ghost use Rattle.std.specs.Prelude.{◌≡◌, ◌++◌, ◌+◌, ◌≤◌, ◌
 ghost use Rattle.hmc_script.specs.Text.{fence_text, request_line, item_text};
 ghost use Rattle.hmc_trace.specs.Line.{bad_line, no_text_line};
 
-use crate::TraceKind;
+use hmc_accesses::TraceKind;
 use hmc_codes::{LineText, Request, append_decimal, append_spaced};
 use hmc_script::Item;
 

@@ -1,21 +1,22 @@
 //! The values of loads.
 
 ghost use Rattle.std.specs.Prelude.{◌≡◌, ◌<◌, ◌≤◌, ◌+◌, ◌^◌, true, [], ◌++◌, length, map, take, drop, reverse, slice_get, Some, IfSome, IfOk, OnOk, option_map, option_and_then};
-ghost use Rattle.hmc_trace.specs.declared.load.Load.{Load};
+ghost use Rattle.hmc_accesses.specs.declared.load.Load.{Load};
 ghost use Rattle.hmc_journal.specs.Lawful.{Lawful};
 ghost use Rattle.hmc_journal.specs.Network.{IsNetwork};
 ghost use Rattle.hmc_journal.specs.Setup.{Setup, shapes_of};
-ghost use Rattle.hmc_trace.specs.Compiled.{compiled_of};
+ghost use Rattle.hmc_accesses.specs.Compiled.{compiled_of};
 ghost use Rattle.hmc_journal.specs.Drained.{is_drained};
 ghost use Rattle.hmc_journal.specs.Filters.{given_by};
-ghost use Rattle.hmc_trace.specs.InOrder.{known_answer};
-ghost use Rattle.hmc_trace.specs.Trace.{Trace, IsTrace, loaded};
-ghost use Rattle.hmc_trace.specs.Value.{bytes_at, joined, cut, load_value, value_in};
+ghost use Rattle.hmc_accesses.specs.InOrder.{known_answer};
+ghost use Rattle.hmc_accesses.specs.Trace.{Trace, IsTrace, loaded};
+ghost use Rattle.hmc_accesses.specs.Value.{bytes_at, joined, cut, load_value, value_in};
 
+use crate::Compiled;
 use crate::answered::answers_in;
 use crate::append::append;
 use crate::read_bytes::bytes_at;
-use crate::{Compiled, Load};
+use hmc_accesses::Load;
 use hmc_codes::{Answer, Memory};
 use hmc_entries::Entry;
 use hmc_script::Script;
@@ -78,7 +79,7 @@ fn cut(alloc: Global, load: Load, bytes: &[u8]) -> Result<Vec<u8>, Memory>
 }
 
 // The value of a load, by the answers to the requests of the script.
-#[tactic(auto, unfolding(crate::specs::Value::load_value))]
+#[tactic(auto, unfolding(hmc_accesses::specs::Value::load_value))]
 fn value_of(
     alloc: Global,
     script: &Script,
@@ -113,8 +114,8 @@ pub fn value(
         slice_get compiled.now.loads load ≡ Some own →
         option_map (λ b. b.items) bytes ≡ value_in compiled.now (reverse journal.now) own) }
 
-    // Where the journal is a lawful one of a network of the trace's cubes, in which host 0 asks what
-    // the script says, and the value is known, it is that of the trace.
+    // Where the journal is a lawful one of a network of the trace's cubes, in which host 0 asks
+    // what the script says, and the value is known, it is that of the trace.
     ensures loaded { (trace : Trace) (setup : Setup) → IsTrace trace →
         compiled.now ≡ compiled_of trace → IsNetwork setup →
         Lawful setup (reverse journal.now) → shapes_of setup.topology ≡ trace.cubes →
@@ -150,8 +151,8 @@ fn values_of(
     Ok(values)
 }
 
-/// The values of all loads, in the order of the trace: what `value` gives for each, in one pass over
-/// the journal.
+/// The values of all loads, in the order of the trace: what `value` gives for each, in one pass
+/// over the journal.
 pub fn values(
     alloc: Global,
     compiled: &Compiled,
@@ -161,9 +162,9 @@ pub fn values(
         map (λ found. option_map (λ b. b.items) found) values.items
         ≡ map (value_in compiled.now (reverse journal.now)) compiled.now.loads) }
 
-    // Where the journal is a lawful one of a network of the trace's cubes, in which host 0 asks what
-    // the script says: once host 0 gave all requests and the network is drained, each value is known,
-    // and they are those of the trace.
+    // Where the journal is a lawful one of a network of the trace's cubes, in which host 0 asks
+    // what the script says: once host 0 gave all requests and the network is drained, each value is
+    // known, and they are those of the trace.
     ensures loaded { (trace : Trace) (setup : Setup) → IsTrace trace →
         compiled.now ≡ compiled_of trace → IsNetwork setup →
         Lawful setup (reverse journal.now) → shapes_of setup.topology ≡ trace.cubes →

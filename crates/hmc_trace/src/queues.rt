@@ -10,7 +10,8 @@ use std::alloc::Global;
 use std::collections::VecDeque;
 use std::marker::Model;
 
-/// Queues of answers. The queue of a tag is at the place of its number; contracts see them as lists.
+/// Queues of answers. The queue of a tag is at the place of its number; contracts see them as
+/// lists.
 #[derive(Drop)]
 pub struct Queues {
     queues: Vec<VecDeque<Answer>>,

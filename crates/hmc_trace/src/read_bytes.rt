@@ -2,8 +2,8 @@
 
 ghost use Rattle.std.specs.Prelude.{◌≡◌};
 ghost use Rattle.hmc_serial.specs.Actions.{action_of};
-ghost use Rattle.hmc_trace.specs.InOrder.{known_answer};
-ghost use Rattle.hmc_trace.specs.Value.{read_bytes, size_by, bytes_at};
+ghost use Rattle.hmc_accesses.specs.InOrder.{known_answer};
+ghost use Rattle.hmc_accesses.specs.Value.{read_bytes, size_by, bytes_at};
 
 use hmc_codes::{Answer, Command, Payload};
 use hmc_script::Script;

@@ -1,7 +1,7 @@
 -- Request by request.
 use Rattle.std.proofs.Common.{◌+◌, ℕ, drop, sym, subst}
 use Rattle.std.specs.List.{filter_map}
-use Rattle.hmc_trace.specs.InOrder.{gave_tag, took_answer}
+use Rattle.hmc_accesses.specs.InOrder.{gave_tag, took_answer}
 use Rattle.hmc_trace.proofs.Matching.{Matches, matched_one, matched_all, next_given, none_left}
 use Rattle.hmc_trace.proofs.answered.answers_in.Goals as goal
 
@@ -15,7 +15,8 @@ entries-preserved c =
     c.in-Some.tag c.entries-test.true c.entry-item.is c.gave_tag.ensures c.in-Some.is in
     let before = subst (λ l. Matches given l took c.entries.queues c.entries.answers.items) next
     c.entries.invariant in
-    subst (Matches given rest took c.next_answer-answer.new.queues) (sym c.in_default-append.ensures)
+    subst (Matches given rest took c.next_answer-answer.new.queues)
+    (sym c.in_default-append.ensures)
     (matched_one given rest took c.entries.queues c.next_answer-answer.new.queues
     c.entries.answers.items c.in-Some.tag c.next_answer-answer.result before
     c.next_answer-answer.ensures.value c.next_answer-answer.ensures.rest)

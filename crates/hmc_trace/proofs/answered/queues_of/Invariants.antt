@@ -2,7 +2,7 @@
 use Rattle.std.proofs.Common.{ℕ, ◌≡◌, ◌++◌, drop}
 use Rattle.std.specs.List.{filter_map}
 use Rattle.hmc_trace.specs.Queues.{queue_of}
-use Rattle.hmc_trace.specs.InOrder.{took_answer}
+use Rattle.hmc_accesses.specs.InOrder.{took_answer}
 use Rattle.hmc_trace.proofs.answered.queues_of.Given as goal
 
 abbrev pub invariant-entries : goal.invariant-entries

@@ -1,6 +1,6 @@
 -- The reads are appended, and the load is noted.
 use Rattle.std.proofs.Common.{◌∙◌, ◌++◌, ◌-◌, ap, refl, Ok, Err}
-use Rattle.hmc_trace.specs.Trace.Access.{load}
+use Rattle.hmc_accesses.specs.Trace.Access.{load}
 use Rattle.hmc_trace.proofs.Making.{appended_ok, appended_err, load_noted, load_as}
 use Rattle.hmc_trace.proofs.compiled.add_loaded.Goals as goal
 

@@ -1,8 +1,8 @@
 -- Request by request.
 use Rattle.std.proofs.Common.{◌≡◌, ◌∙◌, ◌++◌, ◌+◌, ◌-◌, sym, subst, ap}
 use Rattle.std.specs.Prelude.{option_map}
-use Rattle.hmc_trace.specs.InOrder.{known_answer}
-use Rattle.hmc_trace.specs.Value.{joined}
+use Rattle.hmc_accesses.specs.InOrder.{known_answer}
+use Rattle.hmc_accesses.specs.Value.{joined}
 use Rattle.hmc_trace.proofs.Joining.{joined_more, joined_none, joined_end}
 use Rattle.hmc_trace.proofs.loaded_value.joined.Goals as goal
 

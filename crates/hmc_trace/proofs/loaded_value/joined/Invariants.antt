@@ -1,8 +1,8 @@
 -- The bytes so far, and then those that are left, are all.
 use Rattle.std.proofs.Common.{◌≡◌, ◌+◌, ◌-◌, ◌++◌}
 use Rattle.std.specs.Prelude.{option_map}
-use Rattle.hmc_trace.specs.InOrder.{known_answer}
-use Rattle.hmc_trace.specs.Value.{joined}
+use Rattle.hmc_accesses.specs.InOrder.{known_answer}
+use Rattle.hmc_accesses.specs.Value.{joined}
 use Rattle.hmc_trace.proofs.loaded_value.joined.Given as goal
 
 abbrev pub invariant-requests : goal.invariant-requests

@@ -1,6 +1,6 @@
 -- No request, or one that the script hasn't.
 use Rattle.std.proofs.Common.{◌<◌, ◌+◌, sym, length, arith}
-use Rattle.hmc_trace.specs.InOrder.{known_answer}
+use Rattle.hmc_accesses.specs.InOrder.{known_answer}
 use Rattle.hmc_trace.proofs.Joining.{joined_zero, joined_past}
 use Rattle.hmc_trace.proofs.loaded_value.read.Goals as goal
 

@@ -1,7 +1,7 @@
 -- By the entries in order.
 use Rattle.std.proofs.Common.{ℕ, ◌≡◌, sym, subst}
-use Rattle.hmc_trace.specs.InOrder.{known_answer, answer_in_order}
-use Rattle.hmc_trace.proofs.Joining.{value_told, get_at}
+use Rattle.hmc_accesses.specs.InOrder.{known_answer, answer_in_order}
+use Rattle.hmc_trace.proofs.Joining.{value_gives, get_at}
 use Rattle.hmc_trace.proofs.Promised.{loaded_by}
 use Rattle.hmc_trace.proofs.loaded_value.value.Goals as goal
 
@@ -10,7 +10,7 @@ returns-clause-value c =
     let known = subst (λ l. (n : ℕ) → known_answer l n ≡ answer_in_order c.args.journal.now n)
     (sym c.deref.ensures.value) c.in_ok-answers.ensures in
     let compiled = c.args.compiled.now in
-    value_told (λ b. b.items) c.value_of.result compiled c.script.result.now c.deref.result.now
+    value_gives (λ b. b.items) c.value_of.result compiled c.script.result.now c.deref.result.now
     c.args.journal.now c.args.load _ c.script.ensures
     (get_at c.loads.result.now compiled.loads c.args.load _ c.loads.ensures c.requires)
     known c.value_of.ensures
@@ -21,9 +21,9 @@ returns-clause-loaded c =
     (sym c.deref.ensures.value) c.in_ok-answers.ensures in
     let compiled = c.args.compiled.now in
     let at = get_at c.loads.result.now compiled.loads c.args.load _ c.loads.ensures c.requires in
-    let told = value_told (λ b. b.items) c.value_of.result compiled c.script.result.now
+    let gives = value_gives (λ b. b.items) c.value_of.result compiled c.script.result.now
     c.deref.result.now c.args.journal.now c.args.load _ c.script.ensures at
     known c.value_of.ensures in
     λ trace setup is same network lawful cubes script.
     loaded_by (λ b. b.items) c.value_of.result compiled c.args.journal.now c.args.load _ trace setup
-    at told is same network lawful cubes script
+    at gives is same network lawful cubes script

@@ -1,8 +1,8 @@
 -- The values so far, and then those that are left, are all.
 use Rattle.std.proofs.Common.{◌≡◌, ◌++◌, map, drop}
 use Rattle.std.specs.Prelude.{option_map}
-use Rattle.hmc_trace.specs.InOrder.{known_answer}
-use Rattle.hmc_trace.specs.Value.{load_value}
+use Rattle.hmc_accesses.specs.InOrder.{known_answer}
+use Rattle.hmc_accesses.specs.Value.{load_value}
 use Rattle.hmc_trace.proofs.loaded_value.values_of.Given as goal
 
 abbrev pub invariant-loads : goal.invariant-loads

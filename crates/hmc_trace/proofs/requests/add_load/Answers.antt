@@ -1,7 +1,8 @@
 -- Block by block.
 use Rattle.std.proofs.Common.{◌+◌, ◌/◌, Ok, Err, arith, rules, subst}
 use Rattle.hmc_trace.specs.Appending.{Appends}
-use Rattle.hmc_trace.specs.Requests.{Span, read_span, load_requests}
+use Rattle.hmc_accesses.specs.declared.span.Span.{Span}
+use Rattle.hmc_accesses.specs.Requests.{read_span, load_requests}
 use Rattle.hmc_trace.proofs.Blocks.{up_to, blocks_more, blocks_ended, all_blocks}
 use Rattle.hmc_trace.proofs.requests.add_load.Goals as goal
 

@@ -1,7 +1,7 @@
 -- The reads of the blocks so far are appended.
 use Rattle.std.proofs.Common.{◌/◌, ◌+◌, Ok}
 use Rattle.hmc_trace.specs.Appending.{Appends}
-use Rattle.hmc_trace.specs.Requests.{read_span}
+use Rattle.hmc_accesses.specs.Requests.{read_span}
 use Rattle.hmc_trace.proofs.Blocks.{up_to}
 use Rattle.hmc_trace.proofs.requests.add_load.Given as goal
 

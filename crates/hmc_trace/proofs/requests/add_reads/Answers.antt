@@ -1,6 +1,6 @@
 -- None, one or two parts.
 use Rattle.std.proofs.Common.{inl, inr, arith}
-use Rattle.hmc_trace.specs.Requests.{read_at}
+use Rattle.hmc_accesses.specs.Requests.{read_at}
 use Rattle.hmc_trace.proofs.Runs.{run_none, run_one, run_two, run_ended}
 use Rattle.hmc_trace.proofs.requests.add_reads.Goals as goal
 

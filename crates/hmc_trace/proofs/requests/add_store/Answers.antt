@@ -1,40 +1,58 @@
 -- Block by block.
 use Rattle.std.proofs.Common.{◌+◌, ◌/◌, Ok, Err, arith, rules, subst, length}
 use Rattle.hmc_trace.specs.Appending.{Appends}
-use Rattle.hmc_trace.specs.Requests.{Span, store_span, store_requests}
+use Rattle.hmc_accesses.specs.declared.span.Span.{Span}
+use Rattle.hmc_accesses.specs.Requests.{store_span, store_requests}
 use Rattle.hmc_trace.proofs.Blocks.{up_to, blocks_more, blocks_ended, all_blocks}
 use Rattle.hmc_trace.proofs.requests.add_store.Goals as goal
 
 pub returns-in-Err : goal.returns-in-Err
 unfolding store_requests
 returns-in-Err c =
-    let span : Span = record { start = c.args.place; end = c.args.place + length c.args.bytes.now }
+    let span : Span = record {
+      start = c.args.stored.now.place;
+      end =
+          c.args.stored.now.place + length c.args.stored.now.bytes.now;
+    }
     in
-    let last = (c.args.place + length c.args.bytes.now + 255) / 256 in
+    let last = (c.args.stored.now.place + length c.args.stored.now.bytes.now + 255) / 256 in
     subst (λ l. Appends c.args.number c.args.script.now l c.add_span.new.script
-    (Err c.in-Err.fault)) (all_blocks (store_span c.args.cube c.args.place c.args.bytes.now)
+    (Err c.in-Err.fault)) (all_blocks (store_span c.args.stored.now.cube c.args.stored.now.place
+    c.args.stored.now.bytes.now)
     span)
     (blocks_ended c.args.number c.args.script.now c.blocks-2.script c.add_span.new.script
-    (store_span c.args.cube c.args.place c.args.bytes.now) span (c.args.place / 256)
+    (store_span c.args.stored.now.cube c.args.stored.now.place c.args.stored.now.bytes.now) span
+    (c.args.stored.now.place / 256)
     c.blocks-2.block last c.max-start.result c.min-stop.result c.in-Err.fault (search rules)
     (search rules) (search rules) c.blocks-2-test.true c.blocks-2.invariant c.in-Err.ensures)
 
 pub blocks-2-preserved : goal.blocks-2-preserved
 blocks-2-preserved c =
-    let span : Span = record { start = c.args.place; end = c.args.place + length c.args.bytes.now }
+    let span : Span = record {
+      start = c.args.stored.now.place;
+      end =
+          c.args.stored.now.place + length c.args.stored.now.bytes.now;
+    }
     in
     blocks_more c.args.number c.args.script.now c.blocks-2.script c.add_span.new.script
-    (store_span c.args.cube c.args.place c.args.bytes.now) span (c.args.place / 256)
+    (store_span c.args.stored.now.cube c.args.stored.now.place c.args.stored.now.bytes.now) span
+    (c.args.stored.now.place / 256)
     c.blocks-2.block c.max-start.result c.min-stop.result (search rules) (search rules)
     (search rules) c.blocks-2.invariant c.in_default.ensures
 
 pub returns : goal.returns
 unfolding store_requests
 returns c =
-    let span : Span = record { start = c.args.place; end = c.args.place + length c.args.bytes.now }
+    let span : Span = record {
+      start = c.args.stored.now.place;
+      end =
+          c.args.stored.now.place + length c.args.stored.now.bytes.now;
+    }
     in
     subst (λ l. Appends c.args.number c.args.script.now l c.blocks-2.script (Ok tt))
-    (all_blocks (store_span c.args.cube c.args.place c.args.bytes.now) span)
+    (all_blocks (store_span c.args.stored.now.cube c.args.stored.now.place
+    c.args.stored.now.bytes.now) span)
     (subst (λ b. Appends c.args.number c.args.script.now
-    (up_to (store_span c.args.cube c.args.place c.args.bytes.now) span (c.args.place / 256) b)
+    (up_to (store_span c.args.stored.now.cube c.args.stored.now.place c.args.stored.now.bytes.now)
+    span (c.args.stored.now.place / 256) b)
     c.blocks-2.script (Ok tt)) (omega arith) c.blocks-2.invariant)

@@ -1,0 +1,10 @@
+pub mod Compiled
+pub mod Kind
+pub mod Laws
+pub mod Meaning
+pub mod Requests
+pub mod Serial
+pub mod Text
+pub mod Trace
+pub mod Value
+pub mod InOrder
