@@ -26,8 +26,9 @@ module _ (Due Owed : ℕ → List (List ℕ) → Type 0) (so : (status : ℕ) (l
 
   pub answers_so : {O : Type 0} (view : O → SinkView) (old new : O) (result : Result (Unit {0}) RunError) → Answers Due result view old new → Answers Owed result view old new
   answers_so view old new (Ok done) answer = answered_so 0 (view old) (view new) answer
-  answers_so view old new (Err runs.BadCase) answer = answered_so 6 (view old) (view new) answer
+  answers_so view old new (Err runs.BadInput) answer = answered_so 6 (view old) (view new) answer
   answers_so view old new (Err runs.Passed) answer = answered_so 7 (view old) (view new) answer
+  answers_so view old new (Err runs.Unlawful) answer = answered_so 8 (view old) (view new) answer
   answers_so view old new (Err runs.WriteFault) answer = cut_off_so (view old) (view new) answer
   answers_so view old new (Err runs.Memory) answer = answer
   answers_so view old new (Err runs.ReadFault) answer = absurd answer

@@ -4,6 +4,8 @@ pub mod Writing
 pub mod EntryLines
 pub mod Reading
 pub mod Answering
+pub mod Refusals
+pub mod CheckAnswers
 pub mod TraceAnswers
 pub mod TraceLines
 pub mod Reports

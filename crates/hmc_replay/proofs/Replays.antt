@@ -105,8 +105,9 @@ module _ {O : Type 0} (Due : ℕ → List (List ℕ) → Type 0) (view : O → S
   -- by the result
   pub writes_by : (old new : O) (result : Result (Unit {0}) RunError) → Answers Due result view old new → Writes Due view old new (status_of result)
   writes_by old new (Ok done) answer = writes_answer old new 0 (λ is. grind (arith, is)) answer
-  writes_by old new (Err runs.BadCase) answer = writes_answer old new 6 (λ is. grind (arith, is)) answer
+  writes_by old new (Err runs.BadInput) answer = writes_answer old new 6 (λ is. grind (arith, is)) answer
   writes_by old new (Err runs.Passed) answer = writes_answer old new 7 (λ is. grind (arith, is)) answer
+  writes_by old new (Err runs.Unlawful) answer = writes_answer old new 8 (λ is. grind (arith, is)) answer
   writes_by old new (Err runs.WriteFault) cut = record {
     answered = λ none. absurd (none (inr (inr (inl refl))));
     cut_off = λ _. cut;
@@ -119,8 +120,9 @@ module _ {O : Type 0} (Due : ℕ → List (List ℕ) → Type 0) (view : O → S
   -- which is no fault of the source, and no input that is too long
   pub reads_by : (old new : O) (result : Result (Unit {0}) RunError) → Answers Due result view old new → NoneOf (3 ∷ 5 ∷ []) (status_of result)
   reads_by old new (Ok done) answer = λ is. grind (arith, is)
-  reads_by old new (Err runs.BadCase) answer = λ is. grind (arith, is)
+  reads_by old new (Err runs.BadInput) answer = λ is. grind (arith, is)
   reads_by old new (Err runs.Passed) answer = λ is. grind (arith, is)
+  reads_by old new (Err runs.Unlawful) answer = λ is. grind (arith, is)
   reads_by old new (Err runs.WriteFault) answer = λ is. grind (arith, is)
   reads_by old new (Err runs.Memory) answer = λ is. grind (arith, is)
   reads_by old new (Err runs.ReadFault) none = absurd none
@@ -140,8 +142,9 @@ not_usage (Err runs.Memory) is = omega (arith, is)
 not_usage (Err runs.ReadFault) is = omega (arith, is)
 not_usage (Err runs.WriteFault) is = omega (arith, is)
 not_usage (Err runs.TooLong) is = omega (arith, is)
-not_usage (Err runs.BadCase) is = omega (arith, is)
+not_usage (Err runs.BadInput) is = omega (arith, is)
 not_usage (Err runs.Passed) is = omega (arith, is)
+not_usage (Err runs.Unlawful) is = omega (arith, is)
 
 no_form : (form : Option Form) (some : Form) → form ≡ Some some → form ≡ None → ⊥
 no_form form some is none = cc

@@ -7,6 +7,7 @@ use Rattle.hmc_journal.specs.Final.{final_lines_of}
 use Rattle.hmc_journal.specs.Guarantees.{Guarantees}
 use Rattle.hmc_journal.specs.Lawful.{has_passed, journal_of}
 use Rattle.hmc_entries.specs.Lines.{line_of}
+use Rattle.hmc_journal.specs.Report.{lines_unless, report_lines}
 use Rattle.hmc_journal.specs.Setup.{Setup}
 use Rattle.hmc_entries.specs.Text.{lines_of}
 use Rattle.hmc_net.specs.Finished.{net_values}
@@ -20,7 +21,7 @@ use Rattle.hmc_outside.proofs.LinesLemmas.{WritesLines-none, WritesLines-after, 
 use Rattle.hmc_report.specs.Final.{final_lines, ending_lines}
 use Rattle.hmc_replay.specs.Output.{WritesReport, DeliversReport}
 use Rattle.hmc_units.specs.Unit.{UnitFields}
-use Rattle.hmc_replay.specs.Report.{passes, lines_unless, report_of, last_line, short_lines, short_report_of, lines_in, report_status}
+use Rattle.hmc_replay.specs.Report.{passes, report_of, last_line, short_lines, short_report_of, lines_in, report_status}
 use Rattle.hmc_replay.specs.Reported.{EndsAtPass, IsReport}
 use Rattle.hmc_replay.specs.Answered.{IsAnswered, IsCutOff}
 use Rattle.hmc_replay.specs.Steps.{TookAll}
@@ -52,8 +53,8 @@ lines-all a b all whole left parts none written = subst (WritesLines a b) (sym (
 
 -- by whether a landing passed
 report_by : (setup : Setup) (passed : Bool) → passes setup ≡ passed → lines_of (journal_of setup) ++ lines_unless passed (final_lines_of setup (journal_of setup)) ≡ report_of setup
-unfolding report_of
-report_by setup passed is = ap (λ (p : Bool). lines_of (journal_of setup) ++ lines_unless p (final_lines_of setup (journal_of setup))) (sym is)
+unfolding report_of report_lines
+report_by setup passed is = ap (λ (p : Bool). lines_of (journal_of setup) ++ lines_unless p (final_lines_of setup (journal_of setup))) (sym is ∙ passes_is setup)
 
 -- where none passed, the final lines are those of the network
 net_lines : (net : NetState) (setup : Setup) → TookAll net setup false → final_lines (net_values net) ≡ final_lines_of setup (journal_of setup)
@@ -68,8 +69,8 @@ report_passed setup passed = sym (append-nil (lines_of (journal_of setup))) ∙ 
 
 -- the report begins with the lines of the journal
 report_starts : (setup : Setup) → (rest : List (List ℕ)) × (lines_of (journal_of setup) ++ rest ≡ report_of setup)
-unfolding report_of
-report_starts setup = (lines_unless (passes setup) (final_lines_of setup (journal_of setup)), refl)
+unfolding report_of report_lines
+report_starts setup = (lines_unless (has_passed (journal_of setup)) (final_lines_of setup (journal_of setup)), refl)
 
 pub whole-broken : (setup : Setup) (a b : SinkView) → BreaksOff a b (lines_of (journal_of setup)) → BreaksOff a b (report_of setup)
 whole-broken setup a b broken = let starts = report_starts setup in subst (BreaksOff a b) starts.1 (BreaksOff-more a b (lines_of (journal_of setup)) starts.0 broken)

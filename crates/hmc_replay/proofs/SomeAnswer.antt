@@ -20,7 +20,8 @@ use Rattle.hmc_replay.specs.Report.{report_of, short_report_of, bound_report_of,
 use Rattle.hmc_replay.specs.Reported.{IsReport}
 use Rattle.hmc_replay.specs.RunAnswer.{IsRefusal, IsRunAnswer}
 use Rattle.hmc_replay.specs.declared.form.Form.{Form}
-use Rattle.hmc_replay.specs.declared.form.Form.TheVariants.{Run, Make, Bound, Trace}
+use Rattle.hmc_replay.specs.declared.form.Form.TheVariants.{Run, Make, Check, Bound, Trace}
+use Rattle.hmc_replay.proofs.CheckAnswers.{check_is_answered}
 use Rattle.hmc_replay.proofs.TraceAnswers.{trace_is_answered}
 use Rattle.hmc_replay.proofs.Reports.{due_report}
 
@@ -145,6 +146,7 @@ module _ (read : (bytes : List ℕ) (case : CaseFields) → case_of bytes ≡ Ok
   is_answered (Make number) slots input =
       let setup = made_setup slots number in
       (report_status setup, short_report_of setup, make_is_answered slots number (sound setup (network_of (case_of_number number) slots (made number))))
+  is_answered Check slots input = check_is_answered slots input
   is_answered Bound slots input =
       bound_is_answered slots input (λ case is.
       let setup = setup_of case slots in

@@ -6,14 +6,14 @@ use Rattle.hmc_outside.specs.Views.{SinkView}
 use Rattle.hmc_script.specs.Items.{ItemFields}
 use Rattle.hmc_script.specs.Text.{item_text}
 use Rattle.hmc_text.specs.Reading.{◌>>=◌}
-use Rattle.hmc_trace.specs.Compiled.{CompiledFields, compiled_of}
+use Rattle.hmc_accesses.specs.Compiled.{CompiledFields, compiled_of}
 use Rattle.hmc_trace.specs.Line.{bad_line, no_text_line}
-use Rattle.hmc_trace.specs.Text.{trace_of, compiled_text}
-use Rattle.hmc_trace.specs.Trace.{Trace}
-use Rattle.hmc_trace.specs.declared.fault.TraceKind.{TraceKind}
-use Rattle.hmc_replay.specs.Answered.{Answers}
+use Rattle.hmc_accesses.specs.Text.{trace_of, compiled_text}
+use Rattle.hmc_accesses.specs.Trace.{Trace}
+use Rattle.hmc_accesses.specs.declared.fault.TraceKind.{TraceKind}
+use Rattle.hmc_replay.specs.Answered.{IsLine, Answers}
 use Rattle.hmc_replay.specs.Top.{NoneOf}
-use Rattle.hmc_replay.specs.TraceAnswer.{IsBadInput, IsScript, IsTextAnswer, IsTraceAnswer}
+use Rattle.hmc_replay.specs.TraceAnswer.{IsScript, IsTextAnswer, IsTraceAnswer}
 use Rattle.hmc_replay.specs.declared.run.RunError.{RunError}
 use Rattle.hmc_replay.proofs.Answering.{answers_so}
 
@@ -74,10 +74,10 @@ same_pair line line' kind kind' l k =
 -- the line of a fault
 pub answers_bad : {O : Type 0} (view : O → SinkView) (old new : O) (text : List ℕ)
     (fault : ℕ × TraceKind) (result : Result (Unit {0}) RunError) → compiled_text text ≡ Err fault →
-    Answers (IsBadInput (bad_line fault)) result view old new →
+    Answers (IsLine 6 (bad_line fault)) result view old new →
     Answers (IsTextAnswer text) result view old new
 answers_bad view old new text fault result is answer =
-    answers_so (IsBadInput (bad_line fault)) (IsTextAnswer text)
+    answers_so (IsLine 6 (bad_line fault)) (IsTextAnswer text)
     (λ status lines due.
     inl (record { fault = fault; is_fault = trace_fault text fault is; refusal = due }))
     view old new result answer
@@ -93,16 +93,16 @@ answers_text view old new input result text answer =
 
 pub answers_no_text : {O : Type 0} (view : O → SinkView) (old new : O) (input : List ℕ)
     (result : Result (Unit {0}) RunError) → is_utf8 input ≡ false →
-    Answers (IsBadInput no_text_line) result view old new →
+    Answers (IsLine 6 no_text_line) result view old new →
     Answers (IsTraceAnswer input) result view old new
 answers_no_text view old new input result none answer =
-    answers_so (IsBadInput no_text_line) (IsTraceAnswer input)
+    answers_so (IsLine 6 no_text_line) (IsTraceAnswer input)
     (λ status lines due. inl (record { no_text = none; refusal = due })) view old new result answer
 
 -- ---- it is one
 
 same_line : (line : List ℕ) (one other : ℕ) (first second : List (List ℕ)) →
-    IsBadInput line one first → IsBadInput line other second → (one ≡ other) × (first ≡ second)
+    IsLine 6 line one first → IsLine 6 line other second → (one ≡ other) × (first ≡ second)
 same_line line one other first second a b =
     (a.status_is ∙ sym b.status_is, a.lines_are ∙ sym b.lines_are)
 

@@ -5,9 +5,9 @@ use Rattle.std.specs.Str.{is_utf8}
 use Rattle.hmc_codes.specs.Limits.{most_input}
 use Rattle.hmc_outside.specs.Views.{SourceView, SinkView}
 use Rattle.hmc_script.specs.Text.{item_text}
-use Rattle.hmc_trace.specs.Compiled.{compiled_of}
-use Rattle.hmc_trace.specs.Text.{trace_of}
-use Rattle.hmc_trace.specs.Trace.{Trace}
+use Rattle.hmc_accesses.specs.Compiled.{compiled_of}
+use Rattle.hmc_accesses.specs.Text.{trace_of}
+use Rattle.hmc_accesses.specs.Trace.{Trace}
 use Rattle.hmc_units.specs.Unit.{UnitFields}
 use Rattle.hmc_replay.specs.Answer.{IsAnswer}
 use Rattle.hmc_replay.specs.Top.{OneOf, Replays}

@@ -3,7 +3,7 @@ use Rattle.std.specs.Prelude.{ℕ, Result, Ok, Err}
 use Rattle.hmc_replay.specs.declared.input.InputError.{InputError}
 use Rattle.hmc_replay.specs.declared.input.InputError.TheVariants as input
 use Rattle.hmc_replay.specs.declared.run.RunError.{RunError}
-use Rattle.hmc_replay.specs.declared.run.RunError.TheVariants.{Memory, ReadFault, WriteFault, TooLong, BadCase, Passed}
+use Rattle.hmc_replay.specs.declared.run.RunError.TheVariants.{Memory, ReadFault, WriteFault, TooLong, BadInput, Passed, Unlawful}
 
 -- why reading the input ended early
 abbrev pub cause_of_input : InputError → RunError
@@ -18,5 +18,6 @@ status_of (Err Memory) = 1
 status_of (Err ReadFault) = 3
 status_of (Err WriteFault) = 4
 status_of (Err TooLong) = 5
-status_of (Err BadCase) = 6
+status_of (Err BadInput) = 6
 status_of (Err Passed) = 7
+status_of (Err Unlawful) = 8

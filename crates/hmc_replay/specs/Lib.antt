@@ -3,6 +3,9 @@ pub mod Answered
 pub mod BoundAnswer
 pub mod BoundLines
 pub mod Causes
+pub mod CheckAnswer
+pub mod CheckInput
+pub mod Complete
 pub mod Input
 pub mod Left
 pub mod MakeAnswer
@@ -16,4 +19,3 @@ pub mod Top
 pub mod TraceAnswer
 pub mod Units
 pub mod Words
-pub mod Complete

@@ -1,13 +1,13 @@
 -- The lines that are written for a case and its logic units.
-use Rattle.std.specs.Prelude.{ℕ, if◌then◌else◌, Bool, true, false, List, [], ◌∷◌, ◌++◌}
+use Rattle.std.specs.Prelude.{ℕ, if◌then◌else◌, Bool, true, false, List, [], ◌∷◌}
 use Rattle.std.specs.List.{list_any}
 use Rattle.hmc_entries.specs.declared.entry.Entry.{Entry}
 use Rattle.hmc_entries.specs.Event.{is_passed}
-use Rattle.hmc_journal.specs.Final.{values_of, final_lines_of}
+use Rattle.hmc_journal.specs.Final.{values_of}
 use Rattle.hmc_journal.specs.Lawful.{journal_of}
+use Rattle.hmc_journal.specs.Report.{report_lines}
 use Rattle.hmc_entries.specs.Lines.{line_of}
 use Rattle.hmc_journal.specs.Setup.{Setup}
-use Rattle.hmc_entries.specs.Text.{lines_of}
 use Rattle.hmc_report.specs.Final.{ending_lines}
 use Rattle.hmc_replay.specs.BoundLines.{bound_lines}
 use Rattle.hmc_replay.specs.declared.extent.Extent.{Extent}
@@ -17,17 +17,9 @@ use Rattle.hmc_replay.specs.declared.extent.Extent.TheVariants.{Whole, Short, Bo
 abbrev pub passes : Setup → Bool
 passes setup = list_any is_passed (journal_of setup)
 
--- lines, or none where a landing passed
-abbrev pub lines_unless : (passed : Bool) → List (List ℕ) → List (List ℕ)
-lines_unless true lines = []
-lines_unless false lines = lines
-
--- the whole report: the lines of the journal, and the final lines; after a landing that passed
--- there are no final lines
+-- the whole report: that of the one whole journal
 unfoldable pub report_of : Setup → List (List ℕ)
-report_of setup =
-    lines_of (journal_of setup) ++
-    lines_unless (passes setup) (final_lines_of setup (journal_of setup))
+report_of setup = report_lines setup (journal_of setup)
 
 -- the line of the last entry, if there is one
 abbrev pub last_line : List Entry → List (List ℕ)

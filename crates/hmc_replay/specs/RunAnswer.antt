@@ -1,17 +1,17 @@
 -- What `run` answers.
-use Rattle.std.specs.Prelude.{◌≡◌, ◌⊎◌, ℕ, List, [], ◌∷◌, Option, Ok, Err}
+use Rattle.std.specs.Prelude.{◌≡◌, ◌⊎◌, ℕ, List, Option, Ok, Err}
 use Rattle.hmc_units.specs.Unit.{UnitFields}
 use Rattle.hmc_case.specs.Case.{CaseFields, case_of}
 use Rattle.hmc_case.specs.Line.{bad_line}
 use Rattle.hmc_case.specs.Reading.{Fault}
 use Rattle.hmc_journal.specs.Setup.{setup_of}
+use Rattle.hmc_replay.specs.Answered.{IsLine}
 use Rattle.hmc_replay.specs.Report.{report_of}
 use Rattle.hmc_replay.specs.Reported.{IsReport}
 
 -- the line of a fault is due, with 6
-pub record IsRefusal (fault : Fault) (status : ℕ) (lines : List (List ℕ)) : Type 0 where
-  pub status_is : status ≡ 6
-  pub lines_are : lines ≡ bad_line fault ∷ []
+abbrev pub IsRefusal : Fault → (status : ℕ) → List (List ℕ) → Type 0
+IsRefusal fault status lines = IsLine 6 (bad_line fault) status lines
 
 -- the input is a case, and its whole report is due
 pub record IsReported (slots : List (Option UnitFields)) (input : List ℕ) (status : ℕ)

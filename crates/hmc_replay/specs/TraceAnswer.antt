@@ -1,29 +1,25 @@
 -- What `trace` answers: the script that performs the loads and stores of a trace.
-use Rattle.std.specs.Prelude.{◌≡◌, ◌⊎◌, ℕ, true, false, List, [], ◌∷◌, map, Ok, Err}
+use Rattle.std.specs.Prelude.{◌≡◌, ◌⊎◌, ℕ, true, false, List, map, Ok, Err}
 use Rattle.std.specs.Str.{is_utf8}
 use Rattle.hmc_script.specs.Items.{ItemFields}
 use Rattle.hmc_script.specs.Text.{item_text}
-use Rattle.hmc_trace.specs.Compiled.{compiled_of}
+use Rattle.hmc_accesses.specs.Compiled.{compiled_of}
 use Rattle.hmc_trace.specs.Line.{bad_line, no_text_line}
-use Rattle.hmc_trace.specs.Text.{trace_of}
-use Rattle.hmc_trace.specs.Trace.{Trace}
-use Rattle.hmc_trace.specs.declared.fault.TraceKind.{TraceKind}
-
--- one line is due, with 6
-pub record IsBadInput (line : List ℕ) (status : ℕ) (lines : List (List ℕ)) : Type 0 where
-  pub status_is : status ≡ 6
-  pub lines_are : lines ≡ line ∷ []
+use Rattle.hmc_accesses.specs.Text.{trace_of}
+use Rattle.hmc_accesses.specs.Trace.{Trace}
+use Rattle.hmc_accesses.specs.declared.fault.TraceKind.{TraceKind}
+use Rattle.hmc_replay.specs.Answered.{IsLine}
 
 -- the input is no UTF-8 text
 pub record IsNoText (input : List ℕ) (status : ℕ) (lines : List (List ℕ)) : Type 0 where
   pub no_text : is_utf8 input ≡ false
-  pub refusal : IsBadInput no_text_line status lines
+  pub refusal : IsLine 6 no_text_line status lines
 
 -- a text is no trace: the line of its first fault is due
 pub record IsBadTrace (text : List ℕ) (status : ℕ) (lines : List (List ℕ)) : Type 0 where
   pub fault : ℕ × TraceKind
   pub is_fault : trace_of text ≡ Err fault
-  pub refusal : IsBadInput (bad_line fault) status lines
+  pub refusal : IsLine 6 (bad_line fault) status lines
 
 -- a script is due, printed, each request as a line of its own
 pub record IsScript (script : List ItemFields) (status : ℕ) (lines : List (List ℕ)) : Type 0 where

@@ -3,7 +3,7 @@ use Rattle.std.specs.Prelude.{◌≡◌, ℕ, if◌then◌else◌, List, [], ◌
 use Rattle.std.specs.Option.{option_map}
 use Rattle.hmc_make.specs.Word.{case_number}
 use Rattle.hmc_replay.specs.declared.form.Form.{Form}
-use Rattle.hmc_replay.specs.declared.form.Form.TheVariants.{Run, Make, Bound, Trace}
+use Rattle.hmc_replay.specs.declared.form.Form.TheVariants.{Run, Make, Check, Bound, Trace}
 
 -- `make` with this word, if it is the number of a case
 abbrev pub make_form : List ℕ → Option Form
@@ -13,10 +13,11 @@ make_form word = option_map Make (case_number word)
 abbrev pub word_form : List ℕ → Option Form
 word_form word =
     if bytes_eq word (codes "run") then Some Run
+    else (if bytes_eq word (codes "check") then Some Check
     else (if bytes_eq word (codes "bound") then Some Bound
-    else (if bytes_eq word (codes "trace") then Some Trace else None))
+    else (if bytes_eq word (codes "trace") then Some Trace else None)))
 
--- what the words ask for: `run`, `bound` or `trace`, or `make` and the number of a case
+-- what the words ask for: `run`, `check`, `bound` or `trace`, or `make` and the number of a case
 abbrev pub form_of : List (List ℕ) → Option Form
 form_of (word ∷ []) = word_form word
 form_of (word ∷ number ∷ []) = if bytes_eq word (codes "make") then make_form number else None

@@ -36,7 +36,7 @@ fn refuse_more<O: Sink>(sink: &mut O) -> RunError
         Answers (IsNotSingle setup) (Err result) O.shows sink.old sink.new }
 {
     match write_only(sink, "bad net 0 single\n") {
-        Ok(()) => RunError::BadCase,
+        Ok(()) => RunError::BadInput,
         Err(_) => RunError::WriteFault,
     }
 }

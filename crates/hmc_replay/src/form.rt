@@ -12,6 +12,8 @@ pub enum Form {
     Run,
     /// The short report of the case of this number.
     Make(u64),
+    /// Whether a report that is read is that of the case before it.
+    Check,
     /// What is under way at the end of the case that is read, and its bound.
     Bound,
     /// The script of the trace that is read.
@@ -34,6 +36,7 @@ pub fn form_of(words: &[String]) -> Option<Form>
 {
     match words {
         [word] if word.as_str() == "run" => Some(Form::Run),
+        [word] if word.as_str() == "check" => Some(Form::Check),
         [word] if word.as_str() == "bound" => Some(Form::Bound),
         [word] if word.as_str() == "trace" => Some(Form::Trace),
         [word, number] if word.as_str() == "make" => make_form(number.as_str()),

@@ -5,7 +5,7 @@ ghost use Rattle.hmc_journal.specs.Setup.{setup_of};
 ghost use Rattle.hmc_units.specs.Bench.{most_units};
 ghost use Rattle.hmc_codes.specs.Limits.{most_input};
 ghost use Rattle.hmc_replay.specs.Answer.{IsAnswer};
-ghost use Rattle.hmc_replay.specs.Answered.{Answers};
+ghost use Rattle.hmc_replay.specs.Answered.{IsLine, Answers};
 ghost use Rattle.hmc_replay.specs.Causes.{cause_of_input};
 ghost use Rattle.hmc_replay.specs.Output.{Delivers};
 ghost use Rattle.hmc_replay.specs.Report.{lines_in};
@@ -38,10 +38,12 @@ pub enum RunError {
     WriteFault,
     /// The source has more bytes than an input may have.
     TooLong,
-    /// The input is not a valid case, or not a valid trace.
-    BadCase,
+    /// The input is not a valid case, or trace, or has no length of a case before a report.
+    BadInput,
     /// A landing passed: a check succeeded over flits that a mask changed.
     Passed,
+    /// The report is not lawful.
+    Unlawful,
 }
 
 impl From<InputError> for RunError {
@@ -73,6 +75,17 @@ pub fn write_only<O: Sink>(sink: &mut O, line: &str) -> Result<(), Failed>
     finish(sink)
 }
 
+/// Writes the line for a bad input, and hands it on.
+pub fn refuse_line<O: Sink>(sink: &mut O, line: &str) -> RunError
+    requires { 0 < length line.now }
+    ensures { Answers (IsLine 6 line.now) (Err result) O.shows sink.old sink.new }
+{
+    match write_only(sink, line) {
+        Ok(()) => RunError::BadInput,
+        Err(_) => RunError::WriteFault,
+    }
+}
+
 /// Writes the line for what is not a valid case, and hands it on.
 pub fn refuse<O: Sink>(sink: &mut O, section: Section, line: u32, kind: CaseKind) -> RunError
     ensures { Answers (IsRefusal (record { section = section; line = line; kind = kind }))
@@ -80,10 +93,7 @@ pub fn refuse<O: Sink>(sink: &mut O, section: Section, line: u32, kind: CaseKind
 {
     let mut text = LineText::new();
     bad_line(&mut text, section, line, kind);
-    match write_only(sink, text.as_str()) {
-        Ok(()) => RunError::BadCase,
-        Err(_) => RunError::WriteFault,
-    }
+    refuse_line(sink, text.as_str())
 }
 
 /// Replays a case with units, and writes its report. Out of memory it writes nothing. `Passed` where

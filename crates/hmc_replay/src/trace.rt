@@ -4,31 +4,20 @@ ghost use Rattle.std.specs.Prelude.{◌≡◌, ◌<◌, ◌∷◌, [], length, m
 ghost use Rattle.hmc_codes.specs.Limits.{most_input};
 ghost use Rattle.hmc_script.specs.Text.{item_text};
 ghost use Rattle.hmc_trace.specs.Line.{bad_line, no_text_line};
-ghost use Rattle.hmc_replay.specs.Answered.{Answers};
+ghost use Rattle.hmc_replay.specs.Answered.{IsLine, Answers};
 ghost use Rattle.hmc_replay.specs.Output.{Writes, Delivers};
 ghost use Rattle.hmc_replay.specs.Runs.{Runs};
-ghost use Rattle.hmc_replay.specs.TraceAnswer.{IsBadInput, IsScript, IsTextAnswer, IsTraceAnswer};
+ghost use Rattle.hmc_replay.specs.TraceAnswer.{IsScript, IsTextAnswer, IsTraceAnswer};
 
 use crate::input::read_input;
 use crate::output::{finish, write_line};
-use crate::run::{RunError, write_only};
+use crate::run::{RunError, refuse_line};
 use hmc_codes::{LineText, MOST_INPUT};
 use hmc_outside::{Failed, Sink, Source};
 use hmc_script::Script;
 use hmc_trace::{TraceFault, TraceKind, bad_line, compile, item_line, no_text_line};
 use std::alloc::Global;
 use std::str::from_utf8;
-
-// Writes the line for a bad input, and hands it on.
-fn refuse<O: Sink>(sink: &mut O, line: &str) -> RunError
-    requires { 0 < length line.now }
-    ensures { Answers (IsBadInput line.now) (Err result) O.shows sink.old sink.new }
-{
-    match write_only(sink, line) {
-        Ok(()) => RunError::BadCase,
-        Err(_) => RunError::WriteFault,
-    }
-}
 
 // Writes the lines of a script.
 fn write_items<O: Sink>(sink: &mut O, script: &Script) -> Result<(), Failed>
@@ -66,20 +55,20 @@ fn answer_script<O: Sink>(sink: &mut O, script: &Script) -> Result<(), RunError>
 
 // Writes the line of a fault, and hands it on.
 fn refuse_trace<O: Sink>(sink: &mut O, line: u32, kind: TraceKind) -> RunError
-    ensures { Answers (IsBadInput (bad_line (line, kind))) (Err result) O.shows sink.old sink.new }
+    ensures { Answers (IsLine 6 (bad_line (line, kind))) (Err result) O.shows sink.old sink.new }
 {
     let mut text = LineText::new();
     bad_line(&mut text, line, kind);
-    refuse(sink, text.as_str())
+    refuse_line(sink, text.as_str())
 }
 
 // Writes the line for bytes that are no text, and hands it on.
 fn refuse_bytes<O: Sink>(sink: &mut O) -> RunError
-    ensures { Answers (IsBadInput no_text_line) (Err result) O.shows sink.old sink.new }
+    ensures { Answers (IsLine 6 no_text_line) (Err result) O.shows sink.old sink.new }
 {
     let mut text = LineText::new();
     no_text_line(&mut text);
-    refuse(sink, text.as_str())
+    refuse_line(sink, text.as_str())
 }
 
 // Writes what is to be written for a text.

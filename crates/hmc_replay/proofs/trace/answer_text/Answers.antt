@@ -2,8 +2,8 @@
 use Rattle.std.proofs.Common.{◌≡◌, ◌∙◌, ap, IfSome, Err, subst}
 use Rattle.hmc_text.specs.InTurn.{fault_of}
 use Rattle.hmc_text.specs.declared.fault.TextFault.{TextFault}
-use Rattle.hmc_trace.specs.Text.{compiled_text}
-use Rattle.hmc_trace.specs.declared.fault.TraceKind.{TraceKind}
+use Rattle.hmc_accesses.specs.Text.{compiled_text}
+use Rattle.hmc_accesses.specs.declared.fault.TraceKind.{TraceKind}
 use Rattle.hmc_replay.proofs.TraceAnswers.{answers_printed, answers_bad, same_pair}
 use Rattle.hmc_replay.proofs.trace.answer_text.Goals as goal
 
