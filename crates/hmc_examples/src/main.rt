@@ -1,8 +1,12 @@
 //! Replays each example case, runs the cases of some numbers, asks for the bounds of some cases, and
-//! compares each report with the one beside it. Those reports came from a model in another language, or were found by hand
-//! (docs/DECISIONS.md says which).
+//! compares each report with the one beside it. Those reports came from a model in another language,
+//! or were found by hand (docs/DECISIONS.md says which). Each report is checked, too, as it stands and
+//! changed.
 #![tactic(auto)]
 
+mod checks;
+
+use checks::print_checks;
 use hmc_outside::{MemorySink, MemorySource};
 use hmc_replay::replay;
 use hmc_units::{LogicUnit, Reverse, Stamp};
@@ -11,13 +15,14 @@ use std::rt::Files;
 use std::{fs, io};
 
 /// The cases of this folder whose run ends, `NAME.toml` each, with their reports, `NAME.report`.
-const NAMES: [&str; 86] = [
+const NAMES: [&str; 89] = [
     "write-then-read",
     "six-errors",
     "posted-increments",
     "poisoned-write",
     "fence",
     "full-queue",
+    "registers-full",
     "registers-and-banks",
     "each-kind-of-step",
     "each-command",
@@ -53,6 +58,8 @@ const NAMES: [&str; 86] = [
     "two-joins",
     "two-hosts-one-cube",
     "two-hosts-two-cubes",
+    "three-hosts-one-cube",
+    "six-hosts-two-cubes",
     "equal-tags",
     "flood",
     "masks-on-two-hops",
@@ -288,24 +295,61 @@ fn print_bound(
     println!(rt; "bound of {name}: {word}")
 }
 
-fn main(rt: HostRuntime) -> Result<(), io::Error> {
-    for name in NAMES {
-        print_example(&rt, name, 0)?;
+// Prints whether each of these examples ends with this status and the report beside it.
+fn print_examples(
+    rt: &(impl Files + AllocGlobal + Print),
+    names: &[&str],
+    status: u8,
+) -> Result<(), io::Error> {
+    for name in names {
+        print_example(rt, name, status)?;
     }
-    for name in PASSED {
-        print_example(&rt, name, 7)?;
-    }
+    Ok(())
+}
+
+// Prints whether the case of each number has the report beside it.
+fn print_each_made(rt: &(impl Files + AllocGlobal + Print)) -> Result<(), io::Error> {
     for (number, name) in MADE {
-        print_made(&rt, number, name)?;
+        print_made(rt, number, name)?;
     }
+    Ok(())
+}
+
+// Prints whether each bound is as its file says.
+fn print_bounds(rt: &(impl Files + AllocGlobal + Print)) -> Result<(), io::Error> {
     for (name, status) in BOUNDS {
-        print_bound(&rt, name, status)?;
+        print_bound(rt, name, status)?;
     }
-    let word = if rounds_drain(&rt)? {
+    Ok(())
+}
+
+// Prints how many changes of the report of each of these examples are judged as they should be.
+fn print_each_check(
+    rt: &(impl Files + AllocGlobal + Print),
+    names: &[&str],
+) -> Result<(), io::Error> {
+    for name in names {
+        print_checks(rt, name)?;
+    }
+    Ok(())
+}
+
+// Prints whether the case of two requests is drained after as many rounds as its bound says.
+fn print_rounds(rt: &(impl Files + AllocGlobal + Print)) -> Result<(), io::Error> {
+    let word = if rounds_drain(rt)? {
         "drained"
     } else {
         "not drained"
     };
-    println!(rt; "10000 rounds after two requests: {word}")?;
-    Ok(())
+    println!(rt; "10000 rounds after two requests: {word}")
+}
+
+fn main(rt: HostRuntime) -> Result<(), io::Error> {
+    print_examples(&rt, &NAMES, 0)?;
+    print_examples(&rt, &PASSED, 7)?;
+    print_each_made(&rt)?;
+    print_bounds(&rt)?;
+    print_each_check(&rt, &NAMES)?;
+    print_each_check(&rt, &PASSED)?;
+    print_rounds(&rt)
 }

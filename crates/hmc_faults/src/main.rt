@@ -1,15 +1,17 @@
 //! Reads the faulty inputs of the tables in `data/`, and compares the first fault of each with that
-//! of its row. Bad cases are replayed, scripts and schedules are read, and traces are given to the
-//! program. It is run with words that are not a form. The faults of the tables were found by hand
+//! of its row. Bad cases are replayed, scripts and schedules are read, and traces and inputs of
+//! `check` are given to the program. It is run with words that are not a form. The faults of the tables were found by hand
 //! (docs/DECISIONS.md).
 #![tactic(auto)]
 
 mod faults;
+mod heads;
 mod lines;
 mod traces;
 mod words;
 
 use faults::changed;
+use heads::heads_refused;
 use hmc_outside::{MemorySink, MemorySource};
 use hmc_replay::replay;
 use hmc_units::LogicUnit;
@@ -23,8 +25,8 @@ use words::words_of;
 /// The status of words that are not a form.
 const USAGE: u8 = 2;
 
-/// The status of a bad case.
-const BAD_CASE: u8 = 6;
+/// The status of a bad input.
+const BAD_INPUT: u8 = 6;
 
 /// More bytes than the line of a fault or a script of a table has.
 const ROOM: usize = 4_096;
@@ -51,7 +53,7 @@ fn is_refused(alloc: Global, words: &str, case: &str, line: &str) -> Result<bool
     let Ok(source) = MemorySource::new(alloc, case.as_bytes(), &[]) else {
         return Ok(false);
     };
-    ends_with(alloc, &words, source, BAD_CASE, line)
+    ends_with(alloc, &words, source, BAD_INPUT, line)
 }
 
 // Whether the program refuses these words, and neither reads nor writes.
@@ -169,6 +171,13 @@ fn print_traces(rt: &(impl Files + AllocGlobal + Print)) -> Result<(), io::Error
     println!(rt; "traces, bytes that are no text: {word}")
 }
 
+// Gives each input of the table to the word `check`, and prints how many are refused as it says.
+fn print_heads(rt: &(impl Files + AllocGlobal + Print)) -> Result<(), io::Error> {
+    let table = fs::read_to_string(rt, "check-heads.txt")?;
+    let refused = heads_refused(rt.alloc(), table.as_str())?;
+    print_count(rt, "inputs of check", refused)
+}
+
 // Runs the program with the words of each row, and prints how many are refused.
 fn print_words(rt: &(impl Files + AllocGlobal + Print)) -> Result<(), io::Error> {
     let table = fs::read_to_string(rt, "words.txt")?;
@@ -182,6 +191,7 @@ fn main(rt: HostRuntime) -> Result<(), io::Error> {
     let wide = Texts::Schedules(wide(rt.alloc())?);
     let small = Texts::Schedules(small(rt.alloc())?);
     print_texts(&rt, "script faults", "script-faults.txt", &Texts::Scripts)?;
+    print_heads(&rt)?;
     print_traces(&rt)?;
     print_texts(&rt, "schedule faults", "schedule-faults.txt", &wide)?;
     print_texts(

@@ -6,7 +6,7 @@
 
 use crate::lines::unescaped;
 use crate::words::words_of;
-use crate::{BAD_CASE, ends_with};
+use crate::{BAD_INPUT, ends_with};
 use hmc_outside::MemorySource;
 use hmc_trace::compile;
 use std::alloc::Global;
@@ -28,7 +28,7 @@ fn has_fault(alloc: Global, text: &str, fault: &str) -> Result<bool, io::Error> 
         return Ok(compile(alloc, text.as_str()).is_ok());
     }
     let line = format!(in alloc; "bad trace {fault}\n")?;
-    answers(alloc, text.as_bytes(), BAD_CASE, line.as_str())
+    answers(alloc, text.as_bytes(), BAD_INPUT, line.as_str())
 }
 
 // Whether a text has this script.
@@ -70,5 +70,10 @@ pub fn scripts_answered(alloc: Global, table: &str) -> Result<(u32, Option<&str>
 
 /// Whether a byte that is not UTF-8 is refused as no text.
 pub fn bytes_are_refused(alloc: Global) -> Result<bool, io::Error> {
-    answers(alloc, b"cube 0 0 4\n\xff\n", BAD_CASE, "bad trace 0 text\n")
+    answers(
+        alloc,
+        b"cube 0 0 4\n\xff\n",
+        BAD_INPUT,
+        "bad trace 0 text\n",
+    )
 }

@@ -1,4 +1,4 @@
-//! Tests of the crates of links: packets, receivers, senders, and links. All are tests of public
+//! Tests of the crates of links: receivers, senders, and links. All are tests of public
 //! calls. They are in a crate of their own, since a crate with tests is proved twice: with them,
 //! and without.
 #![tactic(auto)]
@@ -9,8 +9,6 @@ mod link;
 mod link_end;
 #[cfg(test)]
 mod link_through;
-#[cfg(test)]
-mod packet;
 #[cfg(test)]
 mod receive;
 #[cfg(test)]

@@ -92,17 +92,24 @@ pub fn new_link(alloc: Global, setup: LinkSetup) -> Result<Link<FlitBuffer, Flit
     Link::new(alloc, setup, a, b)
 }
 
+// A request to cube 0.
+macro_rules! request {
+    ($command:ident, $address:expr, $payload:expr) => {
+        Request {
+            command: Command::$command,
+            cube: 0,
+            address: $address,
+            payload: $payload,
+        }
+    };
+}
+
 #[tactic(auto, unfolding(hmc_codes::specs::Table::table_line, hmc_packet::specs::Transactions::request_packet))]
 fn write16(payload: Payload) -> Packet
     requires { length payload ≡ 16 }
     ensures { (profile : Profile) → IsFrontFit profile (Some result) }
 {
-    let request = Request {
-        command: Command::Wr16,
-        cube: 0,
-        address: 64,
-        payload,
-    };
+    let request = request!(Wr16, 64, payload);
     ask(&request, 5, 0, false)
 }
 
@@ -111,12 +118,7 @@ fn write256(payload: Payload) -> Packet
     requires { length payload ≡ 256 }
     ensures { (profile : Profile) → IsFrontFit profile (Some result) }
 {
-    let request = Request {
-        command: Command::Wr256,
-        cube: 0,
-        address: 0,
-        payload,
-    };
+    let request = request!(Wr256, 0, payload);
     ask(&request, 7, 0, false)
 }
 
@@ -124,12 +126,7 @@ fn write256(payload: Payload) -> Packet
 fn read16() -> Packet
     ensures { (profile : Profile) → IsFrontFit profile (Some result) }
 {
-    let request = Request {
-        command: Command::Rd16,
-        cube: 0,
-        address: 64,
-        payload: Payload::empty(),
-    };
+    let request = request!(Rd16, 64, Payload::empty());
     ask(&request, 6, 0, false)
 }
 

@@ -16,33 +16,26 @@ const BYTES: [u8; 16] = [1, 2, 3, 4, 5, 6, 7, 8, 9, 10, 11, 12, 13, 14, 15, 16];
 
 const REVERSED: [u8; 16] = [16, 15, 14, 13, 12, 11, 10, 9, 8, 7, 6, 5, 4, 3, 2, 1];
 
+// A request to cube 6.
+macro_rules! request {
+    ($command:ident, $address:expr, $payload:expr) => {
+        Request {
+            command: Command::$command,
+            cube: 6,
+            address: $address,
+            payload: $payload,
+        }
+    };
+}
+
 // A posted write of host 1 to the second vault.
 #[tactic(auto, unfolding(hmc_codes::specs::Table::table_line, hmc_packet::specs::Transactions::request_packet))]
 fn posted_write(payload: Payload) -> Packet
     requires { length payload ≡ 16 }
     ensures { IsForBanks result }
 {
-    let request = Request {
-        command: Command::Pwr16,
-        cube: 6,
-        address: 0x100,
-        payload,
-    };
+    let request = request!(Pwr16, 0x100, payload);
     ask(&request, 0, 1, false)
-}
-
-// A read of host 1 from the second vault.
-#[tactic(auto, unfolding(hmc_codes::specs::Table::table_line, hmc_packet::specs::Transactions::request_packet))]
-fn read() -> Packet
-    ensures { IsForBanks result }
-{
-    let request = Request {
-        command: Command::Rd16,
-        cube: 6,
-        address: 0x100,
-        payload: Payload::empty(),
-    };
-    ask(&request, 9, 1, false)
 }
 
 // A unit command of host 1 to the second vault.
@@ -51,12 +44,16 @@ fn reverse(payload: Payload) -> Packet
     requires { length payload ≡ 16 }
     ensures { IsForBanks result }
 {
-    let request = Request {
-        command: Command::Unit1,
-        cube: 6,
-        address: 0x100,
-        payload,
-    };
+    let request = request!(Unit1, 0x100, payload);
+    ask(&request, 9, 1, false)
+}
+
+// A read of host 1 from the second vault.
+#[tactic(auto, unfolding(hmc_codes::specs::Table::table_line, hmc_packet::specs::Transactions::request_packet))]
+fn read() -> Packet
+    ensures { IsForBanks result }
+{
+    let request = request!(Rd16, 0x100, Payload::empty());
     ask(&request, 9, 1, false)
 }
 
@@ -65,12 +62,7 @@ fn reverse(payload: Payload) -> Packet
 fn read_number() -> Packet
     ensures { IsForRegisters result }
 {
-    let request = Request {
-        command: Command::Mdrd,
-        cube: 6,
-        address: 0,
-        payload: Payload::empty(),
-    };
+    let request = request!(Mdrd, 0, Payload::empty());
     ask(&request, 2047, 2, false)
 }
 

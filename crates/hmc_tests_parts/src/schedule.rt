@@ -6,47 +6,34 @@ use std::alloc::{AllocError, Global};
 use std::process::Abort;
 use std::test::Fail;
 
+// A cube with so many vaults and banks, by the bits of their numbers, and these ports joined.
+macro_rules! cube {
+    ($vault_bits:expr, $bank_bits:expr, $ports:expr) => {
+        CubePlan {
+            shape: Shape {
+                vault_bits: $vault_bits,
+                bank_bits: $bank_bits,
+                rows: 4,
+                block: 256,
+            },
+            ports: $ports,
+        }
+    };
+}
+
 // One host, one link, and one cube with one vault of one bank: twelve steps a round.
 fn small(alloc: Global) -> Result<Plan, AllocError> {
-    let shape = Shape {
-        vault_bits: 0,
-        bank_bits: 0,
-        rows: 4,
-        block: 256,
-    };
-    let cubes = vec![in alloc;
-        CubePlan {
-            shape,
-            ports: [true, false, false, false]
-        },
-    ]?;
     Ok(Plan {
         hosts: 1,
         directions: 2,
-        cubes,
+        cubes: vec![in alloc; cube!(0, 0, [true, false, false, false])]?,
     })
 }
 
 // Two hosts, and two cubes that differ in vaults, banks and joined ports.
 fn wide(alloc: Global) -> Result<Plan, AllocError> {
-    let first = CubePlan {
-        shape: Shape {
-            vault_bits: 1,
-            bank_bits: 1,
-            rows: 4,
-            block: 256,
-        },
-        ports: [true, false, true, false],
-    };
-    let second = CubePlan {
-        shape: Shape {
-            vault_bits: 0,
-            bank_bits: 2,
-            rows: 4,
-            block: 256,
-        },
-        ports: [false, true, false, false],
-    };
+    let first = cube!(1, 1, [true, false, true, false]);
+    let second = cube!(0, 2, [false, true, false, false]);
     Ok(Plan {
         hosts: 2,
         directions: 6,

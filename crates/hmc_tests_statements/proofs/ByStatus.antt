@@ -24,6 +24,8 @@ use Rattle.hmc_report.specs.Final.{ending_lines}
 use Rattle.hmc_units.specs.Unit.{UnitFields}
 use Rattle.hmc_replay.specs.Answer.{IsAnswer}
 use Rattle.hmc_replay.specs.BoundAnswer.{IsCaseBounded}
+use Rattle.hmc_replay.specs.CheckAnswer.{IsJudged, IsOfParts}
+use Rattle.hmc_replay.specs.CheckInput.{CheckInput}
 use Rattle.hmc_replay.specs.MakeAnswer.{made_setup}
 use Rattle.hmc_replay.specs.Report.{passes, report_of, short_report_of, short_lines, last_line, report_status}
 use Rattle.hmc_replay.specs.Reported.{IsReport}
@@ -31,7 +33,7 @@ use Rattle.hmc_replay.specs.RunAnswer.{IsRunAnswer, IsReported, IsRefused}
 use Rattle.hmc_replay.specs.Top.{OneOf, NoneOf, IsRead, ReadsNothing, Writes, Replays, Replayed}
 use Rattle.hmc_replay.specs.Words.{form_of}
 use Rattle.hmc_replay.specs.declared.form.Form.{Form}
-use Rattle.hmc_replay.specs.declared.form.Form.TheVariants.{Run, Make, Bound, Trace}
+use Rattle.hmc_replay.specs.declared.form.Form.TheVariants.{Run, Make, Check, Bound, Trace}
 use Rattle.hmc_replay.proofs.Complete.{one_or_none, complete, excess, made_complete}
 use Rattle.hmc_replay.proofs.OneAnswer.{by_passes}
 use Rattle.hmc_replay.proofs.Reports.{report_passed}
@@ -76,7 +78,7 @@ one_pass : (setup : Setup) (passed : Bool) → passes setup ≡ passed → repor
 one_pass setup true is seven = is
 one_pass setup false is seven = let off : ◌≡◌ {A = ℕ} 0 7 = passes_by setup 7 false is seven in absurd (omega (arith, off))
 
-few_status : (setup : Setup) (passed : Bool) → passes setup ≡ passed → report_status setup ≤ 7
+few_status : (setup : Setup) (passed : Bool) → passes setup ≡ passed → report_status setup ≤ 8
 few_status setup true is = let seven = by_passes setup (report_status setup) refl true is in omega (arith, seven)
 few_status setup false is = let zero = by_passes setup (report_status setup) refl false is in omega (arith, zero)
 
@@ -258,30 +260,42 @@ module _ {S O : Type 0} (source_view : S → SourceView) (sink_view : O → Sink
 
 -- ---- any words
 
-bounded_few : (setup : Setup) (status : ℕ) (lines : List (List ℕ)) → IsCaseBounded setup status lines → status ≤ 7
-bounded_few setup status lines (inl a) = subst (λ (n : ℕ). n ≤ 7) (sym a.report.status_is) (few_status setup (passes setup) refl)
+bounded_few : (setup : Setup) (status : ℕ) (lines : List (List ℕ)) → IsCaseBounded setup status lines → status ≤ 8
+bounded_few setup status lines (inl a) = subst (λ (n : ℕ). n ≤ 8) (sym a.report.status_is) (few_status setup (passes setup) refl)
 bounded_few setup status lines (inr a) = let six = a.status_is in omega (arith, six)
 
-answer_few : (form : Form) (slots : List (Option UnitFields)) (input : List ℕ) (status : ℕ) (lines : List (List ℕ)) → IsAnswer form slots input status lines → status ≤ 7
-answer_few Run slots input status lines (inl a) = subst (λ (n : ℕ). n ≤ 7) (sym a.report.status_is) (few_status (setup_of a.case slots) (passes (setup_of a.case slots)) refl)
+parts_few : (slots : List (Option UnitFields)) (parts : CheckInput) (status : ℕ) (lines : List (List ℕ)) →
+    IsOfParts slots parts status lines → status ≤ 8
+parts_few slots parts status lines (inl a) = judged_few (setup_of a.case slots) parts.report status lines a.judged
+  where
+    judged_few : (setup : Setup) (report : List ℕ) (status : ℕ) (lines : List (List ℕ)) →
+        IsJudged setup report status lines → status ≤ 8
+    judged_few setup report status lines (inl b) = let zero = b.answer.status_is in omega (arith, zero)
+    judged_few setup report status lines (inr b) = let eight = b.answer.status_is in omega (arith, eight)
+parts_few slots parts status lines (inr a) = let six = a.refusal.status_is in omega (arith, six)
+
+answer_few : (form : Form) (slots : List (Option UnitFields)) (input : List ℕ) (status : ℕ) (lines : List (List ℕ)) → IsAnswer form slots input status lines → status ≤ 8
+answer_few Run slots input status lines (inl a) = subst (λ (n : ℕ). n ≤ 8) (sym a.report.status_is) (few_status (setup_of a.case slots) (passes (setup_of a.case slots)) refl)
 answer_few Run slots input status lines (inr a) = let six = a.refusal.status_is in omega (arith, six)
+answer_few Check slots input status lines (inl a) = let six = a.answer.status_is in omega (arith, six)
+answer_few Check slots input status lines (inr a) = parts_few slots a.parts status lines a.answer
 answer_few Bound slots input status lines (inl a) = bounded_few (setup_of a.case slots) status lines a.answer
 answer_few Bound slots input status lines (inr a) = let six = a.refusal.status_is in omega (arith, six)
 answer_few Trace slots input status lines (inl a) = let six = a.refusal.status_is in omega (arith, six)
 answer_few Trace slots input status lines (inr (text, inl a)) = let six = a.refusal.status_is in omega (arith, six)
 answer_few Trace slots input status lines (inr (text, inr a)) = let zero = a.script.status_is in omega (arith, zero)
-answer_few (Make number) slots input status lines a = subst (λ (n : ℕ). n ≤ 7) (sym a.status_is) (few_status (made_setup slots number) (passes (made_setup slots number)) refl)
+answer_few (Make number) slots input status lines a = subst (λ (n : ℕ). n ≤ 8) (sym a.status_is) (few_status (made_setup slots number) (passes (made_setup slots number)) refl)
 
 module _ {S O : Type 0} (source_view : S → SourceView) (sink_view : O → SinkView) (words : List (List ℕ)) (slots : List (Option UnitFields)) (source source' : S) (sink sink' : O) (status : ℕ)
     (r : Replayed source_view sink_view words slots source source' sink sink' status) where
-  range : status ≤ 7
+  range : status ≤ 8
   range = by_form (form_of words) refl
     where
-      by_status : (form : Form) → form_of words ≡ Some form → OneOf (1 ∷ 3 ∷ 4 ∷ 5 ∷ []) status ⊎ NoneOf (1 ∷ 3 ∷ 4 ∷ 5 ∷ []) status → status ≤ 7
+      by_status : (form : Form) → form_of words ≡ Some form → OneOf (1 ∷ 3 ∷ 4 ∷ 5 ∷ []) status ⊎ NoneOf (1 ∷ 3 ∷ 4 ∷ 5 ∷ []) status → status ≤ 8
       by_status form is (inl one) = grind (arith, one)
       by_status form is (inr none) = let p = r.replays form is in let all = p.written.answered none in answer_few form slots p.input status all.lines all.due
 
-      by_form : (form : Option Form) → form_of words ≡ form → status ≤ 7
+      by_form : (form : Option Form) → form_of words ≡ form → status ≤ 8
       by_form None is = let two = r.usage.1 is in omega (arith, two)
       by_form (Some form) is = by_status form is (one_or_none (1 ∷ 3 ∷ 4 ∷ 5 ∷ []) status)
 

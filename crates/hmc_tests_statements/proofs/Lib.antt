@@ -7,3 +7,4 @@ mod Hops
 mod Texts
 mod Benches
 mod ByStatus
+mod WorkedDefinitions

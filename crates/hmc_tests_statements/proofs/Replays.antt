@@ -15,14 +15,15 @@ use Rattle.hmc_case.specs.Reading.{Fault}
 use Rattle.hmc_journal.specs.Final.{final_lines_of}
 use Rattle.hmc_entries.specs.Text.{lines_of}
 use Rattle.hmc_replay.specs.MakeAnswer.{made_setup}
-use Rattle.hmc_replay.specs.Report.{passes, lines_unless, report_of, short_report_of}
+use Rattle.hmc_journal.specs.Report.{lines_unless, report_lines}
+use Rattle.hmc_replay.specs.Report.{passes, report_of, short_report_of}
 use Rattle.hmc_replay.specs.Reported.{EndsAtPass}
 use Rattle.hmc_replay.specs.RunAnswer.{IsRunAnswer}
 use Rattle.hmc_replay.specs.Top.{NoneOf, Replayed}
 use Rattle.hmc_replay.specs.Words.{IsMake}
 use Rattle.hmc_journal.specs.Setup.{setup_of}
 use Rattle.hmc_journal.specs.Guarantees.{Guarantees}
-use Rattle.hmc_journal.specs.Lawful.{journal_of}
+use Rattle.hmc_journal.specs.Lawful.{journal_of, has_passed}
 use Rattle.hmc_replay.specs.declared.form.Form.TheVariants.{Run, Make}
 
 -- ---- what never holds
@@ -319,12 +320,12 @@ excess-refused bytes source' sink' many is =
 -- with status 0 and 7 the bytes read are a case whose journal has the guarantees, and what was
 -- written are its lines
 reported-guarantees : (bytes : List ℕ) (source' : SourceView) (sink' : SinkView) → Gives run bytes source' sink' 0 → (input : List ℕ) × (case : CaseFields) × (case_of input ≡ Ok case) × Guarantees (setup_of case []) (journal_of (setup_of case []))
-    × HandsOn sink sink' (lines_of (journal_of (setup_of case [])) ++ lines_unless (passes (setup_of case [])) (final_lines_of (setup_of case []) (journal_of (setup_of case []))))
-unfolding report_of
+    × HandsOn sink sink' (lines_of (journal_of (setup_of case [])) ++ lines_unless (has_passed (journal_of (setup_of case []))) (final_lines_of (setup_of case []) (journal_of (setup_of case []))))
+unfolding report_of report_lines
 reported-guarantees bytes source' sink' is = let r = is.replays Run refl in let answered = r.written.answered zero_done in by_due r.input answered.lines answered.due answered.written
   where
     by_due : (input : List ℕ) (lines : List (List ℕ)) → IsRunAnswer [] input 0 lines → HandsOn sink sink' lines → (input : List ℕ) × (case : CaseFields) × (case_of input ≡ Ok case) × Guarantees (setup_of case []) (journal_of (setup_of case []))
-        × HandsOn sink sink' (lines_of (journal_of (setup_of case [])) ++ lines_unless (passes (setup_of case [])) (final_lines_of (setup_of case []) (journal_of (setup_of case []))))
+        × HandsOn sink sink' (lines_of (journal_of (setup_of case [])) ++ lines_unless (has_passed (journal_of (setup_of case []))) (final_lines_of (setup_of case []) (journal_of (setup_of case []))))
     by_due input lines (inl a) written = (input, a.case, a.is_case, a.report.guarantees, subst (HandsOn sink sink') a.report.lines_are written)
     by_due input lines (inr a) written = let six : ◌≡◌ {A = ℕ} 0 6 = a.refusal.status_is in absurd (omega (arith, six))
 
