@@ -26,6 +26,7 @@ LOG = OUT / "hmc_prog.log"
 # What the program writes for an input of no bytes, and its status then.
 OF_NOTHING = (6, b"bad top 0 missing\n")
 SHOWN = 30
+DIGEST_BYTES = 32
 # One build at a time in a checkout: each locks this file, which is always there.
 LOCKED = TOP / "crates.txt"
 WAITS = "another build of this checkout is at work: this one waits for it"
@@ -53,28 +54,31 @@ def crates_below(name: str, known: dict[str, list[str]]) -> set[str]:
     return wanted
 
 
-def source_files() -> Iterator[Path]:
-    """Yields the files that the program is built from and proved with."""
-    yield TOP / "crates.txt"
+def source_files() -> Iterator[str]:
+    """Yields the paths, from the top on, of what the program is built from and proved with."""
+    yield "crates.txt"
     for name in sorted(crates_below(CRATE.name, libraries())):
         for part in ("src", "specs", "proofs"):
             folder = TOP / "crates" / name / part
-            yield from sorted(path for path in folder.rglob("*") if path.is_file())
+            found = [os.path.join(at, it) for at, _, names in os.walk(folder) for it in names]
+            yield from sorted(path.removeprefix(f"{TOP}{os.sep}") for path in found)
 
 
 def digest() -> str:
     """The digest of the sources: of their names and of what they hold."""
-    whole = hashlib.sha256()
+    whole = hashlib.blake2b(digest_size=DIGEST_BYTES)
     for path in source_files():
-        held = path.read_bytes()
-        whole.update(f"{path.relative_to(TOP)} {len(held)}\n".encode())
+        with open(os.path.join(TOP, path), "rb", buffering=0) as file:
+            held = file.read()
+        whole.update(f"{path} {len(held)}\n".encode())
         whole.update(held)
     return whole.hexdigest()
 
 
 def record_of(sources: str, program: Path) -> str:
     """What is recorded of a program that is built from sources with this digest."""
-    return f"sources {sources}\nprogram {hashlib.sha256(program.read_bytes()).hexdigest()}\n"
+    held = hashlib.blake2b(program.read_bytes(), digest_size=DIGEST_BYTES)
+    return f"sources {sources}\nprogram {held.hexdigest()}\n"
 
 
 def is_current(program: Path = PROGRAM, beside: Path = RECORD) -> bool:

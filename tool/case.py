@@ -23,7 +23,7 @@ CUBES = (1, 8)
 LINKS = (1, 32)
 HOSTS = 8
 EVERY_PORT = tuple(range(texts.PORTS))
-# What profile 2 has beside: a block of each cube, and a profile of each link.
+# What a case with `profile = 2` has too: a block of each cube, and a profile of each link.
 BLOCKS = (32, 64, 128, 256)
 RETRY_OF_TWO = (17, 1024)
 

@@ -18,6 +18,8 @@ from tool.subjects import Subject, name_of, parts_of, pattern_of, subjects_of
 SHOWN = 6
 ENDED = "(the report ends here)"
 Lines = Callable[[], Iterable[str]]
+# What a line is about.
+About = Callable[[str], list[Subject]]
 
 
 @dataclass(frozen=True)
@@ -76,8 +78,8 @@ def differences(first: Iterable[str], second: Iterable[str], how: How) -> Iterat
 class Before:
     """The last lines before a difference that are about the same, and the flits of its packet."""
 
-    def __init__(self, difference: Difference, how: How):
-        subjects = [it for side in difference.present for it in subjects_of(side)]
+    def __init__(self, difference: Difference, how: How, about: About = subjects_of):
+        subjects = [it for side in difference.present for it in about(side)]
         self._patterns = {subject: pattern_of(subject) for subject in dict.fromkeys(subjects)}
         self.lines: dict[Subject, deque[str]] = {
             subject: deque(maxlen=how.context) for subject in self._patterns

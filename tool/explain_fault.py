@@ -3,6 +3,7 @@
 from __future__ import annotations
 
 import re
+from dataclasses import dataclass
 
 from tool import case, schedule, texts, traces
 from tool.case import Document, Fault, net_advice
@@ -19,6 +20,17 @@ TRACE, TRACE_PAGE = "trace", "docs/trace.md#faults"
 # So many characters of a line of a trace are shown at most.
 MOST_SHOWN = 90
 
+
+@dataclass(frozen=True)
+class Part:
+    """A part of a line of the script or the schedule: its line, from 1, its column and width."""
+
+    section: str
+    line: int
+    column: int
+    width: int
+
+
 # What each kind says, by its section.
 MEANINGS = {
     "toml": {"syntax": "the bytes are not UTF-8, or not a TOML document"},
@@ -27,14 +39,14 @@ MEANINGS = {
         "missing": "one of the keys profile, cubes, links, script and schedule is missing",
         "kind": "a key's value has another type: profile is an integer, cubes and links are "
         "arrays of tables, script and schedule are strings",
-        "range": "the profile is neither 1 nor 2, or there are too few or too many cubes or links",
+        "range": "`profile` is neither 1 nor 2, or there are too few or too many cubes or links",
     },
     "cube": {
         "kind": "the cube is not a table, or a key's value is not an integer",
-        "unknown": "a key is not one of vault_bits, bank_bits, rows and queue, nor block in "
-        "profile 2",
+        "unknown": "a key is not one of vault_bits, bank_bits, rows and queue, nor block "
+        "with `profile = 2`",
         "missing": "one of the keys vault_bits, bank_bits, rows and queue is missing, or block "
-        "in profile 2",
+        "with `profile = 2`",
         "range": "a number is not within its limits",
     },
     "net": {
@@ -45,10 +57,10 @@ MEANINGS = {
     },
     "link": {
         "kind": "the link is not a table, or a key's value has another type",
-        "unknown": "a key is not one of a, b, line, tokens, retry and output, nor profile in "
-        "profile 2",
+        "unknown": "a key is not one of a, b, line, tokens, retry and output, nor profile "
+        "with `profile = 2`",
         "missing": "one of the keys a, b, line, tokens, retry and output is missing, or profile "
-        "in profile 2",
+        "with `profile = 2`",
         "range": "a number is not within its limits",
         "endpoint": "an end is neither a host, h0 to h7, nor a port, c0.0 to c7.3",
         "nocube": "an end is at a cube that the case does not have",
@@ -215,13 +227,19 @@ def text_lines(fault: Fault, text: str, places: Places, name: str) -> list[str]:
         column, width = word.start, len(word.text)
     else:
         column, width = len(line.rstrip(" \t\r")) + 1, 1
-    span = places.in_string(fault.path, fault.line, column, width)
-    said = text_advice(fault, words)
+    part = Part(fault.section, fault.line, column, width)
+    return [*part_lines(part, line, places, name), text_advice(fault, words)]
+
+
+def part_lines(part: Part, line: str, places: Places, name: str) -> list[str]:
+    """A part of a line of the script or schedule with carets, and its place in the document."""
+    path = (part.section,)
+    span = places.in_string(path, part.line, part.column, part.width)
     if span:
-        return [*caret_lines(places, span, name), said]
-    key = places.key(fault.path)
-    title = f"{name}:{key.line + 1 if key else 1}: line {fault.line} of the {fault.section}"
-    return [*caret_at(line, Span(0, column, width), title), said]
+        return caret_lines(places, span, name)
+    key = places.key(path)
+    title = f"{name}:{key.line + 1 if key else 1}: line {part.line} of the {part.section}"
+    return caret_at(line, Span(0, part.column, part.width), title)
 
 
 def text_advice(fault: Fault, words: list[texts.Word]) -> str:
@@ -294,7 +312,7 @@ def range_of_key(fault: Fault, document: Document) -> str:
     least, most = ranges[key]
     if key == "retry" and least <= document["links"][fault.line]["retry"] <= most:
         least, most = case.LINK_RANGES["retry"]
-        return f"`retry` is {least:,} to {most:,} on a link of profile 1"
+        return f"`retry` is {least:,} to {most:,} on a link of profile One"
     return f"`{key}` is {least:,} to {most:,}"
 
 

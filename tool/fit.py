@@ -8,19 +8,23 @@ final lines have to be those of the network, and what they count what the lines 
 from __future__ import annotations
 
 import os
+import re
 from collections import Counter, deque
 from collections.abc import Callable, Iterable, Iterator
+from functools import partial
+from itertools import islice
 
 from tool import files, report, schedule, script
 from tool.case import Document, plan_of
 from tool.lines import Entry, Gave, Landed, Line, Passed, Sent
-from tool.report import NotALine
+from tool.report import Block, Made, NotALine, Reader, read_line
 
-Numbered = tuple[int, Line, str]
 # The lines that end a report.
-ENDS = (*report.FINAL, "passed")
+ENDS = frozenset((*report.FINAL, "passed"))
 LEFT_OUT = "lines of steps are left out"
 NO_IDLE = "no line before it begins with `idle`. If no step was idle, name the case (--case)"
+# The step of a line, which is empty where it is of none, and its record.
+Named = tuple[str, Line]
 
 
 class NotThisCase(NotALine):
@@ -41,27 +45,31 @@ class Fit:
         self._final = _final_lines(document, plan.hosts)
         self._mask = ""
 
-    def lines(self, numbered: Iterable[Numbered]) -> Iterator[Numbered]:
-        """Yields the lines, each after it was compared."""
+    def blocks(self, blocks: Iterable[Block[Named]]) -> Iterator[Block[Line]]:
+        """Yields the lines, after they were compared."""
         number, last = 0, ""
-        for number, line, text in numbered:
-            last = line.line
-            if isinstance(line, Entry):
-                self._compare(number, line)
-            elif last != "bad":
-                self._compare_final(number, line)
-            yield number, line, text
+        for read in blocks:
+            block = Block(read.start, read.texts, [line for _, line in read.made])
+            self._compare(block, [step for step, _ in read.made])
+            number, last = block.start + len(block.made), block.made[-1].line
+            yield block
         if last not in ("passed", "bad"):
-            self._end(number + 1)
+            self._end(max(number, 1))
 
-    def _compare(self, number: int, line: Entry) -> None:
-        step, self._mask = next(self._steps, ("", ""))
-        if line.step != step:
-            said = f"the step there is `{step}`" if step else "the schedule has no step left"
-            raise NotThisCase(number, f"`{line.line}` is a line of `{line.step}`, and {said}")
-        compare = _COMPARED.get(type(line))
-        if compare:
-            compare(self, number, line)
+    def _compare(self, block: Block[Line], named: list[str]) -> None:
+        """Compares lines with their steps, and then with what is known of each."""
+        steps = list(islice(self._steps, len(named)))
+        wanted = [step for step, _ in steps] + [""] * (len(named) - len(steps))
+        fits = len(named) if named == wanted else _first_difference(named, wanted)
+        for place, line in enumerate(block.made[: min(fits, len(steps))]):
+            compare = _COMPARED.get(type(line))
+            if compare:
+                self._mask = steps[place][1]
+                compare(self, block.start + place, line)
+        for number, line, _ in islice(block.rows(), len(steps), fits):
+            self._compare_final(number, line)
+        if fits < len(named):
+            _refuse_step(block.start + fits, block.made[fits], wanted[fits])
 
     def gave(self, number: int, line: Gave) -> None:
         """Compares a request with the next one of the script."""
@@ -85,11 +93,8 @@ class Fit:
             raise NotThisCase(number, said)
 
     def _compare_final(self, number: int, line: Line) -> None:
-        step, _ = next(self._steps, ("", ""))
-        if step:
-            said = f"`{line.line}` is a final line, and the step there is `{step}`"
-            raise NotThisCase(number, said)
-        if line.line in ("memory", "register"):
+        """Compares a line after the last step with the final lines that are due."""
+        if line.line in ("memory", "register", "bad"):
             return
         wanted = self._final.popleft() if self._final else ("", 0)
         place = getattr(line, _PLACES[line.line], 0) if line.line in _PLACES else 0
@@ -103,6 +108,21 @@ class Fit:
             raise NotThisCase(number, f"the report ends before it, and the step there is `{step}`")
         if self._final:
             raise NotThisCase(number, f"the report ends before its line {_name(self._final[0])}")
+
+
+def _first_difference(mine: list[str], theirs: list[str]) -> int:
+    """The place of the first words that differ. There are some."""
+    return next(place for place, (it, other) in enumerate(zip(mine, theirs)) if it != other)
+
+
+def _refuse_step(number: int, line: Line, step: str) -> None:
+    """Refuses a line that is not one of its step, but for `bad`, after which nothing comes."""
+    if isinstance(line, Entry):
+        said = f"the step there is `{step}`" if step else "the schedule has no step left"
+        raise NotThisCase(number, f"`{line.line}` is a line of `{line.step}`, and {said}")
+    if line.line != "bad":
+        said = f"`{line.line}` is a final line, and the step there is `{step}`"
+        raise NotThisCase(number, said)
 
 
 _COMPARED: dict[type[Line], Callable[..., None]] = {
@@ -127,15 +147,15 @@ def _final_lines(document: Document, hosts: int) -> deque[tuple[str, int]]:
     return deque((word, place) for word, number in counts.items() for place in range(number))
 
 
-# What the final lines count, by their field: the first words of the lines that are counted, and
-# the field of those that has the number.
+# What the final lines count, by their field: the first word of the lines that are counted, and the
+# field that has the number after it.
 COUNTED = {
-    ("counters", "sent"): (("sent",), "direction"),
-    ("counters", "landed"): (("landed",), "direction"),
-    ("host", "given"): (("gave",), "host"),
-    ("host", "taken"): (("took",), "host"),
-    ("cube", "executed"): (("executed",), "cube"),
-    ("cube", "dropped"): (("dropped",), "cube"),
+    ("counters", "sent"): ("sent", "direction"),
+    ("counters", "landed"): ("landed", "direction"),
+    ("host", "given"): ("gave", "host"),
+    ("host", "taken"): ("took", "host"),
+    ("cube", "executed"): ("executed", "cube"),
+    ("cube", "dropped"): ("dropped", "cube"),
 }
 
 
@@ -143,32 +163,34 @@ class Whole:
     """Whether a report without a case has all its lines, as far as it shows that itself."""
 
     def __init__(self) -> None:
-        self._counts: Counter[tuple[str, int]] = Counter()
+        # How many lines have each first word, with the number after it where that is counted.
+        self._counts: Counter[str] = Counter()
+        self._first_end = 0
 
-    def lines(self, numbered: Iterable[Numbered]) -> Iterator[Numbered]:
-        """Yields the lines, each after it was compared with those before it."""
-        counts, has_idle, first_end = self._counts, False, 0
-        for row in numbered:
-            number, line, _ = row
-            kind = line.line
-            if kind == "idle":
-                has_idle = True
-            elif kind in _COUNTED_BY:
-                counts[kind, getattr(line, _COUNTED_BY[kind])] += 1
-            elif kind in ENDS:
-                # Where this is the first line, the report has no lines of steps at all.
-                first_end = first_end or number
-                if first_end > 1 and not has_idle:
-                    raise NotALine(f"line {number}: {LEFT_OUT}: {NO_IDLE}")
-                if first_end > 1:
-                    self._compare(number, line)
-            yield row
+    def blocks(self, blocks: Iterable[Block[tuple[str, Made]]]) -> Iterator[Block[Made]]:
+        """Yields what is made of lines, after they were compared with those before them."""
+        for block in blocks:
+            fronts = [front for front, _ in block.made]
+            self._counts.update(fronts)
+            if not ENDS.isdisjoint(fronts):
+                for number, text in enumerate(block.texts, block.start):
+                    self._compare_end(number, text)
+            yield Block(block.start, block.texts, [made for _, made in block.made])
 
-    def _compare(self, number: int, line: Line) -> None:
-        """Compares the numbers of a final line with the lines that show them."""
-        for (word, field), (counted, of) in COUNTED.items():
+    def _compare_end(self, number: int, text: str) -> None:
+        """Compares a line, if it is one that ends a report, with those before it."""
+        if _front_of(text) not in ENDS:
+            return
+        # Where this is the first line, the report has no lines of steps at all.
+        self._first_end = self._first_end or number
+        if self._first_end == 1:
+            return
+        if not self._counts["idle"]:
+            raise NotALine(f"line {number}: {LEFT_OUT}: {NO_IDLE}")
+        line = report.read_line(text)
+        for (word, field), (kind, of) in COUNTED.items():
             if word == line.line:
-                found = sum(self._counts[kind, getattr(line, of)] for kind in counted)
+                found = self._counts[f"{kind} {getattr(line, of)}"]
                 self._count(number, line, field, found)
 
     @staticmethod
@@ -178,13 +200,40 @@ class Whole:
             raise NotALine(f"line {number}: {LEFT_OUT}: {said}")
 
 
-_COUNTED_BY = {kind: of for kinds, of in COUNTED.values() for kind in kinds}
+# The first word of a line, with the number after it where lines with it are counted.
+_FRONT = re.compile(rf"(?:{'|'.join(kind for kind, _ in COUNTED.values())}) [^ \n]*|[^ \n]*")
 
 
-def checked(lines: Iterable[str], document: Document | None) -> Iterator[Numbered]:
-    """Yields the lines of a report that fits this case, or that is whole as far as it shows."""
-    numbered = report.Reader().numbered(lines)
-    return Fit(document).lines(numbered) if document else Whole().lines(numbered)
+def _front_of(text: str) -> str:
+    found = _FRONT.match(text)
+    assert found is not None
+    return found.group()
+
+
+def _with_front(make: Callable[[str], Made], text: str) -> tuple[str, Made]:
+    """The front of a line, and what is made of it."""
+    return _front_of(text), make(text)
+
+
+def _with_step(text: str) -> Named:
+    """The step of a line, and its record."""
+    line = read_line(text)
+    return line.step if isinstance(line, Entry) else "", line
+
+
+def fitting(lines: Iterable[str], document: Document) -> Iterator[Block[Line]]:
+    """Yields the records of a report that fits this case."""
+    return Fit(document).blocks(Reader(_with_step).blocks(lines))
+
+
+def whole(lines: Iterable[str], make: Callable[[str], Made]) -> Iterator[Block[Made]]:
+    """Yields what is made of the lines of a report that is whole as far as it shows."""
+    return Whole().blocks(Reader(partial(_with_front, make)).blocks(lines))
+
+
+def checked(lines: Iterable[str], document: Document | None) -> Iterator[Block[Line]]:
+    """Yields the records of a report that fits this case, or that is whole as far as it shows."""
+    return fitting(lines, document) if document else whole(lines, read_line)
 
 
 def refuse_without_idle(name: str) -> None:

@@ -10,32 +10,29 @@ from tool.report import NotALine
 class Gathering:
     """What one receiver has gathered of a packet."""
 
-    def __init__(self) -> None:
-        self._first = ""
-        self._goes_on = False
+    __slots__ = ("first", "_goes_on")
 
-    @property
-    def is_begun(self) -> bool:
-        """Whether a flit of the packet has landed."""
-        return bool(self._first)
+    def __init__(self) -> None:
+        # The first flit of the packet; empty where none has landed.
+        self.first = ""
+        self._goes_on = False
 
     def go_on(self) -> int:
         """The packet goes on by `through`. Returns how many flits it has, as its first one says."""
-        if not self._first:
+        if not self.first:
             raise NotALine("no packet is gathered there")
         self._goes_on = True
-        return packets.length_of(bytes.fromhex(self._first))
+        return packets.length_of(bytes.fromhex(self.first))
 
     def land(self, line: Landed) -> bool:
         """Counts a landing. Returns whether it accepted a packet that goes on, and isn't stored."""
+        if line.outcome == "gathered":
+            self.first = self.first or line.flit
+            return False
         leaves = self._goes_on and line.outcome == "accepted"
-        if line.outcome != "gathered":
-            self.end()
-        elif not self._first:
-            self._first = line.flit
+        self.first, self._goes_on = "", False
         return leaves
 
     def end(self) -> None:
         """Nothing is gathered any more."""
-        self._first = ""
-        self._goes_on = False
+        self.first, self._goes_on = "", False

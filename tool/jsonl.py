@@ -6,13 +6,12 @@ import json
 from collections.abc import Iterable, Iterator
 
 from tool.case import Document
-from tool.decode import Decoder
-from tool.fit import Numbered
-from tool.lines import Entry, json_line
+from tool.decode import Decoder, Fields
+from tool.lines import Line
+from tool.report import FINAL, Block, Known, read_json
 
-# So many lines are written at once, and so many are remembered at most.
-AT_ONCE = 4096
-MOST_KNOWN = 50_000
+# What the lines begin with that are of no step.
+NO_STEP = tuple(f"{word} " for word in (*FINAL, "bad"))
 
 
 def decoder_of(document: Document | None, profile: int) -> Decoder:
@@ -20,22 +19,33 @@ def decoder_of(document: Document | None, profile: int) -> Decoder:
     return Decoder.of_case(document) if document else Decoder(profile)
 
 
-def pieces(lines: Iterable[Numbered], decoder: Decoder | None) -> Iterator[bytes]:
-    """Yields the objects of some lines at a time."""
-    known: dict[str, str] = {}
-    objects: list[str] = []
-    for number, line, text in lines:
-        shown = known.get(text)
-        if shown is None:
-            shown = json_line(line)
-            if len(known) >= MOST_KNOWN:
-                known.clear()
-            known[text] = shown = f", {shown}" if isinstance(line, Entry) else f"{{{shown}"
+def opened(text: str) -> str:
+    """The object of a line without its end; of an entry without its number in front, too."""
+    fields = read_json(text)
+    return f"{{{fields}" if text.startswith(NO_STEP) else f", {fields}"
+
+
+def with_decoded(blocks: Iterable[Block[Line]], decoder: Decoder | None) -> Iterator[Block[str]]:
+    """Yields the opened objects of lines, with the fields of their flits where there is a decoder.
+    """
+    known = Known(opened)
+    for block in blocks:
+        shown = list(map(known.__getitem__, block.texts))
         if decoder is not None:
-            fields = decoder.flit(line)
-            shown = f'{shown}, "decoded": {json.dumps(fields)}' if fields else shown
-        objects.append(f'{{"entry": {number}{shown}}}\n' if shown[0] == "," else f"{shown}}}\n")
-        if len(objects) == AT_ONCE:
-            yield "".join(objects).encode()
-            objects.clear()
-    yield "".join(objects).encode()
+            shown = [it + _decoded(decoder.flit(line)) for it, line in zip(shown, block.made)]
+        yield Block(block.start, block.texts, shown)
+
+
+def pieces(blocks: Iterable[Block[str]]) -> Iterator[bytes]:
+    """Yields the objects of some lines at a time."""
+    for block in blocks:
+        objects = [
+            f'{{"entry": {number}{shown}}}\n' if shown[0] == "," else f"{shown}}}\n"
+            for number, shown in enumerate(block.made, block.start)
+        ]
+        yield "".join(objects).encode()
+
+
+def _decoded(fields: Fields) -> str:
+    """The field of a flit that is decoded; nothing where a line has no flit."""
+    return f', "decoded": {json.dumps(fields)}' if fields else ""

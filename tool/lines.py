@@ -3,9 +3,12 @@
 from __future__ import annotations
 
 from dataclasses import dataclass, fields
+from functools import lru_cache
 from typing import Any, ClassVar
 
 REGISTERS = "r"
+# So much that comes again and again is remembered at most.
+MOST_KNOWN = 50_000
 
 
 @dataclass(frozen=True, slots=True)
@@ -301,37 +304,36 @@ class Bad(Line):
 OPTIONAL = ("bank", "bytes", "value", "flag", "error")
 # Fields whose name in JSON is taken here.
 RENAMED = {"from_": "from", "idle_step": "step"}
-_NAMES = {
-    kind: [(field.name, RENAMED.get(field.name, field.name)) for field in fields(kind)]
+# The name in JSON of each field of a record.
+_WRITTEN = {
+    kind: {field.name: RENAMED.get(field.name, field.name) for field in fields(kind)}
     for kind in (Request, Answer, *Entry.__subclasses__(), *Line.__subclasses__())
     if kind is not Entry
 }
 
 
-def _template_of(kind: type) -> str:
-    """The fields of a record that has only numbers and words, to be formatted; else nothing."""
-    marks = {"int": "{{0.{}}}", "str": '"{{0.{}}}"'}
-    rows = [(field.name, marks.get(str(field.type))) for field in fields(kind)]
-    if any(mark is None for _, mark in rows):
-        return ""
-    names = dict(_NAMES[kind])
-    return ", ".join(f'"{names[name]}": {(mark or "").format(name)}' for name, mark in rows)
-
-
-_TEMPLATES = {kind: _template_of(kind) for kind in _NAMES}
+def json_template(kind: Any) -> str:
+    """The inside of a JSON object for the fields of a kind of line, to be formatted with them."""
+    marks = {"int": "%s", "str": '"%s"'}
+    rows = [(_WRITTEN[kind][field.name], marks[str(field.type)]) for field in fields(kind)]
+    shown = [f'"{written}": {mark}' for written, mark in rows]
+    return ", ".join([f'"line": "{kind.line}"', *shown])
 
 
 def json_fields(record: Any) -> str:
     """The fields of a record as the inside of a JSON object."""
-    template = _TEMPLATES[type(record)]
-    if template:
-        return template.format(record)
     shown = []
-    for name, written in _NAMES[type(record)]:
+    for name, written in _WRITTEN[type(record)].items():
         value = getattr(record, name)
         if value is not None or name not in OPTIONAL:
             shown.append(f'"{written}": {_json_value(value)}')
     return ", ".join(shown)
+
+
+@lru_cache(MOST_KNOWN)
+def _json_object(record: Request | Answer) -> str:
+    """A request or an answer in JSON. A report has each more than once."""
+    return f"{{{json_fields(record)}}}"
 
 
 def _json_value(value: Any) -> str:
@@ -342,7 +344,7 @@ def _json_value(value: Any) -> str:
         return "null"
     if isinstance(value, bool):
         return "true" if value else "false"
-    return str(value) if isinstance(value, int) else f"{{{json_fields(value)}}}"
+    return str(value) if isinstance(value, int) else _json_object(value)
 
 
 def json_line(line: Line) -> str:

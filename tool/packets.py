@@ -41,6 +41,8 @@ def _fields(*rows: tuple[str, int, int]) -> tuple[Field, ...]:
 
 _FRONT = (("CMD", 6, 0), ("LNG", 11, 7), ("TAG", 22, 12))
 COMMAND, LENGTH = _fields(*_FRONT[:2])
+# They are in the first two bytes of a flit.
+COMMAND_BITS, LENGTH_BITS = COMMAND.mask, LENGTH.mask
 REQUEST_HEADER = _fields(*_FRONT, ("ADRS", 57, 24), ("CUB", 63, 61))
 RESPONSE_HEADER = _fields(*_FRONT, ("AF", 33, 33), ("SLID", 41, 39), ("CUB", 63, 61))
 
@@ -105,7 +107,7 @@ def word_of(data: bytes) -> int:
 
 def length_of(flit: bytes) -> int:
     """LNG of a first flit."""
-    return LENGTH.of(word_of(flit[:8]))
+    return (word_of(flit[:2]) & LENGTH_BITS) >> LENGTH.low
 
 
 def values_of(fields: tuple[Field, ...], word: int) -> dict[str, int]:

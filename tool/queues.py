@@ -5,11 +5,12 @@ An entry changes at most two queues: a packet leaves one and enters another.
 
 from __future__ import annotations
 
-from collections.abc import Callable, Iterator
+from collections.abc import Callable, Iterator, Sequence
 from typing import Any
 
 from tool import packets
 from tool.case import Document, Endpoint, ends_of
+from tool.commands import BY_WORD
 from tool.gathering import Gathering
 from tool.lines import (
     REGISTERS,
@@ -35,7 +36,7 @@ Queue = tuple[Any, ...]
 # The queue that a packet or a flit enters, and the one that it leaves.
 Move = tuple[int, int]
 NONE = -1
-TRET = "tret"
+TRET = BY_WORD["tret"].code
 
 
 def ends_by_direction(document: Document) -> list[tuple[Endpoint, Endpoint]]:
@@ -96,26 +97,24 @@ class Queues:
         """How much each queue holds, by its name."""
         return dict(zip(self.names, self.counts))
 
-    def apply(self, line: Line) -> list[int]:
+    def apply(self, line: Line) -> Sequence[int]:
         """Counts an entry, and returns the queues that it changed."""
         move = _MOVES.get(type(line))
         if move is None:
-            return []
+            return ()
         counts = self.counts
         try:
             enters, leaves = move(self, line)
         except (IndexError, KeyError) as error:
             raise NotALine(f"`{line.line}` does not fit this case") from error
-        changed = []
         if leaves >= 0:
             counts[leaves] -= 1
-            changed.append(leaves)
             if counts[leaves] < 0:
                 raise NotALine(f"`{line.line}` does not fit this case: nothing is there to leave")
-        if enters >= 0:
-            counts[enters] += 1
-            changed.append(enters)
-        return changed
+        if enters < 0:
+            return (leaves,) if leaves >= 0 else ()
+        counts[enters] += 1
+        return (leaves, enters) if leaves >= 0 else (enters,)
 
     def gave(self, line: Gave) -> Move:
         """A request enters the output queue of its host."""
@@ -135,15 +134,13 @@ class Queues:
 
     def landed(self, line: Landed) -> Move:
         """A flit leaves the line. The last one of a packet may bring it to the buffer."""
-        direction, outcome = line.direction, line.outcome
+        direction = line.direction
         gathering = self._gathering[direction]
-        enters = NONE
-        if outcome in ("accepted", "poisoned"):
-            is_tret = not gathering.is_begun and _is_tret(line.flit)
-            enters = NONE if is_tret else self._buffers[direction]
-        if gathering.land(line):
-            enters = NONE
-        return enters, self._lines[direction]
+        is_packet = line.outcome in ("accepted", "poisoned")
+        is_stored = is_packet and (gathering.first or not _is_tret(line.flit))
+        if gathering.land(line) or not is_stored:
+            return NONE, self._lines[direction]
+        return self._buffers[direction], self._lines[direction]
 
     def through(self, line: Through) -> Move:
         """The packet that is gathered is begun on a direction."""
@@ -201,8 +198,7 @@ class Queues:
 
 def _is_tret(flit: str) -> bool:
     """Whether a flit is a TRET, which is accepted and enters no buffer."""
-    command = packets.Packet((bytes.fromhex(flit),), 1).command
-    return command is not None and command.word == TRET
+    return bytes.fromhex(flit[:2])[0] & packets.COMMAND_BITS == TRET
 
 
 _MOVES: dict[type[Line], Callable[..., Move]] = {

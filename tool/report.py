@@ -1,4 +1,4 @@
-"""Reads the lines of reports.
+"""Reads the lines of reports, some at a time.
 
 A line is read by one pattern, which is put together from those of its words. Equal lines share one
 record: most lines of a report come again and again.
@@ -8,10 +8,14 @@ from __future__ import annotations
 
 import re
 from collections.abc import Callable, Iterable, Iterator
-from typing import Any, NamedTuple
+from dataclasses import dataclass
+from functools import lru_cache
+from itertools import chain, count, islice
+from typing import Any, Generic, NamedTuple, TypeVar
 
 from tool.commands import BY_WORD, REQUEST
 from tool.lines import (
+    MOST_KNOWN,
     REGISTERS,
     Answer,
     Bad,
@@ -40,12 +44,22 @@ from tool.lines import (
     Tokens,
     Took,
     Unlocked,
+    json_line,
+    json_template,
 )
 
 # The first words of the lines that end a report.
 FINAL = ("memory", "register", "tokens", "counters", "host", "cube", "state")
-# So many lines are remembered at most.
-MOST_KNOWN = 50_000
+# The first words of the lines after which those of other steps may come.
+GOES_ON = frozenset(kind.line for kind in Entry.__subclasses__()) - {Passed.line}
+# The front of the lines that end a report, or are its only one.
+ENDING = tuple(f"{word} " for word in (*FINAL, Passed.line, "bad"))
+# So many lines are read at once.
+AT_ONCE = 4096
+
+Made = TypeVar("Made")
+# The number of a line, its record, and its text.
+Numbered = tuple[int, Line, str]
 
 
 class NotALine(ValueError):
@@ -67,9 +81,8 @@ def _hexadecimal(text: str) -> int:
 _NUMBER = "(?:0|[1-9][0-9]*)"
 _REQUEST = rf"(?:poison )?[a-z0-9]+ {_NUMBER} 0x(?:0|[1-9a-f][0-9a-f]*)(?: [0-9a-f]+)?"
 _BYTES = "(?:[0-9a-f]{2})+"
-_ANSWER = (
-    f"(?:silent|done [01]|read [01] {_BYTES}|register [0-9a-f]{{8}}|stored|error {_NUMBER})(?![^ ])"
-)
+_ANSWERS = f"silent|done [01]|read [01] {_BYTES}|register [0-9a-f]{{8}}|stored|error {_NUMBER}"
+_ANSWER = rf"(?:{_ANSWERS})(?![^ \n])"
 
 NUMBER = Words(_NUMBER, "a number", int)
 TAG = Words(f"{_NUMBER}|-", "a tag or `-`", lambda word: None if word == "-" else int(word))
@@ -100,6 +113,7 @@ STATE = Words("drained|busy", "drained or busy")
 WORD = Words("[a-z]+", "a word")
 
 
+@lru_cache(MOST_KNOWN)
 def request_of(text: str) -> Request:
     """A request in the words of a report."""
     words = text.split(" ")
@@ -120,6 +134,7 @@ def request_of(text: str) -> Request:
     return Request(*front, bytes=carried or None)
 
 
+@lru_cache(MOST_KNOWN)
 def answer_of(text: str) -> Answer:
     """An answer in the words of a report."""
     kind, *words = text.split(" ")
@@ -172,35 +187,56 @@ LINES: dict[str, tuple[Callable[..., Line], tuple[Words, ...]]] = {
 
 
 class Form(NamedTuple):
-    """How the lines with one first word are read: their pattern, and the values of its groups."""
+    """How the lines with one first word are read: their pattern, the values of its groups, and the
+    places of those whose value is not their word."""
 
     pattern: re.Pattern[str]
     make: Callable[..., Line]
-    # None for words that are kept as they are.
-    converts: tuple[Callable[[str], Any] | None, ...]
+    converts: tuple[tuple[int, Callable[[str], Any]], ...]
+    # The fields in JSON, to be formatted with the groups where these are numbers and words alone.
+    template: str
 
 
-_FORMS = {
-    first: Form(
-        re.compile("".join([first, *(f" ({words.pattern})" for words in form)])),
-        make,
-        tuple(None if words.convert is str else words.convert for words in form),
-    )
-    for first, (make, form) in LINES.items()
-}
+def _form_of(first: str, make: Callable[..., Line], words: tuple[Words, ...]) -> Form:
+    """The form of the lines with this first word, with or without their line feed."""
+    pattern = re.compile("".join([first, *(f" ({it.pattern})" for it in words), "\n?"]))
+    converts = tuple((at, it.convert) for at, it in enumerate(words) if it.convert is not str)
+    template = json_template(make) if {it.convert for it in words} <= {int, str} else ""
+    return Form(pattern, make, converts, template)
+
+
+_FORMS = {first: _form_of(first, make, words) for first, (make, words) in LINES.items()}
 
 
 def read_line(text: str) -> Line:
-    """The record of a line, which has no line feed."""
-    first = text.partition(" ")[0]
-    form = _FORMS.get(first)
-    if form is None:
-        raise NotALine(f"no line begins with `{first}`")
+    """The record of a line."""
+    form = _FORMS.get(text.partition(" ")[0])
+    found = form and form.pattern.fullmatch(text)
+    if not form or not found:
+        raise _not_a_line(text)
+    values: list[Any] = [*found.groups()]
+    for at, convert in form.converts:
+        values[at] = convert(values[at])
+    return form.make(*values)
+
+
+def read_json(text: str) -> str:
+    """The fields of a line as the inside of a JSON object, as those of its record are."""
+    form = _FORMS.get(text.partition(" ")[0])
+    if not form or not form.template:
+        return json_line(read_line(text))
     found = form.pattern.fullmatch(text)
-    if found is None:
-        raise NotALine(_fault_of(text[len(first) :], LINES[first][1]))
-    pairs = zip(form.converts, found.groups())
-    return form.make(*[convert(it) if convert else it for convert, it in pairs])
+    if not found:
+        raise _not_a_line(text)
+    return form.template % found.groups()
+
+
+def _not_a_line(text: str) -> NotALine:
+    """What is wrong with a text that is no line of a report."""
+    first = text.partition(" ")[0]
+    if first not in LINES:
+        return NotALine(f"no line begins with `{first.strip()}`")
+    return NotALine(_fault_of(text[len(first) :].removesuffix("\n"), LINES[first][1]))
 
 
 def _fault_of(text: str, form: tuple[Words, ...]) -> str:
@@ -217,52 +253,105 @@ def _fault_of(text: str, form: tuple[Words, ...]) -> str:
     return f"unexpected `{text[at:].strip()}`: the line ends before it"
 
 
-class Reader:
-    """Reads the lines of one report, in order."""
+class Known(dict[str, Made]):
+    """What is made of a text, once: most lines of a report come again and again."""
 
-    def __init__(self) -> None:
-        self._known: dict[str, Line] = {}
+    def __init__(self, make: Callable[[str], Made]):
+        super().__init__()
+        self._make = make
 
-    def read(self, text: str) -> Line:
-        """The record of the next line, with or without its line feed."""
-        line = self._known.get(text)
-        if line is None:
-            line = read_line(text.removesuffix("\n"))
-            if len(self._known) >= MOST_KNOWN:
-                self._known.clear()
-            self._known[text] = line
-        return line
+    def __missing__(self, text: str) -> Made:
+        made = self._make(text)
+        if len(self) >= MOST_KNOWN:
+            self.clear()
+        self[text] = made
+        return made
 
-    def numbered(self, lines: Iterable[str]) -> Iterator[tuple[int, Line, str]]:
-        """Yields the number of each line, from 1, its record, and its text.
 
-        The number of an entry is that of its step.
+@dataclass(frozen=True, slots=True)
+class Block(Generic[Made]):
+    """Lines of a report that follow one another: the number of the first one, their texts, and what
+    was made of each. The number of an entry is that of its step."""
+
+    start: int
+    texts: list[str]
+    made: list[Made]
+
+    def rows(self) -> Iterator[tuple[int, Made, str]]:
+        """Yields the number of each line, what was made of it, and its text."""
+        return zip(count(self.start), self.made, self.texts)
+
+
+class _Lines(Known[Made]):
+    """What is made of lines. One that ends a report is not kept, so each of them is noticed."""
+
+    is_ending = False
+
+    def __missing__(self, text: str) -> Made:
+        if not text.startswith(ENDING):
+            return super().__missing__(text)
+        self.is_ending = True
+        return self._make(text)
+
+
+class Reader(Generic[Made]):
+    """Reads the lines of one report, in order: each becomes what is made of it."""
+
+    def __init__(self, make: Callable[[str], Made]):
+        self._known = _Lines(make)
+
+    def blocks(self, lines: Iterable[str]) -> Iterator[Block[Made]]:
+        """Yields the lines, some at a time, each with or without its line feed.
+
+        A line that no report has there is refused after all lines before it were given.
         """
-        number, is_over, known = 0, "", self._known
-        for text in lines:
-            number += 1
-            line = known.get(text)
-            if line is None:
-                try:
-                    line = self.read(text)
-                except NotALine as error:
-                    said = f"line {number} is not a line of a report: {error}"
-                    raise NotALine(said) from error
-            if is_over:
-                _check_order(number, line, is_over)
-            if not isinstance(line, Entry) or line.line == "passed":
-                is_over = line.line
-            yield number, line, text
+        source, start, last = iter(lines), 1, ""
+        while texts := list(islice(source, AT_ONCE)):
+            made, said = self._read(texts)
+            if self._known.is_ending:
+                words = [text.partition(" ")[0] for text in texts[: len(made)]]
+                place, wrong, last = _order_fault(words, last)
+                made, said = made[:place], wrong or said
+            if made:
+                yield Block(start, texts[: len(made)], made)
+            if said:
+                raise NotALine(f"line {start + len(made)}{said}")
+            start += len(texts)
+
+    def _read(self, texts: list[str]) -> tuple[list[Made], str]:
+        """What is made of these lines up to the first that is none, and what is wrong with it."""
+        made: list[Made] = []
+        try:
+            made.extend(map(self._known.__getitem__, texts))
+        except NotALine as error:
+            return made, f" is not a line of a report: {error}"
+        return made, ""
 
 
-def _check_order(number: int, line: Line, before: str) -> None:
-    """Refuses a line that cannot come after a final line, `passed`, or `bad`."""
+def numbered(lines: Iterable[str]) -> Iterator[Numbered]:
+    """Yields the number of each line, from 1, its record, and its text."""
+    return chain.from_iterable(block.rows() for block in Reader(read_line).blocks(lines))
+
+
+def _order_fault(words: list[str], last: str) -> tuple[int, str, str]:
+    """The place of the first line that cannot come there, by the first words of lines, what is
+    wrong with it, and the word of the last line that ends a report; it is empty before them."""
+    for place, word in enumerate(words):
+        said = _end_fault(word, last) if last else ""
+        if said:
+            return place, said, last
+        if word not in GOES_ON:
+            last = word.removesuffix("\n")
+    return len(words), "", last
+
+
+def _end_fault(word: str, before: str) -> str:
+    """Why a line cannot come after a final line, `passed`, or `bad`; nothing where it can."""
     if before in ("passed", "bad"):
-        raise NotALine(f"line {number}: `{before}` is the last line of a report")
-    if line.line not in FINAL or FINAL.index(line.line) < FINAL.index(before):
-        raise NotALine(f"line {number}: `{line.line}` cannot come after a final line `{before}`")
-    if line.line == before == "state":
-        raise NotALine(f"line {number}: `state` is the last line of a report")
+        return f": `{before}` is the last line of a report"
+    if word not in FINAL or FINAL.index(word) < FINAL.index(before):
+        return f": `{word}` cannot come after a final line `{before}`"
+    return ": `state` is the last line of a report" if word == before == "state" else ""
 
 
 def is_final(line: str) -> bool:

@@ -107,6 +107,11 @@ def keep_of(options: Options) -> Keep | None:
     return (lambda line: all(test(line) for test in tests)) if tests else None
 
 
+def keep_all(_: bytes) -> bool:
+    """Keeps each line."""
+    return True
+
+
 def pattern_of(text: str) -> re.Pattern[bytes]:
     """The regular expression that the text is."""
     try:

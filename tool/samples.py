@@ -22,7 +22,7 @@ FEATURES = {
     "registers": "reads and writes of registers",
     "units": "the two logic units of the program, the second of which is retired",
     "unlock": "receivers that lose their framing",
-    "two": "profile 2: other blocks, and links of both profiles",
+    "two": "`profile = 2`: other blocks, and links of both profiles",
 }
 USUAL = ("atomics", "noise", "posted", "units")
 # Requests, and the bytes that each carries.

@@ -59,6 +59,18 @@ def steps_of(words: list[str], plan: Plan) -> int:
     return texts.value_of(words[1]) * plan.round_steps if words[0] == "round" else 1
 
 
+def line_of(number: int, text: str, plan: Plan) -> tuple[int, int]:
+    """The line of the step with this number, which is there, and the steps of the line before it.
+    """
+    for line, row in enumerate(texts.lines_of(text), start=1):
+        words = texts.plain_words_of(row)
+        steps = steps_of(words, plan) if words else 0
+        if number <= steps:
+            return line, number - 1
+        number -= steps
+    raise AssertionError("the schedule has so many steps")
+
+
 def line_fault(words: list[str], plan: Plan) -> LineFault | None:
     """The first fault of a line that has words, from left to right."""
     operands = STEPS.get(words[0])
@@ -142,14 +154,16 @@ def steps_in(text: str, plan: Plan) -> Iterator[Step]:
 def _pieces(text: str, plan: Plan) -> Iterator[Sequence[Step] | Iterator[Step]]:
     """Yields the steps of each line."""
     one_round = [(step, "") for step in round_of(plan)]
-    noise = Noise(0, "")
+    landings = [place for place, (step, _) in enumerate(one_round) if step.startswith("land ")]
+    noise = Noise(landings, 0, "")
     for line in texts.lines_of(text):
         words = texts.plain_words_of(line)
         if not words:
             continue
         if words[0] == "noise":
             is_off = words[1] == "off"
-            noise = Noise(0, "") if is_off else Noise(texts.value_of(words[1]), words[2].lower())
+            every, mask = (0, "") if is_off else (texts.value_of(words[1]), words[2].lower())
+            noise = Noise(landings, every, mask)
         elif words[0] != "round":
             yield [_single(words)]
         elif noise.every:
@@ -161,18 +175,21 @@ def _pieces(text: str, plan: Plan) -> Iterator[Sequence[Step] | Iterator[Step]]:
 class Noise:
     """The masks of landings that rounds make: each so many a one has the mask."""
 
-    def __init__(self, every: int, mask: str):
+    def __init__(self, landings: list[int], every: int, mask: str):
+        # The places of the steps `land` in a round.
+        self._landings = landings
         self.every = every
         self._mask = mask
         self._count = 0
 
     def over(self, steps: Sequence[Step]) -> Sequence[Step]:
         """The steps of a round with their masks."""
-        places = [place for place, (step, _) in enumerate(steps) if step.startswith("land ")]
-        before, self._count = self._count, self._count + len(places)
+        before, self._count = self._count, self._count + len(self._landings)
         first = self.every - before % self.every
+        if first > len(self._landings):
+            return steps
         masked = list(steps)
-        for place in places[first - 1 :: self.every]:
+        for place in self._landings[first - 1 :: self.every]:
             masked[place] = (steps[place][0], self._mask)
         return masked
 

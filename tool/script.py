@@ -3,7 +3,7 @@
 from __future__ import annotations
 
 import re
-from collections.abc import Callable, Iterator
+from collections.abc import Iterator
 
 from tool import texts
 from tool.commands import BY_WORD, REQUEST, Command
@@ -12,6 +12,7 @@ from tool.texts import Plan, TextFault
 
 # What is wrong with a line: the kind, and the number of the word.
 LineFault = tuple[str, int]
+DIGITS = re.compile("[0-9a-fA-F]+")
 
 
 def first_fault(text: str, plan: Plan) -> TextFault | None:
@@ -52,26 +53,24 @@ def line_fault(words: list[str], plan: Plan) -> LineFault | None:
 
 def operand_fault(words: list[str], at: int, command: Command, plan: Plan) -> LineFault | None:
     """The first fault in the words after the command, which begin at this number."""
-    tests: list[tuple[str, Callable[[str], bool]]] = [
-        ("cube", lambda word: texts.is_below(word, len(plan.cubes))),
-        ("address", lambda word: texts.is_below(word, texts.ADDRESSES)),
-    ]
-    if command.payload_bytes:
-        tests.append(("payload", lambda word: is_payload(word, command)))
-    for kind, is_right in tests:
+    for kind, bound in (("cube", len(plan.cubes)), ("address", texts.ADDRESSES)):
         if at == len(words):
             return "words", at
-        if not is_right(words[at]):
+        if not texts.is_below(words[at], bound):
             return kind, at
         at += 1
-    return left_over(words, at)
+    if not command.payload_bytes:
+        return left_over(words, at)
+    if at == len(words):
+        return "words", at
+    return left_over(words, at + 1) if is_payload(words[at], command) else ("payload", at)
 
 
 def is_payload(word: str, command: Command) -> bool:
     """Whether the word is what the command carries: bytes, or for mdwr a value."""
     if command.word == "mdwr":
         return texts.is_below(word, texts.REGISTER_VALUES)
-    return re.fullmatch(f"[0-9a-fA-F]{{{2 * command.payload_bytes}}}", word) is not None
+    return len(word) == 2 * command.payload_bytes and DIGITS.fullmatch(word) is not None
 
 
 def left_over(words: list[str], at: int) -> LineFault | None:

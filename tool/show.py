@@ -33,7 +33,7 @@ def counted(number: int, word: str) -> str:
 
 
 def sizes_of(link: Document) -> str:
-    """The numbers of a link: four, and in profile 2 its profile."""
+    """The numbers of a link: four, and with `profile = 2` its profile."""
     return ", ".join(f"{key} {link[key]}" for key in SIZES if key in link)
 
 

@@ -87,6 +87,11 @@ def subjects_of(line: str) -> list[Subject]:
     return direction or parts_of(line)
 
 
+def about(line: str) -> list[Subject]:
+    """All that a line is about: a request, and its parts."""
+    return list(dict.fromkeys([*parts_of(line), *subjects_of(line)]))
+
+
 def name_of(subject: Subject) -> str:
     """A subject in words."""
     kind, *words = subject

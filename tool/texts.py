@@ -4,6 +4,7 @@ from __future__ import annotations
 
 import re
 from dataclasses import dataclass, field
+from functools import lru_cache
 
 ADDRESSES = 1 << 34
 REGISTER_VALUES = 1 << 32
@@ -18,6 +19,8 @@ SLOTS = 8
 
 WORD = re.compile(r"[^ \t]+")
 NUMBER = re.compile(r"0x[0-9a-fA-F]{1,20}|[0-9]{1,20}")
+# So many words are remembered with their numbers: most come again and again.
+MOST_KNOWN = 4096
 
 
 @dataclass(frozen=True)
@@ -83,6 +86,7 @@ def plain_words_of(line: str) -> list[str]:
     return [] if words and words[0].startswith("#") else words
 
 
+@lru_cache(MOST_KNOWN)
 def number_of(word: str) -> int | None:
     """The number that a word is, or None."""
     if not NUMBER.fullmatch(word):

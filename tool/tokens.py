@@ -21,7 +21,9 @@ from tool.report import NotALine
 
 # Where a token is, in the order of a line `tokens`.
 PLACES = ("held", "transit", "used", "due", "returning")
+HELD, TRANSIT, USED, DUE, RETURNING = range(len(PLACES))
 MOST_RTC = 7
+NOWHERE: list[int] = []
 
 
 class Begun(NamedTuple):
@@ -37,100 +39,116 @@ def returned_of(due: int) -> int:
 
 
 class Tokens:
-    """The tokens of each direction after some entries, by their places."""
+    """The tokens of each direction after some entries, by their places.
+
+    `at` has the places of direction 0, then those of direction 1 and so on; their numbers in it are
+    those that `apply` returns.
+    """
 
     def __init__(self, document: Document):
-        self.counts: list[dict[str, int]] = []
-        at: dict[Endpoint, int] = {}
+        self.at: list[int] = []
+        self._moved: list[int] = []
+        to: dict[Endpoint, int] = {}
         for link in document["links"]:
             for receiver in reversed(ends_of(link)):
-                at[receiver] = len(self.counts)
-                self.counts.append(dict.fromkeys(PLACES, 0) | {"due": link["tokens"]})
-        self._at_port = {(end.cube, end.port): it for end, it in at.items() if end.host is None}
-        self._at_host = {end.host: it for end, it in at.items() if end.host is not None}
-        self._begun = [deque[Begun]() for _ in self.counts]
-        self._buffers = [deque[int]() for _ in self.counts]
+                to[receiver] = len(to)
+                self.at += [link["tokens"] if place == DUE else 0 for place in range(len(PLACES))]
+        self._to_port = {(end.cube, end.port): it for end, it in to.items() if end.host is None}
+        self._to_host = {end.host: it for end, it in to.items() if end.host is not None}
+        self._begun = [deque[Begun]() for _ in to]
+        self._buffers = [deque[int]() for _ in to]
         # The flits still to be sent of the packet that each direction sends for the first time.
-        self._left = [0] * len(self.counts)
-        self._gathering = [Gathering() for _ in self.counts]
+        self._left = [0] * len(to)
+        self._gathering = [Gathering() for _ in to]
+
+    @property
+    def counts(self) -> list[dict[str, int]]:
+        """The tokens of each direction, by the names of their places."""
+        rows = range(0, len(self.at), len(PLACES))
+        return [dict(zip(PLACES, self.at[row : row + len(PLACES)])) for row in rows]
 
     def apply(self, line: Line) -> list[int]:
-        """Counts an entry, and returns the directions whose tokens it may have moved."""
+        """Counts an entry, and returns the places from and to which tokens moved."""
         apply = _MOVES.get(type(line))
         if apply is None:
-            return []
+            return NOWHERE
+        if self._moved:
+            self._moved = []
         try:
-            moved: list[int] = apply(self, line)
+            apply(self, line)
         except (IndexError, KeyError) as error:
             raise NotALine(f"`{line.line}` does not fit this case") from error
-        for direction in moved:
-            if min(self.counts[direction].values()) < 0:
+        for place in self._moved:
+            if self.at[place] < 0:
                 raise NotALine(f"`{line.line}` takes more tokens than there are")
-        return moved
+        return self._moved
 
-    def sent(self, line: Sent) -> list[int]:
+    def _move(self, direction: int, source: int, goal: int, tokens: int) -> None:
+        """Moves tokens of a direction from one place to another."""
+        if tokens:
+            source += direction * len(PLACES)
+            goal += direction * len(PLACES)
+            self.at[source] -= tokens
+            self.at[goal] += tokens
+            self._moved += (source, goal)
+
+    def sent(self, line: Sent) -> None:
         """A TRET, or the first flit of a new packet, begins it."""
         direction = line.direction
         if line.what == "tret":
-            return self._begin(direction, 0)
-        if line.what != "new":
-            return []
-        is_first = self._left[direction] == 0
-        if is_first:
-            self._left[direction] = packets.length_of(bytes.fromhex(line.flit))
-        self._left[direction] -= 1
-        return self._begin(direction, self._left[direction] + 1) if is_first else []
+            self._begin(direction, 0)
+        elif line.what == "new":
+            is_first = self._left[direction] == 0
+            if is_first:
+                self._left[direction] = packets.length_of(bytes.fromhex(line.flit))
+                self._begin(direction, self._left[direction])
+            self._left[direction] -= 1
 
-    def _begin(self, direction: int, taken: int) -> list[int]:
+    def _begin(self, direction: int, taken: int) -> None:
         """A packet is begun that takes so many tokens."""
-        own, opposite = self.counts[direction], self.counts[direction ^ 1]
-        returned = returned_of(opposite["due"])
-        move(own, "held", "transit", taken)
-        move(opposite, "due", "returning", returned)
+        returned = returned_of(self.at[(direction ^ 1) * len(PLACES) + DUE])
+        self._move(direction, HELD, TRANSIT, taken)
+        self._move(direction ^ 1, DUE, RETURNING, returned)
         self._begun[direction].append(Begun(taken, returned))
-        return [direction, direction ^ 1]
 
-    def through(self, line: Through) -> list[int]:
+    def through(self, line: Through) -> None:
         """The packet that is gathered at a port is begun on a direction."""
-        source = self._at_port[line.cube, line.port]
+        source = self._to_port[line.cube, line.port]
         self._left[line.direction] = self._gathering[source].go_on()
-        return self._begin(line.direction, self._left[line.direction])
+        self._begin(line.direction, self._left[line.direction])
 
-    def unlocked(self, line: Unlocked) -> list[int]:
+    def unlocked(self, line: Unlocked) -> None:
         """What was gathered is dropped."""
         self._gathering[line.direction].end()
-        return []
 
-    def landed(self, line: Landed) -> list[int]:
+    def landed(self, line: Landed) -> None:
         """A packet that is accepted brings its tokens to the buffer, and returns others."""
         direction = line.direction
         leaves = self._gathering[direction].land(line)
         if line.outcome not in ("accepted", "poisoned"):
-            return []
+            return
         packet = self._begun[direction].popleft()
-        move(self.counts[direction], "transit", "used", packet.taken)
-        move(self.counts[direction ^ 1], "returning", "held", packet.returned)
+        self._move(direction, TRANSIT, USED, packet.taken)
+        self._move(direction ^ 1, RETURNING, HELD, packet.returned)
         if leaves:
-            move(self.counts[direction], "used", "due", packet.taken)
+            self._move(direction, USED, DUE, packet.taken)
         elif packet.taken:
             self._buffers[direction].append(packet.taken)
-        return [direction, direction ^ 1]
 
-    def _leave(self, direction: int) -> list[int]:
+    def _leave(self, direction: int) -> None:
         """The packet at the front of a buffer leaves it."""
-        move(self.counts[direction], "used", "due", self._buffers[direction].popleft())
-        return [direction]
+        self._move(direction, USED, DUE, self._buffers[direction].popleft())
 
-    def shifted(self, line: Shifted | Dropped) -> list[int]:
+    def shifted(self, line: Shifted | Dropped) -> None:
         """A packet leaves the buffer of a port."""
-        return self._leave(self._at_port[line.cube, line.port])
+        self._leave(self._to_port[line.cube, line.port])
 
-    def took(self, line: Took | Discarded) -> list[int]:
+    def took(self, line: Took | Discarded) -> None:
         """A packet leaves the buffer of a host."""
-        return self._leave(self._at_host[line.host])
+        self._leave(self._to_host[line.host])
 
 
-_MOVES: dict[type[Line], Callable[..., list[int]]] = {
+_MOVES: dict[type[Line], Callable[..., None]] = {
     Sent: Tokens.sent,
     Landed: Tokens.landed,
     Through: Tokens.through,
@@ -140,9 +158,3 @@ _MOVES: dict[type[Line], Callable[..., list[int]]] = {
     Took: Tokens.took,
     Discarded: Tokens.took,
 }
-
-
-def move(counts: dict[str, int], source: str, goal: str, tokens: int) -> None:
-    """Moves tokens from one place to another."""
-    counts[source] -= tokens
-    counts[goal] += tokens

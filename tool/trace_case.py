@@ -4,12 +4,16 @@ from __future__ import annotations
 
 from dataclasses import dataclass
 
-from tool import case, documents, explain_fault
+from tool import case, documents, explain_fault, schedule
 from tool.case import Document
 from tool.texts import INPUT_BYTES, MOST_ROUNDS, MOST_STEPS
 from tool.traces import Shape, Trace
 from tool.trouble import BAD_DATA, USAGE, Trouble
 
+# The drain bound: the rounds that settle the link of one cube in any state, and those for each
+# packet under way and for one more.
+OPEN_LINK = 4000
+PACKET = 2000
 # Rounds until every link of a chain is open, and those that a request or its answer waits at most
 # on a link that loses nothing.
 OPENING = 200
@@ -31,9 +35,8 @@ class Sizes:
 
 def text_of(trace: Trace, sizes: Sizes) -> str:
     """The case as a TOML document. It is valid."""
-    rounds = rounds_of(trace) if sizes.rounds is None else sizes.rounds
-    document = document_of(trace, sizes, rounds)
-    refuse_rounds(document, rounds)
+    document = document_of(trace, sizes)
+    refuse_steps(document)
     fault = case.first_fault(document)
     if fault:
         raise Trouble(USAGE, explain_fault.advice(fault, document))
@@ -44,15 +47,32 @@ def text_of(trace: Trace, sizes: Sizes) -> str:
     return text
 
 
-def document_of(trace: Trace, sizes: Sizes, rounds: int) -> Document:
-    """The case with so many rounds."""
-    return {
+def document_of(trace: Trace, sizes: Sizes) -> Document:
+    """The case, with the rounds that are given, else those that are proved or thought enough."""
+    document = {
         "profile": 1,
         "script": "".join(f"{request}\n" for request in trace.requests),
-        "schedule": f"round {rounds}\n",
+        "schedule": "",
         "cubes": [cube_of(shape, sizes) for shape in trace.shapes],
         "links": [link_of(number, sizes) for number in range(len(trace.shapes))],
     }
+    drains = gives_and_rounds(trace, sizes)
+    if sizes.rounds is None and drains and steps_of(drains, document) <= MOST_STEPS:
+        return {**document, "schedule": drains}
+    rounds = rounds_of(trace) if sizes.rounds is None else sizes.rounds
+    if not 1 <= rounds <= MOST_ROUNDS:
+        raise Trouble(USAGE, f"{rounds:,} rounds: a schedule has 1 to {MOST_ROUNDS:,} of them")
+    return {**document, "schedule": f"round {rounds}\n"}
+
+
+def gives_and_rounds(trace: Trace, sizes: Sizes) -> str:
+    """The schedule that gives all requests first, and then has the rounds of the drain bound of
+    docs/drain.md for so many. It is empty where it has no such bound: in a network of more cubes,
+    or where the host's output queue has no room for all requests at once."""
+    count = len(trace.requests)
+    if len(trace.shapes) > 1 or count > sizes.output:
+        return ""
+    return "give 0\n" * count + f"round {OPEN_LINK + PACKET * (count + 1)}\n"
 
 
 def cube_of(shape: Shape, sizes: Sizes) -> Document:
@@ -68,18 +88,22 @@ def link_of(number: int, sizes: Sizes) -> Document:
     return {**ends, **numbers, "retry": sizes.retry, "output": sizes.output}
 
 
-def refuse_rounds(document: Document, rounds: int) -> None:
-    """Refuses so many rounds if a schedule has no room for them."""
-    if not 1 <= rounds <= MOST_ROUNDS:
-        raise Trouble(USAGE, f"{rounds:,} rounds: a schedule has 1 to {MOST_ROUNDS:,} of them")
-    steps = rounds * case.plan_of(document).round_steps
+def steps_of(text: str, document: Document) -> int:
+    """The steps of a schedule of this case."""
+    plan, lines = case.plan_of(document), text.splitlines()
+    return sum(schedule.steps_of(line.split(" "), plan) for line in lines)
+
+
+def refuse_steps(document: Document) -> None:
+    """Refuses a case with more steps than a schedule may have."""
+    steps = steps_of(document["schedule"], document)
     if steps > MOST_STEPS:
-        said = f"{rounds:,} rounds have {steps:,} steps, and a schedule has at most {MOST_STEPS:,}"
+        said = f"the rounds have {steps:,} steps, and a schedule has at most {MOST_STEPS:,}"
         raise Trouble(USAGE, f"{said}: give a shorter trace, smaller cubes or --rounds")
 
 
 def rounds_of(trace: Trace) -> int:
-    """Rounds after which all loads have their values, where no flit is changed.
+    """An estimate of the rounds after which all loads have their values, if no flit is changed.
 
     It counts as if each request went alone: its flits and those of its answer, and a wait on each
     link of its way and back.

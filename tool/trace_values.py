@@ -7,7 +7,7 @@ from collections.abc import Iterable
 
 from tool.fit import LEFT_OUT
 from tool.lines import Answer, Gave, Host, Took
-from tool.report import NotALine, Reader, request_of
+from tool.report import NotALine, numbered, request_of
 from tool.traces import Load, Trace
 
 HOST = 0
@@ -35,7 +35,7 @@ def answers_of(trace: Trace, lines: Iterable[str]) -> list[bytes | None]:
     tags: list[int | None] = []
     taken: defaultdict[int, deque[bytes | None]] = defaultdict(deque)
     count = 0
-    for number, line, _ in Reader().numbered(lines):
+    for number, line, _ in numbered(lines):
         if isinstance(line, Gave) and line.host == HOST:
             compare(number, line, trace, len(tags))
             tags.append(line.tag)

@@ -7,19 +7,18 @@ for follows from its outcomes, and where tokens are from what is begun, accepted
 
 from __future__ import annotations
 
-from collections.abc import Iterable, Iterator
+from collections.abc import Callable, Iterable, Iterator
+from typing import Any
 
 from tool.case import Document, plan_of
-from tool.fit import Numbered
-from tool.queues import Queue, Queues, queues_of
 from tool.lines import Entry, Gave, Idle, Landed, Line, Passed, Sent, Took, Unlocked
-from tool.report import NotALine
+from tool.queues import Queue, Queues, queues_of
+from tool.report import Block, NotALine
 from tool.tokens import PLACES, Tokens
 from tool.vcd import BIT, EVENT, FLIT, NUMBER, TEXT, Dump, Signal
 
 TOP = "network"
 NOTHING = "-"
-NULL = "0" * 32
 # What a receiver waits for at first, and after these outcomes; after others it stays.
 FIRST_MODE = "train"
 MODES = {"trained": "abort", "aborted": "abort", "ran clear": "good"}
@@ -27,9 +26,7 @@ MODES = {"trained": "abort", "aborted": "abort", "ran clear": "good"}
 UNCHANGED = ("quiet", "gathered", "accepted")
 # What is sent only where a link goes back.
 RETRIES = ("start", "clear", "again")
-LANDINGS = (Landed, Passed, Unlocked)
 HOST_SIGNALS = ("given", "taken", "tags_out")
-AT_ONCE = 4096
 
 
 def mode_after(mode: str, line: Line) -> str:
@@ -48,15 +45,16 @@ class Side:
     def __init__(self, dump: Dump, direction: int, word: str):
         scopes = (TOP, f"direction{direction}")
         self._kind = dump.mark(dump.add(scopes, word, TEXT))
-        self._flit = dump.mark(dump.add(scopes, f"{word}_flit", TEXT))
-        self._bits = dump.mark(dump.add(scopes, f"{word}_bits", FLIT))
+        flit = dump.mark(dump.add(scopes, f"{word}_flit", TEXT))
+        bits = dump.mark(dump.add(scopes, f"{word}_bits", FLIT))
         # The lines after which nothing is sent, or nothing lands.
-        self.quiet = f"s{NOTHING} {self._kind}\ns{NOTHING} {self._flit}\nbz {self._bits}"
+        self.quiet = f"s{NOTHING} {self._kind}\ns{NOTHING} {flit}\nbz {bits}"
+        self._ends = f"{self._kind}\ns", f"{flit}\n", bits
 
     def lines(self, kind: str, flit: str) -> str:
         """The lines of a flit of this kind. They always change, so they are not compared."""
-        bits = "0" if flit == NULL else f"{int(flit, 16):b}"
-        return f"s{kind} {self._kind}\ns{flit} {self._flit}\nb{bits} {self._bits}"
+        after_kind, after_flit, after_bits = self._ends
+        return f"s{kind} {after_kind}{flit} {after_flit}{bin(int(flit, 16))[1:]} {after_bits}"
 
     def line(self, kind: str) -> str:
         """The line of what happens without a flit."""
@@ -72,18 +70,24 @@ class Wave:
         self._tokens = Tokens(document)
         self._dump = Dump()
         self._step = self._dump.mark(self._dump.add((TOP,), "step"))
-        self._entry = self._dump.add((TOP,), "entry", TEXT)
+        self._entry = self._dump.mark(self._dump.add((TOP,), "entry", TEXT))
+        # The first word of the last entry.
+        self._word = NOTHING
         directions = range(len(self._queues.ends))
         self._sent = [Side(self._dump, number, "sent") for number in directions]
         self._landed = [Side(self._dump, number, "landed") for number in directions]
+        self._sides = {Sent: self._sent, Landed: self._landed, Passed: self._landed}
+        self._sides |= {Unlocked: self._landed}
         # The side at which the last entry has set a flit, for that step alone.
         self._set: Side | None = None
         self._modes = [FIRST_MODE for _ in directions]
         self._receivers = [self._add(f"direction{n}", "receiver", TEXT) for n in directions]
         retries = [self._add(f"direction{n}", "retry", EVENT) for n in directions]
         self._retries = [f"1{self._dump.mark(number)}" for number in retries]
-        self._token_places = [
-            [self._add(f"direction{n}", f"tokens_{place}") for place in PLACES] for n in directions
+        self._token_marks = [
+            self._dump.mark(self._add(f"direction{n}", f"tokens_{place}"))
+            for n in directions
+            for place in PLACES
         ]
         queues = list(queues_of(document))
         self._places = [
@@ -127,26 +131,27 @@ class Wave:
         sender, receiver = self._queues.ends[int(number)]
         return f"direction {number}: {sender} to {receiver}"
 
-    def pieces(self, lines: Iterable[Numbered]) -> Iterator[bytes]:
+    def pieces(self, blocks: Iterable[Block[Line]]) -> Iterator[bytes]:
         """Yields the dump, some lines at a time."""
         out = [*self._dump.head(), "#0"]
         self._first_values(out)
         last, step, was_idle = 0, self._step, False
-        for number, line, _ in lines:
-            if not isinstance(line, Entry):
-                continue
-            last = number
-            out.append(f"#{number}\nb{number:b} {step}")
-            is_idle = isinstance(line, Idle)
-            if not (is_idle and was_idle):
+        for block in blocks:
+            for number, line, _ in block.rows():
+                is_idle = type(line) is Idle
+                if not is_idle and not isinstance(line, Entry):
+                    break
+                last = number
+                out.append(f"#{number}\n{bin(number)[1:]} {step}")
+                if is_idle and was_idle:
+                    continue
+                was_idle = is_idle
                 try:
                     self._entry_lines(line, out)
                 except NotALine as error:
                     raise NotALine(f"line {number}: {error}") from error
-            was_idle = is_idle
-            if len(out) > AT_ONCE:
-                yield _text(out)
-                out.clear()
+            yield _text(out)
+            out.clear()
         out.append(f"#{last + 1}")
         yield _text(out)
 
@@ -154,7 +159,7 @@ class Wave:
         """Adds the values before the first step."""
         change = self._dump.change
         out.append(f"b0 {self._step}")
-        change(self._entry, NOTHING, out)
+        out.append(f"s{NOTHING} {self._entry}")
         out += [side.quiet for side in (*self._sent, *self._landed)]
         for receiver in self._receivers:
             change(receiver, FIRST_MODE, out)
@@ -162,45 +167,45 @@ class Wave:
         for number in [*self._busy, *(it for places in self._host_places for it in places)]:
             if number is not None:
                 change(number, 0, out)
-        for direction in range(len(self._sent)):
-            self._token_lines(direction, out)
+        self._token_lines(range(len(self._token_marks)), out)
 
-    def _entry_lines(self, line: Entry, out: list[str]) -> None:
+    def _entry_lines(self, line: Line, out: list[str]) -> None:
         """Adds the changes of one entry."""
-        self._dump.change(self._entry, line.line, out)
-        side: Side | None = None
-        if isinstance(line, Sent):
-            side = self._sent[line.direction]
-        elif isinstance(line, LANDINGS):
-            side = self._landed[line.direction]
+        if line.line != self._word:
+            self._word = line.line
+            out.append(f"s{self._word} {self._entry}")
+        kind = type(line)
+        sides = self._sides.get(kind)
+        side = sides[line.direction] if sides else None  # type: ignore[attr-defined]
         # A flit is there for its step alone; where one follows at once, it is not quiet between.
-        if self._set is not None and (side is not self._set or isinstance(line, Unlocked)):
+        if self._set is not None and (side is not self._set or kind is Unlocked):
             out.append(self._set.quiet)
         self._set = side
         for queue in self._queues.apply(line):
             held = self._queues.counts[queue]
-            out.append(f"b{held:b} {self._places[queue]}")
+            out.append(f"{bin(held)[1:]} {self._places[queue]}")
             busy = self._busy[queue]
             if busy is not None:
                 self._dump.change(busy, int(held > 0), out)
-        for direction in self._tokens.apply(line):
-            self._token_lines(direction, out)
-        if isinstance(line, Sent):
-            out.append(self._sent[line.direction].lines(line.what, line.flit))
-            if line.what in RETRIES:
-                out.append(self._retries[line.direction])
-        elif isinstance(line, LANDINGS):
-            self._landing_lines(line, out)
-        elif isinstance(line, (Gave, Took)):
-            self._host_lines(line, out)
+        moved = self._tokens.apply(line)
+        if moved:
+            self._token_lines(dict.fromkeys(moved), out)
+        show = _SHOWN.get(kind)
+        if show:
+            show(self, line, out)
 
-    def _token_lines(self, direction: int, out: list[str]) -> None:
-        """Adds the changes of the tokens of a direction."""
-        counts = self._tokens.counts[direction].values()
-        for place, count in zip(self._token_places[direction], counts):
-            self._dump.change(place, count, out)
+    def _token_lines(self, places: Iterable[int], out: list[str]) -> None:
+        """Adds how many tokens are at these places of directions."""
+        for place in places:
+            out.append(f"{bin(self._tokens.at[place])[1:]} {self._token_marks[place]}")
 
-    def _landing_lines(self, line: Landed | Passed | Unlocked, out: list[str]) -> None:
+    def show_sent(self, line: Sent, out: list[str]) -> None:
+        """Adds the changes of a flit that is sent."""
+        out.append(self._sent[line.direction].lines(line.what, line.flit))
+        if line.what in RETRIES:
+            out.append(self._retries[line.direction])
+
+    def show_landing(self, line: Landed | Passed | Unlocked, out: list[str]) -> None:
         """Adds the changes of a flit that lands, or of a receiver that is unlocked."""
         direction = line.direction
         side = self._landed[direction]
@@ -218,7 +223,7 @@ class Wave:
         self._modes[direction] = mode_after(self._modes[direction], line)
         self._dump.change(self._receivers[direction], self._modes[direction], out)
 
-    def _host_lines(self, line: Gave | Took, out: list[str]) -> None:
+    def show_host(self, line: Gave | Took, out: list[str]) -> None:
         """Adds the changes of a host that gives a request or takes an answer."""
         counts = self.hosts[line.host]
         is_given = isinstance(line, Gave)
@@ -227,6 +232,17 @@ class Wave:
             counts["tags_out"] += 1 if is_given else -1
         for place, count in zip(self._host_places[line.host], counts.values()):
             self._dump.change(place, count, out)
+
+
+# What shows each kind of line, beside the queues and the tokens.
+_SHOWN: dict[type[Line], Callable[[Wave, Any, list[str]], None]] = {
+    Sent: Wave.show_sent,
+    Landed: Wave.show_landing,
+    Passed: Wave.show_landing,
+    Unlocked: Wave.show_landing,
+    Gave: Wave.show_host,
+    Took: Wave.show_host,
+}
 
 
 def _text(lines: list[str]) -> bytes:

@@ -83,6 +83,13 @@ class Docs(unittest.TestCase):
         names = {path.with_suffix(".toml").name for path in {*EXAMPLES.iterdir()} - made}
         self.assertEqual(names, {path.name for path in CASES})
 
+    def test_a_profile_is_that_of_a_link(self) -> None:
+        """What a case has at its top is named as the line of the case: `profile = 2`."""
+        pages = [*DOCS, TOP / "README.md", *TOP.glob("tool/*.py"), *TOP.glob("tool/verbs/*.py")]
+        for page in pages:
+            found = re.search("(?<!-)[Pp]rofile [12]", page.read_text(encoding="utf-8"))
+            self.assertIsNone(found, page.name)
+
     def test_examples(self) -> None:
         """The commands that need no program write what the page has."""
         tried = []

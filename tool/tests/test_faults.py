@@ -97,7 +97,7 @@ class Explain(unittest.TestCase):
         self.assertEqual(said("block = 256", "block = 48"), "`block` is 32, 64, 128 or 256")
         self.assertEqual(said("block = 256\n", ""), "`block` is missing")
         self.assertEqual(said("retry = 64", "retry = 1025"), "`retry` is 17 to 1,024")
-        of_one = "`retry` is 17 to 256 on a link of profile 1"
+        of_one = "`retry` is 17 to 256 on a link of profile One"
         self.assertEqual(said("retry = 64", "retry = 300"), of_one)
         self.assertEqual(said("profile = 1", "profile = 3"), "`profile` is 1 or 2")
 

@@ -17,7 +17,7 @@ def lines_of(name: str) -> list[str]:
 
 def entries(lines: list[str]) -> list[tuple[int, Line, str]]:
     """The numbered records of these lines."""
-    return list(report.Reader().numbered(lines))
+    return list(report.numbered(lines))
 
 
 def compare(mine: list[str], theirs: list[str], **how: Any) -> list[str]:

@@ -211,35 +211,6 @@ class Formats(unittest.TestCase):
                 self.lines(text, name)
 
 
-class Cases(unittest.TestCase):
-    def test_a_case_is_valid(self) -> None:
-        """Cubes are in a chain, and the sizes are those that are given."""
-        trace = traces.read(b"cube 0 1 4\ncube 1 0 2\n1 load 0 1\n")
-        sizes = trace_case.Sizes(queue=1, line=2, tokens=17, retry=18, output=3, rounds=9)
-        document, fault = case.read(trace_case.text_of(trace, sizes).encode())
-        self.assertIsNone(fault)
-        self.assertEqual(document["script"], "0 rd16 1 0x0\n")
-        self.assertEqual(document["schedule"], "round 9\n")
-        numbers: dict[str, object] = {"line": 2, "tokens": 17, "retry": 18, "output": 3}
-        ends = [{"a": "h0", "b": "c0.0"}, {"a": "c0.1", "b": "c1.0"}]
-        self.assertEqual(document["links"], [pair | numbers for pair in ends])
-        first = {"vault_bits": 0, "bank_bits": 1, "rows": 4, "queue": 1}
-        second = {"vault_bits": 1, "bank_bits": 0, "rows": 2, "queue": 1}
-        self.assertEqual(document["cubes"], [first, second])
-
-    def test_what_no_case_has(self) -> None:
-        trace = traces.read(ONE_CUBE.encode())
-        for sizes, said in (
-            (trace_case.Sizes(queue=65), "`queue` is 1 to 64"),
-            (trace_case.Sizes(tokens=16), "`tokens` is 17 to 1,024"),
-            (trace_case.Sizes(rounds=0), "0 rounds: a schedule has 1 to"),
-            (trace_case.Sizes(rounds=100_000), "have 1,200,000 steps"),
-        ):
-            with self.subTest(said), self.assertRaises(Trouble) as refused:
-                trace_case.text_of(trace, sizes)
-            self.assertIn(said, str(refused.exception))
-
-
 class Words(unittest.TestCase):
     def setUp(self) -> None:
         folder = tempfile.TemporaryDirectory()
@@ -369,7 +340,8 @@ class Program(unittest.TestCase):
         require_program()
         for data in [it for it in given_traces() if traces.first_fault(it) is None][-10:]:
             trace = traces.read(data)
-            text = trace_case.text_of(trace, trace_case.Sizes())
+            sizes = trace_case.Sizes(rounds=trace_case.rounds_of(trace))
+            text = trace_case.text_of(trace, sizes)
             ran = subprocess.run([build.PROGRAM, "run"], input=text.encode(), capture_output=True)
             values = trace_values.values_of(trace, ran.stdout.decode().splitlines())
             self.assertEqual(values, traces.plain_values(trace), data)

@@ -19,7 +19,7 @@ def lines_of(name: str) -> list[str]:
 
 def entries(lines: list[str]) -> list[tuple[int, Line, str]]:
     """The numbered records of these lines."""
-    return list(report.Reader().numbered(lines))
+    return list(report.numbered(lines))
 
 
 class Wave(unittest.TestCase):

@@ -73,6 +73,7 @@ COMMANDS = {
         Command("try [FILE]", "the same by a program that is built without proofs", "try_"),
         Command("make NUMBER", "run the case of a number, and write its final lines", "make"),
         Command("bound [FILE]", "how many whole rounds after a case drain it", "bound"),
+        Command("check CASE REPORT", "whether a report is that of a case, by the program", "check"),
         Command("lint CASE", "all faults of a case, each at its place", "lint"),
         Command("show CASE", "the topology of a case, in text or as SVG; routes", "show"),
         Command("explain WORD..", "flits in fields, or what a fault of a case means", "explain"),

@@ -22,7 +22,7 @@ def run(words: Namespace) -> int:
     options, answer = runs.Options(words.file), io.BytesIO()
     with runs.opened_case(options) as source:
         command = [str(build.proved_program()), "bound"]
-        status = runs.run_program(command, source, answer, keep=is_kept)
+        status = runs.run_program(command, source, answer, keep=runs.keep_all)
     lines = answer.getvalue().decode().splitlines()
     files.write_lines(lines)
     if status == 0:
@@ -32,11 +32,6 @@ def run(words: Namespace) -> int:
     else:
         runs.explain_status(status, options)
     return status
-
-
-def is_kept(_: bytes) -> bool:
-    """Each line of the answer is shown."""
-    return True
 
 
 def explain(lines: list[str]) -> None:

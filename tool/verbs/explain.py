@@ -10,11 +10,14 @@ from __future__ import annotations
 import os
 from argparse import Namespace
 from collections.abc import Iterator
+from itertools import chain
 
 from tool import explain, explain_fault, files, jsonl
 from tool.decode import Decoder, text_of
-from tool.fit import Numbered, checked, refuse_without_idle
+from tool.fit import checked, refuse_without_idle
+from tool.lines import Line
 from tool.pasted import flits_in
+from tool.report import Block
 from tool.trouble import BAD_DATA, USAGE, Trouble
 from tool.verbs import Parser
 from tool.verbs.words import add_profile, read_case
@@ -76,9 +79,9 @@ def explain_report(name: str, words: Namespace) -> int:
     return 0
 
 
-def decoded(lines: Iterator[Numbered], decoder: Decoder) -> Iterator[str]:
+def decoded(blocks: Iterator[Block[Line]], decoder: Decoder) -> Iterator[str]:
     """Yields each line with a flit, its number in front, and after it what the flit is."""
-    for number, line, text in lines:
+    for number, line, text in chain.from_iterable(block.rows() for block in blocks):
         fields = decoder.flit(line)
         if fields:
             yield f"{number}: {text.rstrip()}  {text_of(fields)}"

@@ -5,7 +5,7 @@ from __future__ import annotations
 from argparse import Namespace
 
 from tool import files, jsonl
-from tool.fit import checked, refuse_without_idle
+from tool.fit import checked, refuse_without_idle, whole
 from tool.verbs import Parser
 from tool.verbs.words import add_profile, read_case, refuse_two_standard
 
@@ -24,9 +24,13 @@ def run(words: Namespace) -> int:
     document = read_case(words.case) if words.case else None
     if document is None:
         refuse_without_idle(words.report)
-    decoder = jsonl.decoder_of(document, words.profile) if words.decode else None
-    lines = checked(files.lines_of(words.report), document)
+    lines = files.lines_of(words.report)
+    if document or words.decode:
+        decoder = jsonl.decoder_of(document, words.profile) if words.decode else None
+        blocks = jsonl.with_decoded(checked(lines, document), decoder)
+    else:
+        blocks = whole(lines, jsonl.opened)
     with files.written(None) as sink:
-        for piece in jsonl.pieces(lines, decoder):
+        for piece in jsonl.pieces(blocks):
             sink.write(piece)
     return 0
