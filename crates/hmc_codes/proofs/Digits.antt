@@ -111,3 +111,9 @@ ascii-from_test (b ∷ bs) is = let both = and_parts (ltb b 128) (is_ascii bs) i
 -- the digits of bytes are text
 pub IsUtf8-encode_lower : (bytes : List ℕ) → IsUtf8 (encode_lower bytes)
 IsUtf8-encode_lower bytes = IsUtf8-from_ascii (encode_lower bytes) (IsAscii-encode_with lower_digits bytes (ascii-from_test lower_digits refl))
+
+-- a space, a digit and another digit
+pub two_pushed : (old mid new first last tens all : List ℕ) (g h : ℕ) → mid ≡ old ++ first → first ≡ 32 ∷ g ∷ [] → new ≡ mid ++ last → last ≡ h ∷ [] → all ≡ tens ++ (h ∷ []) → tens ≡ g ∷ [] → new ≡ old ++ (32 ∷ all)
+two_pushed old mid new first last tens all g h mid_is first_is new_is last_is all_is tens_is =
+    new_is ∙ (λ i. (mid_is ∙ ap (λ (l : List ℕ). old ++ l) first_is) i ++ last_is i) ∙ append_assoc old (32 ∷ g ∷ []) (h ∷ [])
+    ∙ ap (λ (l : List ℕ). old ++ (32 ∷ l)) (sym (all_is ∙ ap (λ (l : List ℕ). l ++ (h ∷ [])) tens_is))

@@ -2,6 +2,7 @@ pub mod Codes
 pub mod BytesLemmas
 pub mod Blocks
 pub mod Digits
+pub mod Pairs
 pub mod Words
 pub mod General
 pub mod Places

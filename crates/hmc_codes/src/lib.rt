@@ -49,7 +49,8 @@ pub use link_setup::LinkSetup;
 pub use memory::Memory;
 pub use payload::Payload;
 pub use pieces::{
-    LineText, append_bytes, append_decimal, append_hex_number, append_sixteen, append_spaced,
+    Gathered, Line, LineText, append_bytes, append_decimal, append_hex_number, append_sixteen,
+    append_spaced,
 };
 pub use place::{Join, Place};
 pub use profile::Profile;

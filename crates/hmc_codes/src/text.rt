@@ -8,6 +8,7 @@ ghost use Rattle.hmc_codes.specs.Text.{spaced_words, flag_text, is_mdwr, value_i
 
 use crate::pieces::{LineText, append_bytes, append_hex_number, append_spaced};
 use crate::{Answer, Command, Memory, Payload, Request};
+use arrayvec::ArrayString;
 use std::alloc::Global;
 
 impl Payload {
@@ -23,8 +24,8 @@ impl Payload {
 
 // The word of a command has at most nine letters.
 #[tactic(auto, using(crate::proofs::Words::word_length))]
-fn push_command(into: &mut LineText, command: Command)
-    requires room { length into.old.bytes + 9 ≤ 2048 }
+fn push_command<const N: usize>(into: &mut ArrayString<N>, command: Command)
+    requires room { length into.old.bytes + 9 ≤ N }
     ensures text { into.new.bytes ≡ into.old.bytes ++ word_of command }
     ensures few { length into.new.bytes ≤ length into.old.bytes + 9 }
 {
@@ -32,8 +33,8 @@ fn push_command(into: &mut LineText, command: Command)
 }
 
 // A request with no payload.
-fn push_bare(into: &mut LineText, request: &Request)
-    requires room { length into.old.bytes + 49 ≤ 2048 }
+fn push_bare<const N: usize>(into: &mut ArrayString<N>, request: &Request)
+    requires room { length into.old.bytes + 49 ≤ N }
     ensures text { into.new.bytes ≡ into.old.bytes ++ request_with request.now [] }
     ensures few { length into.new.bytes ≤ length into.old.bytes + 49 }
 {
@@ -44,8 +45,8 @@ fn push_bare(into: &mut LineText, request: &Request)
 }
 
 // The word after the address, if there is one, with a space before it.
-fn push_operand(into: &mut LineText, request: &Request)
-    requires room { length into.old.bytes + 513 ≤ 2048 }
+fn push_operand<const N: usize>(into: &mut ArrayString<N>, request: &Request)
+    requires room { length into.old.bytes + 513 ≤ N }
     ensures text { into.new.bytes ≡ into.old.bytes ++ operand_words
         (operand_of (is_mdwr request.now.command) request.now.payload) }
     ensures few { length into.new.bytes ≤ length into.old.bytes + 513 }
@@ -65,8 +66,8 @@ impl Request {
     /// command's word, the cube in decimal, `0x` and the address in hexadecimal, and the payload
     /// in lower-case hexadecimal. An `mdwr` has its value in decimal in place of the payload. If
     /// there is no payload, the address is the last word. It has at most 562 bytes.
-    pub fn print(&self, into: &mut LineText)
-        requires room { length into.old.bytes + 562 ≤ 2048 }
+    pub fn print<const N: usize>(&self, into: &mut ArrayString<N>)
+        requires room { length into.old.bytes + 562 ≤ N }
         ensures text { into.new.bytes ≡ into.old.bytes ++ request_text self.now }
         ensures few { length into.new.bytes ≤ length into.old.bytes + 562 }
     {
@@ -92,8 +93,8 @@ fn flag_digit(flag: bool) -> &'static str
 }
 
 // The answer to a read.
-fn push_read(into: &mut LineText, flag: bool, payload: &Payload)
-    requires room { length into.old.bytes + 519 ≤ 2048 }
+fn push_read<const N: usize>(into: &mut ArrayString<N>, flag: bool, payload: &Payload)
+    requires room { length into.old.bytes + 519 ≤ N }
     ensures text { into.new.bytes ≡ into.old.bytes ++ spaced_words
         (codes "read" ∷ flag_text flag ∷ encode_lower payload.now ∷ []) }
     ensures few { length into.new.bytes ≤ length into.old.bytes + 519 }
@@ -105,8 +106,8 @@ fn push_read(into: &mut LineText, flag: bool, payload: &Payload)
 }
 
 // The value of a register.
-fn push_register(into: &mut LineText, value: u32)
-    requires room { length into.old.bytes + 17 ≤ 2048 }
+fn push_register<const N: usize>(into: &mut ArrayString<N>, value: u32)
+    requires room { length into.old.bytes + 17 ≤ N }
     ensures text { into.new.bytes ≡ into.old.bytes ++ spaced_words
         (codes "register" ∷ encode_lower (to_be_bytes w32 value) ∷ []) }
     ensures few { length into.new.bytes ≤ length into.old.bytes + 17 }
@@ -120,8 +121,8 @@ impl Answer {
     /// 1 and the bytes in lower-case hexadecimal, the register's value in eight digits, or the
     /// error's number in decimal. It has at most 519 bytes.
     #[tactic(auto, unfolding(crate::specs::Text::answer_text))]
-    pub fn print(&self, into: &mut LineText)
-        requires room { length into.old.bytes + 519 ≤ 2048 }
+    pub fn print<const N: usize>(&self, into: &mut ArrayString<N>)
+        requires room { length into.old.bytes + 519 ≤ N }
         ensures text { into.new.bytes ≡ into.old.bytes ++ answer_text self.now }
         ensures few { length into.new.bytes ≤ length into.old.bytes + 519 }
     {

@@ -4,7 +4,7 @@
 //! are one enum. A step, a flit, a request and an answer each have a field of their own: where the
 //! entry has no such part, the field keeps old content, which no contract sees.
 
-ghost use Rattle.std.specs.Prelude.{◌≡◌, ◌<◌, [], length};
+ghost use Rattle.std.specs.Prelude.{◌≡◌, ◌<◌, ◌≤◌, ◌+◌, ◌++◌, [], length};
 ghost use Rattle.hmc_codes.specs.Flit.{zero_flit};
 ghost use Rattle.hmc_entries.specs.declared.entry.Entry.{Entry};
 ghost use Rattle.hmc_entries.specs.Event.{event_of, cause_of, is_passed, IsLongFlit};
@@ -17,7 +17,10 @@ use crate::line::{
     unlocked_line,
 };
 use crate::{Cause, Entry, Event, Goal};
-use hmc_codes::{Answer, Command, Flit, Lift, LineText, Payload, Request, Unit, ZERO_FLIT};
+use arrayvec::ArrayString;
+use hmc_codes::{
+    Answer, Command, Flit, Gathered, Lift, Line, LineText, Payload, Request, Unit, ZERO_FLIT,
+};
 use hmc_packet::{Outcome, What};
 use hmc_schedule::Step;
 use std::marker::Model;
@@ -249,6 +252,7 @@ impl LastEntry {
     }
 
     /// The step did nothing.
+    #[inline(always)]
     pub fn idle(&mut self, step: &Step, cause: Cause)
         ensures { self.new ≡ Entry.Idle step.now cause }
     {
@@ -297,11 +301,21 @@ impl LastEntry {
     }
 
     /// Writes the line of the entry into an empty text, with a line feed at its end.
-    #[tactic(auto, unfolding(crate::specs::Lines::line_of))]
+    #[inline(always)]
     pub fn line(&self, into: &mut LineText)
         requires empty { into.old.bytes ≡ [] }
         ensures text { into.new.bytes ≡ line_of self.now }
         ensures short { length (line_of self.now) < 2048 }
+    {
+        self.append(into);
+    }
+
+    // Appends the line.
+    #[tactic(auto, unfolding(crate::specs::Lines::line_of))]
+    fn append<const N: usize>(&self, into: &mut ArrayString<N>)
+        requires room { length into.old.bytes + 2048 ≤ N }
+        ensures text { into.new.bytes ≡ into.old.bytes ++ line_of self.now }
+        ensures short { length into.new.bytes < length into.old.bytes + 2048 }
     {
         match self.short {
             Short::Gave {
@@ -396,6 +410,14 @@ impl LastEntry {
                 cause,
             },
         }
+    }
+}
+
+impl Line for LastEntry {
+    ghost text = { line_of };
+
+    fn put(&self, into: &mut Gathered) {
+        self.append(into);
     }
 }
 

@@ -1,4 +1,5 @@
-//! The line of each entry, written into an empty text of fixed size. No line takes memory.
+//! The line of each entry, appended to a text of fixed size that has room for it. No line takes
+//! memory.
 
 ghost use Rattle.std.specs.Prelude.{◌≡◌, ◌<◌, ◌≤◌, ◌+◌, ◌∷◌, [], ◌++◌, length, codes, OnOk, OnErr, string_bytes};
 ghost use Rattle.std.specs.Fmt.{decimal};
@@ -7,6 +8,7 @@ ghost use Rattle.hmc_codes.specs.Text.{line, spaced_words, request_text, answer_
 ghost use Rattle.hmc_entries.specs.Lines.{line_of, tag_text, request_words, unit_text, what_text, outcome_text, bad_text, goal_text, lift_text, cause_text, step_words};
 
 use crate::{Cause, Entry, Goal};
+use arrayvec::ArrayString;
 use hmc_codes::{
     Answer, Flit, Lift, LineText, Memory, Request, Unit, append_decimal, append_sixteen,
     append_spaced,
@@ -17,8 +19,8 @@ use std::alloc::Global;
 
 // The helpers append a word with the space before it.
 
-fn push_tag(into: &mut LineText, tag: Option<u16>)
-    requires room { length into.old.bytes + 21 ≤ 2048 }
+fn push_tag<const N: usize>(into: &mut ArrayString<N>, tag: Option<u16>)
+    requires room { length into.old.bytes + 21 ≤ N }
     ensures text { into.new.bytes ≡ into.old.bytes ++ (32 ∷ tag_text tag) }
     ensures few { length into.new.bytes ≤ length into.old.bytes + 21 }
 {
@@ -28,8 +30,8 @@ fn push_tag(into: &mut LineText, tag: Option<u16>)
     }
 }
 
-fn push_unit(into: &mut LineText, unit: Unit)
-    requires room { length into.old.bytes + 63 ≤ 2048 }
+fn push_unit<const N: usize>(into: &mut ArrayString<N>, unit: Unit)
+    requires room { length into.old.bytes + 63 ≤ N }
     ensures text { into.new.bytes ≡ into.old.bytes ++ (32 ∷ unit_text unit) }
     ensures few { length into.new.bytes ≤ length into.old.bytes + 63 }
 {
@@ -46,8 +48,9 @@ fn push_unit(into: &mut LineText, unit: Unit)
     }
 }
 
-fn push_lift(into: &mut LineText, from: Lift)
-    requires room { length into.old.bytes + 21 ≤ 2048 }
+#[inline(always)]
+fn push_lift<const N: usize>(into: &mut ArrayString<N>, from: Lift)
+    requires room { length into.old.bytes + 21 ≤ N }
     ensures text { into.new.bytes ≡ into.old.bytes ++ (32 ∷ lift_text from) }
     ensures few { length into.new.bytes ≤ length into.old.bytes + 21 }
 {
@@ -57,8 +60,8 @@ fn push_lift(into: &mut LineText, from: Lift)
     }
 }
 
-fn push_goal(into: &mut LineText, goal: Goal)
-    requires room { length into.old.bytes + 22 ≤ 2048 }
+fn push_goal<const N: usize>(into: &mut ArrayString<N>, goal: Goal)
+    requires room { length into.old.bytes + 22 ≤ N }
     ensures text { into.new.bytes ≡ into.old.bytes ++ (32 ∷ goal_text goal) }
     ensures few { length into.new.bytes ≤ length into.old.bytes + 22 }
 {
@@ -77,8 +80,9 @@ fn push_goal(into: &mut LineText, goal: Goal)
 
 // Most flits are NULLs, whose digits are known.
 #[tactic(auto, using(crate::proofs::ZeroDigits::zero_digits))]
-fn push_flit(into: &mut LineText, flit: &Flit)
-    requires room { length into.old.bytes + 33 ≤ 2048 }
+#[inline(always)]
+fn push_flit<const N: usize>(into: &mut ArrayString<N>, flit: &Flit)
+    requires room { length into.old.bytes + 33 ≤ N }
     ensures text { into.new.bytes ≡ into.old.bytes ++ (32 ∷ encode_lower flit.now) }
     ensures len { length into.new.bytes ≡ length into.old.bytes + 33 }
 {
@@ -90,73 +94,80 @@ fn push_flit(into: &mut LineText, flit: &Flit)
     }
 }
 
-fn what_word(what: What) -> &'static str
-    ensures word { result.now ≡ 32 ∷ what_text what }
-    ensures few { length result.now ≤ 6 }
+#[inline(always)]
+fn push_what<const N: usize>(into: &mut ArrayString<N>, what: What)
+    requires room { length into.old.bytes + 6 ≤ N }
+    ensures text { into.new.bytes ≡ into.old.bytes ++ (32 ∷ what_text what) }
+    ensures few { length into.new.bytes ≤ length into.old.bytes + 6 }
 {
     match what {
-        What::Train => " train",
-        What::Clear => " clear",
-        What::Start => " start",
-        What::Null => " null",
-        What::Pret => " pret",
-        What::Tret => " tret",
-        What::New => " new",
-        What::Again => " again",
+        What::Train => into.push_str(" train"),
+        What::Clear => into.push_str(" clear"),
+        What::Start => into.push_str(" start"),
+        What::Null => into.push_str(" null"),
+        What::Pret => into.push_str(" pret"),
+        What::Tret => into.push_str(" tret"),
+        What::New => into.push_str(" new"),
+        What::Again => into.push_str(" again"),
     }
 }
 
 // The outcome ends the line.
-fn outcome_end(outcome: Outcome) -> &'static str
-    ensures word { result.now ≡ 32 ∷ (outcome_text outcome ++ (10 ∷ [])) }
-    ensures few { length result.now ≤ 18 }
+#[inline(always)]
+fn push_outcome<const N: usize>(into: &mut ArrayString<N>, outcome: Outcome)
+    requires room { length into.old.bytes + 18 ≤ N }
+    ensures text { into.new.bytes ≡ into.old.bytes ++ (32 ∷ (outcome_text outcome ++ (10 ∷ []))) }
+    ensures few { length into.new.bytes ≤ length into.old.bytes + 18 }
 {
     match outcome {
-        Outcome::Quiet => " quiet\n",
-        Outcome::Trained => " trained\n",
-        Outcome::Gathered => " gathered\n",
-        Outcome::Accepted => " accepted\n",
-        Outcome::Poisoned => " poisoned\n",
-        Outcome::Repeat => " repeat\n",
-        Outcome::AbortedBad(bad) => aborted_end(bad),
-        Outcome::AbortedOrder => " aborted order\n",
-        Outcome::Ran(Kind::Start) => " ran start\n",
-        Outcome::Ran(Kind::Clear) => " ran clear\n",
+        Outcome::Quiet => into.push_str(" quiet\n"),
+        Outcome::Trained => into.push_str(" trained\n"),
+        Outcome::Gathered => into.push_str(" gathered\n"),
+        Outcome::Accepted => into.push_str(" accepted\n"),
+        Outcome::Poisoned => into.push_str(" poisoned\n"),
+        Outcome::Repeat => into.push_str(" repeat\n"),
+        Outcome::AbortedBad(bad) => push_aborted(into, bad),
+        Outcome::AbortedOrder => into.push_str(" aborted order\n"),
+        Outcome::Ran(Kind::Start) => into.push_str(" ran start\n"),
+        Outcome::Ran(Kind::Clear) => into.push_str(" ran clear\n"),
     }
 }
 
-fn aborted_end(bad: Bad) -> &'static str
-    ensures word { result.now ≡ 32 ∷ (bad_text bad ++ (10 ∷ [])) }
-    ensures few { length result.now ≤ 18 }
+fn push_aborted<const N: usize>(into: &mut ArrayString<N>, bad: Bad)
+    requires room { length into.old.bytes + 18 ≤ N }
+    ensures text { into.new.bytes ≡ into.old.bytes ++ (32 ∷ (bad_text bad ++ (10 ∷ []))) }
+    ensures few { length into.new.bytes ≤ length into.old.bytes + 18 }
 {
     match bad {
-        Bad::Length => " aborted length\n",
-        Bad::Command => " aborted command\n",
-        Bad::Reserved => " aborted reserved\n",
-        Bad::Crc => " aborted crc\n",
+        Bad::Length => into.push_str(" aborted length\n"),
+        Bad::Command => into.push_str(" aborted command\n"),
+        Bad::Reserved => into.push_str(" aborted reserved\n"),
+        Bad::Crc => into.push_str(" aborted crc\n"),
     }
 }
 
 // The cause ends the line.
-fn cause_end(cause: Cause) -> &'static str
-    ensures word { result.now ≡ 32 ∷ (cause_text cause ++ (10 ∷ [])) }
-    ensures few { length result.now ≤ 10 }
+#[inline(always)]
+fn push_cause<const N: usize>(into: &mut ArrayString<N>, cause: Cause)
+    requires room { length into.old.bytes + 10 ≤ N }
+    ensures text { into.new.bytes ≡ into.old.bytes ++ (32 ∷ (cause_text cause ++ (10 ∷ []))) }
+    ensures few { length into.new.bytes ≤ length into.old.bytes + 10 }
 {
     match cause {
-        Cause::Ended => " ended\n",
-        Cause::Fence => " fence\n",
-        Cause::Tags => " tags\n",
-        Cause::Empty => " empty\n",
-        Cause::Full => " full\n",
-        Cause::Starved => " starved\n",
-        Cause::NoPacket => " nopacket\n",
-        Cause::Busy => " busy\n",
+        Cause::Ended => into.push_str(" ended\n"),
+        Cause::Fence => into.push_str(" fence\n"),
+        Cause::Tags => into.push_str(" tags\n"),
+        Cause::Empty => into.push_str(" empty\n"),
+        Cause::Full => into.push_str(" full\n"),
+        Cause::Starved => into.push_str(" starved\n"),
+        Cause::NoPacket => into.push_str(" nopacket\n"),
+        Cause::Busy => into.push_str(" busy\n"),
     }
 }
 
 // The request ends the line.
-fn push_request_end(into: &mut LineText, poisoned: bool, request: &Request)
-    requires room { length into.old.bytes + 571 ≤ 2048 }
+fn push_request_end<const N: usize>(into: &mut ArrayString<N>, poisoned: bool, request: &Request)
+    requires room { length into.old.bytes + 571 ≤ N }
     ensures text { into.new.bytes ≡
         into.old.bytes ++ (32 ∷ line (request_words poisoned request.now)) }
     ensures few { length into.new.bytes ≤ length into.old.bytes + 571 }
@@ -169,37 +180,39 @@ fn push_request_end(into: &mut LineText, poisoned: bool, request: &Request)
     into.push_str("\n");
 }
 
-// The words of a step, without a mask.
-fn push_step(into: &mut LineText, step: &Step)
-    requires room { length into.old.bytes + 68 ≤ 2048 }
-    ensures text { into.new.bytes ≡ into.old.bytes ++ (32 ∷ spaced_words (step_words step.now)) }
-    ensures few { length into.new.bytes ≤ length into.old.bytes + 68 }
+// `idle` and the words of a step, without a mask.
+fn push_idle<const N: usize>(into: &mut ArrayString<N>, step: &Step)
+    requires room { length into.old.bytes + 72 ≤ N }
+    ensures text { into.new.bytes ≡
+        into.old.bytes ++ codes "idle" ++ (32 ∷ spaced_words (step_words step.now)) }
+    ensures few { length into.new.bytes ≤ length into.old.bytes + 72 }
 {
     match step {
-        Step::Give(host) => push_numbered(into, " give", *host),
-        Step::Send(direction) => push_numbered(into, " send", *direction),
-        Step::Land(direction, _) => push_numbered(into, " land", *direction),
-        Step::Shift(cube, port) => push_twice_numbered(into, " shift", *cube, *port),
-        Step::Spread(cube, vault) => push_twice_numbered(into, " spread", *cube, *vault),
+        Step::Give(host) => push_numbered(into, "idle give", *host),
+        Step::Send(direction) => push_numbered(into, "idle send", *direction),
+        Step::Land(direction, _) => push_numbered(into, "idle land", *direction),
+        Step::Shift(cube, port) => push_twice_numbered(into, "idle shift", *cube, *port),
+        Step::Spread(cube, vault) => push_twice_numbered(into, "idle spread", *cube, *vault),
         Step::Bank(cube, vault, bank) => {
-            push_twice_numbered(into, " bank", *cube, *vault);
+            push_twice_numbered(into, "idle bank", *cube, *vault);
             append_spaced(into, u64::from(*bank));
         }
-        Step::Registers(cube) => push_numbered(into, " registers", *cube),
+        Step::Registers(cube) => push_numbered(into, "idle registers", *cube),
         Step::Lift(cube, from) => {
-            push_numbered(into, " lift", *cube);
+            push_numbered(into, "idle lift", *cube);
             push_lift(into, *from);
         }
-        Step::Take(host) => push_numbered(into, " take", *host),
-        Step::Through(cube, port) => push_twice_numbered(into, " through", *cube, *port),
-        Step::Unlock(direction) => push_numbered(into, " unlock", *direction),
-        Step::Retire(slot) => push_numbered(into, " retire", *slot),
+        Step::Take(host) => push_numbered(into, "idle take", *host),
+        Step::Through(cube, port) => push_twice_numbered(into, "idle through", *cube, *port),
+        Step::Unlock(direction) => push_numbered(into, "idle unlock", *direction),
+        Step::Retire(slot) => push_numbered(into, "idle retire", *slot),
     }
 }
 
 // A word and a number.
-fn push_numbered(into: &mut LineText, word: &str, number: u8)
-    requires room { length into.old.bytes + length word.now + 21 ≤ 2048 }
+#[inline(always)]
+fn push_numbered<const N: usize>(into: &mut ArrayString<N>, word: &str, number: u8)
+    requires room { length into.old.bytes + length word.now + 21 ≤ N }
     ensures text { into.new.bytes ≡ into.old.bytes ++ (word.now ++ (32 ∷ decimal number)) }
     ensures few { length into.new.bytes ≤ length into.old.bytes + length word.now + 21 }
 {
@@ -208,8 +221,9 @@ fn push_numbered(into: &mut LineText, word: &str, number: u8)
 }
 
 // A word and two numbers.
-fn push_twice_numbered(into: &mut LineText, word: &str, first: u8, second: u8)
-    requires room { length into.old.bytes + length word.now + 42 ≤ 2048 }
+#[inline(always)]
+fn push_twice_numbered<const N: usize>(into: &mut ArrayString<N>, word: &str, first: u8, second: u8)
+    requires room { length into.old.bytes + length word.now + 42 ≤ N }
     ensures text { into.new.bytes ≡
         into.old.bytes ++ (word.now ++ (32 ∷ (decimal first ++ (32 ∷ decimal second)))) }
     ensures few { length into.new.bytes ≤ length into.old.bytes + length word.now + 42 }
@@ -219,17 +233,17 @@ fn push_twice_numbered(into: &mut LineText, word: &str, first: u8, second: u8)
 }
 
 /// The line of a request that a host gave.
-pub(crate) fn gave_line(
-    into: &mut LineText,
+pub(crate) fn gave_line<const N: usize>(
+    into: &mut ArrayString<N>,
     host: u8,
     tag: Option<u16>,
     poisoned: bool,
     request: &Request,
 )
-    requires empty { into.old.bytes ≡ [] }
-    ensures text { into.new.bytes ≡
+    requires room { length into.old.bytes + 2048 ≤ N }
+    ensures text { into.new.bytes ≡ into.old.bytes ++
         line (codes "gave" ∷ decimal host ∷ tag_text tag ∷ request_words poisoned request.now) }
-    ensures short { length into.new.bytes < 2048 }
+    ensures short { length into.new.bytes < length into.old.bytes + 2048 }
 {
     push_numbered(into, "gave", host);
     push_tag(into, tag);
@@ -237,37 +251,54 @@ pub(crate) fn gave_line(
 }
 
 /// The line of a flit that was sent.
-pub(crate) fn sent_line(into: &mut LineText, direction: u8, what: What, flit: &Flit)
-    requires empty { into.old.bytes ≡ [] }
-    ensures text { into.new.bytes ≡
+#[inline(always)]
+pub(crate) fn sent_line<const N: usize>(
+    into: &mut ArrayString<N>,
+    direction: u8,
+    what: What,
+    flit: &Flit,
+)
+    requires room { length into.old.bytes + 2048 ≤ N }
+    ensures text { into.new.bytes ≡ into.old.bytes ++
         line (codes "sent" ∷ decimal direction ∷ what_text what ∷ encode_lower flit.now ∷ []) }
-    ensures short { length into.new.bytes < 2048 }
+    ensures short { length into.new.bytes < length into.old.bytes + 2048 }
 {
     push_numbered(into, "sent", direction);
-    into.push_str(what_word(what));
+    push_what(into, what);
     push_flit(into, flit);
     into.push_str("\n");
 }
 
 /// The line of a flit that landed.
-pub(crate) fn landed_line(into: &mut LineText, direction: u8, flit: &Flit, outcome: Outcome)
-    requires empty { into.old.bytes ≡ [] }
-    ensures text { into.new.bytes ≡
+#[inline(always)]
+pub(crate) fn landed_line<const N: usize>(
+    into: &mut ArrayString<N>,
+    direction: u8,
+    flit: &Flit,
+    outcome: Outcome,
+)
+    requires room { length into.old.bytes + 2048 ≤ N }
+    ensures text { into.new.bytes ≡ into.old.bytes ++
         line (codes "landed" ∷ decimal direction ∷ encode_lower flit.now ∷ outcome_text outcome ∷
         []) }
-    ensures short { length into.new.bytes < 2048 }
+    ensures short { length into.new.bytes < length into.old.bytes + 2048 }
 {
     push_numbered(into, "landed", direction);
     push_flit(into, flit);
-    into.push_str(outcome_end(outcome));
+    push_outcome(into, outcome);
 }
 
 /// The line of a packet that moved on.
-pub(crate) fn shifted_line(into: &mut LineText, cube: u8, port: u8, goal: Goal)
-    requires empty { into.old.bytes ≡ [] }
-    ensures text { into.new.bytes ≡
+pub(crate) fn shifted_line<const N: usize>(
+    into: &mut ArrayString<N>,
+    cube: u8,
+    port: u8,
+    goal: Goal,
+)
+    requires room { length into.old.bytes + 2048 ≤ N }
+    ensures text { into.new.bytes ≡ into.old.bytes ++
         line (codes "shifted" ∷ decimal cube ∷ decimal port ∷ goal_text goal ∷ []) }
-    ensures short { length into.new.bytes < 2048 }
+    ensures short { length into.new.bytes < length into.old.bytes + 2048 }
 {
     push_twice_numbered(into, "shifted", cube, port);
     push_goal(into, goal);
@@ -275,21 +306,22 @@ pub(crate) fn shifted_line(into: &mut LineText, cube: u8, port: u8, goal: Goal)
 }
 
 /// The line of a packet that a cube dropped.
-pub(crate) fn dropped_line(into: &mut LineText, cube: u8, port: u8)
-    requires empty { into.old.bytes ≡ [] }
-    ensures text { into.new.bytes ≡ line (codes "dropped" ∷ decimal cube ∷ decimal port ∷ []) }
-    ensures short { length into.new.bytes < 2048 }
+pub(crate) fn dropped_line<const N: usize>(into: &mut ArrayString<N>, cube: u8, port: u8)
+    requires room { length into.old.bytes + 2048 ≤ N }
+    ensures text { into.new.bytes ≡ into.old.bytes ++
+        line (codes "dropped" ∷ decimal cube ∷ decimal port ∷ []) }
+    ensures short { length into.new.bytes < length into.old.bytes + 2048 }
 {
     push_twice_numbered(into, "dropped", cube, port);
     into.push_str("\n");
 }
 
 /// The line of a request that went to its bank.
-pub(crate) fn spread_line(into: &mut LineText, cube: u8, vault: u8, bank: u8)
-    requires empty { into.old.bytes ≡ [] }
-    ensures text { into.new.bytes ≡
+pub(crate) fn spread_line<const N: usize>(into: &mut ArrayString<N>, cube: u8, vault: u8, bank: u8)
+    requires room { length into.old.bytes + 2048 ≤ N }
+    ensures text { into.new.bytes ≡ into.old.bytes ++
         line (codes "spread" ∷ decimal cube ∷ decimal vault ∷ decimal bank ∷ []) }
-    ensures short { length into.new.bytes < 2048 }
+    ensures short { length into.new.bytes < length into.old.bytes + 2048 }
 {
     push_twice_numbered(into, "spread", cube, vault);
     append_spaced(into, u64::from(bank));
@@ -297,19 +329,19 @@ pub(crate) fn spread_line(into: &mut LineText, cube: u8, vault: u8, bank: u8)
 }
 
 /// The line of a request that was executed.
-pub(crate) fn executed_line(
-    into: &mut LineText,
+pub(crate) fn executed_line<const N: usize>(
+    into: &mut ArrayString<N>,
     unit: Unit,
     host: u8,
     tag: Option<u16>,
     request: &Request,
     answer: &Answer,
 )
-    requires empty { into.old.bytes ≡ [] }
-    ensures text { into.new.bytes ≡
+    requires room { length into.old.bytes + 2048 ≤ N }
+    ensures text { into.new.bytes ≡ into.old.bytes ++
         line (codes "executed" ∷ unit_text unit ∷ decimal host ∷ tag_text tag ∷
         request_text request.now ∷ answer_text answer.now ∷ []) }
-    ensures short { length into.new.bytes < 2048 }
+    ensures short { length into.new.bytes < length into.old.bytes + 2048 }
 {
     into.push_str("executed");
     push_unit(into, unit);
@@ -321,8 +353,8 @@ pub(crate) fn executed_line(
 }
 
 // The answer ends the line.
-fn push_answer_end(into: &mut LineText, answer: &Answer)
-    requires room { length into.old.bytes + 521 ≤ 2048 }
+fn push_answer_end<const N: usize>(into: &mut ArrayString<N>, answer: &Answer)
+    requires room { length into.old.bytes + 521 ≤ N }
     ensures text { into.new.bytes ≡
         into.old.bytes ++ (32 ∷ (answer_text answer.now ++ (10 ∷ []))) }
     ensures few { length into.new.bytes ≤ length into.old.bytes + 521 }
@@ -333,11 +365,11 @@ fn push_answer_end(into: &mut LineText, answer: &Answer)
 }
 
 /// The line of an answer that moved to a port.
-pub(crate) fn lifted_line(into: &mut LineText, cube: u8, from: Lift, port: u8)
-    requires empty { into.old.bytes ≡ [] }
-    ensures text { into.new.bytes ≡
+pub(crate) fn lifted_line<const N: usize>(into: &mut ArrayString<N>, cube: u8, from: Lift, port: u8)
+    requires room { length into.old.bytes + 2048 ≤ N }
+    ensures text { into.new.bytes ≡ into.old.bytes ++
         line (codes "lifted" ∷ decimal cube ∷ lift_text from ∷ (codes "p" ++ decimal port) ∷ []) }
-    ensures short { length into.new.bytes < 2048 }
+    ensures short { length into.new.bytes < length into.old.bytes + 2048 }
 {
     push_numbered(into, "lifted", cube);
     push_lift(into, from);
@@ -347,11 +379,16 @@ pub(crate) fn lifted_line(into: &mut LineText, cube: u8, from: Lift, port: u8)
 }
 
 /// The line of an answer that a host took.
-pub(crate) fn took_line(into: &mut LineText, host: u8, tag: u16, answer: &Answer)
-    requires empty { into.old.bytes ≡ [] }
-    ensures text { into.new.bytes ≡
+pub(crate) fn took_line<const N: usize>(
+    into: &mut ArrayString<N>,
+    host: u8,
+    tag: u16,
+    answer: &Answer,
+)
+    requires room { length into.old.bytes + 2048 ≤ N }
+    ensures text { into.new.bytes ≡ into.old.bytes ++
         line (codes "took" ∷ decimal host ∷ decimal tag ∷ answer_text answer.now ∷ []) }
-    ensures short { length into.new.bytes < 2048 }
+    ensures short { length into.new.bytes < length into.old.bytes + 2048 }
 {
     push_numbered(into, "took", host);
     append_spaced(into, u64::from(tag));
@@ -359,21 +396,26 @@ pub(crate) fn took_line(into: &mut LineText, host: u8, tag: u16, answer: &Answer
 }
 
 /// The line of a packet that a host dropped.
-pub(crate) fn discarded_line(into: &mut LineText, host: u8)
-    requires empty { into.old.bytes ≡ [] }
-    ensures text { into.new.bytes ≡ line (codes "discarded" ∷ decimal host ∷ []) }
-    ensures short { length into.new.bytes < 2048 }
+pub(crate) fn discarded_line<const N: usize>(into: &mut ArrayString<N>, host: u8)
+    requires room { length into.old.bytes + 2048 ≤ N }
+    ensures text { into.new.bytes ≡ into.old.bytes ++ line (codes "discarded" ∷ decimal host ∷ []) }
+    ensures short { length into.new.bytes < length into.old.bytes + 2048 }
 {
     push_numbered(into, "discarded", host);
     into.push_str("\n");
 }
 
 /// The line of a packet that went on while it arrived.
-pub(crate) fn through_line(into: &mut LineText, cube: u8, port: u8, direction: u8)
-    requires empty { into.old.bytes ≡ [] }
-    ensures text { into.new.bytes ≡
+pub(crate) fn through_line<const N: usize>(
+    into: &mut ArrayString<N>,
+    cube: u8,
+    port: u8,
+    direction: u8,
+)
+    requires room { length into.old.bytes + 2048 ≤ N }
+    ensures text { into.new.bytes ≡ into.old.bytes ++
         line (codes "through" ∷ decimal cube ∷ decimal port ∷ decimal direction ∷ []) }
-    ensures short { length into.new.bytes < 2048 }
+    ensures short { length into.new.bytes < length into.old.bytes + 2048 }
 {
     push_twice_numbered(into, "through", cube, port);
     append_spaced(into, u64::from(direction));
@@ -381,31 +423,32 @@ pub(crate) fn through_line(into: &mut LineText, cube: u8, port: u8, direction: u
 }
 
 /// The line of a receiver that lost its framing.
-pub(crate) fn unlocked_line(into: &mut LineText, direction: u8)
-    requires empty { into.old.bytes ≡ [] }
-    ensures text { into.new.bytes ≡ line (codes "unlocked" ∷ decimal direction ∷ []) }
-    ensures short { length into.new.bytes < 2048 }
+pub(crate) fn unlocked_line<const N: usize>(into: &mut ArrayString<N>, direction: u8)
+    requires room { length into.old.bytes + 2048 ≤ N }
+    ensures text { into.new.bytes ≡ into.old.bytes ++
+        line (codes "unlocked" ∷ decimal direction ∷ []) }
+    ensures short { length into.new.bytes < length into.old.bytes + 2048 }
 {
     push_numbered(into, "unlocked", direction);
     into.push_str("\n");
 }
 
 /// The line of a logic unit that was retired.
-pub(crate) fn retired_line(into: &mut LineText, slot: u8)
-    requires empty { into.old.bytes ≡ [] }
-    ensures text { into.new.bytes ≡ line (codes "retired" ∷ decimal slot ∷ []) }
-    ensures short { length into.new.bytes < 2048 }
+pub(crate) fn retired_line<const N: usize>(into: &mut ArrayString<N>, slot: u8)
+    requires room { length into.old.bytes + 2048 ≤ N }
+    ensures text { into.new.bytes ≡ into.old.bytes ++ line (codes "retired" ∷ decimal slot ∷ []) }
+    ensures short { length into.new.bytes < length into.old.bytes + 2048 }
 {
     push_numbered(into, "retired", slot);
     into.push_str("\n");
 }
 
 /// The line of a landing that passed.
-pub(crate) fn passed_line(into: &mut LineText, direction: u8, flit: &Flit)
-    requires empty { into.old.bytes ≡ [] }
-    ensures text { into.new.bytes ≡
+pub(crate) fn passed_line<const N: usize>(into: &mut ArrayString<N>, direction: u8, flit: &Flit)
+    requires room { length into.old.bytes + 2048 ≤ N }
+    ensures text { into.new.bytes ≡ into.old.bytes ++
         line (codes "passed" ∷ decimal direction ∷ encode_lower flit.now ∷ []) }
-    ensures short { length into.new.bytes < 2048 }
+    ensures short { length into.new.bytes < length into.old.bytes + 2048 }
 {
     push_numbered(into, "passed", direction);
     push_flit(into, flit);
@@ -413,15 +456,15 @@ pub(crate) fn passed_line(into: &mut LineText, direction: u8, flit: &Flit)
 }
 
 /// The line of a step that did nothing.
-pub(crate) fn idle_line(into: &mut LineText, step: &Step, cause: Cause)
-    requires empty { into.old.bytes ≡ [] }
-    ensures text { into.new.bytes ≡
+#[inline(always)]
+pub(crate) fn idle_line<const N: usize>(into: &mut ArrayString<N>, step: &Step, cause: Cause)
+    requires room { length into.old.bytes + 2048 ≤ N }
+    ensures text { into.new.bytes ≡ into.old.bytes ++
         line (codes "idle" ∷ spaced_words (step_words step.now) ∷ cause_text cause ∷ []) }
-    ensures short { length into.new.bytes < 2048 }
+    ensures short { length into.new.bytes < length into.old.bytes + 2048 }
 {
-    into.push_str("idle");
-    push_step(into, step);
-    into.push_str(cause_end(cause));
+    push_idle(into, step);
+    push_cause(into, cause);
 }
 
 impl Entry {

@@ -1,4 +1,5 @@
 pub mod CutLemmas
+pub mod HeldLemmas
 pub mod KeptLemmas
 pub mod LinesLemmas
 pub mod PrefixLemmas

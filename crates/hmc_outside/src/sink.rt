@@ -7,6 +7,7 @@ ghost use Rattle.hmc_outside.specs.Raised.{raised};
 ghost use Rattle.hmc_outside.specs.Views.{SinkView};
 
 use crate::Failed;
+use hmc_codes::{Gathered, Line};
 
 /// Takes bytes, a piece at a time. It may gather them, and hand them on later.
 pub trait Sink {
@@ -28,6 +29,27 @@ pub trait Sink {
         ensures failed { OnErr result ((shows self.new).failed ≡ true) }
         ensures finishes { (shows self.new).finishes ≡ (shows self.old).finishes }
         ensures not_finished { (shows self.new).finished ≡ false };
+
+    /// Takes a line, as `write` takes its bytes. A sink may make the line where it gathers.
+    fn write_line<L: Line>(&mut self, line: &L) -> Result<(), Failed>
+        ensures counted { (shows self.new).writes ≡ raised (shows self.old).writes }
+        ensures piece { OnOk result ((shows self.new).pieces ≡
+            with_pieces (shows self.old).pieces (pieces_of (L.text line.now))) }
+        ensures appended { OnOk result
+            (Appends (shows self.old).bytes (shows self.new).bytes (L.text line.now)) }
+        ensures prefix { OnErr result
+            (WritesPrefix (shows self.old) (shows self.new) (L.text line.now)) }
+        ensures sound { OnOk result ((shows self.new).faults ≡ (shows self.old).faults) }
+        ensures fault { OnErr result ((shows self.new).faults ≡ raised (shows self.old).faults) }
+        ensures not_failed { OnOk result ((shows self.new).failed ≡ false) }
+        ensures failed { OnErr result ((shows self.new).failed ≡ true) }
+        ensures finishes { (shows self.new).finishes ≡ (shows self.old).finishes }
+        ensures not_finished { (shows self.new).finished ≡ false }
+    {
+        let mut text = Gathered::new();
+        line.put(&mut text);
+        self.write(text.as_str().as_bytes())
+    }
 
     /// Hands on what was gathered, or fails and has handed on a prefix of it. What was taken stays.
     fn finish(&mut self) -> Result<(), Failed>

@@ -1,5 +1,5 @@
 //! A writer of std as a sink.
-ghost use Rattle.std.specs.Prelude.{◌≡◌, ◌≢◌, ◌<◌, ◌≤◌, [], length, take, true, false, IfOk, IfErr, OnOk, OnErr};
+ghost use Rattle.std.specs.Prelude.{◌≡◌, ◌≢◌, ◌<◌, ◌≤◌, ◌+◌, [], length, take, true, false, IfOk, IfErr, OnOk, OnErr};
 ghost use Rattle.std.specs.IoError.{error_kind};
 ghost use Rattle.std.specs.Io.Buffered.{writer_buffer, writer_contents};
 ghost use Rattle.std.specs.Io.KnownBytes.{Appends, Keeps};
@@ -12,18 +12,26 @@ ghost use Rattle.hmc_outside.specs.StdSink.{writer_of, gathered_bytes, contents_
 
 use crate::counts::CallCounts;
 use crate::{Failed, Sink};
-use hmc_codes::Memory;
+use hmc_codes::{Gathered, Line, Memory};
 use std::alloc::Global;
 use std::io;
 use std::io::{BufWriter, ErrorKind, Write};
 
-/// How many bytes are gathered.
-const GATHERED: usize = 65_536;
+/// How many bytes of lines are gathered, and room for one more line is left.
+const GATHERED: usize = 6_144;
 
-/// What goes to a writer. The bytes are gathered, and handed on when there are many, or by
-/// `finish`. It shows no pieces. It shows its bytes where the writer does: those are the writer's,
-/// and then the ones gathered.
+/// How many bytes are held before they are handed on to the writer.
+const HELD: usize = 65_536;
+
+/// What goes to a writer. Lines are made one after another in a text, which is then copied as a
+/// whole to the bytes held. These are handed on when there are many, or by `finish`. It shows no
+/// pieces. It shows its bytes where the writer does: those are the writer's, and then the ones
+/// gathered.
 pub struct StdSink<W: Write + Drop> {
+    text: Box<Gathered>,
+    // How many bytes of the text are held or handed on already: more than none only after a call
+    // failed.
+    sent: usize,
     writer: BufWriter<W>,
     counts: CallCounts,
 }
@@ -37,8 +45,14 @@ impl<W: Write + Drop> StdSink<W> {
         ensures counts { IfOk result (λ sink.
             view_of W.contents sink ≡ view_with (contents_of W.contents sink) opened) }
     {
-        match BufWriter::with_capacity(alloc, GATHERED, writer) {
+        let text = match Box::new(alloc, Gathered::new()) {
+            Ok(text) => text,
+            Err(_) => return Err(Memory),
+        };
+        match BufWriter::with_capacity(alloc, HELD, writer) {
             Ok(writer) => Ok(StdSink {
+                text,
+                sent: 0,
                 writer,
                 counts: CallCounts::new(),
             }),
@@ -54,12 +68,93 @@ impl<W: Write + Drop> StdSink<W> {
     }
 }
 
+impl<W: Write + Drop> StdSink<W> {
+    // Moves the text to the bytes held.
+    fn hold_text(&mut self) -> Result<(), Failed>
+        ensures kept { Keeps (contents_of W.contents self.old) (contents_of W.contents self.new) }
+        ensures none { OnOk result (self.new.text.value.bytes ≡ []) }
+        ensures all { OnOk result (self.new.sent ≡ 0) }
+        ensures counts { self.new.counts ≡ self.old.counts }
+    {
+        'pieces: while self.sent < self.text.len() {
+            let rest = &self.text.as_str().as_bytes()[self.sent..];
+            self.sent += write_piece(&mut self.writer, rest)?;
+        }
+        self.text.clear();
+        self.sent = 0;
+        Ok(())
+    }
+
+    // Makes room in the text for a line.
+    fn make_room(&mut self) -> Result<(), Failed>
+        ensures kept { Keeps (contents_of W.contents self.old) (contents_of W.contents self.new) }
+        ensures room { OnOk result (length self.new.text.value.bytes + 2048 ≤ 8192) }
+        ensures all { OnOk result (self.new.sent ≡ 0) }
+        ensures counts { self.new.counts ≡ self.old.counts }
+    {
+        if self.sent == 0 && self.text.len() <= GATHERED {
+            return Ok(());
+        }
+        self.hold_text()
+    }
+
+    // Makes a line in the room for it.
+    fn add_line<L: Line>(&mut self, line: &L)
+        requires room { length self.old.text.value.bytes + 2048 ≤ 8192 }
+        requires all { self.old.sent ≡ 0 }
+        ensures appended { Appends
+            (contents_of W.contents self.old) (contents_of W.contents self.new) (L.text line.now) }
+        ensures counts { self.new.counts ≡ self.old.counts }
+    {
+        line.put(&mut *self.text);
+    }
+
+    // Makes room for a line, and the line in it.
+    fn gather<L: Line>(&mut self, line: &L) -> Result<(), Failed>
+        ensures appended { OnOk result (Appends
+            (contents_of W.contents self.old) (contents_of W.contents self.new) (L.text line.now)) }
+        ensures prefix { OnErr result (AppendsPrefix
+            (contents_of W.contents self.old) (contents_of W.contents self.new) (L.text line.now)) }
+        ensures counts { self.new.counts ≡ self.old.counts }
+    {
+        self.make_room()?;
+        self.add_line(line);
+        Ok(())
+    }
+
+    // Holds these bytes after the text.
+    fn hold(&mut self, bytes: &[u8]) -> Result<(), Failed>
+        ensures appended { OnOk result (Appends
+            (contents_of W.contents self.old) (contents_of W.contents self.new) bytes.now) }
+        ensures prefix { OnErr result (AppendsPrefix
+            (contents_of W.contents self.old) (contents_of W.contents self.new) bytes.now) }
+        ensures counts { self.new.counts ≡ self.old.counts }
+    {
+        self.hold_text()?;
+        write_whole(&mut self.writer, bytes)
+    }
+
+    // Hands on all bytes.
+    fn hand_on(&mut self) -> Result<(), Failed>
+        ensures kept { Keeps (contents_of W.contents self.old) (contents_of W.contents self.new) }
+        ensures none { OnOk result (gathered_bytes self.new ≡ []) }
+        ensures counts { self.new.counts ≡ self.old.counts }
+    {
+        self.hold_text()?;
+        match flush(&mut self.writer) {
+            Ok(()) => Ok(()),
+            Err(_) => Err(Failed),
+        }
+    }
+}
+
 impl<W: Write + Drop> Sink for StdSink<W> {
     ghost shows = { view_of W.contents };
 
     fn write(&mut self, bytes: &[u8]) -> Result<(), Failed>
         // As at each sink.
-        ensures counted { (view_of W.contents self.new).writes ≡ raised (view_of W.contents self.old).writes }
+        ensures counted { (view_of W.contents self.new).writes ≡
+            raised (view_of W.contents self.old).writes }
         ensures piece { OnOk result
             ((view_of W.contents self.new).pieces ≡
             with_pieces (view_of W.contents self.old).pieces (pieces_of bytes.now)) }
@@ -67,23 +162,32 @@ impl<W: Write + Drop> Sink for StdSink<W> {
             (view_of W.contents self.old).bytes (view_of W.contents self.new).bytes bytes.now) }
         ensures prefix { OnErr result
             (WritesPrefix (view_of W.contents self.old) (view_of W.contents self.new) bytes.now) }
-        ensures sound { OnOk result ((view_of W.contents self.new).faults ≡ (view_of W.contents self.old).faults) }
+        ensures sound { OnOk result
+            ((view_of W.contents self.new).faults ≡ (view_of W.contents self.old).faults) }
         ensures fault { OnErr result
             ((view_of W.contents self.new).faults ≡ raised (view_of W.contents self.old).faults) }
         ensures not_failed { OnOk result ((view_of W.contents self.new).failed ≡ false) }
         ensures failed { OnErr result ((view_of W.contents self.new).failed ≡ true) }
-        ensures finishes { (view_of W.contents self.new).finishes ≡ (view_of W.contents self.old).finishes }
+        ensures finishes { (view_of W.contents self.new).finishes ≡
+            (view_of W.contents self.old).finishes }
         ensures not_finished { (view_of W.contents self.new).finished ≡ false }
     {
-        let written = write_whole(&mut self.writer, bytes);
+        let written = self.hold(bytes);
         self.counts.count_write(written.is_err());
         written
+    }
+
+    fn write_line<L: Line>(&mut self, line: &L) -> Result<(), Failed> {
+        let made = self.gather(line);
+        self.counts.count_write(made.is_err());
+        made
     }
 
     fn finish(&mut self) -> Result<(), Failed>
         // As at each sink.
         ensures finished { Finishes (view_of W.contents self.old) (view_of W.contents self.new) }
-        ensures sound { OnOk result ((view_of W.contents self.new).faults ≡ (view_of W.contents self.old).faults) }
+        ensures sound { OnOk result
+            ((view_of W.contents self.new).faults ≡ (view_of W.contents self.old).faults) }
         ensures fault { OnErr result
             ((view_of W.contents self.new).faults ≡ raised (view_of W.contents self.old).faults) }
         ensures not_failed { OnOk result ((view_of W.contents self.new).failed ≡ false) }
@@ -92,12 +196,9 @@ impl<W: Write + Drop> Sink for StdSink<W> {
         // All bytes are the writer's.
         ensures none_gathered { OnOk result (gathered_bytes self.new ≡ []) }
     {
-        let flushed = flush(&mut self.writer);
-        self.counts.count_finish(flushed.is_err());
-        match flushed {
-            Ok(()) => Ok(()),
-            Err(_) => Err(Failed),
-        }
+        let handed = self.hand_on();
+        self.counts.count_finish(handed.is_err());
+        handed
     }
 }
 
@@ -105,7 +206,12 @@ impl<W: Write + Drop> Sink for StdSink<W> {
 /// hands on nothing more.
 impl<W: Write + Drop> Drop for StdSink<W> {
     fn drop(self) {
-        let StdSink { writer, counts: _ } = self;
+        let StdSink {
+            text: _,
+            sent: _,
+            writer,
+            counts: _,
+        } = self;
         let _ = writer.into_parts();
     }
 }

@@ -11,7 +11,7 @@ append_decimal_digits-requires t c =
 pub push_str-requires-else-number-lt10 : goal.push_str-requires-else-number-lt10
 push_str-requires-else-number-lt10 t c =
     let longer = decimal_longer c.args.number c.if-number-lt10.false (omega (arith, c.ranges.number.fits)) in
-    (omega arith, last_fits _ (decimal (c.args.number / 10)) _ _ _ _ 2048 c.append_decimal_digits.ensures c.digit_word-else-number-lt10.ensures longer c.requires.room)
+    (omega arith, last_fits _ (decimal (c.args.number / 10)) _ _ _ _ _ c.append_decimal_digits.ensures c.digit_word-else-number-lt10.ensures longer c.requires.room)
 
 pub returns-else-number-lt10 : goal.returns-else-number-lt10
 returns-else-number-lt10 t c =

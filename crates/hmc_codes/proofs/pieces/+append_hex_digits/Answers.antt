@@ -11,7 +11,7 @@ append_hex_digits-requires t c =
 pub push_str-requires-else-number-lt16 : goal.push_str-requires-else-number-lt16
 push_str-requires-else-number-lt16 t c =
     let longer = hex_longer c.args.number c.if-number-lt16.false (omega (arith, c.ranges.number.fits)) in
-    (omega arith, last_fits _ (digits 16 false (c.args.number / 16)) _ _ _ _ 2048 c.append_hex_digits.ensures c.digit_word-else-number-lt16.ensures longer c.requires.room)
+    (omega arith, last_fits _ (digits 16 false (c.args.number / 16)) _ _ _ _ _ c.append_hex_digits.ensures c.digit_word-else-number-lt16.ensures longer c.requires.room)
 
 pub returns-else-number-lt16 : goal.returns-else-number-lt16
 returns-else-number-lt16 t c =
