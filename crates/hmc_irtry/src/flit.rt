@@ -4,10 +4,10 @@ ghost use Rattle.std.specs.Prelude.{◌≡◌, ◌<◌, ◌≤◌, Ok};
 ghost use Rattle.hmc_codes.specs.declared.command.Command.TheVariants.{Irtry};
 ghost use Rattle.hmc_packet.specs.Packet.{null_packet};
 ghost use Rattle.hmc_codes.specs.Profile.{modulus_of};
-ghost use Rattle.hmc_packet.specs.Irtry.{kind_pointer, irtry_packet, irtry_flit, irtry_by, irtry_in};
+ghost use Rattle.hmc_packet.specs.Irtry.{kind_pointer, irtry_packet, irtry_flit, irtry_in};
 
 use hmc_codes::{Command, Flit, Profile};
-use hmc_packet::{Kind, Packet, read, spell, spelling_is_as_long_as_its_packet};
+use hmc_packet::{Draft, Kind, Packet, irtry_in};
 
 // An IRTRY as a packet.
 fn packet_of(kind: Kind) -> Packet
@@ -25,28 +25,14 @@ pub fn irtry(kind: Kind, rrp: u16, profile: Profile) -> Flit
     requires { rrp < modulus_of profile }
     ensures { result ≡ irtry_flit profile kind rrp }
 {
-    spelling_is_as_long_as_its_packet();
-    spell(&packet_of(kind), rrp, profile)[0]
-}
-
-// The kind and the pointer of a packet that is an IRTRY.
-fn irtry_by(packet: &Packet, rrp: u16) -> Option<(Kind, u16)>
-    ensures { result ≡ irtry_by packet.now.command packet.now.frp rrp }
-{
-    match packet.command {
-        Command::Irtry => Some((Kind::of_pointer(packet.frp), rrp)),
-        _ => None,
-    }
+    let packet = packet_of(kind);
+    Draft::of(&packet).flit(&packet, 0, rrp, profile)
 }
 
 /// The kind and the return pointer of a flit that alone reads as an IRTRY; `None` exactly where it
 /// doesn't.
-#[tactic(auto, unfolding(hmc_packet::specs::Irtry::irtry_in))]
 pub fn irtry_of(flit: &Flit, profile: Profile) -> Option<(Kind, u16)>
     ensures { result ≡ irtry_in profile flit.now }
 {
-    match read(&[*flit], profile) {
-        Ok(seen) => irtry_by(&seen.packet, seen.rrp),
-        Err(_) => None,
-    }
+    irtry_in(flit, profile)
 }

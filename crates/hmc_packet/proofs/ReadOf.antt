@@ -1,9 +1,10 @@
 -- What flits read as: a spelling as its packet, and nothing else as that packet.
 use Rattle.std.proofs.Common.{◌≡◌, ◌≢◌, ◌∙◌, ◌≤◌, ◌*◌, ◌⊎◌, lit<, lit≤, inl, inr, ℕ, zero, suc, Bool, true, false, cond, Result, Ok, Err, List, [], ◌∷◌, ◌++◌, length, take, drop, refl, sym, ap, subst, arith}
-use Rattle.std.specs.Prelude.{◌&&◌, ◌==◌, nat_le, IfOk}
-use Rattle.std.specs.List.{concat}
+use Rattle.std.specs.Prelude.{◌&&◌, ◌==◌, nat_le}
+use Rattle.std.specs.List.{concat, flat_map}
 use Rattle.std.proofs.lemmas.Bool.{eqb-true, eq-eqb, and_parts, and_from, leb-true, le-leb, false_from_ne_true}
 use Rattle.std.proofs.lemmas.List.{nil_from_length, take-take, take-append-le}
+use Rattle.std.proofs.lemmas.List.Concat.{concat_is}
 use Rattle.std.proofs.lemmas.Slice.Eq.{bytes_eq-Decides}
 use Rattle.hmc_codes.specs.declared.profile.Profile.{Profile}
 use Rattle.hmc_codes.specs.declared.profile.Profile.TheVariants.{One, Two}
@@ -11,6 +12,7 @@ use Rattle.hmc_codes.specs.Bytes.{IsBytes}
 use Rattle.hmc_codes.specs.Commands.{layout_of, is_flow}
 use Rattle.hmc_codes.specs.declared.layout.Layout.{Layout}
 use Rattle.hmc_codes.specs.declared.layout.Layout.TheVariants as layouts
+use Rattle.hmc_codes.specs.declared.command.Command.{Command}
 use Rattle.hmc_codes.specs.declared.command.Command.TheVariants.{Null}
 use Rattle.hmc_packet.specs.declared.bad.Bad.{Bad}
 use Rattle.hmc_packet.specs.declared.bad.Bad.TheVariants as bads
@@ -20,13 +22,13 @@ use Rattle.hmc_packet.specs.Packet.{PacketFields, IsPacket, IsLaidOut, flits_of,
 use Rattle.hmc_packet.specs.Spelling.{FitsProfile, bytes_of, cut, flits_with, spelling}
 use Rattle.hmc_codes.specs.Flit.{zero_flit}
 use Rattle.hmc_packet.specs.Parts.{word_of, header_in, lng_of}
-use Rattle.hmc_packet.specs.Reading.{is_null, is_null_alone, has_length, bytes_read, read_of, AreBytesOf, IsSpelled}
+use Rattle.hmc_packet.specs.Reading.{is_null, is_null_alone, has_length, seen_in, judgement_of, bytes_read, read_of, AreBytesOf, IsSpelled}
 use Rattle.hmc_packet.proofs.CommandLemmas.{flow-one, null_layout-null, layout_of-null}
 use Rattle.hmc_packet.proofs.HeaderLemmas as headers
 use Rattle.hmc_packet.proofs.PacketLemmas.{IsPacket-null, flits_of-few, IsHeader-fields}
 use Rattle.hmc_packet.proofs.FlitLemmas.{AreFlits, first-length, length-concat, length-cut, cut-concat, concat-cut}
 use Rattle.hmc_packet.proofs.SpelledLemmas.{length-bytes_of, header_in-bytes_of, bytes_read-bytes_of}
-use Rattle.hmc_packet.proofs.ReadLemmas.{IsWhole, bytes_read-AreBytesOf}
+use Rattle.hmc_packet.proofs.ReadLemmas.{IsWhole, bytes_read-AreBytesOf, judgement_of-AreBytesOf}
 
 -- ---- NULL
 
@@ -104,7 +106,7 @@ unfolding is_null_alone
 not_null_alone flit [] some = false_from_ne_true (is_null flit) (λ is. some (ap lng_of (is_null-is flit is) ∙ lng_of-null))
 not_null_alone flit (x ∷ xs) some = refl
 
-has_its_length : (flit : List ℕ) (rest : List (List ℕ)) (n : ℕ) → lng_of flit ≡ n → suc (length rest) ≡ n → n ≤ 17 → has_length (flit ∷ rest) ≡ true
+pub has_its_length : (flit : List ℕ) (rest : List (List ℕ)) (n : ℕ) → lng_of flit ≡ n → suc (length rest) ≡ n → n ≤ 17 → has_length (flit ∷ rest) ≡ true
 unfolding has_length
 has_its_length flit rest n lng len few =
     and_from _ _ (and_from _ _ (le-leb 1 (lng_of flit) (omega arith)) (le-leb (lng_of flit) 17 (omega arith))) (eq-eqb (suc (length rest)) (lng_of flit) (len ∙ sym lng))
@@ -204,11 +206,6 @@ other_is_spelled profile flits seen are is =
       spelled = sym (cut-concat flits are) ∙ (λ i. cut (count i) (is.bytes_are i)) ∙ sym (spelling-other profile seen.packet seen.rrp is.other);
     }
 
--- bytes that were read, as flits
-pub bytes-spelled : (profile : Profile) → (flits : List (List ℕ)) (bytes : List ℕ) (r : Result Seen Bad) → AreFlits flits → bytes ≡ concat flits → IfOk r (λ seen. AreBytesOf profile bytes seen) → IfOk r (λ seen. IsSpelled profile flits seen)
-bytes-spelled profile flits bytes (Ok seen) are is found = other_is_spelled profile flits seen are (subst (λ (b : List ℕ). AreBytesOf profile b seen) is found)
-bytes-spelled profile flits bytes (Err bad) are is found = tt
-
 found_by : (profile : Profile) → (flits : List (List ℕ)) (seen : Seen) (null long : Bool) → AreFlits flits → (is_null_alone flits ≡ false → IsBytes (concat flits)) → is_null_alone flits ≡ null → has_length flits ≡ long →
     cond null (done (record { packet = null_packet; rrp = 0 })) (cond long (bytes_read profile (concat flits)) (Err bads.Length)) ≡ Ok seen → IsSpelled profile flits seen
 found_by profile flits seen true long are fits is-null is-long is =
@@ -223,12 +220,56 @@ pub read_of-found : (profile : Profile) → (flits : List (List ℕ)) (seen : Se
 unfolding read_of
 read_of-found profile flits seen are fits is = found_by profile flits seen (is_null_alone flits) (has_length flits) are fits refl refl is
 
--- as many flits as Length permits
-pub has_length-few : (flits : List (List ℕ)) → AreFlits flits → has_length flits ≡ true → (1 ≤ length flits) × (length flits ≤ 17)
-has_length-few flits are is = let lng = length-lng flits are is in (lng.0, lng.1)
+-- ---- the bytes of flits, in place
 
-pub whole-bytes : (flits : List (List ℕ)) → AreFlits flits → has_length flits ≡ true → length (concat flits) ≡ 16 * bits_from 7 5 (header_in (concat flits))
-whole-bytes flits are is = length-concat flits are ∙ ap (λ (n : ℕ). 16 * n) (sym (length-lng flits are is).2)
+-- the bytes of flits that pass Length
+pub record AreJoined (flits : List (List ℕ)) (bytes : List ℕ) : Type 0 where
+  pub some : 16 ≤ length bytes
+  pub few : length bytes ≤ 272
+  pub whole : length bytes ≡ 16 * bits_from 7 5 (header_in bytes)
+  pub joined : bytes ≡ concat flits
+
+pub joined-bytes : (flits : List (List ℕ)) (bytes : List ℕ) → AreFlits flits → true ≡ has_length flits → bytes ≡ flat_map (λ x. x) flits → AreJoined flits bytes
+joined-bytes flits bytes are is flat =
+    let lng = length-lng flits are (sym is) in
+    let joined : bytes ≡ concat flits = flat ∙ sym (concat_is flits) in
+    let len : length bytes ≡ 16 * length flits = ap length joined ∙ length-concat flits are in
+    record {
+      some = omega (arith, lng.0);
+      few = omega (arith, lng.1);
+      whole = len ∙ ap (λ (n : ℕ). 16 * n) (sym lng.2) ∙ ap (λ (b : List ℕ). 16 * bits_from 7 5 (header_in b)) (sym joined);
+      joined = joined;
+    }
+
+-- what they are read as
+pub joined-judged : (profile : Profile) (flits : List (List ℕ)) (bytes : List ℕ) (command : Command) (poisoned : Bool) → AreJoined flits bytes → IsBytes bytes → Ok (command, poisoned) ≡ judgement_of profile bytes → AreBytesOf profile bytes (seen_in profile command poisoned bytes)
+joined-judged profile flits bytes command poisoned are fits is = judgement_of-AreBytesOf profile bytes command poisoned are.some are.whole fits is
+
+pub joined-spelled : (profile : Profile) (flits : List (List ℕ)) (bytes : List ℕ) (seen : Seen) → AreFlits flits → AreJoined flits bytes → AreBytesOf profile bytes seen → IsSpelled profile flits seen
+joined-spelled profile flits bytes seen are joined is = other_is_spelled profile flits seen are (subst (λ (b : List ℕ). AreBytesOf profile b seen) joined.joined is)
+
+-- ---- and only that
 
 pub read_of-only : (profile : Profile) → (flits : List (List ℕ)) (r : Result Seen Bad) → r ≡ read_of profile flits → (p : PacketFields) (rrp : ℕ) → IsPacket p → FitsProfile profile p rrp → flits ≡ spelling profile p rrp → r ≡ Ok (record { packet = p; rrp = rrp })
 read_of-only profile flits r exact p rrp is pointer spelled = exact ∙ ap (read_of profile) spelled ∙ read_of-spelling profile p rrp is pointer
+
+-- each way in which flits are read
+pub read_of-is_null : (profile : Profile) (flits : List (List ℕ)) → true ≡ is_null_alone flits → read_of profile flits ≡ Ok (record { packet = null_packet; rrp = 0 })
+unfolding read_of
+read_of-is_null profile flits is = rw (sym is) refl
+
+pub read_of-no_length : (profile : Profile) (flits : List (List ℕ)) → false ≡ is_null_alone flits → false ≡ has_length flits → read_of profile flits ≡ Err bads.Length
+unfolding read_of
+read_of-no_length profile flits some is = rw (sym some, sym is) refl
+
+read_of-bytes : (profile : Profile) (flits : List (List ℕ)) (bytes : List ℕ) → false ≡ is_null_alone flits → true ≡ has_length flits → AreJoined flits bytes → read_of profile flits ≡ bytes_read profile bytes
+unfolding read_of
+read_of-bytes profile flits bytes some is are = rw (sym some, sym is) (ap (bytes_read profile) (sym are.joined))
+
+pub read_of-bad : (profile : Profile) (flits : List (List ℕ)) (bytes : List ℕ) (bad : Bad) → false ≡ is_null_alone flits → true ≡ has_length flits → AreJoined flits bytes → Err bad ≡ judgement_of profile bytes → read_of profile flits ≡ Err bad
+unfolding bytes_read
+read_of-bad profile flits bytes bad some is are judged = read_of-bytes profile flits bytes some is are ∙ (rw (sym judged) refl)
+
+pub read_of-seen : (profile : Profile) (flits : List (List ℕ)) (bytes : List ℕ) (command : Command) (poisoned : Bool) → false ≡ is_null_alone flits → true ≡ has_length flits → AreJoined flits bytes → Ok (command, poisoned) ≡ judgement_of profile bytes → read_of profile flits ≡ Ok (seen_in profile command poisoned bytes)
+unfolding bytes_read
+read_of-seen profile flits bytes command poisoned some is are judged = read_of-bytes profile flits bytes some is are ∙ (rw (sym judged) refl)

@@ -2,14 +2,17 @@
 use Rattle.std.specs.Prelude.{ℕ, ◌==◌, if◌then◌else◌, List, [], ◌∷◌, slice_index_or, Option, Some, None, Result, Ok, Err}
 use Rattle.hmc_codes.specs.declared.command.Command.{Command}
 use Rattle.hmc_codes.specs.declared.command.Command.TheVariants.{Irtry}
+use Rattle.hmc_codes.specs.declared.layout.Layout.TheVariants as layouts
 use Rattle.hmc_codes.specs.declared.profile.Profile.{Profile}
 use Rattle.hmc_packet.specs.declared.bad.Bad.{Bad}
 use Rattle.hmc_packet.specs.declared.kind.Kind.{Kind}
 use Rattle.hmc_packet.specs.declared.kind.Kind.TheVariants.{Start, Clear}
 use Rattle.hmc_packet.specs.declared.seen.Seen.{Seen}
 use Rattle.hmc_packet.specs.Packet.{PacketFields, null_packet}
+use Rattle.hmc_packet.specs.Parts.{tail_in}
 use Rattle.hmc_packet.specs.Reading.{read_of}
 use Rattle.hmc_packet.specs.Spelling.{spelling}
+use Rattle.hmc_packet.specs.Tail.{tail_of}
 
 -- the forward pointer says which of the two an IRTRY is
 abbrev pub kind_pointer : Kind → ℕ
@@ -41,3 +44,10 @@ irtry_seen (Err bad) = None
 -- a flit that reads alone as an IRTRY: its kind and its return pointer
 unfoldable pub irtry_in : Profile → List ℕ → Option (Kind × ℕ)
 irtry_in profile flit = irtry_seen (read_of profile (flit ∷ []))
+
+-- The same of a flit with this command that passes the tests, by its tail alone.
+abbrev pub irtry_tail : Profile → Command → List ℕ → Option (Kind × ℕ)
+irtry_tail profile Irtry flit =
+    let tail = tail_of profile layouts.Irtry (tail_in flit) in
+    Some (kind_of tail.frp, tail.rrp)
+irtry_tail profile _ flit = None

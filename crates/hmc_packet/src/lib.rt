@@ -14,11 +14,14 @@
 //!   [`answer_of`] return `request_in` and `answer_in`.
 //! - [`head_of`] reads a first flit alone: `head_in`. [`header_in`] reads the word of its header,
 //!   and [`Header::unpack`] the fields of that word: `header_of`.
+//! - [`irtry_in`] returns the definition of that name: what a flit alone reads as, if that is an
+//!   IRTRY. It makes no packet.
 //!
 //! A layer above doesn't look into bytes: it cites these words, and the laws in `laws.rt` and
 //! `link_laws.rt`, each the contract of a function that does nothing.
 #![tactic(auto)]
 
+mod alone;
 mod answer;
 mod bad;
 mod copy;
@@ -43,6 +46,7 @@ mod tail;
 mod view;
 mod what;
 
+pub use alone::irtry_in;
 pub use answer::{answer_of, reply};
 pub use bad::Bad;
 pub use copy::last_feed_of;

@@ -3,10 +3,11 @@
 ghost use Rattle.std.specs.Prelude.{◌≡◌};
 ghost use Rattle.hmc_packet.specs.Masks.{under_mask, changes};
 
-use hmc_codes::{Flit, ZERO_FLIT};
+use crate::reading::is_null;
+use hmc_codes::Flit;
 
-/// A flit with the bits of a mask inverted.
-pub fn under_mask(mask: &Flit, flit: &Flit) -> Flit
+// A flit with the bits of a mask inverted, byte by byte.
+fn inverted(mask: &Flit, flit: &Flit) -> Flit
     ensures { result ≡ under_mask mask.now flit.now }
 {
     let mut changed = *flit;
@@ -16,10 +17,21 @@ pub fn under_mask(mask: &Flit, flit: &Flit) -> Flit
     changed
 }
 
+/// A flit with the bits of a mask inverted. Most masks are zero.
+pub fn under_mask(mask: &Flit, flit: &Flit) -> Flit
+    ensures { result ≡ under_mask mask.now flit.now }
+{
+    if is_null(mask) {
+        *flit
+    } else {
+        inverted(mask, flit)
+    }
+}
+
 /// Whether a mask changes a flit: it isn't zero.
-#[tactic(auto, unfolding(hmc_codes::specs::Flit::zero_flit))]
+#[tactic(auto, unfolding(crate::specs::Reading::is_null))]
 pub fn changes(mask: &Flit) -> bool
     ensures { result ≡ changes mask.now }
 {
-    *mask != ZERO_FLIT
+    !is_null(mask)
 }

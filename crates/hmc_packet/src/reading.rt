@@ -1,24 +1,19 @@
 //! From flits to a packet.
 
-ghost use Rattle.std.specs.Prelude.{◌≡◌, ◌≤◌, ◌+◌, ◌*◌, ◌↔◌, ℕ, ◌++◌, not, length, IfOk, IsTrue, Ok};
-ghost use Rattle.std.specs.List.{concat};
-ghost use Rattle.hmc_packet.specs.Bits.{bits_from};
+ghost use Rattle.std.specs.Prelude.{◌≡◌, ◌≤◌, ◌↔◌, ℕ, not, length, IfOk, IsTrue, Ok};
+ghost use Rattle.hmc_codes.specs.Bytes.{IsBytes};
 ghost use Rattle.hmc_codes.specs.Commands.{is_flow};
 ghost use Rattle.hmc_packet.specs.Packet.{PacketFields, IsPacket};
 ghost use Rattle.hmc_packet.specs.Spelling.{FitsProfile, spelling};
 ghost use Rattle.hmc_codes.specs.Flit.{zero_flit};
 ghost use Rattle.hmc_packet.specs.Parts.{word_of, half_of, header_in, payload_in, tail_in, check_in, lng_of};
-ghost use Rattle.hmc_packet.specs.Reading.{is_null, is_null_alone, has_length, fitting, command_in, is_clean, poison_in, packet_from, seen_in, judgement_of, bytes_read, read_of, AreBytesOf, IsSpelled};
+ghost use Rattle.hmc_packet.specs.Reading.{is_null, is_null_alone, has_length, fitting, command_in, is_clean, poison_in, packet_from, seen_in, judgement_of, read_of, IsSpelled};
 
 use crate::header::Header;
 use crate::tail::Tail;
 use crate::{Bad, Packet, Seen};
-use arrayvec::ArrayVec;
-use hmc_codes::{Command, Flit, Layout, Payload, Profile, ZERO_FLIT};
+use hmc_codes::{Command, Flit, Layout, Payload, Profile};
 use hmc_crc::crc_fast;
-
-// The bytes of at most 17 flits.
-type Bytes = ArrayVec<u8, 272>;
 
 #[tactic(auto, unfolding(crate::specs::Parts::word_of))]
 fn word_of(bytes: &[u8]) -> u64
@@ -46,7 +41,7 @@ pub fn header_in(bytes: &[u8]) -> u64
     word_of(&bytes[..8])
 }
 
-fn tail_in(bytes: &[u8]) -> u32
+pub fn tail_in(bytes: &[u8]) -> u32
     requires { 16 ≤ length bytes.now }
     ensures { result ≡ tail_in bytes.now }
 {
@@ -75,7 +70,7 @@ pub fn is_null(flit: &Flit) -> bool
     ensures value { result ≡ is_null flit.now }
     ensures zeros { IsTrue result ↔ (flit.now ≡ zero_flit) }
 {
-    flit.as_slice() == ZERO_FLIT.as_slice()
+    u128::from_le_bytes(*flit) == 0
 }
 
 #[tactic(auto, unfolding(crate::specs::Reading::is_null_alone))]
@@ -99,25 +94,6 @@ fn has_length(flits: &[Flit]) -> bool
             (1 <= lng && lng <= 17) && flits.len() == usize::from(lng)
         }
     }
-}
-
-fn append(bytes: &mut Bytes, more: &[u8])
-    requires { length bytes.old.items + length more.now ≤ 272 }
-    ensures { bytes.new.items ≡ bytes.old.items ++ more.now }
-{
-    let _ = bytes.try_extend_from_slice(more);
-}
-
-fn joined(flits: &[Flit]) -> Bytes
-    requires { length flits.now ≤ 17 }
-    ensures bytes { result.items ≡ concat flits.now }
-    ensures len { length result.items ≡ 16 * length flits.now }
-{
-    let mut bytes = Bytes::new();
-    for flit in flits {
-        append(&mut bytes, flit);
-    }
-    bytes
 }
 
 #[tactic(auto, unfolding(crate::specs::Reading::fitting))]
@@ -174,7 +150,7 @@ fn poison_in(layout: Layout, check: u32, right: u32) -> Option<bool>
 }
 
 #[tactic(auto, unfolding(crate::specs::Reading::judgement_of))]
-fn judgement_of(profile: Profile, bytes: &[u8]) -> Result<(Command, bool), Bad>
+pub fn judgement_of(profile: Profile, bytes: &[u8]) -> Result<(Command, bool), Bad>
     requires { 16 ≤ length bytes.now }
     ensures { result ≡ judgement_of profile bytes.now }
 {
@@ -235,7 +211,8 @@ fn seen_in(profile: Profile, command: Command, poisoned: bool, bytes: &[u8]) -> 
     requires few { length bytes.now ≤ 272 }
     requires some { 16 ≤ length bytes.now }
     requires packet { IsPacket (seen_in profile command poisoned bytes.now).packet }
-    ensures { result ≡ seen_in profile command poisoned bytes.now }
+    ensures value { result ≡ seen_in profile command poisoned bytes.now }
+    ensures are_bytes { IsBytes bytes.now }
 {
     let layout = command.layout();
     let header = Header::unpack(layout, header_in(bytes));
@@ -247,39 +224,11 @@ fn seen_in(profile: Profile, command: Command, poisoned: bool, bytes: &[u8]) -> 
     }
 }
 
-#[tactic(auto, unfolding(crate::specs::Reading::bytes_read))]
-fn bytes_read(profile: Profile, bytes: &[u8]) -> Result<Seen, Bad>
-    requires few { length bytes.now ≤ 272 }
-    requires some { 16 ≤ length bytes.now }
-    requires whole { length bytes.now ≡ 16 * bits_from 7 5 (header_in bytes.now) }
-    ensures value { result ≡ bytes_read profile bytes.now }
-    ensures found { IfOk result (λ seen. AreBytesOf profile bytes.now seen) }
-{
-    let (command, poisoned) = judgement_of(profile, bytes)?;
-    Ok(seen_in(profile, command, poisoned, bytes))
-}
-
-#[tactic(auto, unfolding(crate::specs::Reading::read_of))]
-fn read_all(profile: Profile, flits: &[Flit]) -> Result<Seen, Bad>
-    ensures exact { result ≡ read_of profile flits.now }
-    ensures found { IfOk result (λ seen. IsSpelled profile flits.now seen) }
-{
-    if is_null_alone(flits) {
-        return Ok(Seen {
-            packet: Packet::null(),
-            rrp: 0,
-        });
-    }
-    if !has_length(flits) {
-        return Err(Bad::Length);
-    }
-    bytes_read(profile, joined(flits).as_slice())
-}
-
 /// The packet and the return pointer that the flits spell, or the first test that they fail:
 /// Length, Command, Reserved, Crc.
 ///
 /// A NULL, one flit of 16 zero bytes, is read before any test.
+#[tactic(auto, unfolding(crate::specs::Reading::read_of, crate::specs::Reading::bytes_read))]
 pub fn read(flits: &[Flit], profile: Profile) -> Result<Seen, Bad>
     // The first test that fails.
     ensures exact { result ≡ read_of profile flits.now }
@@ -290,5 +239,16 @@ pub fn read(flits: &[Flit], profile: Profile) -> Result<Seen, Bad>
         flits.now ≡ spelling profile p rrp →
         result ≡ Ok (record { packet = p; rrp = rrp }) }
 {
-    read_all(profile, flits)
+    if is_null_alone(flits) {
+        return Ok(Seen {
+            packet: Packet::null(),
+            rrp: 0,
+        });
+    }
+    if !has_length(flits) {
+        return Err(Bad::Length);
+    }
+    let bytes = flits.as_flattened();
+    let (command, poisoned) = judgement_of(profile, bytes)?;
+    Ok(seen_in(profile, command, poisoned, bytes))
 }

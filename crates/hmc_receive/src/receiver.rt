@@ -249,21 +249,8 @@ impl Receiver {
         }
     }
 
-    // Reads the gathered flits and the last one, and gathers no more.
-    fn read_with(&mut self, flit: &Flit) -> Result<Seen, Bad>
-        requires few { length self.old.gathered < 17 }
-        ensures value { result ≡ read_of self.old.profile (self.old.gathered ++ flit.now ∷ []) }
-        ensures spelled { IfOk result
-            (λ seen. IsSpelled self.old.profile (self.old.gathered ++ flit.now ∷ []) seen) }
-        ensures left { self.new ≡ record self.old { gathered = [] } }
-    {
-        self.gathered.push(*flit);
-        let read = read(self.gathered.as_slice(), self.profile);
-        self.gathered.clear();
-        read
-    }
-
-    // The last flit of a packet came.
+    // The last flit of a packet came. All of them are read where they are gathered.
+    #[inline(never)]
     fn land_last(&mut self, flit: &Flit) -> Reception
         requires good { self.old.mode ≡ Good }
         requires few { length self.old.gathered < 17 }
@@ -271,7 +258,10 @@ impl Receiver {
             (read_of self.old.profile (self.old.gathered ++ flit.now ∷ [])) }
         ensures follows { Follows self.old self.new (Land flit.now result.outcome) }
     {
-        match self.read_with(flit) {
+        self.gathered.push(*flit);
+        let read = read(self.gathered.as_slice(), self.profile);
+        self.gathered.clear();
+        match read {
             Err(bad) => {
                 self.abort();
                 unchecked(Outcome::AbortedBad(bad))
@@ -313,6 +303,7 @@ impl Receiver {
     }
 
     // A flit came in Abort, where each is read alone.
+    #[inline(never)]
     fn land_in_abort(&mut self, flit: &Flit) -> Reception
         ensures value { result ≡ abort_reception (view_of self.old)
             (irtry_in self.old.profile flit.now) }
@@ -328,6 +319,7 @@ impl Receiver {
     }
 
     // A flit came in Train.
+    #[inline(never)]
     fn land_in_train(&mut self, flit: &Flit) -> Reception
         ensures value { result ≡ train_reception self.old.profile (view_of self.old) flit.now }
         ensures left { self.new
@@ -387,7 +379,8 @@ impl Receiver {
 
     /// The packet accepted last, poisoned or not; a NULL if none was.
     pub fn packet(&self) -> &Packet
-        ensures { (profile : Profile) (past : List ReceiverEntry) →
+        ensures value { result.now ≡ self.now.packet }
+        ensures by_list { (profile : Profile) (past : List ReceiverEntry) →
             ReceiverStandsFor profile self.now past →
             result.now ≡ latest profile past }
     {
