@@ -1,8 +1,9 @@
 //! One cube.
 
-ghost use Rattle.std.specs.Prelude.{◌≡◌, ◌≤◌, ◌<◌, ◌+◌, ◌%◌, ◌^◌, ◌↔◌, [], IsTrue, IfOk, All, length, replicate, slice_get, slice_range, sum_by};
+ghost use Rattle.std.specs.Prelude.{◌≡◌, ◌≤◌, ◌<◌, ◌+◌, ◌%◌, ◌^◌, ◌↔◌, List, [], Option, IsTrue, IfOk, All, length, replicate, slice_get, slice_range, sum_by, option_map};
 ghost use Rattle.hmc_codes.specs.Limits.{most_vault_bits, most_bank_bits};
 ghost use Rattle.hmc_codes.specs.Shape.{capacity_of};
+ghost use Rattle.hmc_units.specs.Unit.{UnitFields};
 ghost use Rattle.hmc_vault.specs.Packets.{IsForBanks};
 ghost use Rattle.hmc_vault.specs.Vault.{opening_vault, bank_at, held_by};
 ghost use Rattle.hmc_vault.specs.Spread.{spread_says};
@@ -118,10 +119,11 @@ impl Cube {
         requires request { IsForRegisters packet }
         ensures { self.new ≡ after_enter To.Registers packet self.old }
     {
-        self.register_queue.take_in(packet);
+        self.register_queue.put(&packet);
     }
 
     /// Moves the front of a vault's queue to the queue of its bank.
+    #[inline(always)]
     pub fn spread(&mut self, vault: u8) -> Spread
         requires { vault < 2 ^ self.old.state.shape.vault_bits }
         ensures answer { result ≡ spread_says (vault_at self.old vault) self.old.state.shape }
@@ -135,6 +137,7 @@ impl Cube {
 
     /// Performs the request at the front of a bank's queue. Only a unit command asks the bench of
     /// logic units.
+    #[inline(always)]
     pub fn execute<B: Workbench>(&mut self, vault: u8, bank: u8, bench: &mut B) -> Executed
         requires vault { vault < 2 ^ self.old.state.shape.vault_bits }
         requires bank { bank < 2 ^ self.old.state.shape.bank_bits }
@@ -158,6 +161,17 @@ impl Cube {
         self.vaults[usize::from(vault)].bank_is_empty(bank)
     }
 
+    /// Whether the front of a bank's queue has an answer for which there is no room, and an
+    /// execution by the bank would do nothing.
+    pub fn bank_waits(&self, vault: u8, bank: u8) -> bool
+        requires vault { vault < 2 ^ self.now.state.shape.vault_bits }
+        requires bank { bank < 2 ^ self.now.state.shape.bank_bits }
+        ensures { (slots : List (Option UnitFields)) → IsTrue result
+            ↔ (bank_says self.now slots vault bank ≡ Executed.Full) }
+    {
+        self.vaults[usize::from(vault)].bank_waits(bank)
+    }
+
     /// Whether the queue of the registers is empty, and an execution by them would do nothing.
     pub fn register_queue_is_empty(&self) -> bool
         ensures { IsTrue result ↔ (self.now.register_queue ≡ []) }
@@ -166,6 +180,7 @@ impl Cube {
     }
 
     /// Performs the request at the front of the registers' queue.
+    #[inline(always)]
     pub fn registers<B: Workbench>(&mut self, bench: &mut B) -> Executed
         ensures answer { result ≡ registers_say self.old (B.slots bench.old) }
         ensures leaves { self.new ≡ after_registers result (B.slots bench.old) self.old }
@@ -194,15 +209,48 @@ impl Cube {
         }
     }
 
+    /// The front of the answers of a vault, or of the registers, lent.
+    pub fn lift_front_ref(&self, from: Lift) -> Option<&Packet>
+        requires { HasLift self.now from }
+        ensures { option_map (λ packet. packet.now) result ≡ slice_get (answers_at self.now from) 0 }
+    {
+        match from {
+            Lift::Vault(vault) => self.vaults[usize::from(vault)].lift_front_ref(),
+            Lift::Registers => self.answers.front_ref(),
+        }
+    }
+
     /// The front of the answers of a vault, or of the registers.
     pub fn lift_front(&self, from: Lift) -> Option<Packet>
         requires { HasLift self.now from }
         ensures { result ≡ slice_get (answers_at self.now from) 0 }
     {
+        self.lift_front_ref(from).copied()
+    }
+
+    /// Removes that front, if there is one.
+    pub fn drop_lifted(&mut self, from: Lift)
+        requires { HasLift self.old from }
+        ensures { self.new ≡ after_lift from self.old }
+    {
         match from {
-            Lift::Vault(vault) => self.vaults[usize::from(vault)].lift_front(),
-            Lift::Registers => self.answers.front(),
+            Lift::Vault(vault) => self.drop_from_vault(vault),
+            Lift::Registers => self.drop_from_registers(),
         }
+    }
+
+    fn drop_from_vault(&mut self, vault: u8)
+        requires { vault < 2 ^ self.old.state.shape.vault_bits }
+        ensures { self.new ≡ after_lift (Lift.Vault vault) self.old }
+    {
+        let vault = &mut self.vaults[usize::from(vault)];
+        vault.drop_lifted();
+    }
+
+    fn drop_from_registers(&mut self)
+        ensures { self.new ≡ after_lift Lift.Registers self.old }
+    {
+        self.answers.drop_front();
     }
 
     /// Removes that front and returns it.
@@ -211,26 +259,9 @@ impl Cube {
         ensures front { result ≡ slice_get (answers_at self.old from) 0 }
         ensures leaves { self.new ≡ after_lift from self.old }
     {
-        match from {
-            Lift::Vault(vault) => self.lift_vault(vault),
-            Lift::Registers => self.lift_registers(),
-        }
-    }
-
-    fn lift_vault(&mut self, vault: u8) -> Option<Packet>
-        requires { vault < 2 ^ self.old.state.shape.vault_bits }
-        ensures front { result ≡ slice_get (answers_at self.old (Lift.Vault vault)) 0 }
-        ensures leaves { self.new ≡ after_lift (Lift.Vault vault) self.old }
-    {
-        let vault = &mut self.vaults[usize::from(vault)];
-        vault.lift()
-    }
-
-    fn lift_registers(&mut self) -> Option<Packet>
-        ensures front { result ≡ slice_get (answers_at self.old Lift.Registers) 0 }
-        ensures leaves { self.new ≡ after_lift Lift.Registers self.old }
-    {
-        self.answers.take_out()
+        let front = self.lift_front(from);
+        self.drop_lifted(from);
+        front
     }
 
     /// The number of bytes, 32 to 134,217,728.

@@ -42,6 +42,10 @@ item_says host item room =
 abbrev pub next_item : HostFields → Option ItemFields
 next_item host = slice_get host.items host.given
 
+-- it has given all of its requests
+abbrev pub is_at_end : HostFields → Bool
+is_at_end host = is_none (next_item host)
+
 -- what a host answers whose next request this is
 abbrev pub next_says : HostFields → Option ItemFields → (room : Bool) → Given
 next_says host None room = Ended

@@ -1,5 +1,5 @@
 -- A host, as the contracts see it.
-use Rattle.std.specs.Prelude.{◌≡◌, ◌≤◌, ◌<◌, ℕ, Bool, List, length}
+use Rattle.std.specs.Prelude.{◌≡◌, ◌≤◌, ◌<◌, ◌++◌, ◌∷◌, ℕ, Bool, List, [], length}
 use Rattle.hmc_codes.specs.Limits.{most_hosts, most_requests, tags as all_tags}
 use Rattle.hmc_script.specs.Items.{ItemFields, of_host}
 use Rattle.hmc_host.specs.Tags.{none_out}
@@ -30,3 +30,12 @@ pub record IsHost (host : HostFields) : Type 0 where
   pub few : length host.items ≤ most_requests
   pub given : host.given ≤ length host.items
   pub tags : length host.tags ≡ all_tags
+
+-- one that is asked for a request more, which comes after its others
+abbrev pub asked : ItemFields → HostFields → HostFields
+asked item host = record {
+  number = host.number;
+  items = host.items ++ item ∷ [];
+  given = host.given;
+  tags = host.tags;
+}

@@ -1,5 +1,5 @@
 -- The tags of a host: a flag for each, true where the tag is out.
-use Rattle.std.specs.Prelude.{◌≡◌, ◌<◌, ℕ, nat_lt, Bool, true, false, not, List, length, replicate, slice_get, slice_set, count_by, Option, Some, None}
+use Rattle.std.specs.Prelude.{◌≡◌, ◌≤◌, ◌<◌, ◌+◌, ◌==◌, if◌then◌else◌, ℕ, nat_lt, Bool, true, false, not, List, length, replicate, slice_get, slice_set, count_by, Option, Some, None}
 use Rattle.std.specs.List.{position}
 use Rattle.hmc_codes.specs.Limits.{tags as all_tags}
 
@@ -41,3 +41,13 @@ pub record IsLowestFree (tags : List Bool) (tag : ℕ) : Type 0 where
 pub record AreTags (tags : List Bool) (number : ℕ) : Type 0 where
   pub all : length tags ≡ all_tags
   pub count : number ≡ number_out tags
+
+-- one further, where this is the tag that goes out
+abbrev pub past : (from tag : ℕ) → ℕ
+past from tag = if from == tag then from + 1 else from
+
+-- and all tags below one are out
+pub record AreKept (tags : List Bool) (number from : ℕ) : Type 0 where
+  pub are : AreTags tags number
+  pub within : from ≤ all_tags
+  pub below : (k : ℕ) → k < from → slice_get tags k ≡ Some true

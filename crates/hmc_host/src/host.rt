@@ -2,15 +2,15 @@
 
 ghost use Rattle.std.specs.Prelude.{◌≡◌, ◌≢◌, ◌<◌, ◌≤◌, ◌↔◌, ℕ, IfOk, OnOk, OnErr, true, false, length, ◌++◌, ◌∷◌, []};
 ghost use Rattle.std.specs.Option.{ForSome};
-ghost use Rattle.hmc_codes.specs.Limits.{most_hosts, tags as all_tags};
+ghost use Rattle.hmc_codes.specs.Limits.{most_hosts, most_requests, tags as all_tags};
 ghost use Rattle.hmc_host.specs.Tags.{number_out, IsFree, IsOut, IsLowestFree};
-ghost use Rattle.hmc_host.specs.Host.{opening_host, IsHost};
-ghost use Rattle.hmc_host.specs.Give.{wants_tag, outline_wants_tag, tag_for, gave_request, give_says, after_give, taken_tag, hindrance_of, hindrance_by, nothing_given};
+ghost use Rattle.hmc_host.specs.Host.{opening_host, asked, IsHost};
+ghost use Rattle.hmc_host.specs.Give.{wants_tag, outline_wants_tag, tag_for, gave_request, is_at_end, give_says, after_give, taken_tag, hindrance_of, hindrance_by, nothing_given};
 ghost use Rattle.hmc_host.specs.Settle.{IsAwaited, settle_says, after_settle};
 
 use crate::tags::Tags;
 use crate::{Given, Hindrance, Settled};
-use hmc_codes::Memory;
+use hmc_codes::{Memory, Request};
 use hmc_packet::{Packet, answer_of, ask};
 use hmc_script::{Item, Outline, Script};
 use std::alloc::Global;
@@ -86,7 +86,38 @@ impl Host {
         hindrance_by(self.items.outline(self.given), &self.tags, room)
     }
 
+    /// The number of its requests, given or not.
+    pub fn len(&self) -> u32
+        ensures { result ≡ length self.now.items }
+    {
+        self.items.len()
+    }
+
+    /// Whether it has given all of its requests.
+    pub fn is_at_end(&self) -> bool
+        ensures { result ≡ is_at_end self.now }
+    {
+        self.items.outline(self.given).is_none()
+    }
+
+    /// Asks for one request more, which the host gives after its others. It has fewer than
+    /// `MOST_REQUESTS`. Where it is out of memory nothing changes.
+    pub fn ask(&mut self, fenced: bool, poisoned: bool, request: &Request) -> Result<(), Memory>
+        requires { length self.old.items < most_requests }
+        ensures ok { OnOk result (self.new ≡ asked (record {
+          host = self.old.number;
+          fenced = fenced;
+          poisoned = poisoned;
+          request = request.now;
+        }) self.old) }
+        ensures err { OnErr result (self.new ≡ self.old) }
+    {
+        self.invariant();
+        self.items.append(self.number, fenced, poisoned, request)
+    }
+
     /// Gives the next request to the link, which has room or not.
+    #[inline(always)]
     pub fn give(&mut self, room: bool) -> Given
         ensures answer { result ≡ give_says self.old room }
         ensures leaves { self.new ≡ after_give result self.old }
@@ -123,6 +154,7 @@ impl Host {
 
     // What is given next.
     #[tactic(auto, unfolding(crate::specs::Give::give_says))]
+    #[inline(always)]
     fn next_given(&self, room: bool) -> Given
         ensures { result ≡ give_says self.now room }
     {
@@ -173,7 +205,7 @@ fn hindrance_by(outline: Option<Outline>, tags: &Tags, room: bool) -> Option<Hin
     if outline.fenced && tags.is_some_out() {
         return Some(Hindrance::Fence);
     }
-    if outline_wants_tag(&outline) && tags.lowest_free().is_none() {
+    if outline_wants_tag(&outline) && tags.are_all_out() {
         return Some(Hindrance::Tags);
     }
     if !room {
@@ -206,6 +238,7 @@ fn nothing_given(hindrance: Hindrance) -> Given
 }
 
 // A request as it goes out.
+#[inline(always)]
 fn gave_request(number: u8, item: &Item, tag: Option<u16>) -> Given
     requires number { number < most_hosts }
     requires tag { ForSome tag (λ tag. tag < all_tags) }

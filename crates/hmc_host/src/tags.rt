@@ -1,9 +1,9 @@
 //! The tags of a host.
 
-ghost use Rattle.std.specs.Prelude.{◌≡◌, ◌≤◌, ◌<◌, IfOk, false, length, slice_set};
+ghost use Rattle.std.specs.Prelude.{◌≡◌, ◌≤◌, ◌<◌, ◌+◌, ◌^◌, IfOk, false, not, is_some, length, slice_set};
 ghost use Rattle.std.specs.Option.{ForSome};
 ghost use Rattle.hmc_codes.specs.Limits.{tags as all_tags};
-ghost use Rattle.hmc_host.specs.Tags.{none_out, number_out, is_some_out, lowest_free, with_out, IsFree, IsOut};
+ghost use Rattle.hmc_host.specs.Tags.{none_out, number_out, is_some_out, lowest_free, with_out, past, IsFree, IsOut};
 
 use hmc_codes::{Memory, TAGS};
 use std::alloc::Global;
@@ -15,17 +15,19 @@ pub struct Tags {
     flags: Vec<bool>,
     // The number of those that are out.
     number: u16,
+    // All tags below this one are out.
+    from: u16,
 }
 
 impl Model for Tags {
     ghost use Rattle.std.specs.Prelude.{List, Bool};
-    ghost use Rattle.hmc_host.specs.Tags.{AreTags};
+    ghost use Rattle.hmc_host.specs.Tags.{AreKept};
 
     ghost Value = { List Bool };
 
     ghost view = { λ t. t.flags.items };
 
-    ghost invariant = { λ t. AreTags t.flags.items t.number };
+    ghost invariant = { λ t. AreKept t.flags.items t.number t.from };
 }
 
 impl Tags {
@@ -35,7 +37,11 @@ impl Tags {
         ensures { IfOk result (λ tags. tags ≡ none_out) }
     {
         let flags = vec![in alloc; false; TAGS as usize]?;
-        Ok(Tags { flags, number: 0 })
+        Ok(Tags {
+            flags,
+            number: 0,
+            from: 0,
+        })
     }
 
     /// Does nothing. Its contract is the number of tags.
@@ -65,8 +71,16 @@ impl Tags {
         ensures lowest { result ≡ lowest_free self.now }
         ensures small { ForSome result (λ tag. tag < all_tags) }
     {
-        let tag = first_unset(&self.flags)?;
-        Some(tag as u16)
+        let from = usize::from(self.from);
+        let tag = first_unset(&self.flags[from..])?;
+        Some((from + tag) as u16)
+    }
+
+    /// Whether all are out.
+    pub fn are_all_out(&self) -> bool
+        ensures { result ≡ not (is_some (lowest_free self.now)) }
+    {
+        self.number == TAGS
     }
 
     /// A tag that isn't out goes out, if there is one.
@@ -79,6 +93,7 @@ impl Tags {
         };
         self.flags[usize::from(tag)] = true;
         self.number += 1;
+        self.from = past(self.from, tag);
     }
 
     /// A tag that is out no longer is.
@@ -88,6 +103,7 @@ impl Tags {
     {
         self.flags[usize::from(tag)] = false;
         self.number -= 1;
+        self.from = self.from.min(tag);
     }
 }
 
@@ -96,4 +112,12 @@ fn first_unset(flags: &[bool]) -> Option<usize>
     ensures { result ≡ lowest_free flags.now }
 {
     flags.iter().position(|out| !*out)
+}
+
+// One further, where this is the tag that goes out.
+fn past(from: u16, tag: u16) -> u16
+    requires { from + 1 < 2 ^ 16 }
+    ensures { result ≡ past from tag }
+{
+    if from == tag { from + 1 } else { from }
 }

@@ -2,6 +2,7 @@
 use Rattle.std.proofs.Common.{◌≡◌, ◌∙◌, ◌+◌, ℕ, zero, suc, min, Bool, true, false, List, [], ◌∷◌, ◌++◌, length, map, Option, Some, None, refl, sym, ap, subst, arith}
 use Rattle.std.specs.Prelude.{◌==◌, ◌&&◌, not, if◌then◌else◌, is_none, is_some, slice_get, IfSome}
 use Rattle.std.proofs.lemmas.List.{append-nil}
+use Rattle.std.proofs.lemmas.Option.{slice_get_past}
 use Rattle.hmc_codes.specs.Flit.{zero_flit}
 use Rattle.hmc_codes.specs.declared.profile.Profile.{Profile}
 use Rattle.hmc_packet.specs.declared.feed.Feed.{Feed}
@@ -10,7 +11,7 @@ use Rattle.hmc_packet.specs.declared.what.What.TheVariants as what
 use Rattle.hmc_packet.specs.Packet.{PacketFields}
 use Rattle.hmc_packet.specs.Parts.{lng_of}
 use Rattle.hmc_packet.specs.Spelling.{training_flit}
-use Rattle.hmc_retry.specs.RetryBuffer.{after_next, packet_at}
+use Rattle.hmc_retry.specs.RetryBuffer.{RetryFields, after_next, are_all_sent, packet_at}
 use Rattle.hmc_send.specs.declared.sent.Sent.{Sent}
 use Rattle.hmc_send.specs.declared.sent.Sent.TheVariants.{Out, Starved}
 use Rattle.hmc_send.specs.declared.state.State.{State}
@@ -204,3 +205,7 @@ pub sent-answer : (held : State) (past : List SenderEntry) (given : Given) (x : 
     x ≡ choice held.retry.profile (view_after held.retry.profile held.retry.flits past given)
 sent-answer held past given x profile is stands =
     is ∙ ap (λ (q : Profile). choice q (view_held held given)) profile ∙ ap (choice held.retry.profile) (view-same held past given stands)
+
+-- where all kept packets were sent, none is begun again
+pub none_left : (retry : RetryFields) → true ≡ are_all_sent retry → slice_get retry.kept retry.position ≡ None
+none_left retry all = slice_get_past retry.kept retry.position (omega (arith, eqb-true retry.position (length retry.kept) (sym all)))

@@ -64,6 +64,7 @@ impl Sender {
     /// of the queue is a request or a response, and in profile Two its error number is below 8.
     /// Where `through_at` is `Some`, the feed is that of this packet at this place; elsewhere it is
     /// passed over.
+    #[inline(always)]
     pub fn send<Q: Intake>(
         &mut self,
         own: View,

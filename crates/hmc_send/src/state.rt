@@ -108,6 +108,7 @@ impl State {
 
     /// The next IRTRY, which then counts as sent: of a burst that isn't whole, or of one that
     /// begins.
+    #[inline(always)]
     pub fn next_irtry(&mut self, mode: Mode) -> Option<Kind>
         ensures kind { result
             ≡ irtry_due (next_of self.old.burst.kind self.old.burst.left) mode self.old.go_back
@@ -123,6 +124,7 @@ impl State {
     }
 
     /// An IRTRY that counts as sent, as a flit.
+    #[inline(never)]
     pub fn steer(&mut self, kind: Kind, rrp: u16) -> Sent
         requires rrp { rrp < modulus_of self.old.profile }
         requires others { self.old.others ≤ enough_others }
@@ -152,23 +154,44 @@ impl State {
         }
     }
 
-    // The first flit of a packet was sent.
-    fn begin(&mut self, packet: Packet, draft: Draft, again: bool, flit: Flit, rrp: u16)
-        requires draft { draft ≡ draft_of packet }
-        requires lng { lng_of flit ≡ flits_of packet }
+    // The first flit of a packet was sent, where nothing was under way. A packet of one flit has
+    // ended with it: then nothing is written but numbers.
+    fn begin(&mut self, packet: &Packet, draft: Draft, again: bool, flit: Flit, rrp: u16)
+        requires nothing { self.old.under_way ≡ None }
+        requires draft { draft ≡ draft_of packet.now }
+        requires lng { lng_of flit ≡ flits_of packet.now }
         requires others { self.old.others ≤ enough_others }
-        ensures { self.new ≡ with_begun packet again rrp flit self.old }
+        ensures { self.new ≡ with_begun packet.now again rrp flit self.old }
     {
-        self.under_way = UnderWay::begin(packet, draft, again, flit);
-        if self.under_way.is_none() {
-            self.shown = rrp;
-        }
         self.count_other();
+        if packet.flits() == 1 {
+            self.shown = rrp;
+            return;
+        }
+        self.under_way = UnderWay::begin(packet, draft, again, flit);
     }
 
     /// Begins the packet at the position again; `None` where all were sent.
     pub fn begin_again(&mut self, rrp: u16) -> Option<Sent>
         requires sender { IsSender self.old }
+        requires nothing { self.old.under_way ≡ None }
+        requires rrp { rrp < modulus_of self.old.profile }
+        ensures flit { result ≡ again_sent self.old.profile rrp
+            (slice_get self.old.retry.kept self.old.retry.position) }
+        ensures left { self.new ≡ again_begun self.old.profile rrp
+            (slice_get self.old.retry.kept self.old.retry.position) self.old }
+    {
+        if self.retry.is_at_end() {
+            return None;
+        }
+        self.begin_kept(rrp)
+    }
+
+    // The same. It stands apart since most sends have no packet to move.
+    #[inline(never)]
+    fn begin_kept(&mut self, rrp: u16) -> Option<Sent>
+        requires sender { IsSender self.old }
+        requires nothing { self.old.under_way ≡ None }
         requires rrp { rrp < modulus_of self.old.profile }
         ensures flit { result ≡ again_sent self.old.profile rrp
             (slice_get self.old.retry.kept self.old.retry.position) }
@@ -178,7 +201,7 @@ impl State {
         let packet = self.retry.next()?;
         let draft = Draft::of(&packet);
         let flit = first_flit(self.profile, &packet, &draft, rrp);
-        self.begin(packet, draft, true, flit, rrp);
+        self.begin(&packet, draft, true, flit, rrp);
         Some(Sent::Out {
             flit,
             what: What::Again,
@@ -229,6 +252,7 @@ impl State {
     }
 
     // Begins a packet for the first time. It is kept, and its first flit is sent.
+    #[inline(never)]
     fn begin_new(&mut self, packet: &Packet, rtc: u8, rrp: u16) -> Flit
         requires sender { IsSender self.old }
         requires nothing { self.old.under_way ≡ None }
@@ -250,7 +274,7 @@ impl State {
         self.retry.put(packet);
         let draft = Draft::of(&packet);
         let flit = first_flit(self.profile, &packet, &draft, rrp);
-        self.begin(packet, draft, false, flit, rrp);
+        self.begin(&packet, draft, false, flit, rrp);
         flit
     }
 
@@ -290,6 +314,7 @@ impl State {
     }
 
     /// Sends the next flit of the packet under way, if there is one and its flit is there.
+    #[inline(never)]
     pub fn go_on(&mut self, rrp: u16, feed: &Feed) -> Sent
         requires sender { IsSender self.old }
         requires begun { IsSome self.old.under_way }
@@ -333,6 +358,7 @@ impl State {
     }
 
     // A return pointer alone, where it isn't the one shown last; else a NULL.
+    #[inline(always)]
     fn pointer_or_null(&mut self, rrp: u16) -> Sent
         requires rrp { rrp < modulus_of self.old.profile }
         requires others { self.old.others ≤ enough_others }
@@ -358,6 +384,7 @@ impl State {
     }
 
     /// Sends a packet for the first time: the front of the queue, or a TRET; else a PRET or a NULL.
+    #[inline(always)]
     pub fn first_time<Q: Intake>(&mut self, own: View, queue: &mut Q, account: &mut Account) -> Sent
         requires sender { IsSender self.old }
         requires nothing { self.old.under_way ≡ None }
@@ -376,13 +403,13 @@ impl State {
             ≡ account_first (slice_get (Q.packets queue.old) 0) result account.old }
     {
         if self.is_open {
-            if let Some(front) = queue.front() {
+            if let Some(front) = queue.front_ref() {
                 if self.may_begin(front.flits(), account) {
                     front.invariant();
-                    let _ = queue.take_out();
                     account.spend(front.flits());
                     let rtc = account.pay();
-                    let flit = self.begin_new(&front, rtc, own.rrp);
+                    let flit = self.begin_new(front, rtc, own.rrp);
+                    queue.drop_front();
                     return Sent::Out {
                         flit,
                         what: What::New,
@@ -425,6 +452,7 @@ impl State {
     }
 
     // The first of ten cases that applies.
+    #[inline(always)]
     fn choose<Q: Intake>(
         &mut self,
         own: View,
@@ -474,6 +502,7 @@ impl State {
 
     /// Sends the next flit: the first of ten cases that applies. For each list that the sender
     /// stands for it is the choice, and the sender then stands for the list with its entry.
+    #[inline(always)]
     pub fn send<Q: Intake>(
         &mut self,
         own: View,

@@ -96,10 +96,10 @@ impl UnderWay {
     ghost use Rattle.hmc_send.specs.Kept.{copy_fed};
 
     /// A packet whose first flit was sent; `None` where it has no other.
-    pub fn begin(packet: Packet, draft: Draft, again: bool, flit: Flit) -> Option<Self>
-        requires draft { draft ≡ draft_of packet }
-        requires lng { lng_of flit ≡ flits_of packet }
-        ensures { result ≡ with_place (Place.known packet) (part_after again flit None) }
+    pub fn begin(packet: &Packet, draft: Draft, again: bool, flit: Flit) -> Option<Self>
+        requires draft { draft ≡ draft_of packet.now }
+        requires lng { lng_of flit ≡ flits_of packet.now }
+        ensures { result ≡ with_place (Place.known packet.now) (part_after again flit None) }
     {
         let flits = packet.flits();
         if flits == 1 {
@@ -111,7 +111,10 @@ impl UnderWay {
             again,
             flits,
             sent,
-            content: Content::Known { packet, draft },
+            content: Content::Known {
+                packet: *packet,
+                draft,
+            },
         })
     }
 

@@ -41,16 +41,16 @@ impl Intake for FlitBuffer {
         u32::from(packet.flits())
     }
 
-    fn front(&self) -> Option<Packet> {
+    fn front_ref(&self) -> Option<&Packet> {
         self.kept.front()
     }
 
-    fn take_in(&mut self, packet: Packet) {
+    fn put(&mut self, packet: &Packet) {
         self.kept.push_back(packet);
     }
 
-    fn take_out(&mut self) -> Option<Packet> {
-        self.kept.pop_front()
+    fn drop_front(&mut self) {
+        self.kept.drop_front();
     }
 }
 

@@ -20,6 +20,6 @@ mod ring;
 pub use account::{Account, rtc_for, rtc_tokens};
 pub use flit_buffer::FlitBuffer;
 pub use intake::Intake;
-pub use moving::{Moved, move_one};
+pub use moving::{Moved, Shift, move_one, shift_one};
 pub use queue::Queue;
 pub use ring::append;

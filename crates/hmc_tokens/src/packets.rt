@@ -1,9 +1,9 @@
 //! The packets that an intake keeps.
 
-ghost use Rattle.std.specs.Prelude.{◌≡◌, ◌≤◌, ◌<◌, ◌^◌, ◌↔◌, [], ◌∷◌, ◌++◌, IfOk, IsTrue, length, drop, slice_get, sum_by};
+ghost use Rattle.std.specs.Prelude.{◌≡◌, ◌≤◌, ◌<◌, ◌^◌, ◌↔◌, [], ◌∷◌, ◌++◌, IfOk, IsTrue, length, drop, slice_get, sum_by, option_map};
 ghost use Rattle.hmc_packet.specs.Packet.{flits_of};
 
-use crate::ring::append;
+use crate::ring::{append, drop_first};
 use circular_buffer::HeapCircularBuffer;
 use hmc_codes::Memory;
 use hmc_packet::Packet;
@@ -74,30 +74,31 @@ impl PacketList {
     }
 
     /// The packet that has been there longest.
-    pub fn front(&self) -> Option<Packet>
-        ensures { result ≡ slice_get self.now.packets 0 }
+    pub fn front(&self) -> Option<&Packet>
+        ensures { option_map (λ packet. packet.now) result ≡ slice_get self.now.packets 0 }
     {
-        self.packets.front().copied()
+        self.packets.front()
     }
 
     /// Appends a packet, for which there is room.
-    pub fn push_back(&mut self, packet: Packet)
+    pub fn push_back(&mut self, packet: &Packet)
         requires { length self.old.packets < self.old.most }
-        ensures packets { self.new.packets ≡ self.old.packets ++ packet ∷ [] }
+        ensures packets { self.new.packets ≡ self.old.packets ++ packet.now ∷ [] }
         ensures most { self.new.most ≡ self.old.most }
     {
         self.flits += u32::from(packet.flits());
-        append(&mut self.packets, packet);
+        append(&mut self.packets, *packet);
     }
 
-    /// Removes and returns the front, if there is one.
-    pub fn pop_front(&mut self) -> Option<Packet>
-        ensures front { result ≡ slice_get self.old.packets 0 }
+    /// Removes the front, if there is one.
+    pub fn drop_front(&mut self)
         ensures rest { self.new.packets ≡ drop 1 self.old.packets }
         ensures most { self.new.most ≡ self.old.most }
     {
-        let packet = self.packets.pop_front()?;
-        self.flits -= u32::from(packet.flits());
-        Some(packet)
+        let Some(front) = self.packets.front() else {
+            return;
+        };
+        self.flits -= u32::from(front.flits());
+        drop_first(&mut self.packets);
     }
 }

@@ -3,21 +3,21 @@ use Rattle.std.proofs.Common.{◌≡◌, ◌<◌, ◌∙◌, ◌+◌, ◌^◌, �
 use Rattle.std.specs.Prelude.{nat_le, nat_lt, if◌then◌else◌, slice_get}
 use Rattle.std.specs.List.{All}
 use Rattle.std.proofs.lemmas.List.{append-nil, length-set}
-use Rattle.std.proofs.lemmas.List.Elements.{All-same, All-nil, All-cons, All-head, All-tail, All-append}
+use Rattle.std.proofs.lemmas.List.Elements.{All-same, All-nil, All-append, All-drop, All-take}
 use Rattle.std.proofs.lemmas.Nat.{mod_below, pow_pos}
 use Rattle.hmc_codes.specs.Shape.{ShapeFields, bank_of}
 use Rattle.hmc_packet.specs.Packet.{PacketFields}
 use Rattle.hmc_tokens.specs.declared.queue.Queue.{Queue}
-use Rattle.hmc_tokens.specs.declared.moving.Moved.{Moved}
-use Rattle.hmc_tokens.specs.declared.moving.Moved.TheVariants.{Empty, Full, Done}
+use Rattle.hmc_tokens.specs.declared.moving.Shift.{Shift}
+use Rattle.hmc_tokens.specs.declared.moving.Shift.TheVariants.{Empty, Full, Done}
 use Rattle.hmc_tokens.specs.Queue.{packets_of, size_of, one, all_cost_one}
 use Rattle.hmc_tokens.specs.Intake.{has_room}
-use Rattle.hmc_tokens.specs.Moving.{moved_by, moved_packets}
+use Rattle.hmc_tokens.specs.Moving.{shifted_by, shifted_packets, kept_packets}
 use Rattle.hmc_vault.specs.declared.spread.Spread.{Spread}
 use Rattle.hmc_vault.specs.declared.spread.Spread.TheVariants as spreads
 use Rattle.hmc_vault.specs.Packets.{IsForBanks}
 use Rattle.hmc_vault.specs.Vault.{VaultFields, bank_at}
-use Rattle.hmc_vault.specs.Spread.{goes_to, front_goes, spread_says, spread_gives, spread_of_move}
+use Rattle.hmc_vault.specs.Spread.{goes_to, front_goes, spread_says, spread_gives, spread_of_shift}
 use Rattle.hmc_vault.specs.Kept.{IsBankQueue}
 use Rattle.hmc_vault.proofs.VaultLemmas.{bank_stays, no_front}
 
@@ -41,13 +41,13 @@ same_test packets size size' bank same sized =
     let cost : sum_by one packets + 1 ≡ suc (length bank) = omega (arith, all_cost_one packets, ap length same) in
     ap (λ n. nat_le n size) cost ∙ ap (nat_le (suc (length bank))) (sym sized)
 
-by_test : (b : Bool) (front : PacketFields) (bank : ℕ) → spread_of_move (if b then Done front else Full) bank ≡ (if b then spreads.Moved bank else spreads.Full)
+by_test : (b : Bool) (front : PacketFields) (bank : ℕ) → spread_of_shift (if b then Done else Full) bank ≡ (if b then spreads.Moved bank else spreads.Full)
 by_test true front bank = refl
 by_test false front bank = refl
 
 -- what the move did is what the spread says
 pub move_is_spread : (now : VaultFields) (shape : ShapeFields) (packets : List PacketFields) (front : PacketFields) (bank place : ℕ) (queue : List PacketFields) (size : ℕ) → packets ≡ now.vault_queue → slice_get packets 0 ≡ Some front → bank ≡ bank_of shape front.address → place ≡ bank →
-    bank_at now place ≡ queue → now.size ≡ size → spread_of_move (moved_by packets (has_room queue size one)) bank ≡ spread_says now shape
+    bank_at now place ≡ queue → now.size ≡ size → spread_of_shift (shifted_by packets (has_room queue size one)) bank ≡ spread_says now shape
 unfolding spread_says
 move_is_spread now shape [] front bank place queue size same is to at queued sized = absurd (cc)
 move_is_spread now shape (packet ∷ rest) front bank place queue size same is to at queued sized =
@@ -64,26 +64,25 @@ with_packets now packets banks = record { vault_queue = packets; banks = banks; 
 same_packets : (now : VaultFields) (packets packets' : List PacketFields) (banks banks' : List (List PacketFields)) → packets ≡ packets' → banks ≡ banks' → with_packets now packets banks ≡ with_packets now packets' banks'
 same_packets now packets packets' banks banks' p b = ap (λ l. with_packets now l banks) p ∙ ap (with_packets now packets') b
 
-nothing_moved : (now : VaultFields) (bank : ℕ) (packets queue : List PacketFields) → now.vault_queue ≡ packets → queue ≡ bank_at now bank ++ [] → with_packets now packets (set now.banks bank queue) ≡ now
+nothing_moved : (now : VaultFields) (bank : ℕ) (packets queue : List PacketFields) → packets ≡ now.vault_queue → queue ≡ bank_at now bank ++ [] → with_packets now packets (set now.banks bank queue) ≡ now
 nothing_moved now bank packets queue out into =
-    same_packets now packets now.vault_queue (set now.banks bank queue) now.banks (sym out) (ap (set now.banks bank) (into ∙ append-nil (bank_at now bank)) ∙ bank_stays now bank)
+    same_packets now packets now.vault_queue (set now.banks bank queue) now.banks out (ap (set now.banks bank) (into ∙ append-nil (bank_at now bank)) ∙ bank_stays now bank)
 
 -- what the move left is what the spread gives
-pub move_gives : (m : Moved) (now : VaultFields) (bank : ℕ) (packets queue : List PacketFields) → now.vault_queue ≡ moved_packets m ++ packets → queue ≡ bank_at now bank ++ moved_packets m →
-    with_packets now packets (set now.banks bank queue) ≡ spread_gives (spread_of_move m bank) now
+pub move_gives : (m : Shift) (now : VaultFields) (bank : ℕ) (packets queue : List PacketFields) → packets ≡ kept_packets m now.vault_queue → queue ≡ bank_at now bank ++ shifted_packets m now.vault_queue →
+    with_packets now packets (set now.banks bank queue) ≡ spread_gives (spread_of_shift m bank) now
 move_gives Empty now bank packets queue out into = nothing_moved now bank packets queue out into
 move_gives Full now bank packets queue out into = nothing_moved now bank packets queue out into
-move_gives (Done packet) now bank packets queue out into =
+move_gives Done now bank packets queue out into =
     same_packets now packets (drop 1 now.vault_queue) (set now.banks bank queue) (set now.banks bank (bank_at now bank ++ take 1 now.vault_queue))
-    (ap (drop 1) (sym out)) (ap (set now.banks bank) (into ∙ ap (λ l. bank_at now bank ++ l) (ap (take 1) (sym out))))
+    out (ap (set now.banks bank) into)
 
 -- requests stay requests where they move
-pub moved_requests : (m : Moved) (packets rest : List PacketFields) → packets ≡ moved_packets m ++ rest → All IsForBanks packets → All IsForBanks rest × All IsForBanks (moved_packets m)
-moved_requests Empty packets rest is all = (All-same IsForBanks rest packets (sym is) all, All-nil IsForBanks)
-moved_requests Full packets rest is all = (All-same IsForBanks rest packets (sym is) all, All-nil IsForBanks)
-moved_requests (Done packet) packets rest is all =
-    let both : All IsForBanks (packet ∷ rest) = All-same IsForBanks (packet ∷ rest) packets (sym is) all in
-    (All-tail IsForBanks packet rest both, All-cons IsForBanks packet [] (All-head IsForBanks packet rest both) (All-nil IsForBanks))
+pub moved_requests : (m : Shift) (packets rest : List PacketFields) → rest ≡ kept_packets m packets → All IsForBanks packets → All IsForBanks rest × All IsForBanks (shifted_packets m packets)
+moved_requests Empty packets rest is all = (All-same IsForBanks rest packets is all, All-nil IsForBanks)
+moved_requests Full packets rest is all = (All-same IsForBanks rest packets is all, All-nil IsForBanks)
+moved_requests Done packets rest is all =
+    (All-same IsForBanks rest (drop 1 packets) is (All-drop IsForBanks 1 packets all), All-take IsForBanks 1 packets all)
 
 pub bank_queue_after_move : (vault_queue vault_queue' queue queue' : Queue) (moved : List PacketFields) → IsBankQueue vault_queue queue → size_of vault_queue' ≡ size_of vault_queue → size_of queue' ≡ size_of queue → packets_of queue' ≡ packets_of queue ++ moved → All IsForBanks moved → IsBankQueue vault_queue' queue'
 bank_queue_after_move vault_queue vault_queue' queue queue' moved is same sized into requests = record {

@@ -1,6 +1,7 @@
 -- What an execution returns, and what it leaves.
-use Rattle.std.specs.Prelude.{ℕ, Bool, not, ◌&&◌, nat_le, if◌then◌else◌, List, [], ◌∷◌, ◌++◌, length, drop, slice_set, Option, Some, None}
+use Rattle.std.specs.Prelude.{ℕ, Bool, false, not, ◌&&◌, nat_le, if◌then◌else◌, List, [], ◌∷◌, ◌++◌, length, drop, slice_set, Option, Some, None}
 use Rattle.hmc_codes.specs.Commands.{is_posted}
+use Rattle.hmc_codes.specs.declared.command.Command.{Command}
 use Rattle.hmc_codes.specs.Request.{RequestFields}
 use Rattle.hmc_codes.specs.declared.answer.Answer.{Answer}
 use Rattle.hmc_packet.specs.Packet.{PacketFields}
@@ -12,9 +13,18 @@ use Rattle.hmc_vault.specs.declared.execute.Executed.{Executed}
 use Rattle.hmc_vault.specs.declared.execute.Executed.TheVariants.{Empty, Full, Ran}
 use Rattle.hmc_vault.specs.Vault.{VaultFields, bank_at}
 
--- a request with an answer waits where the answers queue is full
+-- a command with an answer waits where the answers queue is full
+abbrev pub command_waits : Command → (answers : List PacketFields) → (size : ℕ) → Bool
+command_waits command answers size = not (is_posted command) && nat_le size (length answers)
+
+-- so does a request
 abbrev pub must_wait : RequestFields → (answers : List PacketFields) → (size : ℕ) → Bool
-must_wait request answers size = not (is_posted request.command) && nat_le size (length answers)
+must_wait request answers size = command_waits request.command answers size
+
+-- the front of these requests waits
+abbrev pub front_waits : (waiting answers : List PacketFields) → (size : ℕ) → Bool
+front_waits [] answers size = false
+front_waits (front ∷ rest) answers size = command_waits front.command answers size
 
 -- a request of a host and under a tag runs, unless it must wait
 abbrev pub runs : PacketFields → RequestFields →

@@ -8,9 +8,9 @@ ghost use Rattle.hmc_serial.specs.Cube.{cube_state_of, outcome_of_parts};
 ghost use Rattle.hmc_serial.specs.Perform.{perform_on};
 ghost use Rattle.hmc_tokens.specs.Queue.{packets_of, size_of};
 ghost use Rattle.hmc_vault.specs.Packets.{CarriesRequest};
-ghost use Rattle.hmc_vault.specs.Execute.{must_wait, execute_says, replies_to, waiting_after, answers_after, cube_after, slots_after};
+ghost use Rattle.hmc_vault.specs.Execute.{must_wait, command_waits, front_waits, execute_says, replies_to, waiting_after, answers_after, cube_after, slots_after};
 
-use hmc_codes::{Answer, Request};
+use hmc_codes::{Answer, Command, Request};
 use hmc_memory::Banks;
 use hmc_packet::{Packet, reply, request_of};
 use hmc_registers::Registers;
@@ -38,6 +38,7 @@ pub enum Executed {
 
 /// Performs the request at the front of a queue. Only a unit command asks the bench of logic units.
 /// Unless the request is posted, the reply enters an answers queue.
+#[inline(always)]
 pub fn execute_front<B: Workbench>(
     waiting: &mut Queue,
     answers: &mut Queue,
@@ -61,29 +62,43 @@ pub fn execute_front<B: Workbench>(
     ensures waiting_size { size_of waiting.new ≡ size_of waiting.old }
     ensures answers_size { size_of answers.new ≡ size_of answers.old }
 {
-    let Some(front) = waiting.front() else {
+    let Some(front) = waiting.front_ref() else {
         return Executed::Empty;
     };
-    let request = request_of(&front).unwrap();
-    if must_wait(&request, answers) {
+    if command_waits(front.command, answers) {
         return Executed::Full;
     }
-    let _ = waiting.take_out();
+    let request = request_of(front).unwrap();
     let answer = answer_to(&request, banks, registers, bench);
-    put_reply(answers, &front, &request, &answer);
+    put_reply(answers, front, &request, &answer);
+    let host = front.slid;
+    let tag = front.tag;
+    waiting.drop_front();
     Executed::Ran {
-        host: front.slid,
-        tag: front.tag,
+        host,
+        tag,
         request,
         answer,
     }
 }
 
-// Whether a request has an answer and there is no room for it.
-fn must_wait(request: &Request, answers: &Queue) -> bool
-    ensures { result ≡ must_wait request.now (packets_of answers.now) (size_of answers.now) }
+/// Whether the front of a queue has an answer for which there is no room, and its execution would
+/// do nothing.
+pub fn front_waits(waiting: &Queue, answers: &Queue) -> bool
+    ensures { result ≡ front_waits (packets_of waiting.now) (packets_of answers.now)
+        (size_of answers.now) }
 {
-    !request.command.posted() && answers.size() <= answers.used()
+    match waiting.front_ref() {
+        Some(front) => command_waits(front.command, answers),
+        None => false,
+    }
+}
+
+// Whether a command has an answer and there is no room for it.
+fn command_waits(command: Command, answers: &Queue) -> bool
+    ensures { result ≡ command_waits command (packets_of answers.now) (size_of answers.now) }
+{
+    !command.posted() && answers.size() <= answers.used()
 }
 
 // Performs a request. A response can carry the answer, unless the request is posted.
@@ -113,6 +128,6 @@ fn put_reply(answers: &mut Queue, packet: &Packet, request: &Request, answer: &A
     ensures size { size_of answers.new ≡ size_of answers.old }
 {
     if !request.command.posted() {
-        answers.take_in(reply(answer, packet.tag, packet.slid, request.cube));
+        answers.put(&reply(answer, packet.tag, packet.slid, request.cube));
     }
 }

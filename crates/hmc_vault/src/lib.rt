@@ -18,6 +18,6 @@ mod execute;
 mod spread;
 mod vault;
 
-pub use execute::{Executed, execute_front};
+pub use execute::{Executed, execute_front, front_waits};
 pub use spread::Spread;
 pub use vault::Vault;

@@ -1,21 +1,22 @@
 //! One vault.
 
-ghost use Rattle.std.specs.Prelude.{◌≡◌, ◌≤◌, ◌<◌, ◌^◌, ◌↔◌, [], ◌∷◌, ◌++◌, All, IsTrue, IfOk, length, drop, map, replicate, slice_get};
+ghost use Rattle.std.specs.Prelude.{◌≡◌, ◌≤◌, ◌<◌, ◌^◌, ◌↔◌, List, [], ◌∷◌, ◌++◌, Option, All, IsTrue, IfOk, length, drop, map, replicate, slice_get, option_map};
 ghost use Rattle.hmc_codes.specs.Limits.{most_bank_bits};
-ghost use Rattle.hmc_serial.specs.Cube.{cube_state_of};
+ghost use Rattle.hmc_serial.specs.Cube.{CubeState, cube_state_of};
+ghost use Rattle.hmc_units.specs.Unit.{UnitFields};
 ghost use Rattle.hmc_tokens.specs.Queue.{packets_of, size_of};
 ghost use Rattle.hmc_vault.specs.Packets.{IsForBanks};
 ghost use Rattle.hmc_vault.specs.Kept.{IsOpening, held_in};
 ghost use Rattle.hmc_vault.specs.Vault.{IsVault, opening_vault, bank_at, held_by};
-ghost use Rattle.hmc_vault.specs.Spread.{spread_says, spread_gives, spread_of_move};
+ghost use Rattle.hmc_vault.specs.Spread.{spread_says, spread_gives, spread_of_shift};
 ghost use Rattle.hmc_vault.specs.Execute.{execute_says, execute_gives, cube_after, slots_after};
 
-use crate::{Executed, Spread, execute_front};
+use crate::{Executed, Spread, execute_front, front_waits};
 use hmc_codes::{Memory, Shape};
 use hmc_memory::Banks;
 use hmc_packet::Packet;
 use hmc_registers::Registers;
-use hmc_tokens::{Intake, Moved, Queue, move_one};
+use hmc_tokens::{Intake, Queue, Shift, shift_one};
 use hmc_units::Workbench;
 use std::alloc::Global;
 use std::marker::Model;
@@ -76,11 +77,12 @@ impl Vault {
         requires request { IsForBanks packet }
         ensures { self.new ≡ record self.old { vault_queue = self.old.vault_queue ++ packet ∷ [] } }
     {
-        self.vault_queue.take_in(packet);
+        self.vault_queue.put(&packet);
     }
 
     /// Moves the front of the vault queue to the queue of the bank that its address names. The
     /// shape is that of the cube.
+    #[inline(always)]
     pub fn spread(&mut self, shape: Shape) -> Spread
         requires { length self.old.banks ≡ 2 ^ shape.bank_bits }
         ensures answer { result ≡ spread_says self.old shape }
@@ -97,6 +99,7 @@ impl Vault {
     }
 
     // The same. Where the queue is empty no packet is to be looked at.
+    #[inline(never)]
     fn spread_front(&mut self, shape: Shape) -> Spread
         requires { length self.old.banks ≡ 2 ^ shape.bank_bits }
         ensures answer { result ≡ spread_says self.old shape }
@@ -104,18 +107,19 @@ impl Vault {
         ensures banks { length self.new.banks ≡ length self.old.banks }
         ensures size { self.new.size ≡ self.old.size }
     {
-        let Some(front) = self.vault_queue.front() else {
+        let Some(front) = self.vault_queue.front_ref() else {
             return Spread::Empty;
         };
         let bank = shape.spot(front.address).bank;
-        spread_of_move(
-            move_one(&mut self.vault_queue, &mut self.banks[usize::from(bank)]),
+        spread_of_shift(
+            shift_one(&mut self.vault_queue, &mut self.banks[usize::from(bank)]),
             bank,
         )
     }
 
     /// Performs the request at the front of a bank's queue on the memory and the registers of the
     /// cube. Only a unit command asks the bench of logic units.
+    #[inline(always)]
     pub fn execute<B: Workbench>(
         &mut self,
         bank: u8,
@@ -150,6 +154,17 @@ impl Vault {
         self.banks[usize::from(bank)].is_empty()
     }
 
+    /// Whether the front of a bank's queue has an answer for which there is no room, and an
+    /// execution by the bank would do nothing.
+    pub fn bank_waits(&self, bank: u8) -> bool
+        requires { bank < length self.now.banks }
+        ensures { (cube : CubeState) (slots : List (Option UnitFields)) → IsTrue result
+            ↔ (execute_says (bank_at self.now bank) self.now.answers self.now.size cube slots
+            ≡ Executed.Full) }
+    {
+        front_waits(&self.banks[usize::from(bank)], &self.answers)
+    }
+
     /// Whether the answers queue is empty.
     pub fn answers_are_empty(&self) -> bool
         ensures { IsTrue result ↔ (self.now.answers ≡ []) }
@@ -157,11 +172,25 @@ impl Vault {
         self.answers.is_empty()
     }
 
+    /// The front of the answers queue, lent.
+    pub fn lift_front_ref(&self) -> Option<&Packet>
+        ensures { option_map (λ packet. packet.now) result ≡ slice_get self.now.answers 0 }
+    {
+        self.answers.front_ref()
+    }
+
     /// The front of the answers queue.
     pub fn lift_front(&self) -> Option<Packet>
         ensures { result ≡ slice_get self.now.answers 0 }
     {
-        self.answers.front()
+        self.lift_front_ref().copied()
+    }
+
+    /// Removes the front of the answers queue, if there is one.
+    pub fn drop_lifted(&mut self)
+        ensures { self.new ≡ record self.old { answers = drop 1 self.old.answers } }
+    {
+        self.answers.drop_front();
     }
 
     /// Removes the front of the answers queue and returns it.
@@ -169,7 +198,9 @@ impl Vault {
         ensures front { result ≡ slice_get self.old.answers 0 }
         ensures rest { self.new ≡ record self.old { answers = drop 1 self.old.answers } }
     {
-        self.answers.take_out()
+        let front = self.lift_front();
+        self.drop_lifted();
+        front
     }
 
     /// The number of packets in all queues.
@@ -182,13 +213,13 @@ impl Vault {
 }
 
 // The spread that is this move of a packet to the queue of a bank.
-fn spread_of_move(moved: Moved, bank: u8) -> Spread
-    ensures { result ≡ spread_of_move moved bank }
+fn spread_of_shift(shift: Shift, bank: u8) -> Spread
+    ensures { result ≡ spread_of_shift shift bank }
 {
-    match moved {
-        Moved::Empty => Spread::Empty,
-        Moved::Full => Spread::Full,
-        Moved::Done(_) => Spread::Moved { bank },
+    match shift {
+        Shift::Empty => Spread::Empty,
+        Shift::Full => Spread::Full,
+        Shift::Done => Spread::Moved { bank },
     }
 }
 

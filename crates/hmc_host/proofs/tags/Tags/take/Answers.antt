@@ -2,7 +2,7 @@
 use Rattle.std.proofs.Common.{◌≡◌, false, arith}
 use Rattle.std.specs.Prelude.{slice_get, Some}
 use Rattle.std.proofs.lemmas.Option.{slice_get_within}
-use Rattle.hmc_host.proofs.TagLemmas.{taken}
+use Rattle.hmc_host.proofs.TagLemmas.{kept_taken}
 use Rattle.hmc_host.proofs.tags.Tags.take.Goals as goal
 
 pub index_mut-requires : goal.index_mut-requires
@@ -13,4 +13,4 @@ index_mut-requires c =
 pub invariant_of-self : goal.invariant_of-self
 invariant_of-self c =
     let free : slice_get c.self.inside.flags.items c.from.result ≡ Some false = cc (c.requires _ c.in-Some.is) in
-    taken _ _ _ c.self.invariant free
+    rw (c.past-self-inside.ensures, ← c.from.ensures) (kept_taken _ _ _ _ c.self.invariant free)

@@ -33,6 +33,10 @@ returns-in-Some-clause-answer g c =
     c.steer.ensures.flit ∙ ap (λ (t : State). irtry_sent t.profile c.args.own.rrp c.in-Some.kind) c.in-Some.ensures.left
     ∙ choice-irtry c.args.self.now.profile s c.in-Some.kind nothing c.if-is_train.ensures c.in-Some.ensures.kind
 
+pub begin_again-requires-clause-nothing : goal.begin_again-requires-clause-nothing
+begin_again-requires-clause-nothing g c =
+    ap (λ (t : State). t.under_way) c.in_default.ensures.left ∙ nothing-there c.args.self.now.under_way c.if-has_part.ensures
+
 pub returns-in-Some-begin_again-clause-answer : goal.returns-in-Some-begin_again-clause-answer
 returns-in-Some-begin_again-clause-answer g c =
     let held = c.args.self.now in
