@@ -12,9 +12,11 @@ ghost use Rattle.hmc_case.specs.Case.{case_of, IsCase};
 
 use crate::net::{Net, net_of, net_with};
 use crate::parts::{parts_in, table_in};
+use crate::plan::plan_of;
 use crate::texts::{schedule_of, script_of};
 use crate::{CaseFault, CubeSetup, LinkRow};
-use hmc_schedule::Schedule;
+use hmc_codes::Memory;
+use hmc_schedule::{Plan, Schedule};
 use hmc_script::Script;
 use std::alloc::Global;
 use std::marker::Model;
@@ -137,5 +139,19 @@ impl Case {
         ensures { result.now ≡ self.now.schedule }
     {
         &self.schedule
+    }
+
+    /// The schedule alone. It takes no memory.
+    pub fn into_schedule(self) -> Schedule
+        ensures { result ≡ self.schedule }
+    {
+        self.schedule
+    }
+
+    /// The parts that a schedule of this case may name. `Memory` if out of memory.
+    pub fn plan(&self, alloc: Global) -> Result<Plan, Memory>
+        ensures { IfOk result (λ plan. plan ≡ plan_of self.now.net) }
+    {
+        plan_of(alloc, &self.net)
     }
 }

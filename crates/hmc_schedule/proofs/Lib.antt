@@ -4,3 +4,4 @@ pub mod WorkLemmas
 pub mod ParseLemmas
 pub mod WrittenLemmas
 mod Worked
+mod CountdownLemmas

@@ -6,4 +6,5 @@ pub mod Noise
 pub mod Meaning
 pub mod Round
 pub mod Written
+pub mod RoundsLeft
 pub mod Schedule

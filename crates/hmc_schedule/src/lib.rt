@@ -20,6 +20,7 @@ mod operands;
 mod parse;
 mod plan;
 mod round;
+mod rounds_left;
 mod schedule;
 mod step;
 mod verb;
@@ -27,5 +28,6 @@ mod written;
 
 pub use fault::{ScheduleFault, ScheduleKind};
 pub use plan::{CubePlan, Plan};
+pub use rounds_left::RoundsLeft;
 pub use schedule::Schedule;
 pub use step::Step;

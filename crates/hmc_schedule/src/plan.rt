@@ -71,14 +71,14 @@ impl Plan {
     ghost use Rattle.hmc_schedule.specs.Plan.{is_joined, vaults_at, banks_at};
 
     /// The number of cubes.
-    pub(crate) fn cube_count(&self) -> u8
+    pub fn cube_count(&self) -> u8
         ensures { result ≡ length self.now.cubes }
     {
         self.cubes.len() as u8
     }
 
     /// Whether a link joins this port of this cube; false where there is no such cube or port.
-    pub(crate) fn is_joined(&self, cube: u8, port: u8) -> bool
+    pub fn is_joined(&self, cube: u8, port: u8) -> bool
         ensures { result ≡ is_joined self.now cube port }
     {
         match self.cubes.get(usize::from(cube)) {
@@ -88,7 +88,7 @@ impl Plan {
     }
 
     /// The number of vaults of this cube, or 0 where there is no such cube.
-    pub(crate) fn vaults(&self, cube: u8) -> u8
+    pub fn vaults(&self, cube: u8) -> u8
         ensures { result ≡ vaults_at self.now cube }
     {
         match self.cubes.get(usize::from(cube)) {
@@ -98,7 +98,7 @@ impl Plan {
     }
 
     /// The number of banks in each vault of this cube, or 0 where there is no such cube.
-    pub(crate) fn banks(&self, cube: u8) -> u8
+    pub fn banks(&self, cube: u8) -> u8
         ensures { result ≡ banks_at self.now cube }
     {
         match self.cubes.get(usize::from(cube)) {

@@ -7,10 +7,12 @@ ghost use Rattle.hmc_codes.specs.Flit.{IsFlit};
 ghost use Rattle.hmc_schedule.specs.Plan.{IsStepOf, HasFlit};
 ghost use Rattle.hmc_schedule.specs.Noise.{new_noise, noisy_if};
 ghost use Rattle.hmc_schedule.specs.Round.{round_of, rounds_of};
+ghost use Rattle.hmc_schedule.specs.RoundsLeft.{steps_left};
 ghost use Rattle.hmc_schedule.specs.Written.{IsRoundOf};
 
 use crate::noise::Noise;
 use crate::round::round;
+use crate::rounds_left::RoundsLeft;
 use crate::written::{Rounds, Stretch, Written};
 use crate::{Plan, Step};
 use hmc_codes::{Flit, Memory};
@@ -77,6 +79,13 @@ impl Schedule {
         ensures { result ≡ length self.now }
     {
         self.written.len()
+    }
+
+    /// All steps in their order, by rounds.
+    pub fn in_rounds(&self) -> RoundsLeft<'_>
+        ensures { steps_left result [] ≡ self.now }
+    {
+        self.written.in_rounds()
     }
 
     /// The step at this place, counted from 0 and below the length. It is found in as many tests as

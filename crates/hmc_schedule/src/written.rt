@@ -5,10 +5,12 @@ ghost use Rattle.std.specs.List.Sorted.{IsNonDecreasingBy, IsPartitionPoint};
 ghost use Rattle.hmc_codes.specs.Limits.{most_steps};
 ghost use Rattle.hmc_schedule.specs.Noise.{is_land, lands_of, mask_at};
 ghost use Rattle.hmc_schedule.specs.declared.written.Stretch.TheVariants as stretch;
+ghost use Rattle.hmc_schedule.specs.RoundsLeft.{steps_left};
 ghost use Rattle.hmc_schedule.specs.Written.{round_at, stretch_of, noisy_at, IsKept, IsRounds, IsStretch};
 
 use crate::Step;
 use crate::noise::Noise;
+use crate::rounds_left::RoundsLeft;
 use hmc_codes::Flit;
 use std::alloc::{AllocError, Global};
 use std::marker::Model;
@@ -169,6 +171,13 @@ impl Written {
     {
         let segment = self.segments[begun_count(&self.segments, at) - 1];
         step_of(&self.kept, segment, at)
+    }
+
+    /// All rounds, in their order.
+    pub fn in_rounds(&self) -> RoundsLeft<'_>
+        ensures { steps_left result [] ≡ self.now.steps }
+    {
+        RoundsLeft::of(&self.kept, &self.segments)
     }
 
     /// Keeps a round with this number of landings, one in each direction, and returns where it is.

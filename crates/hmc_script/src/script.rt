@@ -143,8 +143,9 @@ impl Script {
         Ok(())
     }
 
-    // Appends a request.
-    pub(crate) fn append(
+    /// Appends a request, with a fence before it or without. Its host is below 8, and the script has
+    /// fewer than `MOST_REQUESTS` requests. Where it is out of memory nothing changes.
+    pub fn append(
         &mut self,
         host: u8,
         fenced: bool,
