@@ -1,6 +1,6 @@
 -- A lawful journal keeps what is promised of it after each step, by the laws of journals.
 use Rattle.std.proofs.Common.{◌≡◌, ◌++◌, ℕ, true, List, subst}
-use Rattle.std.specs.Prelude.{◌↔◌}
+use Rattle.std.specs.Prelude.{◌↔◌, ◌/◌}
 use Rattle.hmc_report.specs.Lines.{advertised}
 use Rattle.hmc_entries.specs.declared.entry.Entry.{Entry}
 use Rattle.hmc_journal.specs.Counts.{token_counts}
@@ -14,6 +14,9 @@ use Rattle.hmc_journal.proofs.OneJournal.{earlier_lawful}
 use Rattle.hmc_journal.proofs.Whole.{journal_is_whole}
 use Rattle.hmc_laws.proofs.DrainedTest.{drained_by_test, test_by_drained}
 use Rattle.hmc_laws.proofs.LinksKept.{links_in_order}
+use Rattle.hmc_laws.proofs.Sound.{kept}
+use Rattle.hmc_link_laws.specs.Pointers.{PointersAcknowledge}
+use Rattle.hmc_link_laws.proofs.Acknowledging.{all-acknowledge}
 use Rattle.hmc_laws.proofs.Order.{is_scripted}
 use Rattle.hmc_laws.proofs.QueueInvariant.{queue_invariant}
 use Rattle.hmc_laws.proofs.Serial.{is_serial}
@@ -28,6 +31,14 @@ tokens_counted : (setup : Setup) (journal : List Entry) (d : ℕ) →
     advertised (token_counts setup.topology journal d) ≡ (sizes_on setup.topology d).tokens
 unfolding token_counts
 tokens_counted setup journal d laws = laws.sum
+
+-- the return pointers are those of a link whose list is kept
+pointers_acknowledge : (setup : Setup) (journal : List Entry) → IsNetwork setup →
+    Lawful setup journal → (d : ℕ) →
+    PointersAcknowledge (sizes_on setup.topology d) (entries_on setup.topology d journal)
+pointers_acknowledge setup journal network lawful d =
+    all-acknowledge (sizes_on setup.topology d) (entries_on setup.topology d journal)
+    ((kept setup journal network lawful).links (d / 2))
 
 pub drained_tested : (setup : Setup) (past : List Entry) → IsNetwork setup →
     Lawful setup past → (is_drained setup.topology past ≡ true) ↔ IsDrained setup.topology past
@@ -45,6 +56,7 @@ step_guarantees setup journal network lawful =
       serial = is_serial setup journal lawful;
       links = links;
       tokens = λ d. tokens_counted setup journal d (links.tokens d);
+      pointers = pointers_acknowledge setup journal network lawful;
       delivered = delivered_in_order setup journal network lawful;
       queues = queue_invariant setup journal network lawful;
       awaited = awaits_answers setup journal network lawful;

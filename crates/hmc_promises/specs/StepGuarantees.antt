@@ -7,11 +7,12 @@ use Rattle.hmc_journal.specs.Delivered.{IsScripted, LinksInOrder, DeliveredInOrd
 use Rattle.hmc_journal.specs.Drained.{IsDrained, is_drained}
 use Rattle.hmc_journal.specs.Forwarded.{AreForwarded}
 use Rattle.hmc_journal.specs.Lawful.{Lawful}
-use Rattle.hmc_journal.specs.Links.{sizes_on}
+use Rattle.hmc_journal.specs.Links.{sizes_on, entries_on}
 use Rattle.hmc_journal.specs.QueueInvariant.{QueueInvariant, AnswersAwaited}
 use Rattle.hmc_journal.specs.Serial.{IsSerial}
 use Rattle.hmc_journal.specs.Setup.{Setup}
 use Rattle.hmc_journal.specs.StepView.{opening_of}
+use Rattle.hmc_link_laws.specs.Pointers.{PointersAcknowledge}
 
 -- A journal has its newest entry first.
 pub record StepGuarantees (setup : Setup) (journal : List Entry) : Type 0 where
@@ -30,6 +31,11 @@ pub record StepGuarantees (setup : Setup) (journal : List Entry) : Type 0 where
   pub tokens : (direction : ℕ) →
       advertised (token_counts setup.topology journal direction)
       ≡ (sizes_on setup.topology direction).tokens
+  -- no return pointer that was counted in a direction or in the other one of its link was stray:
+  -- each acknowledged exactly the packets up to its number
+  pub pointers : (direction : ℕ) →
+      PointersAcknowledge (sizes_on setup.topology direction)
+      (entries_on setup.topology direction journal)
   -- what was executed was carried there, and what was answered was carried back, in order and under
   -- its tag
   pub delivered : DeliveredInOrder setup journal

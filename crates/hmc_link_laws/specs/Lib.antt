@@ -1,0 +1,6 @@
+pub mod Sends
+pub mod Lists
+pub mod Tokens
+pub mod Pointers
+pub mod Lines
+pub mod Wire
