@@ -4,13 +4,13 @@ ghost use Rattle.std.specs.Prelude.{◌≡◌, ◌<◌, ◌≤◌, ◌/◌, ◌*
 ghost use Rattle.hmc_codes.specs.Limits.{most_links};
 ghost use Rattle.hmc_case.specs.declared.setup.LinkRow.{LinkRow};
 ghost use Rattle.hmc_journal.specs.Links.{toward};
-ghost use Rattle.hmc_link_end.specs.Answers.{land_answer, send_answer};
+ghost use Rattle.hmc_link_end.specs.Answers.{send_answer};
 ghost use Rattle.hmc_codes.specs.Link.{IsLinkSetup};
 ghost use Rattle.hmc_ends.specs.End.{IsQuiet};
 ghost use Rattle.hmc_ends.specs.Parts.{parts_of};
 ghost use Rattle.hmc_ends.specs.StandsFor.{EndStandsFor};
 ghost use Rattle.hmc_send.specs.declared.toward.Toward.{Toward};
-ghost use Rattle.hmc_ends.specs.Landings.{landing_passed};
+ghost use Rattle.hmc_ends.specs.Outcomes.{land_outcome, outcome_passed};
 ghost use Rattle.hmc_packet.specs.Head.{head_in};
 ghost use Rattle.hmc_packet.specs.Landings.{mode};
 ghost use Rattle.hmc_routes.specs.Directions.{other};
@@ -22,7 +22,7 @@ ghost use Rattle.hmc_kept.specs.Called.{sizes_by, called};
 
 use hmc_case::LinkRow;
 use hmc_codes::{Flit, LinkSetup, Memory, TokenRow};
-use hmc_ends::{LinkLanded, LinkSent, feed_is_bytes, flit_is_bytes};
+use hmc_ends::{LinkOutcome, LinkSent, feed_is_bytes, flit_is_bytes};
 use hmc_link_end::{End, token_row};
 use hmc_packet::{Feed, Mode, Packet, changes, under_mask};
 use hmc_tokens::FlitBuffer;
@@ -162,29 +162,31 @@ impl Ends {
     }
 
     /// Lands the front of the line of a direction, with the bits of the mask inverted.
-    pub fn land(&mut self, direction: u8, mask: &Flit) -> LinkLanded
+    pub fn land(&mut self, direction: u8, mask: &Flit) -> LinkOutcome
         requires there { IsDirection self.old direction }
         requires some { HoldSome self.old }
         ensures answer { (rows : List LinkRow) (entries : ℕ → List LinkEntry) →
             EndsHold rows self.old entries → result
-            ≡ land_answer (sizes_by rows direction) (toward direction) (entries (direction / 2))
+            ≡ land_outcome (sizes_by rows direction) (toward direction) (entries (direction / 2))
             mask.now }
         ensures stand { (rows : List LinkRow) (entries : ℕ → List LinkEntry) →
-            EndsHold rows self.old entries → landing_passed result ≡ false →
+            EndsHold rows self.old entries → outcome_passed result ≡ false →
             EndsHold rows self.new
             (called rows direction (λ d. LinkCall.land d mask.now) entries) }
         ensures count { length self.new ≡ length self.old }
     {
         let Some(sent) = self.ends[usize::from(direction)].take_flit() else {
-            return LinkLanded::Empty;
+            return LinkOutcome::Empty;
         };
         let flit = under_mask(mask, &sent);
-        let landed = self.ends[usize::from(other(direction))].land(&flit, changes(mask));
+        let to = &mut self.ends[usize::from(other(direction))];
+        let landed = to.land_in_place(&flit, changes(mask));
         match landed {
-            None => LinkLanded::Passed(flit),
+            None => LinkOutcome::Passed(flit),
             Some(outcome) => {
-                self.ends[usize::from(direction)].arrive(&outcome);
-                LinkLanded::Came { flit, outcome }
+                let flits = to.arrived_flits(outcome);
+                self.ends[usize::from(direction)].leave_transit(flits);
+                LinkOutcome::Came { flit, outcome }
             }
         }
     }

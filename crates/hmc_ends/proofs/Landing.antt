@@ -41,24 +41,20 @@ pub not-passed : (b : Bool) (landed x : Landed) → b ≡ false → x ≡ landed
 not-passed true landed x is same = absurd cc
 not-passed false landed x is same = ap (λ (y : Landed). Some y) same
 
-pub can-take : (link : LinkFields) (d : Toward) (past : List LinkEntry) (mask flit : List ℕ) (changed any : Bool) (e : EndFields) (r : ReceiverFields) (rec : Reception) → Lands link d past mask flit changed e → passes link.profile (other d) past mask flit ≡ false →
-    rec ≡ reception_of link.profile (receiver_entries (other d) past) flit → ReceiverStandsFor link.profile r (Land flit (reception_of link.profile (receiver_entries (other d) past) flit).outcome ∷ receiver_entries (other d) past) → CanTake rec any (record e { receiver = r })
-can-take link d past mask flit changed any e r rec lands caught rec_is receiver =
-    let facts = land-facts link d past mask flit changed e lands caught in
-    let R = reception_of link.profile (receiver_entries (other d) past) flit in
-    let all = Land flit R.outcome ∷ receiver_entries (other d) past in
-    record {
-      profile = link.profile;
-      past = all;
-      receiver = receiver;
-      held = subst (λ (x : Reception). e.account.held + tokens_credited (arrived_packets (landed_with x.outcome (latest link.profile all))) ≤ most_tokens) (sym rec_is) facts.held;
-      room = subst (λ (x : Reception). sum_by flits_of e.buffer + packets.flits_in (stored (landed_with x.outcome (latest link.profile all))) ≤ e.setup.tokens) (sym rec_is)
-          (subst (λ (l : LinkFields). sum_by flits_of e.buffer + packets.flits_in (stored (landing_in link (other d) past flit)) ≤ l.tokens) (sym lands.stands.setup) facts.room);
-    }
-
 pub landed-is : (link : LinkFields) (d : Toward) (past : List LinkEntry) (flit : List ℕ) (rec : Reception) (landed : Landed) → rec ≡ reception_of link.profile (receiver_entries (other d) past) flit →
     landed ≡ landed_with rec.outcome (latest link.profile (Land flit (reception_of link.profile (receiver_entries (other d) past) flit).outcome ∷ receiver_entries (other d) past)) → landed ≡ landing_in link (other d) past flit
 landed-is link d past flit rec landed rec_is is = is ∙ ap (λ (x : Reception). landed_with x.outcome (latest link.profile (Land flit (reception_of link.profile (receiver_entries (other d) past) flit).outcome ∷ receiver_entries (other d) past))) rec_is
+
+pub can-take : (link : LinkFields) (d : Toward) (past : List LinkEntry) (mask flit : List ℕ) (changed : Bool) (e : EndFields) (r : ReceiverFields) (rec : Reception) → Lands link d past mask flit changed e → passes link.profile (other d) past mask flit ≡ false →
+    rec ≡ reception_of link.profile (receiver_entries (other d) past) flit → ReceiverStandsFor link.profile r (Land flit (reception_of link.profile (receiver_entries (other d) past) flit).outcome ∷ receiver_entries (other d) past) → CanTake rec.outcome (record e { receiver = r })
+can-take link d past mask flit changed e r rec lands caught rec_is receiver =
+    let facts = land-facts link d past mask flit changed e lands caught in
+    let same = landed-is link d past flit rec (landed_with rec.outcome r.packet) rec_is (ap (landed_with rec.outcome) receiver.packet) in
+    record {
+      held = subst (λ (l : Landed). e.account.held + tokens_credited (arrived_packets l) ≤ most_tokens) (sym same) facts.held;
+      room = subst (λ (l : Landed). sum_by flits_of e.buffer + packets.flits_in (stored l) ≤ e.setup.tokens) (sym same)
+          (subst (λ (l : LinkFields). sum_by flits_of e.buffer + packets.flits_in (stored (landing_in link (other d) past flit)) ≤ l.tokens) (sym lands.stands.setup) facts.room);
+    }
 
 pub land-stands : (link : LinkFields) (d : Toward) (past : List LinkEntry) (mask flit : List ℕ) (changed any : Bool) (e n : EndFields) (r : ReceiverFields) (rec : Reception) (landed : Landed) → Lands link d past mask flit changed e → passes link.profile (other d) past mask flit ≡ false →
     rec ≡ reception_of link.profile (receiver_entries (other d) past) flit → ReceiverStandsFor link.profile r (Land flit (reception_of link.profile (receiver_entries (other d) past) flit).outcome ∷ receiver_entries (other d) past) →

@@ -20,3 +20,4 @@ pub mod ListLaws
 pub mod Throughs
 pub mod Begins
 pub mod Quiet
+pub mod Outcomes

@@ -1,6 +1,6 @@
 -- An end that begins to forward a packet.
-use Rattle.std.proofs.Common.{◌≡◌, ◌∙◌, ◌≤◌, ◌+◌, ◌-◌, ℕ, Bool, true, false, not, ◌&&◌, List, [], ◌∷◌, ◌++◌, length, drop, Option, Some, None, refl, sym, ap, subst, arith, Fits, w32, leb-true}
-use Rattle.std.specs.Prelude.{◌==◌, nat_le, slice_get, is_none, is_some}
+use Rattle.std.proofs.Common.{◌≡◌, ◌∙◌, ◌≤◌, ◌+◌, ◌-◌, ℕ, Bool, true, false, not, ◌&&◌, List, [], ◌∷◌, ◌++◌, length, drop, Option, Some, None, Bor, refl, sym, ap, subst, arith, Fits, w32, leb-true}
+use Rattle.std.specs.Prelude.{◌==◌, nat_le, slice_get, is_none, is_some, option_map}
 use Rattle.std.proofs.lemmas.Bool.{and_parts, eqb-true, and_from}
 use Rattle.std.proofs.Math.Nat.{sub-add-eq}
 use Rattle.hmc_codes.specs.Link.{LinkFields}
@@ -161,7 +161,7 @@ stands-through link e p head flits n s a is laws n_is left stands account =
 pub sum-fits : (a b : ℕ) → a + b ≤ 2048 → Fits w32 (a + b)
 sum-fits a b few = omega arith
 
-pub none-by : (r : Bool) (o : Option PacketFields) → not r ≡ is_some o → r ≡ is_none o
+pub none-by : (r : Bool) (o : Option (Bor PacketFields)) → not r ≡ is_some o → r ≡ is_none (option_map (λ (p : Bor PacketFields). p.now) o)
 none-by true None is = refl
 none-by true (Some p) is = absurd cc
 none-by false None is = absurd cc

@@ -10,11 +10,10 @@ use Rattle.hmc_ends.specs.declared.link_landed.LinkLanded.TheVariants as links
 use Rattle.hmc_packet.specs.declared.kind.Kind.TheVariants.{Start}
 use Rattle.hmc_packet.specs.declared.outcome.Outcome.{Outcome}
 use Rattle.hmc_packet.specs.declared.outcome.Outcome.TheVariants.{Gathered, Ran}
-use Rattle.hmc_packet.specs.declared.reception.Reception.{Reception}
-use Rattle.hmc_packet.specs.Landings.{ReceiverEntry, flits_in}
+use Rattle.hmc_packet.specs.Landings.{flits_in}
 use Rattle.hmc_packet.specs.Packet.{PacketFields, flits_of}
 use Rattle.hmc_packet.specs.Receptions.{reception_of, landed_with}
-use Rattle.hmc_receive.specs.StandsFor.{landing_of, ReceiverStandsFor, latest}
+use Rattle.hmc_receive.specs.StandsFor.{landing_of}
 use Rattle.hmc_send.specs.Acknowledged.{acknowledged_after, entries_acknowledged}
 use Rattle.hmc_send.specs.Entries.{SenderEntry}
 use Rattle.hmc_send.specs.LinkEntries.{LinkEntry, other, receiver_entries}
@@ -104,16 +103,12 @@ entry_landed link d past mask flit =
     LinkEntry.landed d mask flit
     (reception_of link.profile (receiver_entries d past) flit).outcome
 
--- an end has room for what a landing gave to it
-pub record CanTake (reception : Reception) (changed : Bool) (e : EndFields) : Type 0 where
-  pub profile : Profile
-  pub past : List ReceiverEntry
-  pub receiver : ReceiverStandsFor profile e.receiver past
+-- an end has room for the packet that a landing with this outcome accepted, if it did
+pub record CanTake (outcome : Outcome) (e : EndFields) : Type 0 where
   pub held : e.account.held
-      + tokens_credited (arrived_packets (landed_with reception.outcome (latest profile past)))
-      ≤ most_tokens
+      + tokens_credited (arrived_packets (landed_with outcome e.receiver.packet)) ≤ most_tokens
   pub room : sum_by flits_of e.buffer
-      + flits_in (stored (landed_with reception.outcome (latest profile past))) ≤ e.setup.tokens
+      + flits_in (stored (landed_with outcome e.receiver.packet)) ≤ e.setup.tokens
 
 -- what a landing of a link gives: a flit that passed, or one that came
 abbrev pub came : (passed : Bool) → (flit : List ℕ) → Landed → LinkLanded

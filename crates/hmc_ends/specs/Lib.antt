@@ -4,3 +4,4 @@ pub mod Answers
 pub mod Parts
 pub mod StandsFor
 pub mod Landings
+pub mod Outcomes

@@ -90,8 +90,8 @@ pub record AreEnds (s l : EndFields) : Type 0 where
   pub past : List LinkEntry
   pub stand : EndsStandFor link d s l past
 
--- what each end keeps: its queue and its line are no longer than they may be, what waits in the queue
--- may be sent, and the packets in its buffer are counted
+-- what each end keeps: its queue and its line are no longer than they may be, what waits in the
+-- queue may be sent, and the packets in its buffer are counted
 pub record IsEnd (e : EndFields) (queue_size buffer_size capacity : ℕ)
     (packet_cost : PacketFields → ℕ) (stored : ℕ) : Type 0 where
   pub output : queue_size ≡ e.setup.output

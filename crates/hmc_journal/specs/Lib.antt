@@ -6,16 +6,16 @@ pub mod Network
 pub mod Routes
 pub mod Choice
 pub mod Basics
--- What a journal says: of directions, of packets that are forwarded, of queues, links and hosts, and
--- of the machine that executes.
+-- What a journal says: of directions, of packets that are forwarded, of queues, links and hosts,
+-- and of the machine that executes.
 pub mod Directions
 pub mod Piped
 pub mod Queues
 pub mod Links
 pub mod Hosts
 pub mod Serial
--- What a step sees of a journal, why it may wait, and the entry that it gives: the table of steps is
--- Next.
+-- What a step sees of a journal, why it may wait, and the entry that it gives: the table of steps
+-- is Next.
 pub mod StepView
 pub mod Waiting
 pub mod Answers

@@ -1,5 +1,5 @@
--- When a link is settled: packets go both ways, and neither direction is in the middle of a burst of
--- IRTRYs, or about to begin one.
+-- When a link is settled: packets go both ways, and neither direction is in the middle of a burst
+-- of IRTRYs, or about to begin one.
 use Rattle.std.specs.Prelude.{◌≡◌, ◌≢◌, ◌<◌, ℕ, ◌%◌, true, false, List, [], ◌∷◌, length, All, drop}
 use Rattle.hmc_codes.specs.Link.{LinkFields}
 use Rattle.hmc_packet.specs.declared.view.Mode.TheVariants as modes

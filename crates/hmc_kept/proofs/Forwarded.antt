@@ -2,9 +2,9 @@
 use Rattle.std.proofs.Common.{◌≡◌, ◌<◌, ◌+◌, ◌/◌, ◌∙◌, ℕ, List, [], length, refl, sym, ap, subst, arith}
 use Rattle.std.specs.Prelude.{slice_index_or, slice_get}
 use Rattle.hmc_packet.specs.Parts.{lng_of}
-use Rattle.hmc_ends.specs.Landings.{link_landed}
-use Rattle.hmc_ends.specs.declared.link_landed.LinkLanded.{LinkLanded}
-use Rattle.hmc_ends.specs.declared.link_landed.LinkLanded.TheVariants as lands
+use Rattle.hmc_ends.specs.Outcomes.{front_outcome}
+use Rattle.hmc_ends.specs.declared.link_outcome.LinkOutcome.{LinkOutcome}
+use Rattle.hmc_ends.specs.declared.link_outcome.LinkOutcome.TheVariants as lands
 use Rattle.hmc_send.specs.LinkEntries.{receiver_entries}
 use Rattle.hmc_send.specs.LinkLines.{line}
 use Rattle.hmc_journal.specs.Links.{toward}
@@ -12,7 +12,6 @@ use Rattle.hmc_journal.specs.Piped.{PipeFrom, pipe_of}
 use Rattle.hmc_journal.specs.Setup.{directions_in, Topology}
 use Rattle.hmc_journal.specs.StepView.{StepView}
 use Rattle.hmc_kept.specs.Called.{sizes_by}
-use Rattle.hmc_kept.specs.LinkAnswers.{outcome_of}
 use Rattle.hmc_kept.specs.Pipes.{PipesHeld, AreGathering, IsLastOf, is_whole_outcome}
 use Rattle.hmc_kept.specs.Shown.{gathered, ShowsPipes, KeepsLaws}
 use Rattle.hmc_kept.proofs.PipeLemmas.{same_pipe}
@@ -32,13 +31,13 @@ are_gathering topology view piped direction laws shows there = λ onto at.
     }
 
 -- what a landing tells of the pipe of its packet
-abbrev pub IsLastLanding : PipesHeld → (direction : ℕ) → LinkLanded → Type 0
-IsLastLanding held direction (lands.Came flit landed) = IsLastOf held direction (outcome_of landed)
+abbrev pub IsLastLanding : PipesHeld → (direction : ℕ) → LinkOutcome → Type 0
+IsLastLanding held direction (lands.Came flit landed) = IsLastOf held direction landed
 IsLastLanding held direction _ = Unit {0}
 
 -- a packet that came whole has all its flits in its pipe
-pub is_last : (topology : Topology) (view : StepView) (piped : PipesHeld) (direction : ℕ) (mask : List ℕ) (landed : LinkLanded) → KeepsLaws topology view → ShowsPipes topology view piped → direction < directions_in topology
-    → landed ≡ link_landed (sizes_by topology.links direction) (toward direction) (view.entries (direction / 2)) mask (slice_get (line (sizes_by topology.links direction).profile (toward direction) (view.entries (direction / 2))) 0)
+pub is_last : (topology : Topology) (view : StepView) (piped : PipesHeld) (direction : ℕ) (mask : List ℕ) (landed : LinkOutcome) → KeepsLaws topology view → ShowsPipes topology view piped → direction < directions_in topology
+    → landed ≡ front_outcome (sizes_by topology.links direction) (toward direction) (view.entries (direction / 2)) mask (slice_get (line (sizes_by topology.links direction).profile (toward direction) (view.entries (direction / 2))) 0)
     → IsLastLanding piped direction landed
 is_last topology view piped direction mask lands.Empty laws shows there is = tt
 is_last topology view piped direction mask (lands.Passed flit) laws shows there is = tt

@@ -4,17 +4,16 @@ use Rattle.std.specs.Prelude.{slice_get}
 use Rattle.hmc_codes.specs.Link.{LinkFields}
 use Rattle.hmc_packet.specs.declared.outcome.Outcome.{Outcome}
 use Rattle.hmc_packet.specs.declared.outcome.Outcome.TheVariants as outcomes
-use Rattle.hmc_packet.specs.Packet.{PacketFields}
-use Rattle.hmc_packet.specs.Receptions.{reception_of, landed_with}
+use Rattle.hmc_packet.specs.Receptions.{reception_of}
 use Rattle.hmc_send.specs.LinkCalls.{LinkCall, next_entry, with_entry, holds_packet}
 use Rattle.hmc_send.specs.LinkCalls as calls
 use Rattle.hmc_send.specs.LinkEntries.{LinkEntry, receiver_entries, put_if}
 use Rattle.hmc_send.specs.LinkLines.{StampedFlit, line, passes}
 use Rattle.hmc_packet.specs.Masks.{under_mask}
 use Rattle.hmc_send.specs.declared.toward.Toward.{Toward}
-use Rattle.hmc_ends.specs.Landings.{link_landed, landing_in, came, landing_passed, lands_none}
-use Rattle.hmc_ends.specs.declared.link_landed.LinkLanded.{LinkLanded}
-use Rattle.hmc_ends.specs.declared.link_landed.LinkLanded.TheVariants as lands
+use Rattle.hmc_ends.specs.Outcomes.{front_outcome, came_as, outcome_passed, outcome_none}
+use Rattle.hmc_ends.specs.declared.link_outcome.LinkOutcome.{LinkOutcome}
+use Rattle.hmc_ends.specs.declared.link_outcome.LinkOutcome.TheVariants as lands
 use Rattle.hmc_entries.specs.declared.outcome.Cause.{Cause}
 use Rattle.hmc_entries.specs.declared.entry.Entry.{Entry}
 use Rattle.hmc_entries.specs.declared.entry.Entry.TheVariants.{Landed}
@@ -26,45 +25,30 @@ use Rattle.hmc_journal.specs.Setup.{directions_in, Topology}
 use Rattle.hmc_journal.specs.StepView.{StepView}
 use Rattle.hmc_kept.specs.After.{entries_after}
 use Rattle.hmc_kept.specs.Called.{sizes_at, sizes_by, called}
-use Rattle.hmc_kept.specs.LinkAnswers.{outcome_of, landed_by, landing_goes_on, after_landing, IsCameFlit}
+use Rattle.hmc_kept.specs.LinkAnswers.{landed_by, landing_goes_on, after_landing, IsCameFlit}
 use Rattle.hmc_kept.specs.Pipes.{PipesHeld, forwarded_at}
 use Rattle.hmc_kept.proofs.Called.{called_puts, called_stays}
 use Rattle.hmc_kept.proofs.Masks.{mask_found}
 use Rattle.hmc_codes.specs.Flit.{IsFlit}
 use Rattle.hmc_kept.specs.Shown.{KeepsLaws}
 
-pub idle_landed : (direction : ℕ) (landed : LinkLanded) (cause : Cause) → cause_of (landed_by direction landed) ≡ Some cause → lands_none landed ≡ true
+pub idle_landed : (direction : ℕ) (landed : LinkOutcome) (cause : Cause) → cause_of (landed_by direction landed) ≡ Some cause → outcome_none landed ≡ true
 idle_landed direction lands.Empty cause is = refl
 idle_landed direction (lands.Passed flit) cause is = absurd (cc)
 idle_landed direction (lands.Came flit landed) cause is = absurd (cc)
 
-pub outcome_with : (outcome : Outcome) (packet : PacketFields) → outcome_of (landed_with outcome packet) ≡ outcome
-outcome_with outcomes.Quiet packet = refl
-outcome_with outcomes.Trained packet = refl
-outcome_with outcomes.Gathered packet = refl
-outcome_with outcomes.Accepted packet = refl
-outcome_with outcomes.Poisoned packet = refl
-outcome_with outcomes.Repeat packet = refl
-outcome_with (outcomes.AbortedBad bad) packet = refl
-outcome_with outcomes.AbortedOrder packet = refl
-outcome_with (outcomes.Ran kind) packet = refl
-
--- the outcome is that of the definition
-pub outcome_is : (link : LinkFields) (d : Toward) (past : List LinkEntry) (flit : List ℕ) → outcome_of (landing_in link d past flit) ≡ (reception_of link.profile (receiver_entries d past) flit).outcome
-outcome_is link d past flit = outcome_with (reception_of link.profile (receiver_entries d past) flit).outcome _
-
 pub landed_same : (direction : ℕ) (link : LinkFields) (d : Toward) (past : List LinkEntry) (mask : List ℕ) (front : Option StampedFlit) → d ≡ toward direction
-    → landed_by direction (link_landed link d past mask front) ≡ journals.landed_front link direction past mask front
+    → landed_by direction (front_outcome link d past mask front) ≡ journals.landed_front link direction past mask front
 landed_same direction link d past mask None way = refl
 landed_same direction link d past mask (Some front) way =
-    came_same (passes link.profile d past mask (under_mask mask front.flit)) (under_mask mask front.flit) refl
+    came_same (passes link.profile d past mask (under_mask mask front.flit)) (under_mask mask front.flit)
     ∙ ap (λ w. journals.landed_entry direction (passes link.profile w past mask (under_mask mask front.flit)) (under_mask mask front.flit) (reception_of link.profile (receiver_entries w past) (under_mask mask front.flit)).outcome) way
   where
-    came_same : (passed : Bool) (flit : List ℕ) → flit ≡ under_mask mask front.flit → landed_by direction (came passed flit (landing_in link d past flit)) ≡ journals.landed_entry direction passed flit (reception_of link.profile (receiver_entries d past) flit).outcome
-    came_same true flit is = refl
-    came_same false flit is = ap (Landed direction flit) (outcome_is link d past flit)
+    came_same : (passed : Bool) (flit : List ℕ) → landed_by direction (came_as passed flit (reception_of link.profile (receiver_entries d past) flit).outcome) ≡ journals.landed_entry direction passed flit (reception_of link.profile (receiver_entries d past) flit).outcome
+    came_same true flit = refl
+    came_same false flit = refl
 
-pub passed_same : (direction : ℕ) (landed : LinkLanded) → is_passed (landed_by direction landed) ≡ landing_passed landed
+pub passed_same : (direction : ℕ) (landed : LinkOutcome) → is_passed (landed_by direction landed) ≡ outcome_passed landed
 passed_same direction lands.Empty = refl
 passed_same direction (lands.Passed flit) = refl
 passed_same direction (lands.Came flit landed) = refl
@@ -78,8 +62,8 @@ landed_on topology view _ link = view.entries link
 -- a landing that does not pass
 pub landed_entries : (topology : Topology) (view : StepView) (direction link : ℕ) (mask : List ℕ) (front : Option StampedFlit) → slice_get (line (sizes_by topology.links direction).profile (toward direction) (view.entries (direction / 2))) 0 ≡ front → length mask ≡ 16
     → ((f : StampedFlit) → front ≡ Some f → length f.flit ≡ 16)
-    → landing_passed (link_landed (sizes_by topology.links direction) (toward direction) (view.entries (direction / 2)) mask front) ≡ false
-    → called topology.links direction (λ d. LinkCall.land d mask) view.entries link ≡ landed_on topology view (landed_by direction (link_landed (sizes_by topology.links direction) (toward direction) (view.entries (direction / 2)) mask front)) link
+    → outcome_passed (front_outcome (sizes_by topology.links direction) (toward direction) (view.entries (direction / 2)) mask front) ≡ false
+    → called topology.links direction (λ d. LinkCall.land d mask) view.entries link ≡ landed_on topology view (landed_by direction (front_outcome (sizes_by topology.links direction) (toward direction) (view.entries (direction / 2)) mask front)) link
 unfolding next_entry
 landed_entries topology view direction link mask None is long full on =
     called_stays topology.links direction link (λ d. LinkCall.land d mask) view.entries
@@ -88,38 +72,36 @@ landed_entries topology view direction link mask (Some front) is long full on =
     came_entries (passes (sizes_by topology.links direction).profile (toward direction) (view.entries (direction / 2)) mask (under_mask mask front.flit)) refl on
   where
     came_entries : (passed : Bool) → passes (sizes_by topology.links direction).profile (toward direction) (view.entries (direction / 2)) mask (under_mask mask front.flit) ≡ passed
-        → landing_passed (came passed (under_mask mask front.flit) (landing_in (sizes_by topology.links direction) (toward direction) (view.entries (direction / 2)) (under_mask mask front.flit))) ≡ false
+        → outcome_passed (came_as passed (under_mask mask front.flit) (reception_of (sizes_by topology.links direction).profile (receiver_entries (toward direction) (view.entries (direction / 2))) (under_mask mask front.flit)).outcome) ≡ false
         → called topology.links direction (λ d. LinkCall.land d mask) view.entries link
-        ≡ landed_on topology view (landed_by direction (came passed (under_mask mask front.flit) (landing_in (sizes_by topology.links direction) (toward direction) (view.entries (direction / 2)) (under_mask mask front.flit)))) link
+        ≡ landed_on topology view (landed_by direction (came_as passed (under_mask mask front.flit) (reception_of (sizes_by topology.links direction).profile (receiver_entries (toward direction) (view.entries (direction / 2))) (under_mask mask front.flit)).outcome)) link
     came_entries true passed on = absurd (cc)
     came_entries false passed on =
         called_puts topology.links direction link (λ d. LinkCall.land d mask)
-        (λ n d. LinkEntry.landed d (landing_mask (sizes_at topology.links n) d (view.entries n) (under_mask mask front.flit)) (under_mask mask front.flit) (outcome_of (landing_in (sizes_by topology.links direction) (toward direction) (view.entries (direction / 2)) (under_mask mask front.flit)))) view.entries
+        (λ n d. LinkEntry.landed d (landing_mask (sizes_at topology.links n) d (view.entries n) (under_mask mask front.flit)) (under_mask mask front.flit) (reception_of (sizes_by topology.links direction).profile (receiver_entries (toward direction) (view.entries (direction / 2))) (under_mask mask front.flit)).outcome) view.entries
         (ap (λ (f : Option StampedFlit). with_entry (view.entries (direction / 2)) (calls.landed_front (sizes_by topology.links direction) (toward direction) (view.entries (direction / 2)) mask f)) is
         ∙ ap (λ (p : Bool). with_entry (view.entries (direction / 2)) (calls.entry_if (not p) (LinkEntry.landed (toward direction) mask (under_mask mask front.flit) (reception_of (sizes_by topology.links direction).profile (receiver_entries (toward direction) (view.entries (direction / 2))) (under_mask mask front.flit)).outcome))) passed
         ∙ ap (λ (m : List ℕ). LinkEntry.landed (toward direction) m (under_mask mask front.flit) (reception_of (sizes_by topology.links direction).profile (receiver_entries (toward direction) (view.entries (direction / 2))) (under_mask mask front.flit)).outcome ∷ view.entries (direction / 2))
-        (sym (mask_found (sizes_by topology.links direction) (toward direction) (view.entries (direction / 2)) front mask is long (full front refl)))
-        ∙ ap (λ (o : Outcome). LinkEntry.landed (toward direction) (landing_mask (sizes_by topology.links direction) (toward direction) (view.entries (direction / 2)) (under_mask mask front.flit)) (under_mask mask front.flit) o ∷ view.entries (direction / 2))
-        (sym (outcome_is (sizes_by topology.links direction) (toward direction) (view.entries (direction / 2)) (under_mask mask front.flit))))
+        (sym (mask_found (sizes_by topology.links direction) (toward direction) (view.entries (direction / 2)) front mask is long (full front refl))))
 
 -- where nothing lands, nothing goes on
-pub none_goes : (piped : PipesHeld) (direction : ℕ) (landed : LinkLanded) → lands_none landed ≡ true → landing_goes_on piped direction landed ≡ false
+pub none_goes : (piped : PipesHeld) (direction : ℕ) (landed : LinkOutcome) → outcome_none landed ≡ true → landing_goes_on piped direction landed ≡ false
 none_goes piped direction lands.Empty none = refl
 none_goes piped direction (lands.Passed flit) none = refl
 none_goes piped direction (lands.Came flit landed) none = absurd (cc)
 
-pub none_piped : (piped : PipesHeld) (direction : ℕ) (landed : LinkLanded) → lands_none landed ≡ true → after_landing direction landed piped ≡ piped
+pub none_piped : (piped : PipesHeld) (direction : ℕ) (landed : LinkOutcome) → outcome_none landed ≡ true → after_landing direction landed piped ≡ piped
 none_piped piped direction lands.Empty none = refl
 none_piped piped direction (lands.Passed flit) none = refl
 none_piped piped direction (lands.Came flit landed) none = absurd (cc)
 
 -- what goes on is taken
-pub taken_after : (topology : Topology) (view : StepView) (piped : PipesHeld) (direction link : ℕ) (landed : LinkLanded) → forwarded_at piped direction ≡ view.forwarded direction
+pub taken_after : (topology : Topology) (view : StepView) (piped : PipesHeld) (direction link : ℕ) (landed : LinkOutcome) → forwarded_at piped direction ≡ view.forwarded direction
     → taken_if (landing_goes_on piped direction landed) link direction (landed_on topology view (landed_by direction landed) link) ≡ entries_after topology view (landed_by direction landed) link
 taken_after topology view piped direction link lands.Empty same = refl
 taken_after topology view piped direction link (lands.Passed flit) same = refl
 taken_after topology view piped direction link (lands.Came flit landed) same =
-    ap (λ (onto : Option ℕ). taken_if (goes_on (outcome_of landed) onto) link direction (landed_on topology view (Landed direction flit (outcome_of landed)) link)) same
+    ap (λ (onto : Option ℕ). taken_if (goes_on landed onto) link direction (landed_on topology view (Landed direction flit landed) link)) same
 
 -- only an accepted packet goes on, and only where it is forwarded
 pub record GoesOn (outcome : Outcome) (onto : Option ℕ) : Type 0 where
@@ -140,20 +122,20 @@ goes_by outcomes.AbortedOrder onto is = absurd (cc)
 goes_by (outcomes.Ran kind) onto is = absurd (cc)
 
 -- a flit that came has the outcome of the definition
-pub came_outcome : (link : LinkFields) (d : Toward) (past : List LinkEntry) (mask : List ℕ) (front : Option StampedFlit) (flit : List ℕ) (landed : _) → lands.Came flit landed ≡ link_landed link d past mask front
-    → outcome_of landed ≡ (reception_of link.profile (receiver_entries d past) flit).outcome
+pub came_outcome : (link : LinkFields) (d : Toward) (past : List LinkEntry) (mask : List ℕ) (front : Option StampedFlit) (flit : List ℕ) (landed : _) → lands.Came flit landed ≡ front_outcome link d past mask front
+    → landed ≡ (reception_of link.profile (receiver_entries d past) flit).outcome
 came_outcome link d past mask None flit landed is = absurd (cc)
 came_outcome link d past mask (Some front) flit landed is = by_passed (passes link.profile d past mask (under_mask mask front.flit)) is
   where
-    by_passed : (passed : Bool) → lands.Came flit landed ≡ came passed (under_mask mask front.flit) (landing_in link d past (under_mask mask front.flit)) → outcome_of landed ≡ (reception_of link.profile (receiver_entries d past) flit).outcome
+    by_passed : (passed : Bool) → lands.Came flit landed ≡ came_as passed (under_mask mask front.flit) (reception_of link.profile (receiver_entries d past) (under_mask mask front.flit)).outcome → landed ≡ (reception_of link.profile (receiver_entries d past) flit).outcome
     by_passed true same = absurd (cc)
     by_passed false same =
         let flits : flit ≡ under_mask mask front.flit = cc in
-        let lands_same : landed ≡ landing_in link d past (under_mask mask front.flit) = cc in
-        ap outcome_of lands_same ∙ outcome_is link d past (under_mask mask front.flit) ∙ ap (λ (f : List ℕ). (reception_of link.profile (receiver_entries d past) f).outcome) (sym flits)
+        let same_outcome : landed ≡ (reception_of link.profile (receiver_entries d past) (under_mask mask front.flit)).outcome = cc in
+        same_outcome ∙ ap (λ (f : List ℕ). (reception_of link.profile (receiver_entries d past) f).outcome) (sym flits)
 
 -- the packet is then the front of its buffer
-abbrev pub HoldsLanded : Topology → StepView → PipesHeld → (direction : ℕ) → LinkLanded → Type 0
+abbrev pub HoldsLanded : Topology → StepView → PipesHeld → (direction : ℕ) → LinkOutcome → Type 0
 HoldsLanded topology view piped direction landed = landing_goes_on piped direction landed ≡ true
     → holds_packet (sizes_by topology.links direction) (toward direction) (landed_on topology view (landed_by direction landed) (direction / 2)) ≡ true
 
@@ -169,10 +151,10 @@ holds_came topology view piped direction flit outcome laws there same is_flit is
     ∙ ap (λ (o : Outcome). holds_packet (sizes_by topology.links direction) (toward direction) (LinkEntry.landed (toward direction) mask flit o ∷ view.entries (direction / 2))) on.accepted
     ∙ law.front mask flit is_flit (sym is ∙ on.accepted)
 
-pub holds_landed : (topology : Topology) (view : StepView) (piped : PipesHeld) (direction : ℕ) (mask : List ℕ) (landed : LinkLanded) → KeepsLaws topology view → direction < directions_in topology → forwarded_at piped direction ≡ view.forwarded direction
-    → landed ≡ link_landed (sizes_by topology.links direction) (toward direction) (view.entries (direction / 2)) mask (slice_get (line (sizes_by topology.links direction).profile (toward direction) (view.entries (direction / 2))) 0)
+pub holds_landed : (topology : Topology) (view : StepView) (piped : PipesHeld) (direction : ℕ) (mask : List ℕ) (landed : LinkOutcome) → KeepsLaws topology view → direction < directions_in topology → forwarded_at piped direction ≡ view.forwarded direction
+    → landed ≡ front_outcome (sizes_by topology.links direction) (toward direction) (view.entries (direction / 2)) mask (slice_get (line (sizes_by topology.links direction).profile (toward direction) (view.entries (direction / 2))) 0)
     → IsCameFlit landed → HoldsLanded topology view piped direction landed
 holds_landed topology view piped direction mask lands.Empty laws there same is size = λ goes. absurd (cc)
 holds_landed topology view piped direction mask (lands.Passed flit) laws there same is size = λ goes. absurd (cc)
 holds_landed topology view piped direction mask (lands.Came flit landed) laws there same is size = λ goes.
-    holds_came topology view piped direction flit (outcome_of landed) laws there same size (came_outcome (sizes_by topology.links direction) (toward direction) (view.entries (direction / 2)) mask _ flit landed is) goes
+    holds_came topology view piped direction flit landed laws there same size (came_outcome (sizes_by topology.links direction) (toward direction) (view.entries (direction / 2)) mask _ flit landed is) goes

@@ -5,10 +5,10 @@ use Rattle.std.proofs.lemmas.List.{length-set}
 use Rattle.hmc_packet.specs.declared.outcome.Outcome.{Outcome}
 use Rattle.hmc_packet.specs.declared.outcome.Outcome.TheVariants as outcomes
 use Rattle.hmc_through.specs.Pipe.{PipeFields}
-use Rattle.hmc_ends.specs.declared.link_landed.LinkLanded.{LinkLanded}
-use Rattle.hmc_ends.specs.declared.link_landed.LinkLanded.TheVariants as landings
+use Rattle.hmc_ends.specs.declared.link_outcome.LinkOutcome.{LinkOutcome}
+use Rattle.hmc_ends.specs.declared.link_outcome.LinkOutcome.TheVariants as landings
 use Rattle.hmc_journal.specs.Piped.{PipeFrom, while_gathered, with_landing, with_unlock, while_gathering}
-use Rattle.hmc_kept.specs.LinkAnswers.{outcome_of, after_landing}
+use Rattle.hmc_kept.specs.LinkAnswers.{after_landing}
 use Rattle.hmc_kept.specs.Pipes.{PipesHeld, AreCounted, forwarded_at, pipe_at, changed_pipe, after_begin, after_change, after_loss, MayLand, MayLose, is_whole_outcome}
 use Rattle.hmc_kept.proofs.Elements.{default_same}
 
@@ -24,10 +24,10 @@ change_counted held n direction (Some onto) goes changed is = record {
   pipes = length-set held.pipes onto (option_map (changed_pipe changed) (pipe_at held onto)) ∙ is.pipes;
 }
 
-pub landing_counted : (held : PipesHeld) (direction n : ℕ) (landed : LinkLanded) → AreCounted n held → AreCounted n (after_landing direction landed held)
+pub landing_counted : (held : PipesHeld) (direction n : ℕ) (landed : LinkOutcome) → AreCounted n held → AreCounted n (after_landing direction landed held)
 landing_counted held direction n landings.Empty is = is
 landing_counted held direction n (landings.Passed flit) is = is
-landing_counted held direction n (landings.Came flit landed) is = change_counted held n direction (forwarded_at held direction) (while_gathered (outcome_of landed)) (with_landing flit (outcome_of landed)) is
+landing_counted held direction n (landings.Came flit landed) is = change_counted held n direction (forwarded_at held direction) (while_gathered landed) (with_landing flit landed) is
 
 pub loss_counted : (held : PipesHeld) (direction n : ℕ) → AreCounted n held → AreCounted n (after_loss direction held)
 loss_counted held direction n is = change_counted held n direction (forwarded_at held direction) (λ onto. None) with_unlock is

@@ -1,32 +1,16 @@
 -- The entries that the answers of a link are.
 use Rattle.std.specs.Prelude.{ℕ, Bool, false}
 use Rattle.hmc_codes.specs.Flit.{zero_flit, IsFlit}
-use Rattle.hmc_ends.specs.declared.link_landed.LinkLanded.{LinkLanded}
-use Rattle.hmc_ends.specs.declared.link_landed.LinkLanded.TheVariants as landings
+use Rattle.hmc_ends.specs.declared.link_outcome.LinkOutcome.{LinkOutcome}
+use Rattle.hmc_ends.specs.declared.link_outcome.LinkOutcome.TheVariants as landings
 use Rattle.hmc_ends.specs.declared.link_sent.LinkSent.{LinkSent}
 use Rattle.hmc_ends.specs.declared.link_sent.LinkSent.TheVariants as sends
-use Rattle.hmc_packet.specs.declared.landed.Landed.{Landed as Landing}
-use Rattle.hmc_packet.specs.declared.landed.Landed.TheVariants as words
-use Rattle.hmc_packet.specs.declared.outcome.Outcome.{Outcome}
-use Rattle.hmc_packet.specs.declared.outcome.Outcome.TheVariants as outcomes
 use Rattle.hmc_schedule.specs.declared.step.Step.TheVariants as steps
 use Rattle.hmc_entries.specs.declared.outcome.Cause.TheVariants as causes
 use Rattle.hmc_entries.specs.declared.entry.Entry.{Entry}
 use Rattle.hmc_entries.specs.declared.entry.Entry.TheVariants.{Sent, Landed, Passed, Idle}
 use Rattle.hmc_journal.specs.Piped.{goes_on}
 use Rattle.hmc_kept.specs.Pipes.{PipesHeld, forwarded_at, after_flit}
-
--- an outcome without its packet
-abbrev pub outcome_of : Landing → Outcome
-outcome_of words.Quiet = outcomes.Quiet
-outcome_of words.Trained = outcomes.Trained
-outcome_of words.Gathered = outcomes.Gathered
-outcome_of (words.Accepted packet) = outcomes.Accepted
-outcome_of (words.Poisoned packet) = outcomes.Poisoned
-outcome_of words.Repeat = outcomes.Repeat
-outcome_of (words.AbortedBad bad) = outcomes.AbortedBad bad
-outcome_of words.AbortedOrder = outcomes.AbortedOrder
-outcome_of (words.Ran kind) = outcomes.Ran kind
 
 -- the entry of a send
 abbrev pub sent_by : (direction : ℕ) → LinkSent → Entry
@@ -35,24 +19,24 @@ sent_by direction sends.Starved = Idle (steps.Send direction) causes.Starved
 sent_by direction (sends.Out flit as_what) = Sent direction as_what flit
 
 -- the entry of a landing
-abbrev pub landed_by : (direction : ℕ) → LinkLanded → Entry
+abbrev pub landed_by : (direction : ℕ) → LinkOutcome → Entry
 landed_by direction landings.Empty = Idle (steps.Land direction zero_flit) causes.Empty
 landed_by direction (landings.Passed flit) = Passed direction flit
-landed_by direction (landings.Came flit landed) = Landed direction flit (outcome_of landed)
+landed_by direction (landings.Came flit outcome) = Landed direction flit outcome
 
 -- a flit that came has 16 bytes
-abbrev pub IsCameFlit : LinkLanded → Type 0
-IsCameFlit (landings.Came flit landed) = IsFlit flit
+abbrev pub IsCameFlit : LinkOutcome → Type 0
+IsCameFlit (landings.Came flit outcome) = IsFlit flit
 IsCameFlit _ = Unit {0}
 
 -- the packet of a landing was accepted while it was forwarded
-abbrev pub landing_goes_on : PipesHeld → (direction : ℕ) → LinkLanded → Bool
-landing_goes_on held direction (landings.Came flit landed) =
-    goes_on (outcome_of landed) (forwarded_at held direction)
+abbrev pub landing_goes_on : PipesHeld → (direction : ℕ) → LinkOutcome → Bool
+landing_goes_on held direction (landings.Came flit outcome) =
+    goes_on outcome (forwarded_at held direction)
 landing_goes_on held direction _ = false
 
 -- the packets that are forwarded after a landing
-abbrev pub after_landing : (direction : ℕ) → LinkLanded → PipesHeld → PipesHeld
-after_landing direction (landings.Came flit landed) held =
-    after_flit direction flit (outcome_of landed) held
+abbrev pub after_landing : (direction : ℕ) → LinkOutcome → PipesHeld → PipesHeld
+after_landing direction (landings.Came flit outcome) held =
+    after_flit direction flit outcome held
 after_landing direction _ held = held

@@ -2,26 +2,27 @@
 
 ghost use Rattle.std.specs.Prelude.{◌≡◌};
 ghost use Rattle.hmc_journal.specs.Piped.{goes_on};
-ghost use Rattle.hmc_kept.specs.LinkAnswers.{sent_by, landed_by, outcome_of, IsCameFlit};
+ghost use Rattle.hmc_kept.specs.LinkAnswers.{sent_by, landed_by, IsCameFlit};
 
 use hmc_codes::ZERO_FLIT;
-use hmc_ends::{LinkLanded, LinkSent, flit_is_bytes};
+use hmc_ends::{LinkOutcome, LinkSent, flit_is_bytes};
 use hmc_entries::{Cause, LastEntry};
-use hmc_packet::{Landed, Outcome, constant_flits};
+use hmc_packet::{Outcome, constant_flits};
 use hmc_schedule::Step;
 
 /// Whether a landing ends a packet that is forwarded (onto this direction), and that is accepted:
 /// it then leaves its buffer at once.
-pub fn goes_on(landed: &Landed, onto: Option<u8>) -> bool
-    ensures { result ≡ goes_on (outcome_of landed.now) onto }
+pub fn goes_on(outcome: Outcome, onto: Option<u8>) -> bool
+    ensures { result ≡ goes_on outcome onto }
 {
-    match landed {
-        Landed::Accepted(_) => onto.is_some(),
+    match outcome {
+        Outcome::Accepted => onto.is_some(),
         _ => false,
     }
 }
 
 /// The last entry becomes that of a send.
+#[inline(always)]
 pub fn note_sent(last: &mut LastEntry, direction: u8, sent: &LinkSent)
     ensures { last.new ≡ sent_by direction sent.now }
 {
@@ -33,34 +34,18 @@ pub fn note_sent(last: &mut LastEntry, direction: u8, sent: &LinkSent)
 }
 
 /// The last entry becomes that of a landing.
-pub fn note_landed(last: &mut LastEntry, direction: u8, landed: &LinkLanded)
-    ensures entry { last.new ≡ landed_by direction landed.now }
-    ensures size { IsCameFlit landed.now }
+#[inline(always)]
+pub fn note_landed(last: &mut LastEntry, direction: u8, landing: &LinkOutcome)
+    ensures entry { last.new ≡ landed_by direction landing.now }
+    ensures size { IsCameFlit landing.now }
 {
     constant_flits();
-    match landed {
-        LinkLanded::Empty => last.idle(&Step::Land(direction, ZERO_FLIT), Cause::Empty),
-        LinkLanded::Passed(flit) => last.passed(direction, flit),
-        LinkLanded::Came { flit, outcome } => {
+    match landing {
+        LinkOutcome::Empty => last.idle(&Step::Land(direction, ZERO_FLIT), Cause::Empty),
+        LinkOutcome::Passed(flit) => last.passed(direction, flit),
+        LinkOutcome::Came { flit, outcome } => {
             flit_is_bytes(flit);
-            last.landed(direction, flit, outcome_of(outcome));
+            last.landed(direction, flit, *outcome);
         }
-    }
-}
-
-/// The outcome of a landing, without its packet.
-pub fn outcome_of(landed: &Landed) -> Outcome
-    ensures { result ≡ outcome_of landed.now }
-{
-    match landed {
-        Landed::Quiet => Outcome::Quiet,
-        Landed::Trained => Outcome::Trained,
-        Landed::Gathered => Outcome::Gathered,
-        Landed::Accepted(_) => Outcome::Accepted,
-        Landed::Poisoned(_) => Outcome::Poisoned,
-        Landed::Repeat => Outcome::Repeat,
-        Landed::AbortedBad(bad) => Outcome::AbortedBad(*bad),
-        Landed::AbortedOrder => Outcome::AbortedOrder,
-        Landed::Ran(kind) => Outcome::Ran(*kind),
     }
 }

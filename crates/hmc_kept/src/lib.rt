@@ -21,7 +21,7 @@ mod hosts;
 mod parts;
 mod pipes;
 
-pub use answers::{goes_on, note_landed, note_sent, outcome_of};
+pub use answers::{goes_on, note_landed, note_sent};
 pub use forwarding::{may_go, pipe_of};
 pub use hosts::counts_of_host;
 pub use parts::Parts;

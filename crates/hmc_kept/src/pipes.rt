@@ -1,13 +1,12 @@
 //! Pipes: the flits of packets that are forwarded while they are gathered.
 
 ghost use Rattle.std.specs.Prelude.{◌≡◌, ◌<◌, ◌≤◌, ◌+◌, ◌*◌, ◌∷◌, List, IfOk, IfSome, Some, None, true, length, option_map};
-ghost use Rattle.hmc_through.specs.Pipe.{is_whole};
-ghost use Rattle.hmc_journal.specs.Piped.{PipeFrom, while_gathered, with_landing, with_unlock, fed};
-ghost use Rattle.hmc_kept.specs.LinkAnswers.{outcome_of};
-ghost use Rattle.hmc_kept.specs.Pipes.{PipesHeld, AreCounted, AreUnused, AreGathering, IsLastOf, IsPlace, MayLand, MayLose, is_gathered, forwarded_at, pipe_at, changed_pipe, after_begin, after_flit, after_loss};
+ghost use Rattle.hmc_through.specs.Pipe.{is_whole, is_accepted as accepted_whole};
+ghost use Rattle.hmc_journal.specs.Piped.{PipeFrom, is_accepted, while_gathered, with_landing, with_unlock, fed};
+ghost use Rattle.hmc_kept.specs.Pipes.{PipesHeld, AreCounted, AreUnused, AreGathering, IsLastOf, IsPlace, MayLand, MayLose, is_gathered, is_whole_outcome, forwarded_at, pipe_at, changed_pipe, after_begin, after_flit, after_loss};
 
 use hmc_codes::{Flit, Memory};
-use hmc_packet::{Feed, Landed};
+use hmc_packet::{Feed, Landed, Outcome, Packet};
 use hmc_through::Pipe;
 use std::alloc::Global;
 use std::marker::Model;
@@ -29,18 +28,19 @@ impl Model for Source {
 
 impl Source {
     // A flit lands that belongs to the packet.
-    fn land(&mut self, flit: &Flit, landed: &Landed)
+    #[inline(always)]
+    fn land(&mut self, flit: &Flit, outcome: Outcome)
         requires open { self.old.pipe.good ≡ None }
         requires more { length self.old.pipe.came < self.old.pipe.flits }
-        requires last { is_whole landed.now ≡ true →
+        requires last { is_whole_outcome outcome ≡ true →
             length self.old.pipe.came + 1 ≡ self.old.pipe.flits }
         ensures { self.new ≡ record self.old {
-          pipe = with_landing flit.now (outcome_of landed.now) self.old.pipe;
+          pipe = with_landing flit.now outcome self.old.pipe;
         } }
     {
         self.pipe.more(*flit);
-        if !is_gathered(landed) {
-            self.pipe.end(landed);
+        if !is_gathered(outcome) {
+            self.pipe.end(&as_landed(outcome));
         }
     }
 
@@ -85,6 +85,7 @@ impl Pipes {
     }
 
     /// Onto which direction the packet is forwarded that is gathered at the end of one.
+    #[inline(always)]
     pub fn onto(&self, direction: u8) -> Option<u8>
         requires { direction < length self.now.forwarded }
         ensures { result ≡ forwarded_at self.now direction }
@@ -94,6 +95,7 @@ impl Pipes {
 
     /// What a send in a direction is fed, by the place of the next flit of the packet that is
     /// forwarded onto it, if one is.
+    #[inline(always)]
     pub fn feed(&self, direction: u8, place: Option<u8>) -> Feed
         requires there { direction < length self.now.pipes }
         requires place { IsPlace (pipe_at self.now direction) place }
@@ -119,17 +121,17 @@ impl Pipes {
     }
 
     /// A flit lands at the end of a direction.
-    pub fn land(&mut self, direction: u8, flit: &Flit, landed: &Landed)
+    pub fn land(&mut self, direction: u8, flit: &Flit, outcome: Outcome)
         requires there { direction < length self.old.forwarded }
         requires gathering { AreGathering self.old direction }
-        requires last { IsLastOf self.old direction (outcome_of landed.now) }
-        ensures { self.new ≡ after_flit direction flit.now (outcome_of landed.now) self.old }
+        requires last { IsLastOf self.old direction outcome }
+        ensures { self.new ≡ after_flit direction flit.now outcome self.old }
     {
         let Some(onto) = self.forwarded[usize::from(direction)] else {
             return;
         };
-        land_in(&mut self.pipes[usize::from(onto)], flit, landed);
-        self.forwarded[usize::from(direction)] = onto_after(landed, onto);
+        land_in(&mut self.pipes[usize::from(onto)], flit, outcome);
+        self.forwarded[usize::from(direction)] = onto_after(outcome, onto);
     }
 
     /// The framing of a direction is lost.
@@ -147,13 +149,13 @@ impl Pipes {
 }
 
 // A flit lands that belongs to the packet of a pipe, if there is one.
-fn land_in(pipe: &mut Option<Source>, flit: &Flit, landed: &Landed)
-    requires { MayLand pipe.old (outcome_of landed.now) }
+fn land_in(pipe: &mut Option<Source>, flit: &Flit, outcome: Outcome)
+    requires { MayLand pipe.old outcome }
     ensures { pipe.new ≡ option_map
-        (changed_pipe (with_landing flit.now (outcome_of landed.now))) pipe.old }
+        (changed_pipe (with_landing flit.now outcome)) pipe.old }
 {
     if let Some(source) = pipe {
-        source.land(flit, landed);
+        source.land(flit, outcome);
     }
 }
 
@@ -168,18 +170,35 @@ fn lose_in(pipe: &mut Option<Source>)
 }
 
 // Onto which direction a packet is forwarded after a landing.
-fn onto_after(landed: &Landed, onto: u8) -> Option<u8>
-    ensures { result ≡ while_gathered (outcome_of landed.now) (Some onto) }
+fn onto_after(outcome: Outcome, onto: u8) -> Option<u8>
+    ensures { result ≡ while_gathered outcome (Some onto) }
 {
-    match landed {
-        Landed::Gathered => Some(onto),
+    match outcome {
+        Outcome::Gathered => Some(onto),
         _ => None,
     }
 }
 
 // Whether flits of a packet are still to come.
-fn is_gathered(landed: &Landed) -> bool
-    ensures { result ≡ is_gathered (outcome_of landed.now) }
+fn is_gathered(outcome: Outcome) -> bool
+    ensures { result ≡ is_gathered outcome }
 {
-    matches!(landed, Landed::Gathered)
+    matches!(outcome, Outcome::Gathered)
+}
+
+// What a pipe is told of an outcome: it doesn't look at the packet.
+fn as_landed(outcome: Outcome) -> Landed
+    ensures accepted { accepted_whole result ≡ is_accepted outcome }
+    ensures whole { is_whole result ≡ is_whole_outcome outcome }
+{
+    match outcome {
+        Outcome::Accepted => Landed::Accepted(Packet::null()),
+        Outcome::Poisoned | Outcome::Repeat => Landed::Repeat,
+        Outcome::Quiet
+        | Outcome::Trained
+        | Outcome::Gathered
+        | Outcome::AbortedBad(_)
+        | Outcome::AbortedOrder
+        | Outcome::Ran(_) => Landed::Quiet,
+    }
 }

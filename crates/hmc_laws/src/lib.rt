@@ -1,9 +1,10 @@
 //! The laws of lawful journals, entry by entry, of each queue and of each link.
 //!
 //! The functions have no code: their clauses are the laws. A journal is the only one of its case,
-//! goes on to the end of its schedule, gives what the script has, its executions run in order on a plain machine, its queues and
-//! links hold what they should, each direction of a link is a list, and its text shows it. The laws
-//! of requests and answers over every hop are in hmc_delivery. The definitions are in hmc_journal.
+//! goes on to the end of its schedule, gives what the script has, its executions run in order on a
+//! plain machine, its queues and links hold what they should, each direction of a link is a list,
+//! and its text shows it. The laws of requests and answers over every hop are in hmc_delivery. The
+//! definitions are in hmc_journal.
 #![tactic(auto)]
 
 mod journal_text;

@@ -1,5 +1,5 @@
 -- The landings of a link.
-use Rattle.std.proofs.Common.{◌≡◌, ◌∙◌, ℕ, Bool, true, false, not, List, ◌∷◌, Option, Some, None, refl, sym, ap}
+use Rattle.std.proofs.Common.{◌≡◌, ◌∙◌, ℕ, Bool, true, false, List, ◌∷◌, Option, Some, None, refl, ap}
 use Rattle.std.specs.Prelude.{slice_get}
 use Rattle.hmc_codes.specs.Link.{LinkFields}
 use Rattle.hmc_packet.specs.declared.outcome.Outcome.{Outcome}
@@ -16,10 +16,12 @@ use Rattle.hmc_send.specs.declared.toward.Toward.TheVariants.{Forth, Back}
 use Rattle.hmc_wire.specs.LinkLaws.{IsKept}
 use Rattle.hmc_ends.specs.declared.link_landed.LinkLanded.{LinkLanded}
 use Rattle.hmc_ends.specs.declared.link_landed.LinkLanded.TheVariants as links
+use Rattle.hmc_ends.specs.declared.link_outcome.LinkOutcome.{LinkOutcome}
 use Rattle.hmc_ends.specs.Answers.{after_call}
 use Rattle.hmc_ends.specs.End.{EndFields}
 use Rattle.hmc_link.specs.Held.{LinkHeld}
-use Rattle.hmc_ends.specs.Landings.{landing_in, link_landed, came, landing_passed, is_out_of_order}
+use Rattle.hmc_ends.specs.Landings.{landing_in, link_landed, came, is_out_of_order}
+use Rattle.hmc_ends.specs.Outcomes.{outcome_passed}
 use Rattle.hmc_ends.specs.StandsFor.{EndsStandFor, AreEnds}
 use Rattle.hmc_link.specs.StandsFor.{IsLink}
 use Rattle.hmc_ends.proofs.Steps.{Steps}
@@ -58,7 +60,7 @@ ordered link d past mask x kept is = ap is_out_of_order is ∙ by-front link d p
 
 -- ---- the link stands for it
 
-pub land-steps : (d : Toward) (mask : List ℕ) (x : LinkLanded) (s l s' l' : EndFields) → ((link : LinkFields) (d : Toward) (past : List LinkEntry) → EndsStandFor link d s l past → landing_passed x ≡ false → EndsStandFor link d s' l' (after_call link past (LinkCall.land d mask))) → landing_passed x ≡ false → Steps d (LinkCall.land d mask) s l s' l'
+pub land-steps : (d : Toward) (mask : List ℕ) (x : LinkOutcome) (s l s' l' : EndFields) → ((link : LinkFields) (d : Toward) (past : List LinkEntry) → EndsStandFor link d s l past → outcome_passed x ≡ false → EndsStandFor link d s' l' (after_call link past (LinkCall.land d mask))) → outcome_passed x ≡ false → Steps d (LinkCall.land d mask) s l s' l'
 land-steps d mask x s l s' l' crosses caught = record { after = λ link past both. crosses link d past both caught }
 
 pub ends-forth : (h : LinkHeld) → IsLink h → h.going ≡ true → AreEnds h.a h.b

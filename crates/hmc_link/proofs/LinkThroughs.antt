@@ -1,5 +1,5 @@
 -- A link that begins to forward a packet.
-use Rattle.std.proofs.Common.{◌≡◌, ◌∙◌, ℕ, Bool, true, ◌&&◌, List, ◌∷◌, Some, refl, sym, ap, subst}
+use Rattle.std.proofs.Common.{◌≡◌, ◌∙◌, ℕ, Bool, true, List, sym, ap, subst}
 use Rattle.hmc_codes.specs.Link.{LinkFields}
 use Rattle.hmc_codes.specs.Flit.{IsFlit}
 use Rattle.hmc_packet.specs.declared.feed.Feed.TheVariants.{Waiting}
@@ -12,7 +12,7 @@ use Rattle.hmc_wire.specs.LinkLaws.{IsKept}
 use Rattle.hmc_ends.specs.End.{EndFields, is_ready}
 use Rattle.hmc_link.specs.Held.{LinkHeld, sending_end}
 use Rattle.hmc_ends.specs.Parts.{EndParts, parts_of, parts_through, view_by}
-use Rattle.hmc_ends.specs.StandsFor.{EndStandsFor, EndsStandFor, CanForward}
+use Rattle.hmc_ends.specs.StandsFor.{EndStandsFor, CanForward}
 use Rattle.hmc_link.specs.StandsFor.{IsLink}
 use Rattle.hmc_ends.proofs.Steps.{Steps}
 use Rattle.hmc_ends.proofs.Throughs.{ready-held}

@@ -6,9 +6,7 @@ use Rattle.std.proofs.lemmas.List.Sums.{sum_by-cons}
 use Rattle.std.proofs.lemmas.Bool.{and_parts}
 use Rattle.std.proofs.Math.Nat.{sub-zero}
 use Rattle.hmc_codes.specs.Link.{LinkFields, IsLinkSetup}
-use Rattle.hmc_codes.specs.Profile.{most_retry}
 use Rattle.hmc_codes.specs.declared.profile.Profile.{Profile}
-use Rattle.hmc_codes.specs.declared.profile.Profile.TheVariants.{One, Two}
 use Rattle.hmc_packet.specs.declared.feed.Feed.{Feed}
 use Rattle.hmc_packet.specs.declared.what.What.{What}
 use Rattle.hmc_packet.specs.Packet.{PacketFields}

@@ -15,7 +15,8 @@
 //! that no call that changes it may be made, and nothing is claimed of what the others answer.
 //!
 //! An end (`End` of hmc_link_end) sends in one direction, and the other lands at it. What the
-//! entries of a link are to an end, what an end holds, and when the one is the other is in hmc_ends.
+//! entries of a link are to an end, what an end holds, and when the one is the other is in
+//! hmc_ends.
 //!
 //! Each direction is a list (`handed_list` of hmc_ends): what was handed and is not accepted.
 //! [`hmc_ends::directions_are_lists`] says what each entry does to it, and `handed` is its length.
@@ -25,6 +26,6 @@ mod crossing;
 mod link;
 
 pub use hmc_codes::{LinkSetup, TokenRow};
-pub use hmc_ends::{LinkLanded, LinkSent};
+pub use hmc_ends::{LinkLanded, LinkOutcome, LinkSent};
 pub use hmc_send::Toward;
 pub use link::Link;

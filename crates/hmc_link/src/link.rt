@@ -1,6 +1,6 @@
 //! A link.
 
-ghost use Rattle.std.specs.Prelude.{◌≡◌, ◌<◌, ◌+◌, ◌++◌, ◌∷◌, ◌↔◌, IsTrue, map, true, false, not, [], List, IfOk, is_some, length, nat_lt, slice_get, option_map};
+ghost use Rattle.std.specs.Prelude.{◌≡◌, ◌<◌, ◌+◌, ◌++◌, ◌∷◌, ◌↔◌, ℕ, IsTrue, map, true, false, not, [], List, IfOk, Some, is_some, length, nat_lt, slice_get, option_map};
 ghost use Rattle.hmc_codes.specs.Link.{LinkFields};
 ghost use Rattle.hmc_packet.specs.declared.feed.Feed.TheVariants.{Waiting};
 ghost use Rattle.hmc_packet.specs.Head.{head_in};
@@ -10,20 +10,26 @@ ghost use Rattle.hmc_send.specs.Entries.{through_place, through_at};
 ghost use Rattle.hmc_send.specs.Given.{IsTaken};
 ghost use Rattle.hmc_send.specs.IsSender.{IsFed};
 ghost use Rattle.hmc_send.specs.LinkCalls.{LinkCall, has_room, may_pass_on, names_flits, view_in};
-ghost use Rattle.hmc_send.specs.LinkEntries.{LinkEntry, receiver_entries};
+ghost use Rattle.hmc_send.specs.LinkEntries.{LinkEntry, other, receiver_entries};
 ghost use Rattle.hmc_send.specs.LinkSenders.{sender_entries, tokens};
 ghost use Rattle.hmc_link.specs.Held.{held_on, sending_end, landing_end};
 ghost use Rattle.hmc_ends.specs.End.{row_held, is_ready, flits_seen, IsQuiet};
 ghost use Rattle.hmc_ends.specs.Answers.{after_call, front_in, sends_none};
 ghost use Rattle.hmc_ends.specs.Landings.{landing_passed, lands_none, is_out_of_order, removed, IsUntouched};
+ghost use Rattle.hmc_ends.specs.Outcomes.{link_landed_with, outcome_passed, outcome_none};
+ghost use Rattle.hmc_receive.specs.StandsFor.{latest};
 ghost use Rattle.hmc_ends.specs.List.{handed_list, listed_packet, listed_open};
+ghost use Rattle.hmc_link_laws.specs.Lists.{list_after_send};
+ghost use Rattle.hmc_link_laws.specs.Pointers.{pointer_landed, Acknowledges};
+ghost use Rattle.hmc_link_laws.specs.Tokens.{TokensBalance};
+ghost use Rattle.hmc_link_laws.specs.Wire.{IsWire};
 ghost use Rattle.hmc_link.specs.StandsFor.{LinkStandsFor};
 ghost use Rattle.hmc_link_end.specs.Answers.{land_answer, send_answer};
 
 use crate::Toward;
 use crate::crossing::{cross, has_passed, without_landed};
 use hmc_codes::{Flit, LinkSetup, Memory, TokenRow};
-use hmc_ends::{LinkLanded, LinkSent, feed_is_bytes, flit_is_bytes};
+use hmc_ends::{LinkLanded, LinkOutcome, LinkSent, feed_is_bytes, flit_is_bytes, link_landed_with};
 use hmc_link_end::{End, token_row};
 use hmc_packet::{Feed, Mode, Packet};
 use hmc_tokens::Intake;
@@ -108,7 +114,39 @@ impl<A: Intake, B: Intake> Link<A, B> {
         }
     }
 
-    /// Hands a packet to the output queue of a direction.
+    /// Hands a packet to the output queue of a direction, which has room.
+    pub fn put(&mut self, toward: Toward, packet: &Packet)
+        requires going { self.old.going ≡ true }
+        requires room { length (sending_end toward self.old).queue
+            < (sending_end toward self.old).setup.output }
+        requires fit { IsTaken (sending_end toward self.old).setup.profile packet.now }
+        ensures stands { (link : LinkFields) (past : List LinkEntry) →
+            LinkStandsFor link self.old past →
+            LinkStandsFor link self.new (after_call link past (LinkCall.hand toward packet.now)) }
+        ensures list { (link : LinkFields) (past : List LinkEntry) →
+            LinkStandsFor link self.old past →
+            handed_list link toward (after_call link past (LinkCall.hand toward packet.now))
+            ≡ handed_list link toward past ++ listed_packet packet.now ∷ [] }
+        ensures other { (link : LinkFields) (past : List LinkEntry) →
+            LinkStandsFor link self.old past →
+            handed_list link (other toward) (after_call link past (LinkCall.hand toward packet.now))
+            ≡ handed_list link (other toward) past }
+        ensures going { self.new.going ≡ true }
+    {
+        packet.invariant();
+        match toward {
+            Toward::Forth => {
+                self.a.put(packet);
+                self.forth += 1;
+            }
+            Toward::Back => {
+                self.b.put(packet);
+                self.back += 1;
+            }
+        }
+    }
+
+    /// Hands a packet to the output queue of a direction, which has room.
     pub fn hand(&mut self, toward: Toward, packet: Packet)
         requires going { self.old.going ≡ true }
         requires room { length (sending_end toward self.old).queue
@@ -121,18 +159,26 @@ impl<A: Intake, B: Intake> Link<A, B> {
             LinkStandsFor link self.old past →
             handed_list link toward (after_call link past (LinkCall.hand toward packet))
             ≡ handed_list link toward past ++ listed_packet packet ∷ [] }
+        ensures other { (link : LinkFields) (past : List LinkEntry) →
+            LinkStandsFor link self.old past →
+            handed_list link (other toward) (after_call link past (LinkCall.hand toward packet))
+            ≡ handed_list link (other toward) past }
         ensures going { self.new.going ≡ true }
     {
-        packet.invariant();
+        self.put(toward, &packet);
+    }
+
+    /// The packet that has been longest in the buffer at the end of a direction, lent.
+    pub fn front_ref(&self, toward: Toward) -> Option<&Packet>
+        ensures value { option_map (λ packet. packet.now) result
+            ≡ slice_get (landing_end toward self.now).buffer 0 }
+        ensures by_list { (link : LinkFields) (past : List LinkEntry) →
+            LinkStandsFor link self.now past →
+            option_map (λ packet. packet.now) result ≡ front_in link toward past }
+    {
         match toward {
-            Toward::Forth => {
-                self.a.hand(packet);
-                self.forth += 1;
-            }
-            Toward::Back => {
-                self.b.hand(packet);
-                self.back += 1;
-            }
+            Toward::Forth => self.b.front_ref(),
+            Toward::Back => self.a.front_ref(),
         }
     }
 
@@ -142,9 +188,29 @@ impl<A: Intake, B: Intake> Link<A, B> {
         ensures by_list { (link : LinkFields) (past : List LinkEntry) →
             LinkStandsFor link self.now past → result ≡ front_in link toward past }
     {
+        self.front_ref(toward).copied()
+    }
+
+    /// Removes the front of the buffer at the end of a direction, if there is one; its tokens are
+    /// then due there.
+    pub fn drop_front(&mut self, toward: Toward)
+        requires { self.old.going ≡ true }
+        ensures stands { (link : LinkFields) (past : List LinkEntry) →
+            LinkStandsFor link self.old past →
+            LinkStandsFor link self.new (after_call link past (LinkCall.take toward)) }
+        ensures list { (link : LinkFields) (past : List LinkEntry) →
+            LinkStandsFor link self.old past →
+            handed_list link toward (after_call link past (LinkCall.take toward))
+            ≡ handed_list link toward past }
+        ensures other { (link : LinkFields) (past : List LinkEntry) →
+            LinkStandsFor link self.old past →
+            handed_list link (other toward) (after_call link past (LinkCall.take toward))
+            ≡ handed_list link (other toward) past }
+        ensures going { self.new.going ≡ true }
+    {
         match toward {
-            Toward::Forth => self.b.front(),
-            Toward::Back => self.a.front(),
+            Toward::Forth => self.b.drop_front(),
+            Toward::Back => self.a.drop_front(),
         }
     }
 
@@ -157,12 +223,19 @@ impl<A: Intake, B: Intake> Link<A, B> {
         ensures stands { (link : LinkFields) (past : List LinkEntry) →
             LinkStandsFor link self.old past →
             LinkStandsFor link self.new (after_call link past (LinkCall.take toward)) }
+        ensures list { (link : LinkFields) (past : List LinkEntry) →
+            LinkStandsFor link self.old past →
+            handed_list link toward (after_call link past (LinkCall.take toward))
+            ≡ handed_list link toward past }
+        ensures other { (link : LinkFields) (past : List LinkEntry) →
+            LinkStandsFor link self.old past →
+            handed_list link (other toward) (after_call link past (LinkCall.take toward))
+            ≡ handed_list link (other toward) past }
         ensures going { self.new.going ≡ true }
     {
-        match toward {
-            Toward::Forth => self.b.take(),
-            Toward::Back => self.a.take(),
-        }
+        let front = self.front(toward);
+        self.drop_front(toward);
+        front
     }
 
     /// Whether the buffer at the end of a direction holds a packet.
@@ -196,6 +269,14 @@ impl<A: Intake, B: Intake> Link<A, B> {
         ensures stands { (link : LinkFields) (past : List LinkEntry) →
             LinkStandsFor link self.old past →
             LinkStandsFor link self.new (after_call link past (LinkCall.unlock toward)) }
+        ensures list { (link : LinkFields) (past : List LinkEntry) →
+            LinkStandsFor link self.old past →
+            handed_list link toward (after_call link past (LinkCall.unlock toward))
+            ≡ handed_list link toward past }
+        ensures other { (link : LinkFields) (past : List LinkEntry) →
+            LinkStandsFor link self.old past →
+            handed_list link (other toward) (after_call link past (LinkCall.unlock toward))
+            ≡ handed_list link (other toward) past }
         ensures going { self.new.going ≡ true }
     {
         match toward {
@@ -206,7 +287,9 @@ impl<A: Intake, B: Intake> Link<A, B> {
 
     /// Sends the next flit of a direction. `Full` exactly where its line holds as many flits as it
     /// can; else `Starved` exactly where the receiver at the same end is trained, a packet that is
-    /// forwarded is under way, and its next flit isn't there.
+    /// forwarded is under way, and its next flit isn't there. Packets are on the line whole and
+    /// unmixed.
+    #[inline(always)]
     pub fn send(&mut self, toward: Toward, feed: Feed) -> LinkSent
         requires going { self.old.going ≡ true }
         requires feed { IsFed (sending_end toward self.old).sender.under_way feed }
@@ -215,6 +298,17 @@ impl<A: Intake, B: Intake> Link<A, B> {
         ensures stands { (link : LinkFields) (past : List LinkEntry) →
             LinkStandsFor link self.old past →
             LinkStandsFor link self.new (after_call link past (LinkCall.send toward feed)) }
+        ensures list { (link : LinkFields) (past : List LinkEntry) →
+            LinkStandsFor link self.old past →
+            handed_list link toward (after_call link past (LinkCall.send toward feed))
+            ≡ list_after_send link toward past feed result }
+        ensures other { (link : LinkFields) (past : List LinkEntry) →
+            LinkStandsFor link self.old past →
+            handed_list link (other toward) (after_call link past (LinkCall.send toward feed))
+            ≡ handed_list link (other toward) past }
+        ensures whole { (link : LinkFields) (past : List LinkEntry) →
+            LinkStandsFor link self.old past →
+            IsWire link toward (after_call link past (LinkCall.send toward feed)) }
         ensures idle { sends_none result ≡ true → self.new ≡ self.old }
         ensures going { self.new.going ≡ true }
     {
@@ -225,9 +319,73 @@ impl<A: Intake, B: Intake> Link<A, B> {
         }
     }
 
+    /// The packet that a direction accepted last, poisoned or not; a NULL if it accepted none.
+    pub fn latest(&self, toward: Toward) -> &Packet
+        ensures value { result.now ≡ (landing_end toward self.now).receiver.packet }
+        ensures by_list { (link : LinkFields) (past : List LinkEntry) →
+            LinkStandsFor link self.now past →
+            result.now ≡ latest link.profile (receiver_entries toward past) }
+    {
+        match toward {
+            Toward::Forth => self.b.latest(),
+            Toward::Back => self.a.latest(),
+        }
+    }
+
+    /// Lands the front of the line of a direction, as [`Link::land`]. Where a packet is accepted,
+    /// [`Link::latest`] lends it.
+    #[inline(always)]
+    pub fn land_in_place(&mut self, toward: Toward, mask: &Flit) -> LinkOutcome
+        requires { self.old.going ≡ true }
+        ensures answer { (link : LinkFields) (past : List LinkEntry) →
+            LinkStandsFor link self.old past →
+            link_landed_with result (landing_end toward self.new).receiver.packet
+            ≡ land_answer link toward past mask.now }
+        ensures stands { (link : LinkFields) (past : List LinkEntry) →
+            LinkStandsFor link self.old past → outcome_passed result ≡ false →
+            LinkStandsFor link self.new (after_call link past (LinkCall.land toward mask.now)) }
+        ensures list { (link : LinkFields) (past : List LinkEntry) →
+            LinkStandsFor link self.old past → outcome_passed result ≡ false →
+            handed_list link toward past ≡ map listed_packet (removed
+            (link_landed_with result (landing_end toward self.new).receiver.packet))
+            ++ handed_list link toward (after_call link past (LinkCall.land toward mask.now)) }
+        ensures other { (link : LinkFields) (past : List LinkEntry) →
+            LinkStandsFor link self.old past →
+            handed_list link (other toward) (after_call link past (LinkCall.land toward mask.now))
+            ≡ handed_list link (other toward) past }
+        ensures counted { (link : LinkFields) (past : List LinkEntry) (rrp : ℕ) →
+            LinkStandsFor link self.old past → outcome_passed result ≡ false →
+            pointer_landed link toward past
+            (link_landed_with result (landing_end toward self.new).receiver.packet) ≡ Some rrp →
+            Acknowledges link (other toward) past
+            (after_call link past (LinkCall.land toward mask.now)) rrp }
+        ensures idle { outcome_none result ≡ true → self.new ≡ self.old }
+        ensures going { self.new.going ≡ not (outcome_passed result) }
+        ensures ordered { is_out_of_order
+            (link_landed_with result (landing_end toward self.new).receiver.packet) ≡ false }
+        ensures a_untouched { outcome_passed result ≡ true → IsUntouched self.old.a self.new.a }
+        ensures b_untouched { outcome_passed result ≡ true → IsUntouched self.old.b self.new.b }
+    {
+        match toward {
+            Toward::Forth => {
+                let landing = cross(&mut self.a, &mut self.b, mask);
+                self.going = !has_passed(&landing);
+                self.forth = without_landed(self.forth, &landing, self.b.latest());
+                landing
+            }
+            Toward::Back => {
+                let landing = cross(&mut self.b, &mut self.a, mask);
+                self.going = !has_passed(&landing);
+                self.back = without_landed(self.back, &landing, self.a.latest());
+                landing
+            }
+        }
+    }
+
     /// Lands the front of the line of a direction, with the bits of the mask inverted. `Passed`
     /// exactly where a check succeeds over flits one of which was changed: nothing was accepted,
-    /// credited or acknowledged then, and the link is of no more use. No packet lands out of order.
+    /// credited or acknowledged then, and the link is of no more use. No packet lands out of order,
+    /// and no return pointer that is counted is stray.
     pub fn land(&mut self, toward: Toward, mask: Flit) -> LinkLanded
         requires { self.old.going ≡ true }
         ensures answer { (link : LinkFields) (past : List LinkEntry) →
@@ -239,26 +397,23 @@ impl<A: Intake, B: Intake> Link<A, B> {
             LinkStandsFor link self.old past → landing_passed result ≡ false →
             handed_list link toward past ≡ map listed_packet (removed result)
             ++ handed_list link toward (after_call link past (LinkCall.land toward mask)) }
+        ensures other { (link : LinkFields) (past : List LinkEntry) →
+            LinkStandsFor link self.old past →
+            handed_list link (other toward) (after_call link past (LinkCall.land toward mask))
+            ≡ handed_list link (other toward) past }
+        ensures counted { (link : LinkFields) (past : List LinkEntry) (rrp : ℕ) →
+            LinkStandsFor link self.old past → landing_passed result ≡ false →
+            pointer_landed link toward past result ≡ Some rrp →
+            Acknowledges link (other toward) past
+            (after_call link past (LinkCall.land toward mask)) rrp }
         ensures idle { lands_none result ≡ true → self.new ≡ self.old }
         ensures going { self.new.going ≡ not (landing_passed result) }
         ensures ordered { is_out_of_order result ≡ false }
         ensures a_untouched { landing_passed result ≡ true → IsUntouched self.old.a self.new.a }
         ensures b_untouched { landing_passed result ≡ true → IsUntouched self.old.b self.new.b }
     {
-        match toward {
-            Toward::Forth => {
-                let landed = cross(&mut self.a, &mut self.b, &mask);
-                self.going = !has_passed(&landed);
-                self.forth = without_landed(self.forth, &landed);
-                landed
-            }
-            Toward::Back => {
-                let landed = cross(&mut self.b, &mut self.a, &mask);
-                self.going = !has_passed(&landed);
-                self.back = without_landed(self.back, &landed);
-                landed
-            }
-        }
+        let landing = self.land_in_place(toward, &mask);
+        link_landed_with(&landing, self.latest(toward))
     }
 
     /// The flits that the receiver of a direction has gathered of a packet that isn't whole, the
@@ -311,7 +466,8 @@ impl<A: Intake, B: Intake> Link<A, B> {
         }
     }
 
-    /// The tokens of a direction. Their sum is the number that an end advertises.
+    /// The tokens of a direction. Their sum is the number that an end advertises, of every link
+    /// that is going, and none of them is cut off at zero.
     pub fn tokens(&self, toward: Toward) -> TokenRow
         ensures value { result
             ≡ row_held (sending_end toward self.now) (landing_end toward self.now) }
@@ -321,6 +477,11 @@ impl<A: Intake, B: Intake> Link<A, B> {
             LinkStandsFor link self.now past →
             result.held + result.transit + result.used + result.due + result.returning
             ≡ link.tokens }
+        ensures balance { (link : LinkFields) (past : List LinkEntry) →
+            LinkStandsFor link self.now past → TokensBalance link toward past result }
+        ensures going { self.now.going ≡ true →
+            result.held + result.transit + result.used + result.due + result.returning
+            ≡ (sending_end toward self.now).setup.tokens }
     {
         match toward {
             Toward::Forth => token_row(&self.a, &self.b),
@@ -356,6 +517,10 @@ impl<A: Intake, B: Intake> Link<A, B> {
             LinkStandsFor link self.old past →
             handed_list link toward (after_call link past (LinkCall.begin toward head flits))
             ≡ handed_list link toward past ++ listed_open head flits ∷ [] }
+        ensures other { (link : LinkFields) (past : List LinkEntry) →
+            LinkStandsFor link self.old past → handed_list link (other toward)
+            (after_call link past (LinkCall.begin toward head flits))
+            ≡ handed_list link (other toward) past }
         ensures going { self.new.going ≡ true }
     {
         flit_is_bytes(&head);

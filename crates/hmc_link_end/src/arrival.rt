@@ -2,32 +2,58 @@
 
 ghost use Rattle.std.specs.Prelude.{◌≡◌, ◌≤◌, ◌+◌, ◌++◌, ◌∷◌, [], ◌&&◌, ◌||◌, true, List, filter, sum_by, option_map};
 ghost use Rattle.hmc_codes.specs.Limits.{most_tokens};
+ghost use Rattle.hmc_packet.specs.Landings.{flits_in};
+ghost use Rattle.hmc_packet.specs.Receptions.{landed_with};
 ghost use Rattle.hmc_send.specs.Entries.{SenderEntry};
 ghost use Rattle.hmc_send.specs.LinkSenders.{run_entries};
 ghost use Rattle.hmc_send.specs.Places.{is_token};
 ghost use Rattle.hmc_send.specs.StandsFor.{StandsFor};
 ghost use Rattle.hmc_tokens.specs.Account.{tokens_of_code};
 ghost use Rattle.hmc_ends.specs.End.{flits_seen};
-ghost use Rattle.hmc_ends.specs.Landings.{arriving, is_start_run, noted, pending_changed, KeepsSizes};
+ghost use Rattle.hmc_ends.specs.Landings.{arriving, listed, stored, is_start_run, noted, pending_changed, KeepsSizes};
 
 use hmc_codes::{Flit, Layout};
 use hmc_packet::{Kind, Landed, Mode, Outcome, Packet};
 use hmc_send::Sender;
 use hmc_tokens::{Account, Intake, rtc_tokens};
 
-/// The packet that a landing accepted, poisoned or not.
-pub fn arriving(landed: &Landed) -> Option<Packet>
-    ensures { result ≡ arriving landed.now }
+/// This packet, if a landing with this outcome accepted it, poisoned or not.
+pub fn arriving(outcome: Outcome, packet: &Packet) -> Option<&Packet>
+    ensures { option_map (λ packet. packet.now) result
+        ≡ arriving (landed_with outcome packet.now) }
+{
+    match outcome {
+        Outcome::Accepted | Outcome::Poisoned => Some(packet),
+        Outcome::Quiet
+        | Outcome::Trained
+        | Outcome::Gathered
+        | Outcome::Repeat
+        | Outcome::AbortedBad(_)
+        | Outcome::AbortedOrder
+        | Outcome::Ran(_) => None,
+    }
+}
+
+/// The same, if it is a request or a response.
+pub fn stored_packet(outcome: Outcome, packet: &Packet) -> Option<&Packet>
+    ensures { listed (option_map (λ packet. packet.now) result)
+        ≡ stored (landed_with outcome packet.now) }
+{
+    match arriving(outcome, packet) {
+        Some(packet) if is_token(packet) => Some(packet),
+        _ => None,
+    }
+}
+
+/// The flits of the request or response that a landing accepted; 0 where it accepted none.
+pub fn flits_stored(landed: &Landed) -> u32
+    ensures { result ≡ flits_in (stored landed.now) }
 {
     match landed {
-        Landed::Accepted(packet) | Landed::Poisoned(packet) => Some(*packet),
-        Landed::Quiet
-        | Landed::Trained
-        | Landed::Gathered
-        | Landed::Repeat
-        | Landed::AbortedBad(_)
-        | Landed::AbortedOrder
-        | Landed::Ran(_) => None,
+        Landed::Accepted(packet) | Landed::Poisoned(packet) if is_token(packet) => {
+            u32::from(packet.flits())
+        }
+        _ => 0,
     }
 }
 
@@ -135,6 +161,6 @@ pub fn store<I: Intake>(intake: &mut I, account: &mut Account, packet: &Packet)
     packet.invariant();
     account.gain(rtc_tokens(packet.rtc));
     if is_token(packet) {
-        intake.take_in(*packet);
+        intake.put(packet);
     }
 }

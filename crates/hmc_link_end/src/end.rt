@@ -5,13 +5,13 @@ ghost use Rattle.hmc_send.specs.declared.toward.Toward.{Toward};
 ghost use Rattle.hmc_packet.specs.Packet.{flits_of};
 
 use crate::arrival::{
-    all_four, arriving, either, flits_seen, is_token, note, note_run, passes, pending_changed,
-    store,
+    all_four, arriving, either, flits_seen, flits_stored, is_token, note, note_run, passes,
+    pending_changed, store, stored_packet,
 };
 use circular_buffer::HeapCircularBuffer;
 use hmc_codes::{Flit, LinkSetup, Memory};
 use hmc_ends::{LinkSent, feed_is_bytes};
-use hmc_packet::{Feed, Landed, Mode, Packet, Reception};
+use hmc_packet::{Feed, Landed, Mode, Outcome, Packet, Reception};
 use hmc_receive::{Receiver, landed_with};
 use hmc_send::{Sender, Sent};
 use hmc_tokens::{Account, Intake, Queue, append};
@@ -131,19 +131,50 @@ impl<I: Intake> End<I> {
     }
 
     /// Appends a packet to the output queue.
+    #[inline(always)]
+    pub fn put(&mut self, packet: &Packet)
+        requires room { length self.old.queue < self.old.setup.output }
+        requires fit { IsTaken self.old.setup.profile packet.now }
+        ensures { self.new ≡ record self.old { queue = self.old.queue ++ packet.now ∷ [] } }
+    {
+        self.queue.put(packet);
+    }
+
+    /// Appends a packet to the output queue.
     pub fn hand(&mut self, packet: Packet)
         requires room { length self.old.queue < self.old.setup.output }
         requires fit { IsTaken self.old.setup.profile packet }
         ensures { self.new ≡ record self.old { queue = self.old.queue ++ packet ∷ [] } }
     {
-        self.queue.take_in(packet);
+        self.put(&packet);
+    }
+
+    /// The front of the buffer, lent; `None` exactly where it is empty.
+    pub fn front_ref(&self) -> Option<&Packet>
+        ensures { option_map (λ packet. packet.now) result ≡ slice_get self.now.buffer 0 }
+    {
+        self.intake.front_ref()
     }
 
     /// The front of the buffer.
     pub fn front(&self) -> Option<Packet>
         ensures { result ≡ slice_get self.now.buffer 0 }
     {
-        self.intake.front()
+        self.front_ref().copied()
+    }
+
+    /// Removes the front of the buffer, if there is one: its tokens are due.
+    pub fn drop_front(&mut self)
+        requires { ForSome (slice_get self.old.buffer 0)
+            (λ packet. self.old.account.due + flits_of packet ≤ most_tokens) }
+        ensures { self.new ≡ after_taken (slice_get self.old.buffer 0) self.old }
+    {
+        if let Some(packet) = self.intake.front_ref() {
+            let flits = packet.flits();
+            self.intake.drop_front();
+            self.stored = self.stored.saturating_sub(1);
+            self.account.owe(flits);
+        }
     }
 
     /// Takes the front of the buffer: its tokens are due.
@@ -153,10 +184,9 @@ impl<I: Intake> End<I> {
         ensures front { result ≡ slice_get self.old.buffer 0 }
         ensures left { self.new ≡ after_taken result self.old }
     {
-        let packet = self.intake.take_out()?;
-        self.stored = self.stored.saturating_sub(1);
-        self.account.owe(packet.flits());
-        Some(packet)
+        let front = self.front();
+        self.drop_front();
+        front
     }
 
     /// What the receiver waits for.
@@ -215,6 +245,7 @@ impl<I: Intake> End<I> {
     }
 
     // Sends the next flit, for which the line has room.
+    #[inline(always)]
     fn send_next(&mut self, feed: Feed) -> LinkSent
         requires can { CanSend self.old feed }
         requires feed { IsFeed feed }
@@ -243,6 +274,7 @@ impl<I: Intake> End<I> {
     }
 
     /// Sends the next flit, if the line has room.
+    #[inline(always)]
     pub fn send(&mut self, feed: Feed) -> LinkSent
         requires { CanSend self.old feed }
         ensures answer { (link : LinkFields) (p : EndParts) → EndStandsFor link self.old p →
@@ -269,6 +301,15 @@ impl<I: Intake> End<I> {
         self.line.pop_front()
     }
 
+    /// So many flits of a request or a response that was sent from here were accepted at the other
+    /// end.
+    pub fn leave_transit(&mut self, flits: u32)
+        requires { flits ≤ self.old.transit }
+        ensures { self.new ≡ record self.old { transit = self.old.transit - flits } }
+    {
+        self.transit -= flits;
+    }
+
     /// A packet that was sent from here was accepted at the other end.
     pub fn arrive(&mut self, landed: &Landed)
         requires { flits_in (stored landed.now) ≤ self.old.transit }
@@ -276,40 +317,54 @@ impl<I: Intake> End<I> {
           transit = self.old.transit - flits_in (stored landed.now);
         } }
     {
-        if let Some(packet) = arriving(landed) {
-            if is_token(&packet) {
-                self.transit -= u32::from(packet.flits());
-            }
+        self.leave_transit(flits_stored(landed));
+    }
+
+    /// The packet accepted last, poisoned or not; a NULL if none was.
+    pub fn latest(&self) -> &Packet
+        ensures value { result.now ≡ self.now.receiver.packet }
+        ensures by_list { (link : LinkFields) (p : EndParts) → EndStandsFor link self.now p →
+            result.now ≡ latest link.profile p.received }
+    {
+        self.receiver.packet()
+    }
+
+    /// The flits of the request or response that the latest landing accepted, which had this
+    /// outcome; 0 where it accepted none.
+    pub fn arrived_flits(&self, outcome: Outcome) -> u32
+        ensures { result ≡ flits_in (stored (landed_with outcome self.now.receiver.packet)) }
+    {
+        match stored_packet(outcome, self.receiver.packet()) {
+            Some(packet) => u32::from(packet.flits()),
+            None => 0,
         }
     }
 
-    // Stores the packet that a landing accepted, if it did.
-    fn store(&mut self, landed: &Landed)
-        requires held { self.old.account.held + tokens_credited (arrived_packets landed.now)
-            ≤ most_tokens }
-        requires room { sum_by flits_of self.old.buffer + flits_in (stored landed.now)
-            ≤ self.old.setup.tokens }
+    // Stores the packet that a landing with this outcome accepted, if it did.
+    fn store(&mut self, outcome: Outcome)
+        requires { CanTake outcome self.old }
         ensures { self.new ≡ record self.old {
-          buffer = self.old.buffer ++ stored landed.now;
+          buffer = self.old.buffer
+              ++ stored (landed_with outcome self.old.receiver.packet);
           account = record self.old.account {
-            held = self.old.account.held + tokens_credited (arrived_packets landed.now);
+            held = self.old.account.held
+                + tokens_credited (arrived_packets
+                (landed_with outcome self.old.receiver.packet));
           };
         } }
     {
-        if let Some(packet) = arriving(landed) {
-            store(&mut self.intake, &mut self.account, &packet);
-            if is_token(&packet) {
+        if let Some(packet) = arriving(outcome, self.receiver.packet()) {
+            store(&mut self.intake, &mut self.account, packet);
+            if is_token(packet) {
                 self.stored += 1;
             }
         }
     }
 
-    // What a landing through which no change passed gave to this end.
-    fn take_landing(&mut self, reception: Reception, changed: bool) -> Landed
-        requires { CanTake reception changed self.old }
-        ensures value { (q : Profile) (past : List ReceiverEntry) →
-            ReceiverStandsFor q self.old.receiver past →
-            result ≡ landed_with reception.outcome (latest q past) }
+    // What a landing through which no change passed leaves at this end.
+    #[inline(always)]
+    fn take_landing(&mut self, reception: Reception, changed: bool)
+        requires { CanTake reception.outcome self.old }
         ensures left { (past : List SenderEntry) → StandsFor self.old.sender past →
             StandsFor self.new.sender (run_entries reception.outcome
             ++ noted self.old.sender.retry.profile reception.rrp past) }
@@ -317,26 +372,29 @@ impl<I: Intake> End<I> {
         ensures rest { self.new ≡ record self.old {
           sender = self.new.sender;
           changed = pending_changed reception.outcome changed;
-          buffer = self.old.buffer ++ stored result;
+          buffer = self.old.buffer
+              ++ stored (landed_with reception.outcome self.old.receiver.packet);
           account = record self.old.account {
-            held = self.old.account.held + tokens_credited (arrived_packets result);
+            held = self.old.account.held
+                + tokens_credited (arrived_packets
+                (landed_with reception.outcome self.old.receiver.packet));
           };
         } }
     {
-        let landed = landed_with(reception.outcome, self.receiver.packet());
-        self.store(&landed);
+        self.store(reception.outcome);
         note(&mut self.sender, reception.rrp);
         note_run(&mut self.sender, reception.outcome);
         self.changed = pending_changed(reception.outcome, changed);
-        landed
     }
 
     /// A flit lands here, changed or not. `None` exactly where a change passes: nothing is then
-    /// accepted, credited or acknowledged.
-    pub fn land(&mut self, flit: &Flit, changed: bool) -> Option<Landed>
+    /// accepted, credited or acknowledged. Where a packet is accepted, [`End::latest`] lends it.
+    #[inline(always)]
+    pub fn land_in_place(&mut self, flit: &Flit, changed: bool) -> Option<Outcome>
         requires { CanLand flit.now changed self.old }
         ensures answer { (link : LinkFields) (d : Toward) (past : List LinkEntry)
-            (mask : List ℕ) → Lands link d past mask flit.now changed self.old → result
+            (mask : List ℕ) → Lands link d past mask flit.now changed self.old →
+            option_map (λ outcome. landed_with outcome self.new.receiver.packet) result
             ≡ landed_unless_passed (passes link.profile (other d) past mask flit.now)
             (landing_in link (other d) past flit.now) }
         ensures stands { (link : LinkFields) (d : Toward) (past : List LinkEntry)
@@ -352,7 +410,29 @@ impl<I: Intake> End<I> {
         if passes(reception.checked, changed) {
             return None;
         }
-        Some(self.take_landing(reception, changed))
+        self.take_landing(reception, changed);
+        Some(reception.outcome)
+    }
+
+    /// A flit lands here, as in [`End::land_in_place`]; the answer has the packet that is accepted.
+    pub fn land(&mut self, flit: &Flit, changed: bool) -> Option<Landed>
+        requires { CanLand flit.now changed self.old }
+        ensures answer { (link : LinkFields) (d : Toward) (past : List LinkEntry)
+            (mask : List ℕ) → Lands link d past mask flit.now changed self.old → result
+            ≡ landed_unless_passed (passes link.profile (other d) past mask flit.now)
+            (landing_in link (other d) past flit.now) }
+        ensures stands { (link : LinkFields) (d : Toward) (past : List LinkEntry)
+            (mask : List ℕ) → Lands link d past mask flit.now changed self.old →
+            passes link.profile (other d) past mask flit.now ≡ false →
+            EndStandsFor link self.new
+            (parts_of link d (entry_landed link (other d) past mask flit.now ∷ past)) }
+        ensures nothing { result ≡ None →
+            self.new ≡ record self.old { receiver = self.new.receiver } }
+    {
+        match self.land_in_place(flit, changed) {
+            None => None,
+            Some(outcome) => Some(landed_with(outcome, self.latest())),
+        }
     }
 
     /// The flits of a packet that isn't whole, which the receiver has gathered.
@@ -414,7 +494,7 @@ impl<I: Intake> End<I> {
         ensures { (link : LinkFields) (p : EndParts) → EndStandsFor link self.now p →
             result ≡ may_pass_on (view_by link p Waiting) flits }
     {
-        let empty = self.queue.front().is_none();
+        let empty = self.queue.front_ref().is_none();
         let free = self.sender.free(self.receiver.view());
         let held = u32::from(flits) <= self.account.held;
         let room = u16::from(flits) <= self.sender.room();

@@ -13,6 +13,6 @@ mod arrival;
 mod end;
 mod row;
 
-pub use arrival::{arriving, is_token};
+pub use arrival::stored_packet;
 pub use end::End;
 pub use row::token_row;

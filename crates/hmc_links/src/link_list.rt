@@ -6,8 +6,8 @@ ghost use Rattle.hmc_codes.specs.Limits.{most_links};
 ghost use Rattle.hmc_case.specs.declared.setup.LinkRow.{LinkRow};
 ghost use Rattle.hmc_journal.specs.Links.{toward};
 ghost use Rattle.hmc_ends.specs.Answers.{sends_none};
-ghost use Rattle.hmc_link_end.specs.Answers.{land_answer, send_answer};
-ghost use Rattle.hmc_ends.specs.Landings.{landing_passed, lands_none};
+ghost use Rattle.hmc_link_end.specs.Answers.{send_answer};
+ghost use Rattle.hmc_ends.specs.Outcomes.{land_outcome, outcome_passed, outcome_none};
 ghost use Rattle.hmc_link.specs.Held.{held_on};
 ghost use Rattle.hmc_link.specs.StandsFor.{LinkStandsFor};
 ghost use Rattle.hmc_packet.specs.Head.{head_in};
@@ -23,7 +23,7 @@ ghost use Rattle.hmc_links.specs.Quiet.{IsQuietLink};
 use hmc_case::LinkRow;
 use hmc_codes::{Flit, LinkSetup, Memory, TokenRow};
 use hmc_crossbar::PortBuffer;
-use hmc_link::{Link, LinkLanded, LinkSent, Toward};
+use hmc_link::{Link, LinkOutcome, LinkSent, Toward};
 use hmc_packet::{Feed, Mode, Packet};
 use std::alloc::Global;
 use std::marker::Model;
@@ -76,18 +76,19 @@ impl LinkList {
     }
 
     /// Hands a packet to the output queue of a direction.
-    pub fn hand(&mut self, direction: u8, packet: Packet)
+    pub fn hand(&mut self, direction: u8, packet: &Packet)
         requires there { IsDirection self.old direction }
-        requires may { MayHand self.old direction packet }
+        requires may { MayHand self.old direction packet.now }
         ensures { (rows : List LinkRow) (entries : ℕ → List LinkEntry) →
             LinksStandFor rows self.old entries → LinksStandFor rows self.new
-            (called rows direction (λ d. LinkCall.hand d packet) entries) }
+            (called rows direction (λ d. LinkCall.hand d packet.now) entries) }
     {
         let link = &mut self.links[usize::from(direction / 2)];
-        link.hand(toward_of(direction), packet);
+        link.put(toward_of(direction), packet);
     }
 
     /// Whether the buffer at the end of a direction holds a packet.
+    #[inline(always)]
     pub fn has_arrived(&self, direction: u8) -> bool
         requires { IsDirection self.now direction }
         ensures { IsArrival self.now direction result }
@@ -112,10 +113,11 @@ impl LinkList {
             LinksStandFor rows self.new (called rows direction LinkCall.take entries) }
     {
         let link = &mut self.links[usize::from(direction / 2)];
-        let _ = link.take(toward_of(direction));
+        link.drop_front(toward_of(direction));
     }
 
     /// Sends the next flit of a direction, with what is fed to a packet that is forwarded onto it.
+    #[inline(always)]
     pub fn send(&mut self, direction: u8, feed: Feed) -> LinkSent
         requires there { IsDirection self.old direction }
         requires may { MaySend self.old direction feed }
@@ -133,21 +135,22 @@ impl LinkList {
     }
 
     /// Lands the front of the line of a direction, with the bits of the mask inverted.
-    pub fn land(&mut self, direction: u8, mask: &Flit) -> LinkLanded
+    #[inline(always)]
+    pub fn land(&mut self, direction: u8, mask: &Flit) -> LinkOutcome
         requires there { IsDirection self.old direction }
         requires going { AreGoing self.old }
         ensures answer { (rows : List LinkRow) (entries : ℕ → List LinkEntry) →
             LinksStandFor rows self.old entries → result
-            ≡ land_answer (sizes_by rows direction) (toward direction) (entries (direction / 2))
+            ≡ land_outcome (sizes_by rows direction) (toward direction) (entries (direction / 2))
             mask.now }
         ensures stand { (rows : List LinkRow) (entries : ℕ → List LinkEntry) →
-            LinksStandFor rows self.old entries → landing_passed result ≡ false →
+            LinksStandFor rows self.old entries → outcome_passed result ≡ false →
             LinksStandFor rows self.new
             (called rows direction (λ d. LinkCall.land d mask.now) entries) }
-        ensures idle { lands_none result ≡ true → self.new ≡ self.old }
+        ensures idle { outcome_none result ≡ true → self.new ≡ self.old }
     {
         let link = &mut self.links[usize::from(direction / 2)];
-        link.land(toward_of(direction), *mask)
+        link.land_in_place(toward_of(direction), mask)
     }
 
     /// The flits that are gathered at the end of a direction, at least one. `None` where none are.
@@ -160,6 +163,7 @@ impl LinkList {
 
     /// The place, from 0, of the next flit of a packet that is forwarded onto a direction and
     /// unfinished. `None` where there is none.
+    #[inline(always)]
     pub fn through_at(&self, direction: u8) -> Option<u8>
         requires { IsDirection self.now direction }
         ensures { IsThroughAt self.now direction result }

@@ -221,6 +221,7 @@ impl Tally {
 
     /// Counts one more step: its event, whether its mask changes, and whether the receiver that it
     /// unlocks was good.
+    #[inline(always)]
     pub fn add(&mut self, event: Event, changed: bool, was_good: bool)
         requires { (most : ℕ) × (most + 1 < 2 ^ 32) × IsWithin most self.old }
         ensures counted { self.new ≡ tallied changed was_good event self.old }

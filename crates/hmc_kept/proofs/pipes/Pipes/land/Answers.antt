@@ -2,14 +2,13 @@
 use Rattle.std.proofs.Common.{◌≡◌, ◌∙◌, length, ap, sym, arith}
 use Rattle.std.specs.Prelude.{option_map}
 use Rattle.hmc_journal.specs.Piped.{while_gathered, with_landing}
-use Rattle.hmc_kept.specs.LinkAnswers.{outcome_of}
 use Rattle.hmc_kept.specs.Pipes.{PipesHeld, changed_pipe}
 use Rattle.hmc_kept.proofs.PipeLemmas.{forwarded_found, pipe_found, unchanged, change_made, may_land}
 use Rattle.hmc_kept.proofs.pipes.Pipes.land.Goals as goal
 
 pub returns-in_default : goal.returns-in_default
 returns-in_default c =
-    let outcome = outcome_of c.args.landed.now in
+    let outcome = c.args.outcome in
     let found = forwarded_found c.args.self.now c.self.inside.forwarded.items c.self.inside.pipes.items c.from.result c.args.direction c.index.result.now c.self.view_is c.from.ensures c.index.ensures c.requires.there in
     unchanged c.args.self.now c.args.direction (while_gathered outcome) (with_landing c.args.flit.now outcome) (sym found ∙ c.in_default.is)
 
@@ -26,11 +25,11 @@ land_in-requires c =
     let onto = sym found ∙ c.in-Some.is in
     let gathering = c.requires.gathering c.in-Some.onto onto in
     let pipe = pipe_found c.args.self.now c.self.inside.forwarded.items c.self.inside.pipes.items c.from-2.result c.in-Some.onto c.index_mut.result.now c.self.view_is c.from-2.ensures c.index_mut.ensures.value gathering.there in
-    may_land c.index_mut.result.now gathering.p (outcome_of c.args.landed.now) (pipe ∙ gathering.pipe) gathering.unended gathering.more (c.requires.last c.in-Some.onto gathering.p onto gathering.pipe)
+    may_land c.index_mut.result.now gathering.p c.args.outcome (pipe ∙ gathering.pipe) gathering.unended gathering.more (c.requires.last c.in-Some.onto gathering.p onto gathering.pipe)
 
 pub returns : goal.returns
 returns c =
-    let outcome = outcome_of c.args.landed.now in
+    let outcome = c.args.outcome in
     let found = forwarded_found c.args.self.now c.self.inside.forwarded.items c.self.inside.pipes.items c.from.result c.args.direction c.index.result.now c.self.view_is c.from.ensures c.index.ensures c.requires.there in
     let onto = sym found ∙ c.in-Some.is in
     let gathering = c.requires.gathering c.in-Some.onto onto in

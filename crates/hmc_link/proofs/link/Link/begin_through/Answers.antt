@@ -10,6 +10,7 @@ use Rattle.hmc_send.specs.declared.toward.Toward.{Toward}
 use Rattle.hmc_send.specs.declared.toward.Toward.TheVariants.{Forth, Back}
 use Rattle.hmc_link.proofs.Joins.{forth-both, back-both, step-forth, step-back, keep-forth, keep-back, sends-forth, sends-back}
 use Rattle.hmc_link.proofs.LinkThroughs.{begin-from, can-forth, can-back}
+use Rattle.hmc_link_laws.proofs.CallLists.{other-list}
 use Rattle.hmc_link.proofs.link.Link.begin_through.Goals as goal
 
 pub begin_through-requires : goal.begin_through-requires
@@ -61,3 +62,9 @@ returns-in-Back-clause-list g c link past s =
     (begin-list Back c.args.toward c.args.self.now c.self.inside.b c.self.inside.a c.begin_through-in-Back.new.self c.args.head c.args.flits (sends-back c.args.toward _ c.args.self.now c.in-Back.is c.self.view_is) c.requires.ready c.requires.named
     (begin-from Back c.args.toward c.args.self.now c.self.inside.b c.self.inside.a c.begin_through-in-Back.new.self c.args.head c.args.flits (sends-back c.args.toward _ c.args.self.now c.in-Back.is c.self.view_is) c.flit_is_bytes.ensures c.requires.ready c.requires.named c.begin_through-in-Back.ensures)
     link past (back-both link _ past old))
+
+pub returns-in-Forth-clause-other : goal.returns-in-Forth-clause-other
+returns-in-Forth-clause-other g c link past s = other-list link past (LinkCall.begin c.args.toward c.args.head c.args.flits)
+
+pub returns-in-Back-clause-other : goal.returns-in-Back-clause-other
+returns-in-Back-clause-other g c link past s = other-list link past (LinkCall.begin c.args.toward c.args.head c.args.flits)

@@ -8,10 +8,13 @@ use Rattle.hmc_send.specs.declared.toward.Toward.TheVariants.{Forth, Back}
 use Rattle.hmc_ends.specs.End.{EndFields}
 use Rattle.hmc_link.specs.Held.{LinkHeld}
 use Rattle.hmc_link.proofs.Joins.{step-forth, step-back, keep-forth, keep-back, sends-forth, sends-back}
-use Rattle.hmc_ends.specs.Answers.{link_sent}
 use Rattle.hmc_ends.specs.Parts.{parts_of}
 use Rattle.hmc_link.specs.StandsFor.{LinkStandsFor}
 use Rattle.hmc_ends.proofs.SendNext.{send-steps, answer-is}
+use Rattle.hmc_link_laws.specs.Lists.{list_after_send}
+use Rattle.hmc_link_laws.proofs.CallLists.{other-list, send-list}
+use Rattle.hmc_link_laws.proofs.LinkWires.{wire-is}
+use Rattle.hmc_ends.specs.Answers.{after_call, link_sent}
 use Rattle.hmc_link.proofs.link.Link.send.Goals as goal
 
 pub invariant_of-self : goal.invariant_of-self
@@ -57,3 +60,27 @@ returns-in-Forth-clause-idle g c none =
 pub returns-in-Back-clause-idle : goal.returns-in-Back-clause-idle
 returns-in-Back-clause-idle g c none =
     ap (λ (e : EndFields). record { a = c.self.inside.a; b = e; going = c.self.inside.going; forth = c.self.inside.forth; back = c.self.inside.back }) (c.send-in-Back.ensures.idle none) ∙ c.self.view_is
+
+pub returns-in-Forth-clause-list : goal.returns-in-Forth-clause-list
+returns-in-Forth-clause-list g c link past s =
+    send-list link c.args.toward past c.args.feed (returns-in-Forth-clause-stands g c link past s).kept
+    ∙ ap (list_after_send link c.args.toward past c.args.feed) (sym (returns-in-Forth-clause-answer g c link past s))
+
+pub returns-in-Forth-clause-other : goal.returns-in-Forth-clause-other
+returns-in-Forth-clause-other g c link past s = other-list link past (LinkCall.send c.args.toward c.args.feed)
+
+pub returns-in-Back-clause-list : goal.returns-in-Back-clause-list
+returns-in-Back-clause-list g c link past s =
+    send-list link c.args.toward past c.args.feed (returns-in-Back-clause-stands g c link past s).kept
+    ∙ ap (list_after_send link c.args.toward past c.args.feed) (sym (returns-in-Back-clause-answer g c link past s))
+
+pub returns-in-Back-clause-other : goal.returns-in-Back-clause-other
+returns-in-Back-clause-other g c link past s = other-list link past (LinkCall.send c.args.toward c.args.feed)
+
+pub returns-in-Forth-clause-whole : goal.returns-in-Forth-clause-whole
+returns-in-Forth-clause-whole g c link past s =
+    wire-is link c.args.toward (after_call link past (LinkCall.send c.args.toward c.args.feed)) (returns-in-Forth-clause-stands g c link past s).kept
+
+pub returns-in-Back-clause-whole : goal.returns-in-Back-clause-whole
+returns-in-Back-clause-whole g c link past s =
+    wire-is link c.args.toward (after_call link past (LinkCall.send c.args.toward c.args.feed)) (returns-in-Back-clause-stands g c link past s).kept

@@ -10,7 +10,7 @@ pub returns : goal.returns
 returns g c link p s0 =
     let s = subst (λ (e : EndFields). EndStandsFor link e p) (sym c.self.view_is) s0 in
     ready-is link _ p c.view.result c.args.flits _ _ _ _ c.all_four.result s (c.view.ensures link.profile p.received s.receiver)
-    (none-by c.is_none-empty.result c.front.result (sym c.is_none-empty.ensures) ∙ ap (λ (o : Option PacketFields). is_none o) c.front.ensures)
+    (none-by c.is_none-empty.result c.front_ref.result (sym c.is_none-empty.ensures) ∙ ap (λ (o : Option PacketFields). is_none o) c.front_ref.ensures)
     (c.free-free.ensures.by_list p.sender s.sender)
     (ap (λ (n : ℕ). nat_le n c.self.inside.account.held) c.from.ensures)
     (λ i. nat_le (c.from-2.ensures i) (c.room.ensures.by_list p.sender s.sender i))

@@ -5,5 +5,5 @@ use Rattle.hmc_links.proofs.link_list.LinkList.hand.Goals as goal
 
 pub returns : goal.returns
 returns c = λ rows entries stand.
-    called_at rows c.self.inside.links.items c.args.self.now c.args.direction c.from.result c.toward_of.result (λ d. LinkCall.hand d c.args.packet) entries c.index_mut-link.result.now c.hand.new.self c.self.view_is c.from.ensures c.index_mut-link.ensures.value c.toward_of.ensures
-    stand c.requires.there c.hand.ensures.going c.hand.ensures.stands
+    called_at rows c.self.inside.links.items c.args.self.now c.args.direction c.from.result c.toward_of.result (λ d. LinkCall.hand d c.args.packet.now) entries c.index_mut-link.result.now c.put.new.self c.self.view_is c.from.ensures c.index_mut-link.ensures.value c.toward_of.ensures
+    stand c.requires.there c.put.ensures.going c.put.ensures.stands
