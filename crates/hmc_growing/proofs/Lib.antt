@@ -1,0 +1,4 @@
+pub mod AddedStep
+pub mod HostEnds
+pub mod AddedItem
+mod Worked

@@ -1,0 +1,41 @@
+//! Why a session refuses a call.
+
+ghost use Rattle.std.specs.Prelude.{◌≡◌};
+
+use hmc_codes::Memory;
+
+/// Why a step isn't taken. The first of several causes counts.
+#[derive(Clone, Copy, Debug, PartialEq, Eq)]
+pub enum NotTaken {
+    /// It names a part that isn't there.
+    Unknown,
+    /// A landing passed, or `MOST_TAKEN` steps were taken.
+    Over,
+    /// It is a give of a host that has given all of its requests and may be asked for more.
+    Waits,
+}
+
+/// Why a host isn't asked for a request. The first of several causes counts.
+#[derive(Clone, Copy, Debug, PartialEq, Eq)]
+pub enum NotAsked {
+    /// There is no such host.
+    NoHost,
+    /// There is no such cube.
+    NoCube,
+    /// The host is finished.
+    Finished,
+    /// The host was asked for `MOST_REQUESTS` requests.
+    Full,
+    /// Out of memory.
+    Memory,
+}
+
+impl From<Memory> for NotAsked {
+    ghost use Rattle.hmc_session.specs.declared.refusal.NotAsked.TheVariants.{Memory};
+
+    ghost from_gives = { λ _ r. r ≡ Memory };
+
+    fn from(_: Memory) -> Self {
+        NotAsked::Memory
+    }
+}
