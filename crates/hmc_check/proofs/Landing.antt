@@ -9,9 +9,9 @@ use Rattle.hmc_send.specs.LinkCalls as calls
 use Rattle.hmc_send.specs.LinkEntries.{LinkEntry}
 use Rattle.hmc_send.specs.LinkLines.{StampedFlit, line}
 use Rattle.hmc_ends.specs.End.{EndFields}
-use Rattle.hmc_ends.specs.Landings.{link_landed, came, landing_passed}
-use Rattle.hmc_ends.specs.declared.link_landed.LinkLanded.{LinkLanded}
-use Rattle.hmc_ends.specs.declared.link_landed.LinkLanded.TheVariants as lands
+use Rattle.hmc_ends.specs.Outcomes.{front_outcome, came_as, outcome_passed}
+use Rattle.hmc_ends.specs.declared.link_outcome.LinkOutcome.{LinkOutcome}
+use Rattle.hmc_ends.specs.declared.link_outcome.LinkOutcome.TheVariants as lands
 use Rattle.hmc_serial.specs.Machine.{machine_of}
 use Rattle.hmc_schedule.specs.declared.step.Step.{Step}
 use Rattle.hmc_schedule.specs.declared.step.Step.TheVariants as steps
@@ -27,7 +27,7 @@ use Rattle.hmc_journal.proofs.LinkKept.{line-flit}
 use Rattle.hmc_journal.proofs.Moves.{arrives}
 use Rattle.hmc_kept.specs.After.{entries_after, pipes_after}
 use Rattle.hmc_kept.specs.Hosts.{hosts_after, IsHostIn}
-use Rattle.hmc_kept.specs.LinkAnswers.{outcome_of, landed_by, landing_goes_on, after_landing, IsCameFlit}
+use Rattle.hmc_kept.specs.LinkAnswers.{landed_by, landing_goes_on, after_landing, IsCameFlit}
 use Rattle.hmc_kept.specs.Called.{taken_where, sizes_by, called}
 use Rattle.hmc_kept.specs.Pipes.{IsLastOf, forwarded_at}
 use Rattle.hmc_kept.proofs.Called.{taken_calls}
@@ -47,22 +47,22 @@ use Rattle.hmc_kept.proofs.Forwarded.{is_last}
 -- ---- the entry
 
 -- what a landing gives, by the entries of its link
-abbrev pub IsLanding : List LinkRow → (direction : ℕ) → (mask : List ℕ) → (ℕ → List LinkEntry) → LinkLanded → Type 0
-IsLanding rows direction mask entries landed = landed ≡ link_landed (sizes_by rows direction) (toward direction) (entries (direction / 2)) mask (slice_get (line (sizes_by rows direction).profile (toward direction) (entries (direction / 2))) 0)
+abbrev pub IsLanding : List LinkRow → (direction : ℕ) → (mask : List ℕ) → (ℕ → List LinkEntry) → LinkOutcome → Type 0
+IsLanding rows direction mask entries landed = landed ≡ front_outcome (sizes_by rows direction) (toward direction) (entries (direction / 2)) mask (slice_get (line (sizes_by rows direction).profile (toward direction) (entries (direction / 2))) 0)
 
-land_next : (setup : Setup) (past : List Entry) (direction : ℕ) (mask : List ℕ) (landed : LinkLanded) → IsLanding setup.topology.links direction mask (view_of setup past).entries landed → landed_by direction landed ≡ next setup past (steps.Land direction mask)
+land_next : (setup : Setup) (past : List Entry) (direction : ℕ) (mask : List ℕ) (landed : LinkOutcome) → IsLanding setup.topology.links direction mask (view_of setup past).entries landed → landed_by direction landed ≡ next setup past (steps.Land direction mask)
 unfolding next choice
 land_next setup past direction mask landed is =
     ap (landed_by direction) is ∙ landed_same direction (sizes_by setup.topology.links direction) (toward direction) ((view_of setup past).entries (direction / 2)) mask _ refl
 
 -- ---- the parts that stay
 
-landed_queues : (setup : Setup) (past : List Entry) (direction : ℕ) (landed : LinkLanded) (inside : QueueId → List PacketFields) (q : QueueId) → IsCubeQueue q → inside q ≡ moved (leaves past (landed_by direction landed)) (arrives setup.topology past (landed_by direction landed)) inside q
+landed_queues : (setup : Setup) (past : List Entry) (direction : ℕ) (landed : LinkOutcome) (inside : QueueId → List PacketFields) (q : QueueId) → IsCubeQueue q → inside q ≡ moved (leaves past (landed_by direction landed)) (arrives setup.topology past (landed_by direction landed)) inside q
 landed_queues setup past direction lands.Empty inside q inner = idle_queues setup past (steps.Land direction zero_flit) causes.Empty inside q
 landed_queues setup past direction (lands.Passed flit) inside q inner = outer_queues setup.topology past (Passed direction flit) inside q tt inner
-landed_queues setup past direction (lands.Came flit landed) inside q inner = outer_queues setup.topology past (Landed direction flit (outcome_of landed)) inside q tt inner
+landed_queues setup past direction (lands.Came flit landed) inside q inner = outer_queues setup.topology past (Landed direction flit landed) inside q tt inner
 
-landed_stay : (direction : ℕ) (landed : LinkLanded) (setup : Setup) (past : List Entry) (old : PastFields) → (old.hosts ≡ hosts_after (landed_by direction landed) old.hosts) × IsHostIn old.hosts (landed_by direction landed) × (after_landing direction landed old.piped ≡ pipes_after setup.topology (view_of setup past) (landed_by direction landed) old.piped) × (machine_of old.cubes old.slots ≡ worked (landed_by direction landed) (machine_of old.cubes old.slots))
+landed_stay : (direction : ℕ) (landed : LinkOutcome) (setup : Setup) (past : List Entry) (old : PastFields) → (old.hosts ≡ hosts_after (landed_by direction landed) old.hosts) × IsHostIn old.hosts (landed_by direction landed) × (after_landing direction landed old.piped ≡ pipes_after setup.topology (view_of setup past) (landed_by direction landed) old.piped) × (machine_of old.cubes old.slots ≡ worked (landed_by direction landed) (machine_of old.cubes old.slots))
 landed_stay direction lands.Empty setup past old = (refl, tt, refl, refl)
 landed_stay direction (lands.Passed flit) setup past old = (refl, tt, refl, refl)
 landed_stay direction (lands.Came flit landed) setup past old = (refl, tt, refl, refl)
@@ -88,11 +88,11 @@ line_long setup past p direction front holds there at =
 -- ---- conditions of the calls
 
 -- what the ends say of a landing
-abbrev pub Answers : List EndFields → (direction : ℕ) → (mask : List ℕ) → LinkLanded → Type 0
+abbrev pub Answers : List EndFields → (direction : ℕ) → (mask : List ℕ) → LinkOutcome → Type 0
 Answers ends direction mask landed = (rows : List LinkRow) (entries : ℕ → List LinkEntry) → EndsHold rows ends entries → IsLanding rows direction mask entries landed
 
-abbrev pub Stands : List EndFields → List EndFields → (direction : ℕ) → (mask : List ℕ) → LinkLanded → Type 0
-Stands ends between direction mask landed = (rows : List LinkRow) (entries : ℕ → List LinkEntry) → EndsHold rows ends entries → landing_passed landed ≡ false → EndsHold rows between (called rows direction (λ d. LinkCall.land d mask) entries)
+abbrev pub Stands : List EndFields → List EndFields → (direction : ℕ) → (mask : List ℕ) → LinkOutcome → Type 0
+Stands ends between direction mask landed = (rows : List LinkRow) (entries : ℕ → List LinkEntry) → EndsHold rows ends entries → outcome_passed landed ≡ false → EndsHold rows between (called rows direction (λ d. LinkCall.land d mask) entries)
 
 pub hold_between : (p : PastFields) (step : Step) (direction : ℕ) (mask flit : List ℕ) (landed : _) (between : List EndFields) → IsNextOfSome p step → Stands p.ends between direction mask (lands.Came flit landed) → HoldSome between
 hold_between p step direction mask flit landed between some stand = record {
@@ -101,7 +101,7 @@ hold_between p step direction mask flit landed between some stand = record {
   hold = stand some.setup.topology.links (view_of some.setup some.past).entries (ends_stay some.setup some.past p step some.is) refl;
 }
 
-pub last_landing : (p : PastFields) (step : Step) (direction : ℕ) (mask flit : List ℕ) (landed : _) → IsNextOfSome p step → direction < directions_in p.topology → Answers p.ends direction mask (lands.Came flit landed) → IsLastOf p.piped direction (outcome_of landed)
+pub last_landing : (p : PastFields) (step : Step) (direction : ℕ) (mask flit : List ℕ) (landed : _) → IsNextOfSome p step → direction < directions_in p.topology → Answers p.ends direction mask (lands.Came flit landed) → IsLastOf p.piped direction landed
 last_landing p step direction mask flit landed some there answer =
     let setup = some.setup in
     let past = some.past in
@@ -111,10 +111,10 @@ last_landing p step direction mask flit landed some there answer =
 
 -- ---- land
 
-ends_after : (setup : Setup) (past : List Entry) (old : PastFields) (direction : ℕ) (mask : List ℕ) (landed : LinkLanded) (between ends : List EndFields) → IsNextStep setup past old (steps.Land direction mask) → direction < directions_in setup.topology → length mask ≡ 16 → IsCameFlit landed
+ends_after : (setup : Setup) (past : List Entry) (old : PastFields) (direction : ℕ) (mask : List ℕ) (landed : LinkOutcome) (between ends : List EndFields) → IsNextStep setup past old (steps.Land direction mask) → direction < directions_in setup.topology → length mask ≡ 16 → IsCameFlit landed
     → Answers old.ends direction mask landed → Stands old.ends between direction mask landed
     → ((rows : List LinkRow) (entries : ℕ → List LinkEntry) → EndsHold rows between entries → EndsHold rows ends (taken_where (landing_goes_on old.piped direction landed) rows direction entries))
-    → landing_passed landed ≡ false → EndsHold setup.topology.links ends (entries_after setup.topology (view_of setup past) (landed_by direction landed))
+    → outcome_passed landed ≡ false → EndsHold setup.topology.links ends (entries_after setup.topology (view_of setup past) (landed_by direction landed))
 ends_after setup past old direction mask landed between ends is there long size answer stand take fine =
     let rows = setup.topology.links in
     let view = view_of setup past in
@@ -124,8 +124,8 @@ ends_after setup past old direction mask landed between ends is there long size 
     let here : (link : ℕ) → called rows direction (λ d. LinkCall.land d mask) view.entries link ≡ landed_on setup.topology view entry link = λ link.
     landed_entries setup.topology view direction link mask _ refl long
     (λ f at. line_long setup past old direction f is.holds there at)
-    (sym (ap landing_passed says) ∙ fine)
-    ∙ ap (λ (l : LinkLanded). landed_on setup.topology view (landed_by direction l) link) (sym says) in
+    (sym (ap outcome_passed says) ∙ fine)
+    ∙ ap (λ (l : LinkOutcome). landed_on setup.topology view (landed_by direction l) link) (sym says) in
     same_hold rows ends (taken_where (landing_goes_on old.piped direction landed) rows direction (landed_on setup.topology view entry)) (entries_after setup.topology view entry)
     (λ link. taken_calls rows direction link (landing_goes_on old.piped direction landed) (landed_on setup.topology view entry) (holds_landed setup.topology view old.piped direction mask landed (laws_of setup past old is.holds) there (forwarded_seen setup past old direction is.holds there) says size)
     ∙ taken_after setup.topology view old.piped direction link landed (forwarded_seen setup past old direction is.holds there))
@@ -135,10 +135,10 @@ count_by : (setup : Setup) (past : List Entry) (old : PastFields) (step : Step) 
 count_by setup past old step ends true entries is same hold = same refl ∙ is.holds.sized.ends
 count_by setup past old step ends false entries is same hold = subst (λ (t : Topology). length ends ≡ directions_in t) (sym is.holds.topology) (hold refl).count
 
-pub land_takes : (old new : PastFields) (direction : ℕ) (mask : List ℕ) (landed : LinkLanded) (between ends : List EndFields) → IsCameFlit landed
+pub land_takes : (old new : PastFields) (direction : ℕ) (mask : List ℕ) (landed : LinkOutcome) (between ends : List EndFields) → IsCameFlit landed
     → Answers old.ends direction mask landed → Stands old.ends between direction mask landed
     → ((rows : List LinkRow) (entries : ℕ → List LinkEntry) → EndsHold rows between entries → EndsHold rows ends (taken_where (landing_goes_on old.piped direction landed) rows direction entries))
-    → (landing_passed landed ≡ true → length ends ≡ length old.ends)
+    → (outcome_passed landed ≡ true → length ends ≡ length old.ends)
     → new ≡ record old { ends = ends; piped = after_landing direction landed old.piped; last = landed_by direction landed } → TakesStep old new (steps.Land direction mask)
 land_takes old new direction mask landed between ends size answer stand take same now =
     subst (λ (p : PastFields). TakesStep old p (steps.Land direction mask)) (sym now)
@@ -166,7 +166,7 @@ land_takes old new direction mask landed between ends size answer stand take sam
           fits = sized.fits;
           cubes = sized.cubes;
           hosts = sized.hosts;
-          ends = count_by setup past old (steps.Land direction mask) ends (landing_passed landed) _ is same hold;
+          ends = count_by setup past old (steps.Land direction mask) ends (outcome_passed landed) _ is same hold;
           piped = landing_counted old.piped direction (directions_in old.topology) landed sized.piped;
         };
       };

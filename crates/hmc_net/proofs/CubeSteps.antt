@@ -322,6 +322,17 @@ bank_does net now cube vault bank ran ready there parts says shape now_is =
       idle = λ cause is. ap₂ (λ (l : List CubeFields) (s : List (Option UnitFields)). with_all net l net.hosts s net.links (ran_entry unit step ran)) (bank_idle net.cubes net.slots cube vault bank unit step ran cause is) (ran_slots_idle x.state net.slots unit step ran cause is);
     })
 
+-- a cube whose place is written as it is
+same_cube : (net : NetState) (cube : ℕ) → with_cube cube (λ x. x) net.cubes ≡ net.cubes
+same_cube net cube = set-get_or net.cubes cube no_cube
+
+-- the front of a bank's queue waits
+pub bank_full : (net now : NetState) (cube vault bank : ℕ) → IsReady net → IsBankIn net.topology cube vault bank → AreParts (cube_in net.cubes cube) → bank_says (cube_in net.cubes cube) net.slots vault bank ≡ runs_as.Full
+    → now ≡ record net { last = entries.Idle (steps.Bank cube vault bank) causes.Full } → DoesStep net now (steps.Bank cube vault bank)
+bank_full net now cube vault bank ready there parts full now_is =
+    bank_does net now cube vault bank runs_as.Full ready there parts (sym full) refl
+    (now_is ∙ ap (λ (cubes : List CubeFields). with_all net cubes net.hosts net.slots net.links (entries.Idle (steps.Bank cube vault bank) causes.Full)) (sym (same_cube net cube)))
+
 pub bank_none : (net now : NetState) (cube vault bank : ℕ) → IsSized net → bank_at (vault_at (cube_in net.cubes cube) vault) bank ≡ [] → now ≡ record net { last = entries.Idle (steps.Bank cube vault bank) causes.Empty } → DoesStep net now (steps.Bank cube vault bank)
 unfolding choice
 bank_none net now cube vault bank sized none now_is =

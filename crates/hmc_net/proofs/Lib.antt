@@ -21,4 +21,6 @@ pub mod Quiet
 pub mod Still
 pub mod FinalStands
 pub mod HeldIs
+pub mod Growing
+pub mod Asking
 mod Worked

@@ -9,8 +9,8 @@ use Rattle.hmc_send.specs.LinkEntries.{LinkEntry}
 use Rattle.hmc_send.specs.LinkLines.{line}
 use Rattle.hmc_link.specs.Held.{LinkHeld}
 use Rattle.hmc_ends.specs.Answers.{link_sent, sends_none}
-use Rattle.hmc_ends.specs.Landings.{link_landed, landing_passed, lands_none}
-use Rattle.hmc_ends.specs.declared.link_landed.LinkLanded.{LinkLanded}
+use Rattle.hmc_ends.specs.Outcomes.{front_outcome, outcome_passed, outcome_none}
+use Rattle.hmc_ends.specs.declared.link_outcome.LinkOutcome.{LinkOutcome}
 use Rattle.hmc_ends.specs.declared.link_sent.LinkSent.{LinkSent}
 use Rattle.hmc_schedule.specs.declared.step.Step.{Step}
 use Rattle.hmc_schedule.specs.declared.step.Step.TheVariants as steps
@@ -47,11 +47,11 @@ send_for own old now last direction place feed sent same ready there last_is at 
     (λ is. send_does own (record own { links = now; last = last }) direction feed sent now is
     (λ view sees. feed_seen own.topology view own.piped direction place feed (sees.shows.pipes direction (subst (λ (n : NetState). direction < directions_in n.topology) (sym same) there)) (at own.topology.links view.entries sees.shows.links) fed_is) answer stand none (ap (λ (e : Entry). with_parts own own.cubes own.hosts now e) last_is))
 
-pub land_for : (own old : NetState) (between now : List LinkHeld) (piped : PipesHeld) (last : Entry) (direction : ℕ) (mask : List ℕ) (landed : LinkLanded) → own ≡ old → IsReady old → IsLandingIn old.topology direction (length mask) → last ≡ landed_by direction landed → IsCameFlit landed
+pub land_for : (own old : NetState) (between now : List LinkHeld) (piped : PipesHeld) (last : Entry) (direction : ℕ) (mask : List ℕ) (landed : LinkOutcome) → own ≡ old → IsReady old → IsLandingIn old.topology direction (length mask) → last ≡ landed_by direction landed → IsCameFlit landed
     → ((rows : List LinkRow) (entries : ℕ → List LinkEntry) → LinksStandFor rows own.links entries → landed
-    ≡ link_landed (sizes_by rows direction) (toward direction) (entries (direction / 2)) mask (slice_get (line (sizes_by rows direction).profile (toward direction) (entries (direction / 2))) 0))
-    → ((rows : List LinkRow) (entries : ℕ → List LinkEntry) → LinksStandFor rows own.links entries → landing_passed landed ≡ false → LinksStandFor rows between (called rows direction (λ d. LinkCall.land d mask) entries))
-    → (lands_none landed ≡ true → between ≡ own.links)
+    ≡ front_outcome (sizes_by rows direction) (toward direction) (entries (direction / 2)) mask (slice_get (line (sizes_by rows direction).profile (toward direction) (entries (direction / 2))) 0))
+    → ((rows : List LinkRow) (entries : ℕ → List LinkEntry) → LinksStandFor rows own.links entries → outcome_passed landed ≡ false → LinksStandFor rows between (called rows direction (λ d. LinkCall.land d mask) entries))
+    → (outcome_none landed ≡ true → between ≡ own.links)
     → ((rows : List LinkRow) (entries : ℕ → List LinkEntry) → LinksStandFor rows between entries → LinksStandFor rows now (taken_where (landing_goes_on own.piped direction landed) rows direction entries))
     → (landing_goes_on own.piped direction landed ≡ false → now ≡ between)
     → piped ≡ after_landing direction landed own.piped

@@ -9,9 +9,9 @@ use Rattle.hmc_send.specs.LinkEntries.{LinkEntry}
 use Rattle.hmc_send.specs.LinkLines.{line}
 use Rattle.hmc_ends.specs.Answers.{link_sent, sends_none}
 use Rattle.hmc_link.specs.Held.{LinkHeld}
-use Rattle.hmc_ends.specs.Landings.{link_landed, came, landing_passed, lands_none}
-use Rattle.hmc_ends.specs.declared.link_landed.LinkLanded.{LinkLanded}
-use Rattle.hmc_ends.specs.declared.link_landed.LinkLanded.TheVariants as lands
+use Rattle.hmc_ends.specs.Outcomes.{front_outcome, came_as, outcome_passed, outcome_none}
+use Rattle.hmc_ends.specs.declared.link_outcome.LinkOutcome.{LinkOutcome}
+use Rattle.hmc_ends.specs.declared.link_outcome.LinkOutcome.TheVariants as lands
 use Rattle.hmc_ends.specs.declared.link_sent.LinkSent.{LinkSent}
 use Rattle.hmc_ends.specs.declared.link_sent.LinkSent.TheVariants as links
 use Rattle.hmc_schedule.specs.declared.step.Step.TheVariants as steps
@@ -49,7 +49,7 @@ sent_leaves net view direction links.Full = (refl, refl, tt, tt, refl)
 sent_leaves net view direction links.Starved = (refl, refl, tt, tt, refl)
 sent_leaves net view direction (links.Out flit what) = (refl, refl, tt, tt, refl)
 
-landed_leaves : (net : NetState) (view : StepView) (direction : ℕ) (landed : LinkLanded) → leaves_parts net view (landed_by direction landed)
+landed_leaves : (net : NetState) (view : StepView) (direction : ℕ) (landed : LinkOutcome) → leaves_parts net view (landed_by direction landed)
 landed_leaves net view direction lands.Empty = (refl, refl, tt, tt, refl)
 landed_leaves net view direction (lands.Passed flit) = (refl, refl, tt, tt, refl)
 landed_leaves net view direction (lands.Came flit landed) = (refl, refl, tt, tt, refl)
@@ -59,7 +59,7 @@ sent_piped net view direction links.Full = refl
 sent_piped net view direction links.Starved = refl
 sent_piped net view direction (links.Out flit what) = refl
 
-landed_piped : (net : NetState) (view : StepView) (direction : ℕ) (landed : LinkLanded) → after_landing direction landed net.piped ≡ pipes_after net.topology view (landed_by direction landed) net.piped
+landed_piped : (net : NetState) (view : StepView) (direction : ℕ) (landed : LinkOutcome) → after_landing direction landed net.piped ≡ pipes_after net.topology view (landed_by direction landed) net.piped
 landed_piped net view direction lands.Empty = refl
 landed_piped net view direction (lands.Passed flit) = refl
 landed_piped net view direction (lands.Came flit landed) = refl
@@ -102,11 +102,11 @@ may_send net direction feed ready there fed = record {
 
 -- ---- land
 
-pub land_does : (net now : NetState) (direction : ℕ) (mask : List ℕ) (landed : LinkLanded) (between own : List LinkHeld) (piped : PipesHeld) → IsReady net → IsLandingIn net.topology direction (length mask)
+pub land_does : (net now : NetState) (direction : ℕ) (mask : List ℕ) (landed : LinkOutcome) (between own : List LinkHeld) (piped : PipesHeld) → IsReady net → IsLandingIn net.topology direction (length mask)
     → ((rows : List LinkRow) (entries : ℕ → List LinkEntry) → LinksStandFor rows net.links entries → landed
-    ≡ link_landed (sizes_by rows direction) (toward direction) (entries (direction / 2)) mask (slice_get (line (sizes_by rows direction).profile (toward direction) (entries (direction / 2))) 0))
-    → ((rows : List LinkRow) (entries : ℕ → List LinkEntry) → LinksStandFor rows net.links entries → landing_passed landed ≡ false → LinksStandFor rows between (called rows direction (λ d. LinkCall.land d mask) entries))
-    → (lands_none landed ≡ true → between ≡ net.links)
+    ≡ front_outcome (sizes_by rows direction) (toward direction) (entries (direction / 2)) mask (slice_get (line (sizes_by rows direction).profile (toward direction) (entries (direction / 2))) 0))
+    → ((rows : List LinkRow) (entries : ℕ → List LinkEntry) → LinksStandFor rows net.links entries → outcome_passed landed ≡ false → LinksStandFor rows between (called rows direction (λ d. LinkCall.land d mask) entries))
+    → (outcome_none landed ≡ true → between ≡ net.links)
     → ((rows : List LinkRow) (entries : ℕ → List LinkEntry) → LinksStandFor rows between entries → LinksStandFor rows own (taken_where (landing_goes_on net.piped direction landed) rows direction entries))
     → (landing_goes_on net.piped direction landed ≡ false → own ≡ between)
     → piped ≡ after_landing direction landed net.piped → AreCounted (directions_in net.topology) piped
@@ -125,12 +125,12 @@ land_does net now direction mask landed between own piped ready there answer sta
       piped_are = λ view sees. piped_is ∙ landed_piped net view direction landed;
       links_are = λ view sees on.
           (let says = answer rows view.entries sees.shows.links in
-          let fine : landing_passed landed ≡ false = sym (passed_same direction landed) ∙ on in
+          let fine : outcome_passed landed ≡ false = sym (passed_same direction landed) ∙ on in
           let came : (link : ℕ) → called rows direction (λ d. LinkCall.land d mask) view.entries link ≡ landed_on net.topology view (landed_by direction landed) link = λ link.
           landed_entries net.topology view direction link mask _ refl there.long
           (λ f at. (line-flit (sizes_by rows direction) (view.entries (direction / 2)) (toward direction) f (one_there rows net.links view.entries direction sees.shows.links there.some_direction).kept at).long)
-          (sym (ap landing_passed says) ∙ fine)
-          ∙ ap (λ (l : LinkLanded). landed_on net.topology view (landed_by direction l) link) (sym says) in
+          (sym (ap outcome_passed says) ∙ fine)
+          ∙ ap (λ (l : LinkOutcome). landed_on net.topology view (landed_by direction l) link) (sym says) in
           same_entries rows own (taken_where (landing_goes_on net.piped direction landed) rows direction (landed_on net.topology view (landed_by direction landed))) (entries_after net.topology view (landed_by direction landed))
           (take rows (landed_on net.topology view (landed_by direction landed)) (same_entries rows between (called rows direction (λ d. LinkCall.land d mask) view.entries) (landed_on net.topology view (landed_by direction landed)) (stand rows view.entries sees.shows.links fine) came))
           (λ link. taken_calls rows direction link (landing_goes_on net.piped direction landed) (landed_on net.topology view (landed_by direction landed)) (holds view sees)

@@ -11,3 +11,4 @@ pub mod Went
 pub mod Gives
 pub mod Links
 pub mod Finished
+pub mod Asked

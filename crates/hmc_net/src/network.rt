@@ -44,6 +44,7 @@ use hmc_wiring::Wiring;
 use std::alloc::Global;
 use std::marker::Model;
 
+mod asking;
 mod counting;
 mod cubes;
 mod finished;
@@ -113,6 +114,7 @@ impl<B: Workbench> Network<B> {
     ///
     /// The network stands for some case and the entries of its steps, this is the case's next step,
     /// and no landing passed.
+    #[inline(always)]
     pub fn step(&mut self, step: &Step) -> Went
         requires { (setup : Setup) × (past : List Entry) ×
             IsNext (net_of B.slots self.old) setup past step.now }
@@ -146,6 +148,7 @@ impl<B: Workbench> Network<B> {
     }
 
     // What the step does.
+    #[inline(always)]
     fn act(&mut self, step: &Step)
         requires there { IsStepFor self.old.topology step.now }
         requires ready { IsReady (net_of B.slots self.old) }

@@ -6,7 +6,7 @@ ghost use Rattle.hmc_case.specs.declared.setup.LinkRow.{LinkRow};
 ghost use Rattle.hmc_send.specs.LinkEntries.{LinkEntry};
 ghost use Rattle.hmc_entries.specs.declared.entry.Entry.{Entry};
 ghost use Rattle.hmc_journal.specs.Piped.{goes_on};
-ghost use Rattle.hmc_kept.specs.LinkAnswers.{outcome_of, sent_by};
+ghost use Rattle.hmc_kept.specs.LinkAnswers.{sent_by};
 ghost use Rattle.hmc_kept.specs.Called.{taken_where};
 ghost use Rattle.hmc_kept.specs.Pipes.{AreGathering, IsLastOf, forwarded_at, after_flit};
 ghost use Rattle.hmc_directions.specs.Ends.{EndsHold, HoldSome, IsDirection};
@@ -15,10 +15,10 @@ ghost use Rattle.hmc_check.specs.Past.{past_of, TakesStep, IsNextOfSome};
 use crate::past::Past;
 use hmc_codes::{Flit, ZERO_FLIT};
 use hmc_directions::Ends;
-use hmc_ends::{LinkLanded, flit_is_bytes};
+use hmc_ends::{LinkOutcome, flit_is_bytes};
 use hmc_entries::Cause;
-use hmc_kept::{goes_on, note_sent, outcome_of};
-use hmc_packet::Landed;
+use hmc_kept::{goes_on, note_sent};
+use hmc_packet::Outcome;
 use hmc_schedule::Step;
 use hmc_units::Workbench;
 
@@ -42,39 +42,39 @@ impl<B: Workbench> Past<B> {
             (Step.Land direction mask.now) }
     {
         match self.ends.land(direction, mask) {
-            LinkLanded::Empty => self
+            LinkOutcome::Empty => self
                 .last
                 .idle(&Step::Land(direction, ZERO_FLIT), Cause::Empty),
-            LinkLanded::Passed(flit) => self.last.passed(direction, &flit),
-            LinkLanded::Came { flit, outcome } => {
+            LinkOutcome::Passed(flit) => self.last.passed(direction, &flit),
+            LinkOutcome::Came { flit, outcome } => {
                 flit_is_bytes(&flit);
-                self.landed(direction, &flit, &outcome);
+                self.landed(direction, &flit, outcome);
             }
         }
     }
 
     // A flit landed, and none passed. A packet that is accepted while it is forwarded goes on at
     // once.
-    fn landed(&mut self, direction: u8, flit: &Flit, landed: &Landed)
+    fn landed(&mut self, direction: u8, flit: &Flit, outcome: Outcome)
         requires there { direction < length self.old.piped.forwarded }
         requires ends { IsDirection self.old.ends direction }
         requires taken { HoldSome self.old.ends }
         requires gathering { AreGathering self.old.piped direction }
-        requires last { IsLastOf self.old.piped direction (outcome_of landed.now) }
+        requires last { IsLastOf self.old.piped direction outcome }
         ensures parts { (past_of B.slots self.new) ≡ record (past_of B.slots self.old) {
           ends = self.new.ends;
-          piped = after_flit direction flit.now (outcome_of landed.now) self.old.piped;
-          last = Entry.Landed direction flit.now (outcome_of landed.now);
+          piped = after_flit direction flit.now outcome self.old.piped;
+          last = Entry.Landed direction flit.now outcome;
         } }
         ensures ends { (rows : List LinkRow) (entries : ℕ → List LinkEntry) →
             EndsHold rows self.old.ends entries → EndsHold rows self.new.ends
-            (taken_where (goes_on (outcome_of landed.now) (forwarded_at self.old.piped direction))
+            (taken_where (goes_on outcome (forwarded_at self.old.piped direction))
             rows direction entries) }
     {
-        let goes = goes_on(landed, self.piped.onto(direction));
-        self.piped.land(direction, flit, landed);
+        let goes = goes_on(outcome, self.piped.onto(direction));
+        self.piped.land(direction, flit, outcome);
         take_where(&mut self.ends, direction, goes);
-        self.last.landed(direction, flit, outcome_of(landed));
+        self.last.landed(direction, flit, outcome);
     }
 
     // The receiver of a direction loses its framing.

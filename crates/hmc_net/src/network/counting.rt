@@ -15,6 +15,7 @@ use hmc_units::Workbench;
 
 impl<B: Workbench> Network<B> {
     // Whether the receiver that a step unlocks is good.
+    #[inline(always)]
     pub(crate) fn unlocks_good(&self, step: &Step) -> bool
         requires there { IsStepFor self.now.topology step.now }
         requires ready { IsReady (net_of B.slots self.now) }
@@ -28,6 +29,7 @@ impl<B: Workbench> Network<B> {
     }
 
     // Counts the step of the last entry.
+    #[inline(always)]
     pub(crate) fn count(&mut self, step: &Step, was_good: bool)
         requires { (most : ℕ) × (most + 1 < 2 ^ 32) × IsWithin most self.old.tally }
         ensures counted { self.new ≡ record self.old { tally = self.new.tally } }

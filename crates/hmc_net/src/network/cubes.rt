@@ -2,10 +2,11 @@
 
 ghost use Rattle.std.specs.Prelude.{◌≡◌, ◌<◌};
 ghost use Rattle.hmc_codes.specs.Commands.{is_posted};
+ghost use Rattle.hmc_cube.specs.After.{bank_says};
 ghost use Rattle.hmc_journal.specs.Answers.{spread_entry, tag_of, ran_entry};
 ghost use Rattle.hmc_journal.specs.Setup.{cubes_in};
 ghost use Rattle.hmc_net.specs.Apply.{DoesStep};
-ghost use Rattle.hmc_net.specs.NetState.{net_of};
+ghost use Rattle.hmc_net.specs.NetState.{net_of, cube_in};
 ghost use Rattle.hmc_wiring.specs.Ready.{IsVaultIn, IsBankIn};
 ghost use Rattle.hmc_net.specs.Sees.{IsReady};
 
@@ -18,6 +19,7 @@ use hmc_units::Workbench;
 
 impl<B: Workbench> Network<B> {
     // The front of a vault's queue goes to its bank.
+    #[inline(always)]
     pub(crate) fn spread(&mut self, cube: u8, vault: u8)
         requires there { IsVaultIn self.old.topology cube vault }
         requires ready { IsReady (net_of B.slots self.old) }
@@ -31,6 +33,7 @@ impl<B: Workbench> Network<B> {
     }
 
     // A bank executes the front of its queue.
+    #[inline(always)]
     pub(crate) fn bank(&mut self, cube: u8, vault: u8, bank: u8)
         requires there { IsBankIn self.old.topology cube vault bank }
         requires ready { IsReady (net_of B.slots self.old) }
@@ -41,10 +44,28 @@ impl<B: Workbench> Network<B> {
             self.last.idle(&Step::Bank(cube, vault, bank), Cause::Empty);
             return;
         }
+        if self.cubes[usize::from(cube)].bank_waits(vault, bank) {
+            self.bank_full(cube, vault, bank);
+            return;
+        }
         self.bank_front(cube, vault, bank);
     }
 
+    // Its front waits for room among the answers.
+    fn bank_full(&mut self, cube: u8, vault: u8, bank: u8)
+        requires there { IsBankIn self.old.topology cube vault bank }
+        requires ready { IsReady (net_of B.slots self.old) }
+        requires full { bank_says (cube_in (net_of B.slots self.old).cubes cube)
+            (net_of B.slots self.old).slots vault bank ≡ Executed.Full }
+        ensures { DoesStep (net_of B.slots self.old) (net_of B.slots self.new)
+            (Step.Bank cube vault bank) }
+    {
+        self.cubes[usize::from(cube)].invariant();
+        self.last.idle(&Step::Bank(cube, vault, bank), Cause::Full);
+    }
+
     // The same. Where the queue is empty, no request is to be moved.
+    #[inline(never)]
     fn bank_front(&mut self, cube: u8, vault: u8, bank: u8)
         requires there { IsBankIn self.old.topology cube vault bank }
         requires ready { IsReady (net_of B.slots self.old) }
@@ -59,6 +80,7 @@ impl<B: Workbench> Network<B> {
     }
 
     // The registers execute the front of their queue.
+    #[inline(always)]
     pub(crate) fn registers(&mut self, cube: u8)
         requires there { cube < cubes_in self.old.topology }
         requires ready { IsReady (net_of B.slots self.old) }
@@ -73,6 +95,7 @@ impl<B: Workbench> Network<B> {
     }
 
     // The same. Where the queue is empty, no request is to be moved.
+    #[inline(never)]
     fn registers_front(&mut self, cube: u8)
         requires there { cube < cubes_in self.old.topology }
         requires ready { IsReady (net_of B.slots self.old) }
@@ -98,6 +121,7 @@ fn note_spread(last: &mut LastEntry, cube: u8, vault: u8, spread: Spread)
 }
 
 // The last entry becomes that of an execution.
+#[inline(always)]
 fn note_ran(last: &mut LastEntry, unit: Unit, step: &Step, ran: &Executed)
     ensures { last.new ≡ ran_entry unit step.now ran.now }
 {

@@ -23,6 +23,7 @@ use hmc_units::Workbench;
 
 impl<B: Workbench> Network<B> {
     // The host gives its next request to its link.
+    #[inline(always)]
     pub(crate) fn give(&mut self, host: u8)
         requires there { host < hosts_in self.old.topology }
         requires ready { IsReady (net_of B.slots self.old) }
@@ -38,6 +39,7 @@ impl<B: Workbench> Network<B> {
     }
 
     // The same. Where nothing is given, no packet is to be moved.
+    #[inline(never)]
     fn give_next(&mut self, host: u8, direction: u8, room: bool)
         requires there { host < hosts_in self.old.topology }
         requires ready { IsReady (net_of B.slots self.old) }
@@ -52,6 +54,7 @@ impl<B: Workbench> Network<B> {
     }
 
     // The host takes the answer of the packet that came first, or drops that.
+    #[inline(always)]
     pub(crate) fn take(&mut self, host: u8)
         requires there { host < hosts_in self.old.topology }
         requires ready { IsReady (net_of B.slots self.old) }
@@ -66,6 +69,7 @@ impl<B: Workbench> Network<B> {
     }
 
     // The same. Where no packet came, none is to be moved.
+    #[inline(never)]
     fn take_front(&mut self, host: u8)
         requires there { host < hosts_in self.old.topology }
         requires ready { IsReady (net_of B.slots self.old) }
@@ -101,7 +105,7 @@ fn hand_given(links: &mut LinkList, direction: u8, given: &Given)
             ..
         } => {
             request.invariant();
-            links.hand(direction, *packet);
+            links.hand(direction, packet);
         }
         Given::Ended | Given::Fence | Given::Tags | Given::Full => {}
     }

@@ -7,7 +7,7 @@ ghost use Rattle.hmc_send.specs.LinkEntries.{LinkEntry};
 ghost use Rattle.hmc_net.specs.Apply.{DoesStep};
 ghost use Rattle.hmc_journal.specs.Piped.{goes_on};
 ghost use Rattle.hmc_links.specs.LinkList.{AreGoing, LinksStandFor, IsDirection};
-ghost use Rattle.hmc_kept.specs.LinkAnswers.{outcome_of, landing_goes_on, after_landing};
+ghost use Rattle.hmc_kept.specs.LinkAnswers.{landing_goes_on, after_landing};
 ghost use Rattle.hmc_kept.specs.Called.{taken_where};
 ghost use Rattle.hmc_net.specs.Links.{MayForward};
 ghost use Rattle.hmc_kept.specs.Pipes.{AreGathering, IsLastOf, forwarded_at, after_flit};
@@ -18,14 +18,15 @@ ghost use Rattle.hmc_net.specs.Sees.{IsReady};
 use crate::Network;
 use hmc_codes::Flit;
 use hmc_kept::{Pipes, goes_on, note_landed, note_sent};
-use hmc_link::LinkLanded;
+use hmc_link::LinkOutcome;
 use hmc_links::LinkList;
-use hmc_packet::Landed;
+use hmc_packet::Outcome;
 use hmc_schedule::Step;
 use hmc_units::Workbench;
 
 impl<B: Workbench> Network<B> {
     // A flit is sent in a direction.
+    #[inline(always)]
     pub(crate) fn send(&mut self, direction: u8)
         requires there { direction < directions_in self.old.topology }
         requires ready { IsReady (net_of B.slots self.old) }
@@ -39,6 +40,7 @@ impl<B: Workbench> Network<B> {
     }
 
     // The next flit of a direction lands under a mask.
+    #[inline(always)]
     pub(crate) fn land(&mut self, direction: u8, mask: &Flit)
         requires there { IsLandingIn self.old.topology direction (length mask.now) }
         requires ready { IsReady (net_of B.slots self.old) }
@@ -51,6 +53,7 @@ impl<B: Workbench> Network<B> {
     }
 
     // The receiver of a direction loses its framing.
+    #[inline(never)]
     pub(crate) fn unlock(&mut self, direction: u8)
         requires there { direction < directions_in self.old.topology }
         requires ready { IsReady (net_of B.slots self.old) }
@@ -65,45 +68,49 @@ impl<B: Workbench> Network<B> {
 
 // A flit that came belongs to the packet that is forwarded from the end of its direction, if one
 // is.
-fn forward_landed(links: &mut LinkList, piped: &mut Pipes, direction: u8, landed: &LinkLanded)
+#[inline(always)]
+fn forward_landed(links: &mut LinkList, piped: &mut Pipes, direction: u8, landing: &LinkOutcome)
     requires count { direction < length piped.old.forwarded }
-    requires may { MayForward links.old piped.old direction landed.now }
+    requires may { MayForward links.old piped.old direction landing.now }
     ensures stands { (rows : List LinkRow) (entries : ℕ → List LinkEntry) →
         LinksStandFor rows links.old entries → LinksStandFor rows links.new
-        (taken_where (landing_goes_on piped.old direction landed.now) rows direction entries) }
-    ensures piped { piped.new ≡ after_landing direction landed.now piped.old }
-    ensures idle { landing_goes_on piped.old direction landed.now ≡ false →
+        (taken_where (landing_goes_on piped.old direction landing.now) rows direction entries) }
+    ensures piped { piped.new ≡ after_landing direction landing.now piped.old }
+    ensures idle { landing_goes_on piped.old direction landing.now ≡ false →
         links.new ≡ links.old }
 {
-    match landed {
-        LinkLanded::Came { flit, outcome } => forward_came(links, piped, direction, flit, outcome),
-        LinkLanded::Empty | LinkLanded::Passed(_) => {}
+    match landing {
+        LinkOutcome::Came { flit, outcome } => {
+            forward_came(links, piped, direction, flit, *outcome);
+        }
+        LinkOutcome::Empty | LinkOutcome::Passed(_) => {}
     }
 }
 
 // The same of a flit that came. An accepted packet has then gone on, and leaves its buffer.
+#[inline(always)]
 fn forward_came(
     links: &mut LinkList,
     piped: &mut Pipes,
     direction: u8,
     flit: &Flit,
-    landed: &Landed,
+    outcome: Outcome,
 )
     requires there { IsDirection links.old direction }
     requires going { AreGoing links.old }
     requires count { direction < length piped.old.forwarded }
     requires gathering { AreGathering piped.old direction }
-    requires last { IsLastOf piped.old direction (outcome_of landed.now) }
+    requires last { IsLastOf piped.old direction outcome }
     ensures stands { (rows : List LinkRow) (entries : ℕ → List LinkEntry) →
         LinksStandFor rows links.old entries → LinksStandFor rows links.new
-        (taken_where (goes_on (outcome_of landed.now) (forwarded_at piped.old direction))
+        (taken_where (goes_on outcome (forwarded_at piped.old direction))
         rows direction entries) }
-    ensures piped { piped.new ≡ after_flit direction flit.now (outcome_of landed.now) piped.old }
-    ensures idle { goes_on (outcome_of landed.now) (forwarded_at piped.old direction) ≡ false →
+    ensures piped { piped.new ≡ after_flit direction flit.now outcome piped.old }
+    ensures idle { goes_on outcome (forwarded_at piped.old direction) ≡ false →
         links.new ≡ links.old }
 {
-    let goes = goes_on(landed, piped.onto(direction));
-    piped.land(direction, flit, landed);
+    let goes = goes_on(outcome, piped.onto(direction));
+    piped.land(direction, flit, outcome);
     take_where(links, direction, goes);
 }
 

@@ -19,6 +19,7 @@ use hmc_units::Workbench;
 
 impl<B: Workbench> Network<B> {
     // The front of a port's buffer goes on, or is dropped.
+    #[inline(always)]
     pub(crate) fn shift(&mut self, cube: u8, port: u8)
         requires there { IsPortIn self.old.topology cube port }
         requires ready { IsReady (net_of B.slots self.old) }
@@ -34,6 +35,7 @@ impl<B: Workbench> Network<B> {
     }
 
     // The same. Where no packet came, none is to be moved.
+    #[inline(never)]
     fn shift_front(&mut self, cube: u8, port: u8)
         requires there { IsPortIn self.old.topology cube port }
         requires ready { IsReady (net_of B.slots self.old) }
@@ -92,7 +94,7 @@ impl<B: Workbench> Network<B> {
             return;
         };
         self.links.take(direction);
-        self.links.hand(onward, front);
+        self.links.hand(onward, &front);
         self.last.shifted(cube, port, Goal::Port(out));
     }
 
@@ -111,6 +113,7 @@ impl<B: Workbench> Network<B> {
     }
 
     // An answer goes to the output queue of the port towards its host.
+    #[inline(always)]
     pub(crate) fn lift(&mut self, cube: u8, from: Lift)
         requires there { IsLiftIn self.old.topology cube from }
         requires ready { IsReady (net_of B.slots self.old) }
@@ -125,6 +128,7 @@ impl<B: Workbench> Network<B> {
     }
 
     // The same. Where there is no answer, no packet is to be moved.
+    #[inline(never)]
     fn lift_answer(&mut self, cube: u8, from: Lift)
         requires there { IsLiftIn self.old.topology cube from }
         requires ready { IsReady (net_of B.slots self.old) }
@@ -142,8 +146,8 @@ impl<B: Workbench> Network<B> {
         };
         let owner = &mut self.cubes[usize::from(cube)];
         owner.invariant();
-        let _ = owner.lift(from);
-        self.links.hand(onward, front);
+        owner.drop_lifted(from);
+        self.links.hand(onward, &front);
         self.last.lifted(cube, from, port);
     }
 }

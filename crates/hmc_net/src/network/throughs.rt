@@ -18,6 +18,7 @@ use hmc_units::Workbench;
 
 impl<B: Workbench> Network<B> {
     // The packet that is gathered at a port is forwarded, if there is one that may be.
+    #[inline(never)]
     pub(crate) fn through(&mut self, cube: u8, port: u8)
         requires there { IsPortIn self.old.topology cube port }
         requires ready { IsReady (net_of B.slots self.old) }

@@ -13,6 +13,7 @@ use hmc_units::Workbench;
 
 impl<B: Workbench> Network<B> {
     // The unit of a slot is gone for good, if there is one.
+    #[inline(never)]
     pub(crate) fn retire(&mut self, slot: u8)
         requires { IsReady (net_of B.slots self.old) }
         ensures { DoesStep (net_of B.slots self.old) (net_of B.slots self.new) (Step.Retire slot) }

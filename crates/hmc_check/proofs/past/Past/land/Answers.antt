@@ -1,7 +1,7 @@
 -- The next flit of a direction lands.
 use Rattle.std.proofs.Common.{ap}
 use Rattle.hmc_codes.specs.Flit.{zero_flit}
-use Rattle.hmc_ends.specs.declared.link_landed.LinkLanded.TheVariants as lands
+use Rattle.hmc_ends.specs.declared.link_outcome.LinkOutcome.TheVariants as lands
 use Rattle.hmc_schedule.specs.declared.step.Step.TheVariants as steps
 use Rattle.hmc_entries.specs.declared.entry.Entry.{Entry}
 use Rattle.hmc_check.specs.Past.{PastFields}

@@ -45,8 +45,8 @@ returns-in_default-room_through g c =
     (subst (IsWayOut (net_of g.B.Workbench.slots c.args.self.now) c.args.cube c.port_towards-port.result) c.in_default-room_through.is c.room_through.ensures)
     (entry_changed _ (net_of g.B.Workbench.slots c.args.self.now) _ _ _ _ c.idle-in_default-room_through.new.self _ (ap (net_of g.B.Workbench.slots) c.self.view_is) c.idle-in_default-room_through.ensures)
 
-pub lift-requires : goal.lift-requires
-lift-requires g c =
+pub drop_lifted-requires : goal.drop_lifted-requires
+drop_lifted-requires g c =
     let found = cube_found c.self.inside.cubes.items (net_of g.B.Workbench.slots c.args.self.now) c.from-2.result c.args.cube c.index_mut-owner.result.now (ap (λ (n : NetState). n.cubes) (ap (net_of g.B.Workbench.slots) c.self.view_is)) c.from-2.ensures c.index_mut-owner.ensures.value c.requires.ready.sized c.requires.there.some_cube in
     subst (λ (x : CubeFields). HasLift x c.args.from) (sym found) (lift_here (net_of g.B.Workbench.slots c.args.self.now) c.args.cube c.args.from c.requires.ready.sized c.requires.there)
 
@@ -73,4 +73,4 @@ returns g c =
     lift_does (net_of g.B.Workbench.slots c.args.self.now) _ c.args.cube c.args.from c.in-Some.front c.port_towards-port.result c.in-Some-room_through.onward c.hand.new.self c.requires.ready c.requires.there (subst AreParts owned c.invariant.ensures) some
     (ap (λ (p : PacketFields). port_towards (net_of g.B.Workbench.slots c.args.self.now).topology c.args.cube p.slid) (sym c.front.view_is) ∙ ap (λ (n : NetState). port_towards n.topology c.args.cube c.front.inside.slid) (sym (ap (net_of g.B.Workbench.slots) c.self.view_is)) ∙ c.port_towards-port.ensures) way
     (λ rows entries stand. c.hand.ensures rows entries (subst (λ (n : NetState). LinksStandFor rows n.links entries) (sym (ap (net_of g.B.Workbench.slots) c.self.view_is)) stand))
-    (cube_changed _ (net_of g.B.Workbench.slots c.args.self.now) c.self.inside.cubes.items c.from-2.result c.args.cube c.index_mut-owner.result.now c.lift.new.self (after_lift c.args.from) _ _ c.hand.new.self _ c.lifted.new.self _ (ap (net_of g.B.Workbench.slots) c.self.view_is) c.from-2.ensures owned c.lift.ensures.leaves c.lifted.ensures)
+    (cube_changed _ (net_of g.B.Workbench.slots c.args.self.now) c.self.inside.cubes.items c.from-2.result c.args.cube c.index_mut-owner.result.now c.drop_lifted.new.self (after_lift c.args.from) _ _ c.hand.new.self _ c.lifted.new.self _ (ap (net_of g.B.Workbench.slots) c.self.view_is) c.from-2.ensures owned c.drop_lifted.ensures c.lifted.ensures)
