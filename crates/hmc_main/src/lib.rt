@@ -1,7 +1,8 @@
 //! What the program does: the words of the command line, a source, a sink and the two shipped logic
 //! units go to `replay`, where the words, the sink and the units can be had.
 //!
-//! [`words_of`] has the words after the program's name, and [`run_program`] replays by exactly these.
+//! [`words_of`] has the words after the program's name, and [`run_program`] replays by exactly
+//! these.
 //!
 //! `hmc_prog` is the program, which has standard input and output. A second program,
 //! `hmc_prog_refused`, does the same, and is there for a stored run that ends with another status.

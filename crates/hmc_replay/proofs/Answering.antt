@@ -1,5 +1,5 @@
 -- What is due for one reason is due for another.
-use Rattle.std.proofs.Common.{◌≡◌, inl, inr, ℕ, List, Option, Result, Ok, Err, sym, ap, ◌∙◌, subst}
+use Rattle.std.proofs.Common.{◌≡◌, inl, inr, ℕ, List, Option, Result, Ok, Err, IsErrAnd, sym, ap, ◌∙◌, subst}
 use Rattle.hmc_case.specs.Case.{CaseFields, case_of}
 use Rattle.hmc_case.specs.Reading.{Fault}
 use Rattle.hmc_case.specs.declared.fault.CaseKind.{CaseKind}
@@ -13,9 +13,10 @@ use Rattle.hmc_replay.specs.Answered.{IsAnswered, IsCutOff, Answers}
 use Rattle.hmc_replay.specs.BoundAnswer.{IsNotSingle, IsCaseBounded, IsBoundAnswer}
 use Rattle.hmc_replay.specs.Report.{report_of, bound_report_of}
 use Rattle.hmc_replay.specs.Reported.{IsReport}
-use Rattle.hmc_replay.specs.RunAnswer.{IsRefusal, IsRunAnswer}
+use Rattle.hmc_replay.specs.RunAnswer.{IsRefusal, IsRefused, IsRunAnswer}
 use Rattle.hmc_replay.specs.declared.run.RunError.{RunError}
 use Rattle.hmc_replay.specs.declared.run.RunError.TheVariants as runs
+use Rattle.hmc_replay.proofs.Writing.{err_is}
 
 module _ (Due Owed : ℕ → List (List ℕ) → Type 0) (so : (status : ℕ) (lines : List (List ℕ)) → Due status lines → Owed status lines) where
   answered_so : (status : ℕ) (a b : SinkView) → IsAnswered Due status a b → IsAnswered Owed status a b
@@ -33,6 +34,12 @@ module _ (Due Owed : ℕ → List (List ℕ) → Type 0) (so : (status : ℕ) (l
   answers_so view old new (Err runs.Memory) answer = answer
   answers_so view old new (Err runs.ReadFault) answer = absurd answer
   answers_so view old new (Err runs.TooLong) answer = absurd answer
+
+-- nothing was done to the sink before
+pub since : {O : Type 0} (Due : ℕ → List (List ℕ) → Type 0) (view : O → SinkView) (old here new : O)
+    (result : Result (Unit {0}) RunError) → here ≡ old → Answers Due result view here new →
+    Answers Due result view old new
+since Due view old here new result is answer = subst (λ o. Answers Due result view o new) is answer
 
 -- the report of a case is due to its text
 pub answers_case : {O : Type 0} (view : O → SinkView) (old new : O) (slots : List (Option UnitFields)) (input : List ℕ) (case : CaseFields) (result : Result (Unit {0}) RunError) → case_of input ≡ Ok case
@@ -68,20 +75,24 @@ bounds_more view old new setup result answer =
     view old new result answer
 
 -- and the line of its first fault to what is no case
-pub bounds_fault : {O : Type 0} (view : O → SinkView) (old new : O)
-    (slots : List (Option UnitFields)) (input : List ℕ) (fault : Fault)
+pub refused_with : {O : Type 0} (view : O → SinkView) (old new : O) (input : List ℕ) (fault : Fault)
     (result : Result (Unit {0}) RunError) → case_of input ≡ Err fault →
-    Answers (IsRefusal fault) result view old new →
-    Answers (IsBoundAnswer slots input) result view old new
-bounds_fault view old new slots input fault result is answer =
-    answers_so (IsRefusal fault) (IsBoundAnswer slots input)
-    (λ status lines due. inr (record { fault = fault; is_fault = is; refusal = due }))
+    Answers (IsRefusal fault) result view old new → Answers (IsRefused input) result view old new
+refused_with view old new input fault result is answer =
+    answers_so (IsRefusal fault) (IsRefused input)
+    (λ status lines due. record { fault = fault; is_fault = is; refusal = due })
     view old new result answer
 
-pub answers_fault : {O : Type 0} (view : O → SinkView) (old new : O) (slots : List (Option UnitFields)) (input : List ℕ) (fault : Fault) (result : Result (Unit {0}) RunError) → case_of input ≡ Err fault
-    → Answers (IsRefusal fault) result view old new → Answers (IsRunAnswer slots input) result view old new
-answers_fault view old new slots input fault result is answer =
-    answers_so (IsRefusal fault) (IsRunAnswer slots input) (λ status lines due. inr (record { fault = fault; is_fault = is; refusal = due })) view old new result answer
+-- whatever else could be due
+pub refused_on : (Owed : ℕ → List (List ℕ) → Type 0) {O : Type 0} (view : O → SinkView) (old new : O)
+    (input : List ℕ) (error : RunError) (result : Result (Unit {0}) RunError) →
+    ((status : ℕ) (lines : List (List ℕ)) → IsRefused input status lines → Owed status lines) →
+    IsErrAnd result (λ told. told ≡ error) →
+    Answers (IsRefused input) (Err error) view old new → Answers Owed result view old new
+refused_on Owed view old new input error result so told answer =
+    answers_so (IsRefused input) Owed so view old new result
+    (subst (λ (r : Result (Unit {0}) RunError). Answers (IsRefused input) r view old new)
+    (sym (err_is result error told)) answer)
 
 -- what was cut off ends with a write fault
 pub answers_cut : {O : Type 0} (Due : ℕ → List (List ℕ) → Type 0) (view : O → SinkView) (old new : O) (result : Result (Unit {0}) RunError) → result ≡ Err runs.WriteFault → IsCutOff Due (view old) (view new) → Answers Due result view old new

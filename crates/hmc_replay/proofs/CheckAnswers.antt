@@ -100,17 +100,6 @@ answers_judged view old new slots parts case result is answer =
     (λ status lines due. inl (record { case = case; is_case = is; judged = due }))
     view old new result answer
 
--- or what should be a case is refused
-pub answers_refused : {O : Type 0} (view : O → SinkView) (old new : O)
-    (slots : List (Option UnitFields)) (parts : CheckInput) (fault : Fault)
-    (result : Result (Unit {0}) RunError) → case_of parts.case ≡ Err fault →
-    Answers (IsLine 6 (bad_line fault)) result view old new →
-    Answers (IsOfParts slots parts) result view old new
-answers_refused view old new slots parts fault result is answer =
-    answers_so (IsLine 6 (bad_line fault)) (IsOfParts slots parts)
-    (λ status lines due. inr (record { fault = fault; is_fault = is; refusal = due }))
-    view old new result answer
-
 -- ---- the parts of an input are no longer than it
 
 parted_few : (rest : List ℕ) (bytes : ℕ) (parts : CheckInput) → parted rest bytes ≡ Some parts →

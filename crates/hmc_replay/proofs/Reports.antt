@@ -10,18 +10,15 @@ use Rattle.hmc_entries.specs.Lines.{line_of}
 use Rattle.hmc_journal.specs.Report.{lines_unless, report_lines}
 use Rattle.hmc_journal.specs.Setup.{Setup}
 use Rattle.hmc_entries.specs.Text.{lines_of}
-use Rattle.hmc_net.specs.Finished.{net_values}
 use Rattle.hmc_net.specs.NetState.{NetState}
-use Rattle.hmc_net.proofs.FinalStands.{final_lines-stands, ending_lines-stands}
 use Rattle.hmc_outside.specs.Finish.{HandsOn, FailsToHandOn}
 use Rattle.hmc_outside.specs.Lines.{WritesLines, BreaksOff}
 use Rattle.hmc_outside.specs.Views.{SinkView}
 use Rattle.hmc_outside.specs.declared.counts.Failed.{Failed}
 use Rattle.hmc_outside.proofs.LinesLemmas.{WritesLines-none, WritesLines-after, BreaksOff-after, BreaksOff-more}
-use Rattle.hmc_report.specs.Final.{final_lines, ending_lines}
-use Rattle.hmc_replay.specs.Output.{WritesReport, DeliversReport}
+use Rattle.hmc_replay.specs.Output.{Writes, WritesReport, DeliversReport}
 use Rattle.hmc_units.specs.Unit.{UnitFields}
-use Rattle.hmc_replay.specs.Report.{passes, report_of, last_line, short_lines, short_report_of, lines_in, report_status}
+use Rattle.hmc_replay.specs.Report.{passes, report_of, last_line, ending_of, end_lines, end_of, lines_in, report_status}
 use Rattle.hmc_replay.specs.Reported.{EndsAtPass, IsReport}
 use Rattle.hmc_replay.specs.Answered.{IsAnswered, IsCutOff}
 use Rattle.hmc_replay.specs.Steps.{TookAll}
@@ -56,12 +53,12 @@ report_by : (setup : Setup) (passed : Bool) → passes setup ≡ passed → line
 unfolding report_of report_lines
 report_by setup passed is = ap (λ (p : Bool). lines_of (journal_of setup) ++ lines_unless p (final_lines_of setup (journal_of setup))) (sym is ∙ passes_is setup)
 
--- where none passed, the final lines are those of the network
-net_lines : (net : NetState) (setup : Setup) → TookAll net setup false → final_lines (net_values net) ≡ final_lines_of setup (journal_of setup)
-net_lines net setup took = final_lines-stands net setup (journal_of setup) took.stands (sym (passes_is setup) ∙ sym took.passed_is)
+-- where none passed, its journal is one in which none did
+pub none_passed : (net : NetState) (setup : Setup) (passed : Bool) → passed ≡ false → TookAll net setup passed → has_passed (journal_of setup) ≡ false
+none_passed net setup passed is took = sym (passes_is setup) ∙ sym took.passed_is ∙ is
 
-report_is : (net : NetState) (setup : Setup) → TookAll net setup false → lines_of (journal_of setup) ++ final_lines (net_values net) ≡ report_of setup
-report_is net setup took = ap (λ l. lines_of (journal_of setup) ++ l) (net_lines net setup took) ∙ report_by setup false (sym took.passed_is)
+report_is : (net : NetState) (setup : Setup) (passed : Bool) → passed ≡ false → TookAll net setup passed → lines_of (journal_of setup) ++ final_lines_of setup (journal_of setup) ≡ report_of setup
+report_is net setup passed is took = report_by setup false (sym took.passed_is ∙ is)
 
 -- where one passed, the lines of the journal are the report
 pub report_passed : (setup : Setup) → passes setup ≡ true → lines_of (journal_of setup) ≡ report_of setup
@@ -78,53 +75,47 @@ whole-broken setup a b broken = let starts = report_starts setup in subst (Break
 pub whole-passed : (net : NetState) (setup : Setup) (passed : Bool) (a b : SinkView) → passed ≡ true → TookAll net setup passed → WritesLines a b (lines_of (journal_of setup)) → WritesLines a b (report_of setup) × (passed ≡ passes setup)
 whole-passed net setup passed a b is took written = (subst (WritesLines a b) (report_passed setup (sym took.passed_is ∙ is)) written, took.passed_is)
 
-pub whole-written : (net : NetState) (setup : Setup) (passed : Bool) (a b c : SinkView) → passed ≡ false → TookAll net setup passed → WritesLines a b (lines_of (journal_of setup)) → WritesLines b c (final_lines (net_values net))
+pub whole-written : (net : NetState) (setup : Setup) (passed : Bool) (a b c : SinkView) → passed ≡ false → TookAll net setup passed → WritesLines a b (lines_of (journal_of setup)) → WritesLines b c (final_lines_of setup (journal_of setup))
     → WritesLines a c (report_of setup) × (passed ≡ passes setup)
 whole-written net setup passed a b c is took first rest =
-    let took' = subst (TookAll net setup) is took in
-    (subst (WritesLines a c) (report_is net setup took') (WritesLines-after a b c (lines_of (journal_of setup)) (final_lines (net_values net)) first rest), took.passed_is)
+    (subst (WritesLines a c) (report_is net setup passed is took) (WritesLines-after a b c (lines_of (journal_of setup)) (final_lines_of setup (journal_of setup)) first rest), took.passed_is)
 
-pub whole-broken_late : (net : NetState) (setup : Setup) (passed : Bool) (a b c : SinkView) → passed ≡ false → TookAll net setup passed → WritesLines a b (lines_of (journal_of setup)) → BreaksOff b c (final_lines (net_values net))
+pub whole-broken_late : (net : NetState) (setup : Setup) (passed : Bool) (a b c : SinkView) → passed ≡ false → TookAll net setup passed → WritesLines a b (lines_of (journal_of setup)) → BreaksOff b c (final_lines_of setup (journal_of setup))
     → BreaksOff a c (report_of setup)
 whole-broken_late net setup passed a b c is took first rest =
-    let took' = subst (TookAll net setup) is took in
-    subst (BreaksOff a c) (report_is net setup took') (BreaksOff-after a b c (lines_of (journal_of setup)) (final_lines (net_values net)) first rest)
+    subst (BreaksOff a c) (report_is net setup passed is took) (BreaksOff-after a b c (lines_of (journal_of setup)) (final_lines_of setup (journal_of setup)) first rest)
 
--- ---- the short report
+-- ---- a report without the lines of steps
 
-short_by : (setup : Setup) (passed : Bool) → passes setup ≡ passed → short_lines passed setup (journal_of setup) ≡ short_report_of setup
-unfolding short_report_of
-short_by setup passed is = ap (λ (p : Bool). short_lines p setup (journal_of setup)) (sym is)
+end_by : (extent : Extent) (setup : Setup) (passed : Bool) → passes setup ≡ passed → end_lines passed extent setup (journal_of setup) ≡ end_of extent setup
+unfolding end_of
+end_by extent setup passed is = ap (λ (p : Bool). end_lines p extent setup (journal_of setup)) (sym is)
 
 -- where a landing passed, its line
-pub last_written : (net : NetState) (setup : Setup) (passed : Bool) (entry : Entry) →
-    passed ≡ true → TookAll net setup passed → entry ≡ net.last →
-    line_of entry ∷ [] ≡ last_line (journal_of setup)
-last_written net setup passed entry is took entry_is =
-    ap (λ (e : Entry). line_of e ∷ []) entry_is ∙ sym (ap last_line (took.last is).1)
+end_line : (extent : Extent) (net : NetState) (setup : Setup) (passed : Bool) (entry : Entry) → passed ≡ true → TookAll net setup passed → entry ≡ net.last → line_of entry ∷ [] ≡ end_of extent setup
+end_line extent net setup passed entry is took entry_is =
+    ap (λ (e : Entry). line_of e ∷ []) entry_is ∙ sym (ap last_line (took.last is).1) ∙ end_by extent setup true (sym took.passed_is ∙ is)
 
-short_line : (net : NetState) (setup : Setup) (passed : Bool) (entry : Entry) → passed ≡ true →
-    TookAll net setup passed → entry ≡ net.last → line_of entry ∷ [] ≡ short_report_of setup
-short_line net setup passed entry is took entry_is =
-    last_written net setup passed entry is took entry_is
-    ∙ short_by setup true (sym took.passed_is ∙ is)
+pub end-passed : (extent : Extent) (net : NetState) (setup : Setup) (passed : Bool) (entry : Entry) (a b : SinkView) → passed ≡ true → TookAll net setup passed → entry ≡ net.last → WritesLines a b (line_of entry ∷ []) → WritesLines a b (end_of extent setup) × (passed ≡ passes setup)
+end-passed extent net setup passed entry a b is took entry_is written = (subst (WritesLines a b) (end_line extent net setup passed entry is took entry_is) written, took.passed_is)
 
-pub short-passed : (net : NetState) (setup : Setup) (passed : Bool) (entry : Entry) (a b : SinkView) → passed ≡ true → TookAll net setup passed → entry ≡ net.last → WritesLines a b (line_of entry ∷ []) → WritesLines a b (short_report_of setup) × (passed ≡ passes setup)
-short-passed net setup passed entry a b is took entry_is written = (subst (WritesLines a b) (short_line net setup passed entry is took entry_is) written, took.passed_is)
+pub end-broken : (extent : Extent) (net : NetState) (setup : Setup) (passed : Bool) (entry : Entry) (a b : SinkView) → passed ≡ true → TookAll net setup passed → entry ≡ net.last → BreaksOff a b (line_of entry ∷ []) → BreaksOff a b (end_of extent setup)
+end-broken extent net setup passed entry a b is took entry_is broken = subst (BreaksOff a b) (end_line extent net setup passed entry is took entry_is) broken
 
-pub short-broken : (net : NetState) (setup : Setup) (passed : Bool) (entry : Entry) (a b : SinkView) → passed ≡ true → TookAll net setup passed → entry ≡ net.last → BreaksOff a b (line_of entry ∷ []) → BreaksOff a b (short_report_of setup)
-short-broken net setup passed entry a b is took entry_is broken = subst (BreaksOff a b) (short_line net setup passed entry is took entry_is) broken
+-- else what would follow the lines of the steps
+end_ending : (extent : Extent) (net : NetState) (setup : Setup) (passed : Bool) → passed ≡ false → TookAll net setup passed → ending_of extent setup (journal_of setup) ≡ end_of extent setup
+end_ending extent net setup passed is took = end_by extent setup false (sym took.passed_is ∙ is)
 
--- else the final lines from those of tokens on
-short_ending : (net : NetState) (setup : Setup) (passed : Bool) → passed ≡ false → TookAll net setup passed → ending_lines (net_values net) ≡ short_report_of setup
-short_ending net setup passed is took =
-    ending_lines-stands net setup (journal_of setup) took.stands (sym (passes_is setup) ∙ sym took.passed_is ∙ is) ∙ short_by setup false (sym took.passed_is ∙ is)
+pub end-written : (extent : Extent) (net : NetState) (setup : Setup) (passed : Bool) (a b : SinkView) → passed ≡ false → TookAll net setup passed → WritesLines a b (ending_of extent setup (journal_of setup)) → WritesLines a b (end_of extent setup) × (passed ≡ passes setup)
+end-written extent net setup passed a b is took written = (subst (WritesLines a b) (end_ending extent net setup passed is took) written, took.passed_is)
 
-pub short-written : (net : NetState) (setup : Setup) (passed : Bool) (a b : SinkView) → passed ≡ false → TookAll net setup passed → WritesLines a b (ending_lines (net_values net)) → WritesLines a b (short_report_of setup) × (passed ≡ passes setup)
-short-written net setup passed a b is took written = (subst (WritesLines a b) (short_ending net setup passed is took) written, took.passed_is)
+pub end-broken_late : (extent : Extent) (net : NetState) (setup : Setup) (passed : Bool) (a b : SinkView) → passed ≡ false → TookAll net setup passed → BreaksOff a b (ending_of extent setup (journal_of setup)) → BreaksOff a b (end_of extent setup)
+end-broken_late extent net setup passed a b is took broken = subst (BreaksOff a b) (end_ending extent net setup passed is took) broken
 
-pub short-broken_late : (net : NetState) (setup : Setup) (passed : Bool) (a b : SinkView) → passed ≡ false → TookAll net setup passed → BreaksOff a b (ending_lines (net_values net)) → BreaksOff a b (short_report_of setup)
-short-broken_late net setup passed a b is took broken = subst (BreaksOff a b) (short_ending net setup passed is took) broken
+-- that was written by its extent
+pub ending_written : (extent shown : Extent) (setup : Setup) (past : List Entry) (a b : SinkView) (lines : List (List ℕ)) (result : Result (Unit {0}) Failed) → extent ≡ shown → lines ≡ ending_of shown setup past → Writes result a b lines → Writes result a b (ending_of extent setup past)
+ending_written extent shown setup past a b lines result is same written =
+    subst (λ (e : Extent). Writes result a b (ending_of e setup past)) (sym is) (subst (Writes result a b) same written)
 
 -- ---- an error that is forwarded as it is
 

@@ -1,7 +1,12 @@
 -- Taking the steps of a case one after another, and writing the line of each.
-use Rattle.std.proofs.Common.{◌≡◌, ◌∙◌, ◌+◌, ◌⊎◌, inl, inr, Result, Ok, Err, IsErrAnd, ℕ, suc, Bool, true, false, List, [], ◌∷◌, ◌++◌, length, drop, slice_get, Some, refl, sym, ap, subst, add-one, append-nil, append_assoc}
+use Rattle.std.proofs.Common.{◌≡◌, ◌∙◌, ◌+◌, ◌⊎◌, inl, inr, Result, Ok, Err, IsErrAnd, ℕ, suc, Bool, true, false, List, [], ◌∷◌, ◌++◌, ◌≤◌, ◌<◌, get_or, length, drop, arith, length-drop, slice_get, Some, refl, sym, ap, subst, add-one, append-nil, append_assoc}
+use Rattle.std.proofs.Math.ListN.{drop_of_length-le}
+use Rattle.std.proofs.Math.Seq.{drop-cons}
+use Rattle.std.proofs.lemmas.Option.{slice_get-get_or}
 use Rattle.hmc_schedule.specs.declared.step.Step.{Step}
+use Rattle.hmc_schedule.specs.RoundsLeft.{LeftFields, steps_left}
 use Rattle.hmc_entries.specs.declared.entry.Entry.{Entry}
+use Rattle.hmc_entries.specs.declared.entry.Entry.TheVariants.{Passed, Idle}
 use Rattle.hmc_entries.specs.Event.{is_passed}
 use Rattle.hmc_journal.specs.Lawful.{has_passed, Lawful, journal_behind, journal_of}
 use Rattle.hmc_entries.specs.Lines.{line_of}
@@ -14,7 +19,8 @@ use Rattle.hmc_net.specs.Stands.{StandsFor, IsNext}
 use Rattle.hmc_outside.specs.Lines.{WritesLines, BreaksOff}
 use Rattle.hmc_outside.specs.Views.{SinkView}
 use Rattle.hmc_outside.proofs.LinesLemmas.{WritesLines-none, WritesLines-after, BreaksOff-after, BreaksOff-after-rest, BreaksOff-more}
-use Rattle.hmc_replay.specs.Steps.{IsAt, IsAfter, TookAll, BreaksAt, Stepped}
+use Rattle.hmc_net.specs.Went.{went_of}
+use Rattle.hmc_replay.specs.Steps.{IsAt, IsBefore, IsAfter, TookAll, TookRound, WroteRound, BreaksAt, Stepped, step_passed}
 use Rattle.hmc_outside.specs.declared.counts.Failed.{Failed}
 use Rattle.hmc_replay.specs.declared.extent.Extent.{Extent}
 use Rattle.hmc_replay.specs.declared.extent.Extent.TheVariants.{Whole, Short, Bound}
@@ -41,6 +47,52 @@ at_more net new setup steps past at passed is after on = record {
   goes_on = sym after.passed_is ∙ on;
 }
 
+-- ---- by what is left
+
+-- what is left begins with the step at that place
+some_drop : {X : Type 0} (xs : List X) (k : ℕ) (x : X) (rest : List X) → drop k xs ≡ x ∷ rest → suc k ≤ length xs
+some_drop xs k x rest is = omega (arith, length-drop k xs, ap length is)
+
+at_drop : {X : Type 0} (xs : List X) (k : ℕ) (x : X) (rest : List X) → drop k xs ≡ x ∷ rest → slice_get xs k ≡ Some x
+at_drop xs k x rest is =
+    let inside = some_drop xs k x rest is in
+    let first = drop-cons xs k x inside in slice_get-get_or xs k x inside ∙ (cc (first, is))
+
+after_drop : {X : Type 0} (xs : List X) (k : ℕ) (x : X) (rest : List X) → drop k xs ≡ x ∷ rest → drop (suc k) xs ≡ rest
+after_drop xs k x rest is = let first = drop-cons xs k x (some_drop xs k x rest is) in cc (first, is)
+
+end_drop : {X : Type 0} (xs : List X) (k : ℕ) → drop k xs ≡ [] → k ≤ length xs → k ≡ length xs
+end_drop xs k is le = omega (arith, le, length-drop k xs, ap length is)
+
+-- nothing was taken
+pub before_first : (net : NetState) (setup : Setup) (steps left : List Step) → IsAt net setup steps [] 0 → left ≡ steps → IsBefore net setup steps [] left
+before_first net setup steps left is all = record { at = is; left_is = sym all; few = omega arith }
+
+-- the step that comes next
+pub next_left : (net : NetState) (setup : Setup) (steps : List Step) (past : List Entry) (step : Step) (left : List Step) → IsBefore net setup steps past (step ∷ left) → IsNext net setup past step
+next_left net setup steps past step left is =
+    is_next net setup steps past (length past) step is.at (at_drop steps (length past) step left is.left_is)
+
+-- one more was taken
+pub left_more : (net new : NetState) (setup : Setup) (steps : List Step) (past : List Entry) (step : Step) (left : List Step) (passed : Bool) → IsBefore net setup steps past (step ∷ left) → IsAfter new setup past passed → passed ≡ false → IsBefore new setup steps (new.last ∷ past) left
+left_more net new setup steps past step left passed is after on = record {
+  at = subst (IsAt new setup steps (new.last ∷ past)) (add-one (length past)) (at_more net new setup steps past (length past) passed is.at after on);
+  left_is = after_drop steps (length past) step left is.left_is;
+  few = some_drop steps (length past) step left is.left_is;
+}
+
+-- the same steps are left
+pub left_same : (net : NetState) (setup : Setup) (steps : List Step) (past : List Entry) (left other : List Step) → IsBefore net setup steps past left → left ≡ other → IsBefore net setup steps past other
+left_same net setup steps past left other is same = record { at = is.at; left_is = is.left_is ∙ same; few = is.few }
+
+-- how a step went says whether it passed
+pub went_passed : (entry : Entry) → step_passed (went_of entry) ≡ is_passed entry
+went_passed entry = by_kind entry where
+  by_kind : (entry : Entry) → step_passed (went_of entry) ≡ is_passed entry
+  by_kind (Passed direction flit) = refl
+  by_kind (Idle step cause) = refl
+  by_kind _ = refl
+
 -- after all steps, or after a landing that passed, the journal is that of the case
 all_whole : (net : NetState) (setup : Setup) (steps : List Step) (past : List Entry) (at : ℕ) → IsAt net setup steps past at → at ≡ length steps → past ≡ journal_of setup
 all_whole net setup steps past at is end =
@@ -66,6 +118,34 @@ took_passed net setup past passed after is =
       last = λ _. (past, sym whole);
     }
 
+-- the steps of the round at hand
+round_over : (rounds : LeftFields) (round : List Step) (k : ℕ) → length round ≤ k → steps_left rounds (drop k round) ≡ steps_left rounds []
+round_over rounds round k le = ap (steps_left rounds) (drop_of_length-le round le)
+
+due_left : (rounds new : LeftFields) (round : List Step) (k : ℕ) (d due : Step) → k < length round → ((rest : List Step) → steps_left rounds (get_or round k d ∷ rest) ≡ due ∷ steps_left new rest) → steps_left rounds (drop k round) ≡ due ∷ steps_left new (drop (k + 1) round)
+due_left rounds new round k d due small is =
+    ap (steps_left rounds) (drop-cons round k d small) ∙ is (drop (suc k) round) ∙ ap (λ j. due ∷ steps_left new (drop j round)) (sym (add-one k))
+
+-- the step at hand comes next; these are left after it
+pub due_here : (net : NetState) (setup : Setup) (steps : List Step) (past : List Entry) (rounds new : LeftFields) (round : List Step) (k : ℕ) (d due : Step) → k < length round → ((rest : List Step) → steps_left rounds (get_or round k d ∷ rest) ≡ due ∷ steps_left new rest) → IsBefore net setup steps past (steps_left rounds (drop k round)) → IsBefore net setup steps past (due ∷ steps_left new (drop (k + 1) round))
+due_here net setup steps past rounds new round k d due small is here = left_same net setup steps past _ _ here (due_left rounds new round k d due small is)
+
+-- none of the round is left
+pub over_here : (net : NetState) (setup : Setup) (steps : List Step) (past : List Entry) (rounds : LeftFields) (round : List Step) (k : ℕ) → length round ≤ k → IsBefore net setup steps past (steps_left rounds (drop k round)) → IsBefore net setup steps past (steps_left rounds [])
+over_here net setup steps past rounds round k le here = left_same net setup steps past _ _ here (round_over rounds round k le)
+
+-- by whether a landing passed in it
+pub round_took : (net : NetState) (setup : Setup) (steps left : List Step) (passed told : Bool) → passed ≡ told → TookRound passed net setup steps left → TookRound told net setup steps left
+round_took net setup steps left passed told is took = subst (λ (p : Bool). TookRound p net setup steps left) is took
+
+-- none is left
+pub ended : (net : NetState) (setup : Setup) (steps : List Step) (past : List Entry) → IsBefore net setup steps past [] → length past ≡ length steps
+ended net setup steps past is = end_drop steps (length past) is.left_is is.few
+
+pub all_took : (net : NetState) (setup : Setup) (steps left : List Step) (past : List Entry) → IsBefore net setup steps past left → left ≡ [] → TookAll net setup false
+all_took net setup steps left past is none =
+    let last = left_same net setup steps past left [] is none in took_all net setup steps past (length past) last.at (ended net setup steps past last)
+
 -- ---- the lines
 
 lines-next : (entry : Entry) (past : List Entry) → lines_of past ++ line_of entry ∷ [] ≡ lines_of (entry ∷ past)
@@ -87,6 +167,15 @@ wrote_all net setup steps past at a b is end written = subst (λ (j : List Entry
 
 pub wrote_passed : (net : NetState) (setup : Setup) (past : List Entry) (passed : Bool) (a b : SinkView) → IsAfter net setup past passed → passed ≡ true → WritesLines a b (lines_of (net.last ∷ past)) → WritesLines a b (lines_of (journal_of setup))
 wrote_passed net setup past passed a b after is written = subst (λ (j : List Entry). WritesLines a b (lines_of j)) (passed_whole net setup past passed after is) written
+
+pub all_wrote : (net : NetState) (setup : Setup) (steps left : List Step) (past : List Entry) (a b : SinkView) → IsBefore net setup steps past left → left ≡ [] → WritesLines a b (lines_of past) → TookAll net setup false × WritesLines a b (lines_of (journal_of setup))
+all_wrote net setup steps left past a b is none written =
+    let last = left_same net setup steps past left [] is none in
+    (all_took net setup steps left past is none, wrote_all net setup steps past (length past) a b last.at (ended net setup steps past last) written)
+
+-- the same of a round, by its result
+pub round_wrote : (net : NetState) (setup : Setup) (steps left : List Step) (a b : SinkView) (result told : Result Bool Failed) → result ≡ told → WroteRound result net setup steps left a b → WroteRound told net setup steps left a b
+round_wrote net setup steps left a b result told is wrote = subst (λ (r : Result Bool Failed). WroteRound r net setup steps left a b) is wrote
 
 -- by whether the last entry is a landing that passed
 by_passed : (setup : Setup) (past : List Entry) (step : Step) (steps : List Step) (passed : Bool) → has_passed past ≡ passed

@@ -1,6 +1,5 @@
 -- What `check` answers: whether a report is lawful, or its first line that isn't.
 use Rattle.std.specs.Prelude.{◌≡◌, ◌⊎◌, ℕ, List, [], ◌∷◌, codes, Option, None, Some, Ok}
-use Rattle.std.specs.Fmt.{decimal}
 use Rattle.hmc_codes.specs.Text.{line}
 use Rattle.hmc_units.specs.Unit.{UnitFields}
 use Rattle.hmc_case.specs.Case.{CaseFields, case_of}
@@ -8,6 +7,7 @@ use Rattle.hmc_check.specs.Verdict.{IsLawfulReport, IsLeastUnfit}
 use Rattle.hmc_journal.specs.Setup.{Setup, setup_of}
 use Rattle.hmc_replay.specs.Answered.{IsLine}
 use Rattle.hmc_replay.specs.CheckInput.{CheckInput, check_input}
+use Rattle.hmc_replay.specs.Output.{number_line}
 use Rattle.hmc_replay.specs.RunAnswer.{IsRefused}
 
 -- the line of an input without the length of a case, or with fewer bytes than that
@@ -15,12 +15,12 @@ unfoldable pub no_head_line : List ℕ
 no_head_line = line (codes "bad" ∷ codes "check" ∷ codes "0" ∷ codes "head" ∷ [])
 
 -- the report is lawful, with so many entries
-unfoldable pub lawful_line : (entries : ℕ) → List ℕ
-lawful_line entries = line (codes "lawful" ∷ decimal entries ∷ [])
+abbrev pub lawful_line : (entries : ℕ) → List ℕ
+lawful_line entries = number_line (codes "lawful") entries
 
 -- it isn't, and this is its first line that shows it
-unfoldable pub unlawful_line : (number : ℕ) → List ℕ
-unlawful_line number = line (codes "unlawful" ∷ decimal number ∷ [])
+abbrev pub unlawful_line : (number : ℕ) → List ℕ
+unlawful_line number = number_line (codes "unlawful") number
 
 -- The report is the text of a whole lawful journal. The number of its entries is due, with 0.
 pub record IsLawful (setup : Setup) (report : List ℕ) (status : ℕ)

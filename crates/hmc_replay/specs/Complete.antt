@@ -5,8 +5,8 @@ use Rattle.hmc_replay.specs.Answer.{limit_of, IsAnswer}
 use Rattle.hmc_replay.specs.Top.{OneOf}
 use Rattle.hmc_replay.specs.declared.form.Form.{Form}
 
--- Every input gets what is due for it, unless memory runs out (1), or the source (3) or the sink (4)
--- fails. `left` are the bytes that the source had, where it shows them.
+-- Every input gets what is due for it, unless memory runs out (1), or the source (3) or the sink
+-- (4) fails. `left` are the bytes that the source had, where it shows them.
 pub record IsComplete (form : Form) (slots : List (Option UnitFields)) (left : Option (List ℕ))
     (status : ℕ) : Type 0 where
   -- An input that is not too long ends the call with the status that is due for it.

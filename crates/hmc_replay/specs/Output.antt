@@ -1,9 +1,15 @@
 -- Writing lines, each by one write, and handing them on.
-use Rattle.std.specs.Prelude.{◌≡◌, ℕ, Bool, List, Result, Ok, Err}
+use Rattle.std.specs.Prelude.{◌≡◌, ℕ, Bool, List, [], ◌∷◌, Result, Ok, Err}
+use Rattle.std.specs.Fmt.{decimal}
+use Rattle.hmc_codes.specs.Text.{line}
 use Rattle.hmc_outside.specs.Finish.{HandsOn, FailsToHandOn}
 use Rattle.hmc_outside.specs.Lines.{WritesLines, BreaksOff}
 use Rattle.hmc_outside.specs.Views.{SinkView}
 use Rattle.hmc_outside.specs.declared.counts.Failed.{Failed}
+
+-- the line of a word and a number
+unfoldable pub number_line : (word : List ℕ) → (number : ℕ) → List ℕ
+number_line word number = line (word ∷ decimal number ∷ [])
 
 -- all lines were written, or some before a write failed
 abbrev pub Writes : {T : Type 0} → Result T Failed → (old new : SinkView) → List (List ℕ) → Type 0

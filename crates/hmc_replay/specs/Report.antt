@@ -3,7 +3,7 @@ use Rattle.std.specs.Prelude.{ℕ, if◌then◌else◌, Bool, true, false, List,
 use Rattle.std.specs.List.{list_any}
 use Rattle.hmc_entries.specs.declared.entry.Entry.{Entry}
 use Rattle.hmc_entries.specs.Event.{is_passed}
-use Rattle.hmc_journal.specs.Final.{values_of}
+use Rattle.hmc_journal.specs.Final.{values_of, final_lines_of}
 use Rattle.hmc_journal.specs.Lawful.{journal_of}
 use Rattle.hmc_journal.specs.Report.{report_lines}
 use Rattle.hmc_entries.specs.Lines.{line_of}
@@ -26,22 +26,27 @@ abbrev pub last_line : List Entry → List (List ℕ)
 last_line [] = []
 last_line (entry ∷ past) = line_of entry ∷ []
 
--- the final lines from those of tokens on; where a landing passed, its line alone
-abbrev pub short_lines : (passed : Bool) → Setup → List Entry → List (List ℕ)
-short_lines true setup journal = last_line journal
-short_lines false setup journal = ending_lines (values_of setup journal)
+-- what follows the lines of the steps, where no landing passed
+abbrev pub ending_of : Extent → Setup → List Entry → List (List ℕ)
+ending_of Whole setup journal = final_lines_of setup journal
+ending_of Short setup journal = ending_lines (values_of setup journal)
+ending_of Bound setup journal = bound_lines setup.topology journal
 
--- the short report
-unfoldable pub short_report_of : Setup → List (List ℕ)
-short_report_of setup = short_lines (passes setup) setup (journal_of setup)
+-- that alone; where a landing passed, its line alone
+abbrev pub end_lines : (passed : Bool) → Extent → Setup → List Entry → List (List ℕ)
+end_lines true extent setup journal = last_line journal
+end_lines false extent setup journal = ending_of extent setup journal
 
--- what is under way at the end, and its bound; where a landing passed, its line alone
-abbrev pub bound_report : (passed : Bool) → Setup → List Entry → List (List ℕ)
-bound_report true setup journal = last_line journal
-bound_report false setup journal = bound_lines setup.topology journal
+unfoldable pub end_of : Extent → Setup → List (List ℕ)
+end_of extent setup = end_lines (passes setup) extent setup (journal_of setup)
 
-unfoldable pub bound_report_of : Setup → List (List ℕ)
-bound_report_of setup = bound_report (passes setup) setup (journal_of setup)
+-- the short report: the final lines from those of tokens on
+abbrev pub short_report_of : Setup → List (List ℕ)
+short_report_of setup = end_of Short setup
+
+-- what is under way at the end, and its bound
+abbrev pub bound_report_of : Setup → List (List ℕ)
+bound_report_of setup = end_of Bound setup
 
 -- one of these
 abbrev pub lines_in : Extent → Setup → List (List ℕ)

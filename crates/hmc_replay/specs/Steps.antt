@@ -1,5 +1,5 @@
 -- Taking the steps of a case, one after another.
-use Rattle.std.specs.Prelude.{◌≡◌, ◌⊎◌, ℕ, Bool, true, false, List, [], ◌∷◌, length, Result, Ok, Err}
+use Rattle.std.specs.Prelude.{◌≡◌, ◌⊎◌, ◌≤◌, ℕ, Bool, true, false, List, [], ◌∷◌, length, drop, Result, Ok, Err}
 use Rattle.hmc_schedule.specs.declared.step.Step.{Step}
 use Rattle.hmc_entries.specs.declared.entry.Entry.{Entry}
 use Rattle.hmc_entries.specs.Event.{is_passed}
@@ -8,6 +8,8 @@ use Rattle.hmc_journal.specs.Setup.{Setup}
 use Rattle.hmc_entries.specs.Text.{lines_of}
 use Rattle.hmc_net.specs.NetState.{NetState}
 use Rattle.hmc_net.specs.Stands.{StandsFor}
+use Rattle.hmc_net.specs.declared.went.Went.{Went}
+use Rattle.hmc_net.specs.declared.went.Went.TheVariants.{Passed}
 use Rattle.hmc_outside.specs.Lines.{WritesLines, BreaksOff}
 use Rattle.hmc_outside.specs.Views.{SinkView}
 use Rattle.hmc_outside.specs.declared.counts.Failed.{Failed}
@@ -23,6 +25,18 @@ pub record IsAt (net : NetState) (setup : Setup) (steps : List Step) (past : Lis
   pub done : length past ≡ at
   pub goes_on : has_passed past ≡ false
 
+-- the same, where these steps are left
+pub record IsBefore (net : NetState) (setup : Setup) (steps : List Step) (past : List Entry)
+    (left : List Step) : Type 0 where
+  pub at : IsAt net setup steps past (length past)
+  pub left_is : drop (length past) steps ≡ left
+  pub few : length past ≤ length steps
+
+-- a step is a landing that passed
+abbrev pub step_passed : Went → Bool
+step_passed Passed = true
+step_passed _ = false
+
 -- one more was taken, and the network's last entry is that of this step
 pub record IsAfter (net : NetState) (setup : Setup) (past : List Entry)
     (passed : Bool) : Type 0 where
@@ -35,6 +49,11 @@ pub record TookAll (net : NetState) (setup : Setup) (passed : Bool) : Type 0 whe
   pub stands : StandsFor net setup (journal_of setup)
   pub passed_is : passed ≡ passes setup
   pub last : passed ≡ true → (before : List Entry) × (journal_of setup ≡ net.last ∷ before)
+
+-- the steps of a round were taken, up to a landing that passed; where none did, these are left
+abbrev pub TookRound : (passed : Bool) → NetState → Setup → List Step → (left : List Step) → Type 0
+TookRound true net setup steps left = TookAll net setup true
+TookRound false net setup steps left = (past : List Entry) × IsBefore net setup steps past left
 
 -- Steps and writes go by turns: the network stands for the journal of the steps so far, and their
 -- lines were written, of which the last one broke off.
@@ -49,6 +68,14 @@ abbrev pub WroteAll : Result Bool Failed → NetState → Setup → (old new : S
 WroteAll (Ok passed) net setup old new =
     TookAll net setup passed × WritesLines old new (lines_of (journal_of setup))
 WroteAll (Err failed) net setup old new = BreaksAt net setup old new
+
+-- the same of a round, where the lines of all steps so far were written
+abbrev pub WroteRound : Result Bool Failed → NetState → Setup → List Step → (left : List Step) →
+    (old new : SinkView) → Type 0
+WroteRound (Ok true) net setup steps left old new = WroteAll (Ok true) net setup old new
+WroteRound (Ok false) net setup steps left old new =
+    (past : List Entry) × IsBefore net setup steps past left × WritesLines old new (lines_of past)
+WroteRound (Err failed) net setup steps left old new = BreaksAt net setup old new
 
 -- How far the network came, by the result: it stands for the whole journal, or a line of a step
 -- broke off. Only a whole report has lines of steps, beside that of a

@@ -25,8 +25,8 @@ pub record IsRead (most : ℕ) (source source' : SourceView) (input : List ℕ)
     (status : ℕ) : Type 0 where
   -- These bytes were read, at most one more. Each read asked for a byte, and at most one gave none.
   pub reading : IsReading most source source' input
-  -- Except with 1, 3 and 5 the input was read to its end, and is not too long. Nothing is read after
-  -- the end.
+  -- Except with 1, 3 and 5 the input was read to its end, and is not too long. Nothing is read
+  -- after the end.
   pub whole : NoneOf (1 ∷ 3 ∷ 5 ∷ []) status → IsWhole most source source' input
   -- 1: so it is, or no read found the end or a fault.
   pub memory : status ≡ 1 →
@@ -57,8 +57,8 @@ Reads (Some most) view source source' input status =
 -- What is written, by the status, of what is due.
 pub record Writes {O : Type 0} (Due : ℕ → List (List ℕ) → Type 0) (view : O → SinkView)
     (sink sink' : O) (status : ℕ) : Type 0 where
-  -- Except with 1, 3, 4 and 5 the status is the one that is due; the lines that are due with it were
-  -- written, each by one write, and then the sink was finished.
+  -- Except with 1, 3, 4 and 5 the status is the one that is due; the lines that are due with it
+  -- were written, each by one write, and then the sink was finished.
   pub answered : NoneOf (1 ∷ 3 ∷ 4 ∷ 5 ∷ []) status → IsAnswered Due status (view sink) (view sink')
   -- 4: the sink failed, by the last call of it. Before that whole lines were written, in order, and
   -- a prefix of the next one; or all, and the finish failed.

@@ -1,7 +1,7 @@
 //! The form `bound`: how many packets a case of one cube and one link leaves under way, and so many
 //! whole rounds that drain them.
 
-ghost use Rattle.std.specs.Prelude.{◌≡◌, ◌≤◌, ◌↔◌, [], IsTrue, length, vec_len, Err};
+ghost use Rattle.std.specs.Prelude.{◌≤◌, ◌↔◌, [], IsTrue, vec_len, Err};
 ghost use Rattle.hmc_codes.specs.Limits.{most_input};
 ghost use Rattle.hmc_journal.specs.Setup.{Setup, setup_of};
 ghost use Rattle.hmc_rounds.specs.Single.{IsSingle};
@@ -15,9 +15,9 @@ ghost use Rattle.hmc_replay.specs.declared.form.Form.TheVariants as forms;
 
 use crate::extent::Extent;
 use crate::input::read_input;
-use crate::run::{RunError, refuse, report, write_only};
+use crate::run::{RunError, read_case, report, write_only};
 use hmc_bound::drains;
-use hmc_case::{Case, CaseFault};
+use hmc_case::Case;
 use hmc_codes::MOST_INPUT;
 use hmc_outside::{Sink, Source};
 use hmc_units::LogicUnit;
@@ -71,17 +71,8 @@ fn answer<O: Sink, U: LogicUnit>(
     ensures { Answers (IsBoundAnswer (slots_of U.meaning units.items) input.now)
         result O.shows sink.old sink.new }
 {
-    match Case::read(alloc, input) {
-        Ok(case) => answer_case(alloc, sink, &case, units),
-        Err(CaseFault::Memory) => Err(RunError::Memory),
-        Err(
-            CaseFault::Bad {
-                section,
-                line,
-                kind,
-            },
-        ) => Err(refuse(sink, section, line, kind)),
-    }
+    let case = read_case(alloc, sink, input)?;
+    answer_case(alloc, sink, &case, units)
 }
 
 /// Reads the source to its end, and writes the bound of its bytes and these units.

@@ -1,6 +1,6 @@
 //! The form `check`: whether a report is that of the case before it.
 
-ghost use Rattle.std.specs.Prelude.{◌≡◌, ◌≤◌, ◌<◌, [], length, vec_len, Err};
+ghost use Rattle.std.specs.Prelude.{◌≤◌, length, vec_len, Err};
 ghost use Rattle.hmc_codes.specs.Limits.{most_check_input};
 ghost use Rattle.hmc_journal.specs.Setup.{setup_of};
 ghost use Rattle.hmc_units.specs.Bench.{most_units};
@@ -13,44 +13,21 @@ ghost use Rattle.hmc_replay.specs.declared.form.Form.TheVariants as forms;
 
 use crate::check_input::check_input;
 use crate::input::read_input;
-use crate::run::{RunError, refuse, refuse_line, write_only};
-use hmc_case::{Case, CaseFault};
+use crate::output::number_line;
+use crate::run::{RunError, read_case, refuse_line, write_only};
+use hmc_case::Case;
 use hmc_check::{CheckFault, check};
-use hmc_codes::{LineText, MOST_CHECK_INPUT, append_spaced};
+use hmc_codes::{LineText, MOST_CHECK_INPUT};
 use hmc_outside::{Sink, Source};
 use hmc_units::{LogicUnit, Slots};
 use std::alloc::Global;
-
-// The line of a report that is lawful.
-#[tactic(auto, unfolding(crate::specs::CheckAnswer::lawful_line))]
-fn lawful_line(into: &mut LineText, entries: u32)
-    requires empty { into.old.bytes ≡ [] }
-    ensures text { into.new.bytes ≡ lawful_line entries }
-    ensures some { 0 < length into.new.bytes }
-{
-    into.push_str("lawful");
-    append_spaced(into, u64::from(entries));
-    into.push_str("\n");
-}
-
-// The line of one that isn't.
-#[tactic(auto, unfolding(crate::specs::CheckAnswer::unlawful_line))]
-fn unlawful_line(into: &mut LineText, number: u32)
-    requires empty { into.old.bytes ≡ [] }
-    ensures text { into.new.bytes ≡ unlawful_line number }
-    ensures some { 0 < length into.new.bytes }
-{
-    into.push_str("unlawful");
-    append_spaced(into, u64::from(number));
-    into.push_str("\n");
-}
 
 // Writes the line of a report that is lawful, and hands it on.
 fn write_lawful<O: Sink>(sink: &mut O, entries: u32) -> Result<(), RunError>
     ensures { Answers (IsLine 0 (lawful_line entries)) result O.shows sink.old sink.new }
 {
     let mut text = LineText::new();
-    lawful_line(&mut text, entries);
+    number_line(&mut text, "lawful", u64::from(entries));
     match write_only(sink, text.as_str()) {
         Ok(()) => Ok(()),
         Err(_) => Err(RunError::WriteFault),
@@ -62,7 +39,7 @@ fn write_unlawful<O: Sink>(sink: &mut O, number: u32) -> RunError
     ensures { Answers (IsLine 8 (unlawful_line number)) (Err result) O.shows sink.old sink.new }
 {
     let mut text = LineText::new();
-    unlawful_line(&mut text, number);
+    number_line(&mut text, "unlawful", u64::from(number));
     match write_only(sink, text.as_str()) {
         Ok(()) => RunError::Unlawful,
         Err(_) => RunError::WriteFault,
@@ -103,17 +80,8 @@ fn answer_parts<O: Sink, U: LogicUnit>(
     ensures { Answers (IsOfParts (slots_of U.meaning units.items)
         (record { case = case.now; report = report.now })) result O.shows sink.old sink.new }
 {
-    match Case::read(alloc, case) {
-        Ok(case) => judge(alloc, sink, &case, report, units),
-        Err(CaseFault::Memory) => Err(RunError::Memory),
-        Err(
-            CaseFault::Bad {
-                section,
-                line,
-                kind,
-            },
-        ) => Err(refuse(sink, section, line, kind)),
-    }
+    let case = read_case(alloc, sink, case)?;
+    judge(alloc, sink, &case, report, units)
 }
 
 // Writes the line for an input without the length of a case, and hands it on.

@@ -7,7 +7,7 @@ pub enum Extent {
     Whole,
     /// The final lines from those of tokens on. Where a landing passed, its line alone.
     Short,
-    /// The number of packets under way at the end, and so many whole rounds that drain them with one
-    /// cube and one link. Where a landing passed, its line alone.
+    /// The number of packets under way at the end, and so many whole rounds that drain them with
+    /// one cube and one link. Where a landing passed, its line alone.
     Bound,
 }

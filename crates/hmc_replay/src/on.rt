@@ -18,10 +18,10 @@ use hmc_outside::{Failed, Sink};
 use hmc_units::Workbench;
 use std::alloc::Global;
 
-/// Replays a case with a bench, writes the report and hands it on. Returns whether a landing passed,
-/// or that the sink failed, and the bench as the steps left it: with a whole report no step is taken
-/// before the line of the step before it was written. Out of memory nothing is written, and the
-/// bench is lost.
+/// Replays a case with a bench, writes the report and hands it on. Returns whether a landing
+/// passed, or that the sink failed, and the bench as the steps left it: with a whole report no step
+/// is taken before the line of the step before it was written. Out of memory nothing is written,
+/// and the bench is lost.
 pub fn replay_on<O: Sink, B: Workbench>(
     alloc: Global,
     sink: &mut O,

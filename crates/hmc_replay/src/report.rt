@@ -1,15 +1,16 @@
-//! The report of a case, in which nothing happened yet: whole or short.
+//! The report of a case, in which nothing happened yet: whole, short or its bound.
 
-ghost use Rattle.std.specs.Prelude.{[]};
+ghost use Rattle.std.specs.Prelude.{◌≡◌, [], List, false};
 ghost use Rattle.hmc_bound.specs.Ends.{EndsDrained};
+ghost use Rattle.hmc_entries.specs.declared.entry.Entry.{Entry};
 ghost use Rattle.hmc_journal.specs.Guarantees.{Guarantees};
-ghost use Rattle.hmc_journal.specs.Lawful.{journal_of};
+ghost use Rattle.hmc_journal.specs.Lawful.{has_passed, journal_of};
 ghost use Rattle.hmc_journal.specs.Setup.{Setup};
 ghost use Rattle.hmc_net.specs.NetState.{net_of};
 ghost use Rattle.hmc_net.specs.Stands.{StandsFor};
 ghost use Rattle.hmc_report.specs.Final.{lines_from};
 ghost use Rattle.hmc_replay.specs.Output.{Writes, WritesReport, DeliversReport};
-ghost use Rattle.hmc_replay.specs.Report.{passes, report_of, short_report_of, lines_in};
+ghost use Rattle.hmc_replay.specs.Report.{passes, report_of, ending_of, end_of, lines_in};
 ghost use Rattle.hmc_replay.specs.declared.extent.Extent.TheVariants.{Whole, Short};
 ghost use Rattle.hmc_replay.specs.Steps.{IsAt, Stepped};
 
@@ -18,7 +19,6 @@ use crate::extent::Extent;
 use crate::output::{finish, write_line};
 use crate::steps::{take_steps, write_entry, write_steps};
 use hmc_bound::drains;
-use hmc_codes::LineText;
 use hmc_delivery::journal_guarantees;
 use hmc_net::Network;
 use hmc_outside::{Failed, Sink};
@@ -41,8 +41,26 @@ fn write_final<O: Sink, N: Finished>(sink: &mut O, net: &N, from: Part) -> Resul
     Ok(())
 }
 
+// Writes what follows the lines of the steps in a report of this extent.
+fn write_ending<O: Sink, B: Workbench>(
+    sink: &mut O,
+    extent: Extent,
+    network: &Network<B>,
+) -> Result<(), Failed>
+    ensures { (setup : Setup) (past : List Entry) →
+        StandsFor (net_of B.slots network.now) setup past → has_passed past ≡ false →
+        Writes result (O.shows sink.old) (O.shows sink.new) (ending_of extent setup past) }
+{
+    match extent {
+        Extent::Whole => write_final(sink, network, Part::Memory),
+        Extent::Short => write_final(sink, network, Part::Tokens),
+        Extent::Bound => write_bound(sink, network),
+    }
+}
+
 // In what follows the network is stepped to its end. Returned is whether a landing passed.
 
+// Writes the line of each step, and what follows them.
 fn write_whole<O: Sink, B: Workbench>(
     sink: &mut O,
     network: &mut Network<B>,
@@ -55,36 +73,37 @@ fn write_whole<O: Sink, B: Workbench>(
         Stepped result Whole (net_of B.slots network.new) setup
         (O.shows sink.old) (O.shows sink.new) }
 {
-    let mut text = LineText::new();
-    let passed = write_steps(sink, &mut text, network, schedule)?;
+    let passed = write_steps(sink, network, schedule)?;
     if !passed {
-        write_final(sink, network, Part::Memory)?;
+        write_ending(sink, Extent::Whole, network)?;
     }
     Ok(passed)
 }
 
-fn write_short<O: Sink, B: Workbench>(
+// Writes what would follow the lines of the steps; where a landing passed, its line alone.
+fn write_end<O: Sink, B: Workbench>(
     sink: &mut O,
+    extent: Extent,
     network: &mut Network<B>,
     schedule: &Schedule,
 ) -> Result<bool, Failed>
     requires { (setup : Setup) × IsAt (net_of B.slots network.old) setup schedule.now [] 0 }
     ensures written { (setup : Setup) → IsAt (net_of B.slots network.old) setup schedule.now [] 0 →
-        WritesReport result (short_report_of setup) (passes setup)
+        WritesReport result (end_of extent setup) (passes setup)
         (O.shows sink.old) (O.shows sink.new) }
     ensures stepped { (setup : Setup) → IsAt (net_of B.slots network.old) setup schedule.now [] 0 →
         StandsFor (net_of B.slots network.new) setup (journal_of setup) }
 {
     let passed = take_steps(network, schedule);
     if passed {
-        let mut text = LineText::new();
-        write_entry(sink, &mut text, network.last())?;
+        write_entry(sink, network.last())?;
     } else {
-        write_final(sink, network, Part::Tokens)?;
+        write_ending(sink, extent, network)?;
     }
     Ok(passed)
 }
 
+// Writes what is due by the extent.
 fn write_lines<O: Sink, B: Workbench>(
     sink: &mut O,
     extent: Extent,
@@ -101,8 +120,8 @@ fn write_lines<O: Sink, B: Workbench>(
 {
     match extent {
         Extent::Whole => write_whole(sink, network, schedule),
-        Extent::Short => write_short(sink, network, schedule),
-        Extent::Bound => write_bound(sink, network, schedule),
+        Extent::Short => write_end(sink, Extent::Short, network, schedule),
+        Extent::Bound => write_end(sink, Extent::Bound, network, schedule),
     }
 }
 

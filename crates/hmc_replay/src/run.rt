@@ -1,6 +1,7 @@
 //! From input, or from a number, to output.
 
-ghost use Rattle.std.specs.Prelude.{◌≡◌, ◌≤◌, ◌<◌, ◌∷◌, [], length, vec_len, Err};
+ghost use Rattle.std.specs.Prelude.{◌≡◌, ◌≤◌, ◌<◌, ◌∷◌, [], length, vec_len, Ok, Err, MatchResult};
+ghost use Rattle.hmc_case.specs.Case.{case_of};
 ghost use Rattle.hmc_journal.specs.Setup.{setup_of};
 ghost use Rattle.hmc_units.specs.Bench.{most_units};
 ghost use Rattle.hmc_codes.specs.Limits.{most_input};
@@ -10,7 +11,7 @@ ghost use Rattle.hmc_replay.specs.Causes.{cause_of_input};
 ghost use Rattle.hmc_replay.specs.Output.{Delivers};
 ghost use Rattle.hmc_replay.specs.Report.{lines_in};
 ghost use Rattle.hmc_replay.specs.Reported.{IsReport};
-ghost use Rattle.hmc_replay.specs.RunAnswer.{IsRefusal, IsRunAnswer};
+ghost use Rattle.hmc_replay.specs.RunAnswer.{IsRefusal, IsRefused, IsRunAnswer};
 ghost use Rattle.hmc_replay.specs.Runs.{Runs};
 ghost use Rattle.hmc_replay.specs.Units.{slots_of};
 ghost use Rattle.hmc_replay.specs.declared.form.Form.TheVariants as forms;
@@ -86,8 +87,8 @@ pub fn refuse_line<O: Sink>(sink: &mut O, line: &str) -> RunError
     }
 }
 
-/// Writes the line for what is not a valid case, and hands it on.
-pub fn refuse<O: Sink>(sink: &mut O, section: Section, line: u32, kind: CaseKind) -> RunError
+// Writes the line for what is not a valid case, and hands it on.
+fn refuse<O: Sink>(sink: &mut O, section: Section, line: u32, kind: CaseKind) -> RunError
     ensures { Answers (IsRefusal (record { section = section; line = line; kind = kind }))
         (Err result) O.shows sink.old sink.new }
 {
@@ -96,8 +97,28 @@ pub fn refuse<O: Sink>(sink: &mut O, section: Section, line: u32, kind: CaseKind
     refuse_line(sink, text.as_str())
 }
 
-/// Replays a case with units, and writes its report. Out of memory it writes nothing. `Passed` where
-/// a landing passed; the report then ends with its line.
+/// Reads a case. For what is not a valid one it writes the line of the first fault, and hands it
+/// on. Out of memory it writes nothing.
+pub fn read_case<O: Sink>(alloc: Global, sink: &mut O, input: &[u8]) -> Result<Case, RunError>
+    ensures { MatchResult result
+        (λ case. (case_of input.now ≡ Ok case) × (sink.new ≡ sink.old))
+        (λ error. Answers (IsRefused input.now) (Err error) O.shows sink.old sink.new) }
+{
+    match Case::read(alloc, input) {
+        Ok(case) => Ok(case),
+        Err(CaseFault::Memory) => Err(RunError::Memory),
+        Err(
+            CaseFault::Bad {
+                section,
+                line,
+                kind,
+            },
+        ) => Err(refuse(sink, section, line, kind)),
+    }
+}
+
+/// Replays a case with units, and writes its report. Out of memory it writes nothing. `Passed`
+/// where a landing passed; the report then ends with its line.
 pub fn report<O: Sink, U: LogicUnit>(
     alloc: Global,
     sink: &mut O,
@@ -130,17 +151,8 @@ fn answer<O: Sink, U: LogicUnit>(
     ensures { Answers (IsRunAnswer (slots_of U.meaning units.items) input.now)
         result O.shows sink.old sink.new }
 {
-    match Case::read(alloc, input) {
-        Ok(case) => report(alloc, sink, Extent::Whole, &case, units),
-        Err(CaseFault::Memory) => Err(RunError::Memory),
-        Err(
-            CaseFault::Bad {
-                section,
-                line,
-                kind,
-            },
-        ) => Err(refuse(sink, section, line, kind)),
-    }
+    let case = read_case(alloc, sink, input)?;
+    report(alloc, sink, Extent::Whole, &case, units)
 }
 
 /// Reads the source to its end, and writes what is to be written for its bytes and these units.

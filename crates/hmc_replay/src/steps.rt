@@ -3,35 +3,64 @@
 //! In the network that is handed in nothing happened yet. No step is taken after a landing that
 //! passed.
 
-ghost use Rattle.std.specs.Prelude.{◌≡◌, ◌<◌, [], ◌∷◌, List, length};
+ghost use Rattle.std.specs.Prelude.{◌≡◌, [], ◌∷◌, List};
 ghost use Rattle.hmc_entries.specs.declared.entry.Entry.{Entry};
 ghost use Rattle.hmc_entries.specs.Lines.{line_of};
+ghost use Rattle.hmc_entries.specs.Text.{lines_of};
 ghost use Rattle.hmc_journal.specs.Setup.{Setup};
 ghost use Rattle.hmc_net.specs.NetState.{net_of};
+ghost use Rattle.hmc_net.specs.Stands.{IsNext};
+ghost use Rattle.hmc_outside.specs.Lines.{WritesLines};
+ghost use Rattle.hmc_outside.specs.Views.{SinkView};
 ghost use Rattle.hmc_replay.specs.Output.{Writes};
-ghost use Rattle.hmc_replay.specs.Steps.{IsAt, IsAfter, TookAll, WroteAll};
+ghost use Rattle.hmc_replay.specs.Steps.{step_passed, IsAt, IsBefore, IsAfter, TookAll, TookRound, WroteAll, WroteRound};
+ghost use Rattle.hmc_schedule.specs.RoundsLeft.{steps_left};
+ghost use Rattle.hmc_schedule.specs.declared.step.Step.{Step};
 
-use crate::output::write_line;
-use hmc_codes::LineText;
 use hmc_entries::LastEntry;
-use hmc_net::Network;
+use hmc_net::{Network, Went};
 use hmc_outside::{Failed, Sink};
-use hmc_schedule::Schedule;
+use hmc_schedule::{RoundsLeft, Schedule, Step};
 use hmc_units::Workbench;
 
-// Takes the step at this place, before which all others were taken. Returns whether it is a landing
-// that passed.
-fn take_step<B: Workbench>(network: &mut Network<B>, schedule: &Schedule, at: u32) -> bool
-    requires inside { at < length schedule.now }
-    requires there { (setup : Setup) × (past : List Entry) ×
-        IsAt (net_of B.slots network.old) setup schedule.now past at }
+// Whether a step is a landing that passed.
+fn has_passed(went: Went) -> bool
+    ensures { result ≡ step_passed went }
+{
+    matches!(went, Went::Passed)
+}
+
+// Takes the next step. Returns whether it is a landing that passed.
+fn take_step<B: Workbench>(network: &mut Network<B>, due: &Step) -> bool
+    requires { (setup : Setup) × (past : List Entry) ×
+        IsNext (net_of B.slots network.old) setup past due.now }
     ensures { (setup : Setup) (past : List Entry) →
-        IsAt (net_of B.slots network.old) setup schedule.now past at →
+        IsNext (net_of B.slots network.old) setup past due.now →
         IsAfter (net_of B.slots network.new) setup past result }
 {
-    let due = schedule.step(at);
-    let _ = network.step(&due);
-    network.last().has_passed()
+    has_passed(network.step(due))
+}
+
+// Takes the steps of the round at hand. Returns whether a landing passed: then none is taken after it.
+fn take_round<B: Workbench>(
+    network: &mut Network<B>,
+    rounds: &mut RoundsLeft<'_>,
+    round: &[Step],
+) -> bool
+    requires { (setup : Setup) × (steps : List Step) × (past : List Entry) ×
+        IsBefore (net_of B.slots network.old) setup steps past (steps_left rounds.old round.now) }
+    ensures taken { (setup : Setup) (steps : List Step) (past : List Entry) →
+        IsBefore (net_of B.slots network.old) setup steps past (steps_left rounds.old round.now) →
+        TookRound result (net_of B.slots network.new) setup steps (steps_left rounds.new []) }
+    ensures rounds { rounds.new.rounds ≡ rounds.old.rounds }
+{
+    'steps: for step in round {
+        let due = rounds.due(*step);
+        if take_step(network, &due) {
+            return true;
+        }
+    }
+    false
 }
 
 /// Takes all steps. Returns whether a landing passed.
@@ -40,32 +69,57 @@ pub fn take_steps<B: Workbench>(network: &mut Network<B>, schedule: &Schedule) -
     ensures { (setup : Setup) → IsAt (net_of B.slots network.old) setup schedule.now [] 0 →
         TookAll (net_of B.slots network.new) setup result }
 {
-    'steps: for at in 0..schedule.len() {
-        if take_step(network, schedule, at) {
+    let mut rounds = schedule.in_rounds();
+    'rounds: while let Some(round) = rounds.next() {
+        if take_round(network, &mut rounds, round) {
             return true;
         }
     }
     false
 }
 
-/// Writes the line of an entry. `text` is where it is made: what it had before is gone.
-pub fn write_entry<O: Sink>(
-    sink: &mut O,
-    text: &mut LineText,
-    entry: &LastEntry,
-) -> Result<(), Failed>
+/// Writes the line of an entry.
+pub fn write_entry<O: Sink>(sink: &mut O, entry: &LastEntry) -> Result<(), Failed>
     ensures { Writes result (O.shows sink.old) (O.shows sink.new) (line_of entry.now ∷ []) }
 {
-    text.clear();
-    entry.line(text);
-    write_line(sink, text.as_str())
+    sink.write_line(entry)
+}
+
+// Takes the steps of the round at hand, and writes the line of each before the next one. Returns
+// whether a landing passed: then none is taken after it.
+fn write_round<O: Sink, B: Workbench>(
+    sink: &mut O,
+    network: &mut Network<B>,
+    rounds: &mut RoundsLeft<'_>,
+    round: &[Step],
+) -> Result<bool, Failed>
+    requires { (setup : Setup) × (steps : List Step) × (past : List Entry) ×
+        IsBefore (net_of B.slots network.old) setup steps past (steps_left rounds.old round.now) }
+    ensures wrote { (setup : Setup) (steps : List Step) (past : List Entry) (before : SinkView) →
+        IsBefore (net_of B.slots network.old) setup steps past (steps_left rounds.old round.now) →
+        WritesLines before (O.shows sink.old) (lines_of past) →
+        WroteRound result (net_of B.slots network.new) setup steps (steps_left rounds.new [])
+        before (O.shows sink.new) }
+    ensures rounds { rounds.new.rounds ≡ rounds.old.rounds }
+{
+    'steps: for step in round {
+        let due = rounds.due(*step);
+        let passed = take_step(network, &due);
+        match write_entry(sink, network.last()) {
+            Ok(()) => {}
+            Err(failed) => return Err(failed),
+        }
+        if passed {
+            return Ok(true);
+        }
+    }
+    Ok(false)
 }
 
 /// Takes all steps, and writes the line of each before the next one. Returns whether a landing
-/// passed. `text` is where a line is made.
+/// passed.
 pub fn write_steps<O: Sink, B: Workbench>(
     sink: &mut O,
-    text: &mut LineText,
     network: &mut Network<B>,
     schedule: &Schedule,
 ) -> Result<bool, Failed>
@@ -74,14 +128,12 @@ pub fn write_steps<O: Sink, B: Workbench>(
         WroteAll result (net_of B.slots network.new) setup
         (O.shows sink.old) (O.shows sink.new) }
 {
-    'steps: for at in 0..schedule.len() {
-        let passed = take_step(network, schedule, at);
-        match write_entry(sink, text, network.last()) {
-            Ok(()) => {}
+    let mut rounds = schedule.in_rounds();
+    'rounds: while let Some(round) = rounds.next() {
+        match write_round(sink, network, &mut rounds, round) {
+            Ok(false) => {}
+            Ok(true) => return Ok(true),
             Err(failed) => return Err(failed),
-        }
-        if passed {
-            return Ok(true);
         }
     }
     Ok(false)

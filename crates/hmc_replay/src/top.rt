@@ -67,17 +67,16 @@ fn replay_with<S: Source, O: Sink, U: LogicUnit>(
 /// | `bound` | a case of one cube and one link | how many packets are under way, and rounds to drain |
 /// | `trace` | a trace of loads and stores | its script, a line for each request |
 ///
-/// The number of `make` has one to twenty decimal digits and is below 2^64, and `make` reads nothing.
-/// The length of a case has one to eight decimal digits, and a line feed ends its line. There are at
-/// most eight units: the one at place i is in slot i.
+/// The number of `make` has one to twenty decimal digits and is below 2^64, and `make` reads
+/// nothing. The length of a case has one to eight decimal digits, and a line feed ends its line.
+/// There are at most eight units: the one at place i is in slot i.
 ///
 /// A source may show the bytes that are left, and a sink the pieces that were written, as those in
 /// memory do; standard input and output don't. What is said of bytes holds where they are shown.
 ///
-/// Gives the exit status, 0 to 8. `make` gives 0, 1, 4 or 7. With 7 `make` and `bound` write the line
-/// of the landing that passed alone. `trace` doesn't use the units. It
-/// and `check` never give 7; a report of a case in which a landing passes may be lawful. Only `check`
-/// gives 8.
+/// Gives the exit status, 0 to 8. `make` gives 0, 1, 4 or 7. With 7 `make` and `bound` write the
+/// line of the landing that passed alone. `trace` doesn't use the units. It and `check` never give
+/// 7; a report of a case in which a landing passes may be lawful. Only `check` gives 8.
 ///
 /// | Status | Meaning | Written |
 /// |---|---|---|
@@ -91,8 +90,8 @@ fn replay_with<S: Source, O: Sink, U: LogicUnit>(
 /// | 7 | a check succeeded over flits that masks changed | the lines up to there, or the last |
 /// | 8 | the report is not lawful | `unlawful` with the number of its first line that shows it |
 ///
-/// specs/Top has the contract, `Replayed`, with a comment for each promise: what is read, and what is
-/// written. specs/Complete says when that comes. docs/case.md has the form of a case, and
+/// specs/Top has the contract, `Replayed`, with a comment for each promise: what is read, and what
+/// is written. specs/Complete says when that comes. docs/case.md has the form of a case, and
 /// docs/report.md that of a report.
 pub fn replay<S: Source, O: Sink>(
     alloc: Global,

@@ -1,25 +1,18 @@
--- A case and its report, or the first fault.
-use Rattle.std.proofs.Common.{◌≡◌, ◌∙◌, ap, IfSome, Err, subst}
-use Rattle.hmc_case.specs.Case.{case_of}
-use Rattle.hmc_case.specs.Reading.{fault_of}
-use Rattle.hmc_case.specs.declared.fault.CaseFault.{CaseFault}
+-- A case and its bound, or the first fault.
+use Rattle.std.proofs.Common.{inr}
+use Rattle.hmc_replay.specs.BoundAnswer.{IsBoundAnswer}
 use Rattle.hmc_replay.specs.Units.{slots_of}
-use Rattle.hmc_replay.proofs.Answering.{bounds_case, bounds_fault, same_fault}
+use Rattle.hmc_replay.proofs.Answering.{bounds_case, refused_on, since}
 use Rattle.hmc_replay.proofs.bound.answer.Goals as goal
 
-pub returns-in-Ok : goal.returns-in-Ok
-returns-in-Ok g c =
-    bounds_case g.O.Sink.shows c.args.sink.now c.answer_case.new.sink _ c.args.input.now
-    c.in-Ok.case c.answer_case.result c.in-Ok.ensures.exact c.answer_case.ensures
+pub returns-in_err-case : goal.returns-in_err-case
+returns-in_err-case g c =
+    refused_on (IsBoundAnswer (slots_of g.U.LogicUnit.meaning c.args.units.items) c.args.input.now)
+    g.O.Sink.shows _ _ c.args.input.now c.in_err-case.field-0.0 c.from_residual.result
+    (λ status lines due. inr due) c.from_residual.ensures.1 c.in_err-case.ensures
 
 pub returns : goal.returns
 returns g c =
-    let exact =
-    subst (λ (told : CaseFault). IfSome (fault_of told)
-    (λ fault. case_of c.args.input.now ≡ Err fault)) c.in-Err-Bad.field-0-is
-    c.in-Err-Bad.ensures.exact in
-    bounds_fault g.O.Sink.shows c.args.sink.now c.refuse.new.sink
-    (slots_of g.U.LogicUnit.meaning c.args.units.items) c.args.input.now _ (Err c.refuse.result)
-    (exact ∙ ap Err
-    (same_fault _ _ _ _ _ _ c.in-Err-Bad.section-is c.in-Err-Bad.line-is c.in-Err-Bad.kind-is))
-    c.refuse.ensures
+    bounds_case g.O.Sink.shows c.args.sink.now c.answer_case.new.sink _ c.args.input.now _
+    c.answer_case.result c.in_ok-case.ensures.0
+    (since _ g.O.Sink.shows _ _ _ _ c.in_ok-case.ensures.1 c.answer_case.ensures)

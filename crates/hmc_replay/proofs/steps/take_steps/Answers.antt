@@ -1,24 +1,31 @@
--- One step more; or no further one is taken.
-use Rattle.std.proofs.Common.{[], ◌≡◌, length, arith}
-use Rattle.hmc_replay.proofs.Stepping.{at_more, took_all, took_passed}
+-- One round more; or no further one is taken.
+use Rattle.std.proofs.Common.{[], arith}
+use Rattle.hmc_replay.proofs.Stepping.{before_first, left_same, round_took, all_took}
 use Rattle.hmc_replay.proofs.steps.take_steps.Goals as goal
 
-pub steps-init : goal.steps-init
-steps-init g c = λ setup is. ([], is)
+pub rounds-init : goal.rounds-init
+rounds-init g c = λ setup is. ([], before_first _ setup _ _ is c.in_rounds-rounds.ensures)
 
-pub take_step-requires-clause-there : goal.take_step-requires-clause-there
-take_step-requires-clause-there g c = let now = c.steps.invariant c.requires.0 c.requires.1 in (c.requires.0, now.0, now.1)
+pub take_round-requires : goal.take_round-requires
+take_round-requires g c =
+    let now = c.rounds.invariant c.requires.0 c.requires.1 in
+    (c.requires.0, _, now.0, left_same _ c.requires.0 _ now.0 _ _ now.1 c.in-Some.ensures.some)
 
-pub steps-preserved : goal.steps-preserved
-steps-preserved g c = λ setup is.
-    let now = c.steps.invariant setup is in (_, at_more _ _ setup _ now.0 _ _ now.1 (c.take_step.ensures setup now.0 now.1) c.if-take_step.false)
+pub returns-then-take_round : goal.returns-then-take_round
+returns-then-take_round g c = λ setup is.
+    let now = c.rounds.invariant setup is in
+    let here = left_same _ setup _ now.0 _ _ now.1 c.in-Some.ensures.some in
+    round_took _ setup _ _ _ _ c.if-take_round.true (c.take_round.ensures.taken setup _ now.0 here)
 
-pub returns-then-take_step : goal.returns-then-take_step
-returns-then-take_step g c = λ setup is.
-    let now = c.steps.invariant setup is in took_passed _ setup now.0 _ (c.take_step.ensures setup now.0 now.1) c.if-take_step.true
+pub rounds-smaller : goal.rounds-smaller
+rounds-smaller g c = omega (arith, c.take_round.ensures.rounds, c.in-Some.ensures.fewer)
+
+pub rounds-preserved : goal.rounds-preserved
+rounds-preserved g c = λ setup is.
+    let now = c.rounds.invariant setup is in
+    let here = left_same _ setup _ now.0 _ _ now.1 c.in-Some.ensures.some in
+    round_took _ setup _ _ _ _ c.if-take_round.false (c.take_round.ensures.taken setup _ now.0 here)
 
 pub returns : goal.returns
 returns g c = λ setup is.
-    let now = c.steps.invariant setup is in
-    let end : c.steps.at ≡ length c.args.schedule.now = omega (arith, c.steps-test.false, c.len-at-end.ensures) in
-    took_all _ setup _ now.0 _ now.1 end
+    let now = c.rounds.invariant setup is in all_took _ setup _ _ now.0 now.1 c.in_default.ensures.none

@@ -1,39 +1,38 @@
--- One step more, and its line; or no further one is taken; or the line broke off.
-use Rattle.std.proofs.Common.{[], ◌∷◌, ◌≡◌, length, arith, subst}
-use Rattle.hmc_entries.specs.Lines.{line_of}
-use Rattle.hmc_outside.specs.Lines.{WritesLines, BreaksOff}
-use Rattle.hmc_replay.proofs.Stepping.{at_more, took_all, took_passed, lines_more, wrote_all, wrote_passed, broken_at, lines-none}
+-- One round more, and its lines; or no further one is taken; or a line broke off.
+use Rattle.std.proofs.Common.{[], ◌∙◌, Ok, ap, arith}
+use Rattle.hmc_replay.proofs.Stepping.{before_first, left_same, round_wrote, all_wrote, lines-none}
 use Rattle.hmc_replay.proofs.steps.write_steps.Goals as goal
 
-pub steps-init : goal.steps-init
-steps-init g c = λ setup is. ([], is, lines-none _)
+pub rounds-init : goal.rounds-init
+rounds-init g c = λ setup is. ([], before_first _ setup _ _ is c.in_rounds-rounds.ensures, lines-none _)
 
-pub take_step-passed-requires-clause-there : goal.take_step-passed-requires-clause-there
-take_step-passed-requires-clause-there g c = let now = c.steps.invariant c.requires.0 c.requires.1 in (c.requires.0, now.0, now.1)
+pub write_round-requires : goal.write_round-requires
+write_round-requires g c =
+    let now = c.rounds.invariant c.requires.0 c.requires.1 in
+    (c.requires.0, _, now.0, left_same _ c.requires.0 _ now.0 _ _ now.1 c.in-Some.ensures.some)
 
-pub steps-preserved : goal.steps-preserved
-steps-preserved g c = λ setup is.
-    let now = c.steps.invariant setup is in
-    let after = c.take_step-passed.ensures setup now.0 now.1 in
-    let here = subst (λ e. WritesLines (g.O.Sink.shows c.steps.sink) (g.O.Sink.shows c.write_entry.new.sink) (line_of e ∷ [])) c.last.ensures c.in-Ok.ensures in
-    (_, at_more _ _ setup _ now.0 _ _ now.1 after c.if-passed.false, lines_more _ _ _ _ now.0 now.2 here)
+pub returns-in-Ok-true : goal.returns-in-Ok-true
+returns-in-Ok-true g c = λ setup is.
+    let now = c.rounds.invariant setup is in
+    let here = left_same _ setup _ now.0 _ _ now.1 c.in-Some.ensures.some in
+    round_wrote _ setup _ _ _ _ _ _ (c.in-Ok-true.is ∙ ap Ok c.in-Ok-true.field-0-test) (c.write_round.ensures.wrote setup _ now.0 _ here now.2)
+
+pub rounds-smaller : goal.rounds-smaller
+rounds-smaller g c = omega (arith, c.write_round.ensures.rounds, c.in-Some.ensures.fewer)
+
+pub rounds-preserved : goal.rounds-preserved
+rounds-preserved g c = λ setup is.
+    let now = c.rounds.invariant setup is in
+    let here = left_same _ setup _ now.0 _ _ now.1 c.in-Some.ensures.some in
+    round_wrote _ setup _ _ _ _ _ _ (c.in-Ok-false.is ∙ ap Ok c.in-Ok-false.field-0-test) (c.write_round.ensures.wrote setup _ now.0 _ here now.2)
 
 pub returns-in-Err : goal.returns-in-Err
 returns-in-Err g c = λ setup is.
-    let now = c.steps.invariant setup is in
-    let after = c.take_step-passed.ensures setup now.0 now.1 in
-    let here = subst (λ e. BreaksOff (g.O.Sink.shows c.steps.sink) (g.O.Sink.shows c.write_entry.new.sink) (line_of e ∷ [])) c.last.ensures c.in-Err.ensures in
-    broken_at _ setup now.0 _ _ _ _ after now.2 here
-
-pub returns-then-passed : goal.returns-then-passed
-returns-then-passed g c = λ setup is.
-    let now = c.steps.invariant setup is in
-    let after = c.take_step-passed.ensures setup now.0 now.1 in
-    let here = subst (λ e. WritesLines (g.O.Sink.shows c.steps.sink) (g.O.Sink.shows c.write_entry.new.sink) (line_of e ∷ [])) c.last.ensures c.in-Ok.ensures in
-    (took_passed _ setup now.0 _ after c.if-passed.true, wrote_passed _ setup now.0 _ _ _ after c.if-passed.true (lines_more _ _ _ _ now.0 now.2 here))
+    let now = c.rounds.invariant setup is in
+    let here = left_same _ setup _ now.0 _ _ now.1 c.in-Some.ensures.some in
+    round_wrote _ setup _ _ _ _ _ _ c.in-Err.is (c.write_round.ensures.wrote setup _ now.0 _ here now.2)
 
 pub returns : goal.returns
 returns g c = λ setup is.
-    let now = c.steps.invariant setup is in
-    let end : c.steps.at ≡ length c.args.schedule.now = omega (arith, c.steps-test.false, c.len-at-end.ensures) in
-    (took_all _ setup _ now.0 _ now.1 end, wrote_all _ setup _ now.0 _ _ _ now.1 end now.2)
+    let now = c.rounds.invariant setup is in
+    all_wrote _ setup _ _ now.0 _ _ now.1 c.in_default.ensures.none now.2

@@ -1,0 +1,19 @@
+use Rattle.std.proofs.Common.{◌≡◌, List, drop}
+use Rattle.hmc_schedule.specs.RoundsLeft.{steps_left}
+use Rattle.hmc_schedule.specs.declared.step.Step.{Step}
+use Rattle.hmc_entries.specs.declared.entry.Entry.{Entry}
+use Rattle.hmc_entries.specs.Text.{lines_of}
+use Rattle.hmc_journal.specs.Setup.{Setup}
+use Rattle.hmc_net.specs.NetState.{net_of}
+use Rattle.hmc_outside.specs.Lines.{WritesLines}
+use Rattle.hmc_outside.specs.Views.{SinkView}
+use Rattle.hmc_replay.specs.Steps.{IsBefore}
+use Rattle.hmc_replay.proofs.steps.write_round.Given as goal
+
+abbrev pub invariant-steps : goal.invariant-steps
+invariant-steps g l =
+    ((setup : Setup) (steps : List Step) (past : List Entry) →
+    IsBefore (net_of g.B.Workbench.slots l.initial.network) setup steps past (steps_left l.initial.rounds l.round) →
+    (now : List Entry) × IsBefore (net_of g.B.Workbench.slots l.network) setup steps now (steps_left l.rounds (drop l.step-index l.round))
+    × ((before : SinkView) → WritesLines before (g.O.Sink.shows l.initial.sink) (lines_of past) → WritesLines before (g.O.Sink.shows l.sink) (lines_of now)))
+    × (l.rounds.rounds ≡ l.initial.rounds.rounds)
