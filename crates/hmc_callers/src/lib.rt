@@ -4,6 +4,8 @@
 
 mod case;
 mod crc;
+mod link;
+mod net;
 mod packet;
 mod report;
 mod serial;
@@ -11,6 +13,8 @@ mod units;
 
 pub use case::is_case;
 pub use crc::is_check_of;
+pub use link::{goes_on, offer};
+pub use net::entry_of;
 pub use packet::round_trip;
 pub use report::ending_of;
 pub use serial::answer_of;

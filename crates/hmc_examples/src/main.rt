@@ -1,7 +1,7 @@
-//! Replays each example case, runs the cases of some numbers, asks for the bounds of some cases, and
-//! compares each report with the one beside it. Those reports came from a model in another language,
-//! or were found by hand (docs/DECISIONS.md says which). Each report is checked, too, as it stands and
-//! changed.
+//! Replays each example case, runs the cases of some numbers, asks for the bounds of some cases,
+//! and compares each report with the one beside it. Those reports came from a model in another
+//! language, or were found by hand (docs/DECISIONS.md says which). Each report is checked, too, as
+//! it stands and changed.
 #![tactic(auto)]
 
 mod checks;

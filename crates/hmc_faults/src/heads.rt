@@ -1,7 +1,7 @@
 //! Inputs of the word `check`, each with the line that refuses it.
 //!
-//! The table is a text. `TEXT = LINE` is a row, which ends at its last ` = `; in its text `\n`, `\r`
-//! and `\t` are those bytes. Lines without ` = ` are skipped.
+//! The table is a text. `TEXT = LINE` is a row, which ends at its last ` = `; in its text `\n`,
+//! `\r` and `\t` are those bytes. Lines without ` = ` are skipped.
 
 use crate::lines::unescaped;
 use crate::words::words_of;

@@ -1,7 +1,7 @@
 //! Reads the faulty inputs of the tables in `data/`, and compares the first fault of each with that
 //! of its row. Bad cases are replayed, scripts and schedules are read, and traces and inputs of
-//! `check` are given to the program. It is run with words that are not a form. The faults of the tables were found by hand
-//! (docs/DECISIONS.md).
+//! `check` are given to the program. It is run with words that are not a form. The faults of the
+//! tables were found by hand (docs/DECISIONS.md).
 #![tactic(auto)]
 
 mod faults;

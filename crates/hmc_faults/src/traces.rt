@@ -1,8 +1,8 @@
 //! Texts of traces, each with its first fault, or with its script.
 //!
-//! The tables are texts. `TEXT = LINE KIND` is a row of faults, `TEXT = SCRIPT` one of scripts, with a
-//! semicolon for each line feed; in a text `\n`, `\r` and `\t` are those bytes. Lines without ` = `
-//! are skipped.
+//! The tables are texts. `TEXT = LINE KIND` is a row of faults, `TEXT = SCRIPT` one of scripts,
+//! with a semicolon for each line feed; in a text `\n`, `\r` and `\t` are those bytes. Lines
+//! without ` = ` are skipped.
 
 use crate::lines::unescaped;
 use crate::words::words_of;

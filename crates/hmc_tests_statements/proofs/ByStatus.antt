@@ -27,7 +27,8 @@ use Rattle.hmc_replay.specs.BoundAnswer.{IsCaseBounded}
 use Rattle.hmc_replay.specs.CheckAnswer.{IsJudged, IsOfParts}
 use Rattle.hmc_replay.specs.CheckInput.{CheckInput}
 use Rattle.hmc_replay.specs.MakeAnswer.{made_setup}
-use Rattle.hmc_replay.specs.Report.{passes, report_of, short_report_of, short_lines, last_line, report_status}
+use Rattle.hmc_replay.specs.Report.{passes, report_of, short_report_of, end_lines, end_of, last_line, report_status}
+use Rattle.hmc_replay.specs.declared.extent.Extent.TheVariants.{Short}
 use Rattle.hmc_replay.specs.Reported.{IsReport}
 use Rattle.hmc_replay.specs.RunAnswer.{IsRunAnswer, IsReported, IsRefused}
 use Rattle.hmc_replay.specs.Top.{OneOf, NoneOf, IsRead, ReadsNothing, Writes, Replays, Replayed}
@@ -90,9 +91,9 @@ last_is : (entry : Entry) (before : List Entry) → lines_of (entry ∷ before) 
 unfolding lines_of
 last_is entry before = refl
 
-short_by : (setup : Setup) (passed : Bool) → passes setup ≡ passed → short_report_of setup ≡ short_lines passed setup (journal_of setup)
-unfolding short_report_of
-short_by setup passed is = ap (λ (p : Bool). short_lines p setup (journal_of setup)) is
+short_by : (setup : Setup) (passed : Bool) → passes setup ≡ passed → short_report_of setup ≡ end_lines passed Short setup (journal_of setup)
+unfolding end_of
+short_by setup passed is = ap (λ (p : Bool). end_lines p Short setup (journal_of setup)) is
 
 -- ---- run
 

@@ -5,7 +5,7 @@
 //! that breaks one part of a statement: a journal that breaks a guarantee (`Journals.antt`), a
 //! call's result that breaks a promise of `replay` (`Replays.antt`) or of the program
 //! (`Programs.antt`), and a list of entries that breaks a law of a link (`Links.antt`). A wrong
-//! definition is met as well, where the code follows it. So some are computed, where no row of their
-//! own crate shows a difference (`WorkedDefinitions.antt`). The crate has no code, and nothing depends
-//! on it.
+//! definition is met as well, where the code follows it. So some are computed, where no row of
+//! their own crate shows a difference (`WorkedDefinitions.antt`). The crate has no code, and
+//! nothing depends on it.
 #![tactic(auto)]
