@@ -7,7 +7,8 @@ cli finds the command that is called; verbs has a file for each command, and the
 - packets, commands, pasted, explain, decode: flits, and their fields in words
 - case, script, schedule, texts: a reader of cases that gives all faults, the program's one first
 - places, nearest, explain_fault: where a fault is in the file, and what it means
-- lines, report, fit: the lines of reports as records, their reader, and whether they fit a case
+- lines, final, report, fit: the lines of reports as records, their reader, and whether they fit a
+  case
 - jsonl, diff, subjects: reports as JSON, and where two differ
 - wave, queues, tokens, gathering, vcd: waves, and what is counted for them
 - show, routes: pictures of networks, and ways through them
@@ -15,7 +16,9 @@ cli finds the command that is called; verbs has a file for each command, and the
 - samples, shrink: random cases, and small ones that fail
 - traces, trace_formats, trace_case, trace_values: loads and stores, those of other tools, a case
   around them, and what the loads give
-- gate: what .ci/run needs; counts: those of docs/PROOFS.md
+- gate: what .ci/run needs
+- definitions, promises, counts, quotes: which definitions a promise rests on, and what documents
+  count and quote
 
 What cases may have is in few places: the ranges at the top of case, STEPS of schedule, and LINES of
 report. The gate compares this reader with the program and with the tables of hmc_faults, so a limit

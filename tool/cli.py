@@ -6,7 +6,6 @@ import gc
 import sys
 
 from tool import build, files, kit, processes, trial
-from tool.report import NotALine
 from tool.trouble import (
     BAD_DATA,
     CLOSED_PIPE,
@@ -14,13 +13,13 @@ from tool.trouble import (
     NO_INPUT,
     USAGE,
     ClosedPipe,
+    NotALine,
     Trouble,
     note,
     say,
 )
 from tool.verbs import COMMANDS
 
-VERSION = "0.1"
 HELP = "help [COMMAND]"
 HELP_WORDS = ("help", "--help", "-h")
 END = """\
@@ -51,7 +50,7 @@ def version_command() -> int:
     proved = "is built" if build.is_current() else "is not built yet: ./zehimbado build"
     unproved = "is built" if build.is_current(trial.PROGRAM, trial.RECORD) else "is not built"
     lines = [
-        f"zehimbado {VERSION}, sources {build.digest()[:16]}",
+        f"zehimbado {kit.project_version()}, sources {build.digest()[:16]}",
         f"kit: {kit_line()}",
         f"the proved program of these sources {proved}",
         f"the unproved program of these sources {unproved}",

@@ -1,15 +1,22 @@
-"""Counts what docs/PROOFS.md has in its first table: `python3 -m tool.counts`."""
+"""The tables of docs/ that count something: `python3 -m tool.counts` prints them. With `--write` it
+puts them into their pages, and the contracts into the pages CALLING.md.
+"""
 
 from __future__ import annotations
 
 import re
+import sys
 from collections.abc import Iterable, Iterator
 from pathlib import Path
 
-from tool.build import libraries
+from tool import quotes
+from tool.build import crates_below, libraries
 from tool.kit import TOP
+from tool.promises import promise_table, reading_table, word_table
 
 CRATES = TOP / "crates"
+# What only tests, beside the crates hmc_tests_.
+ONLY_TEST = ("hmc_examples", "hmc_faults", "hmc_traces", "hmc_packets")
 ROW = re.compile(r"^[^ -].*= refl$", re.MULTILINE)
 
 
@@ -36,19 +43,108 @@ def computed() -> Iterator[Path]:
     yield from CRATES.glob("*/proofs/**/Needed.antt")
 
 
+def faults() -> int:
+    """How many inputs are in the tables of hmc_faults, each with its first fault, if it has one.
+
+    Those of cases are in one table, where a line `= ..` ends each; in the others each has a line.
+    """
+    tables = set((CRATES / "hmc_faults" / "data").glob("*.txt"))
+    cases = {it for it in tables if it.name == "bad-cases.txt"}
+    tables -= cases | {it for it in tables if it.name == "trace-scripts.txt"}
+    return found("^= ", texts(cases)) + found("^.* = ", texts(tables))
+
+
 def counts() -> dict[str, int]:
-    """Each count by its name."""
+    """Each count by what it is of."""
+    crates = libraries()
+    tests = [it for it in crates if it in ONLY_TEST or it.startswith("hmc_tests_")]
+    values = "values that the definitions are computed to give, when a crate is checked"
+    mutants = "mutants in the folders `must-fail/`: wrong edits of the code"
+    firsts = "cases, inputs of `check`, scripts, schedules and traces with their first fault"
     return {
-        "crates": len(libraries()),
+        f"crates, {len(tests)} of which only test": len(crates),
         "functions": found(r"\bfn [a-z_]", code()),
-        "`ensures` clauses": found(r"^\s*ensures\b", code()),
-        "computed values": found(ROW.pattern, texts(computed())),
-        "mutants": len(list(CRATES.glob("*/must-fail/*.edit"))),
+        "`ensures` clauses, each proved": found(r"^\s*ensures\b", code()),
+        f"{values} (`proofs/Worked*.antt`, `proofs/Needed.antt`)": found(
+            ROW.pattern, texts(computed())
+        ),
+        f"{mutants}, each refused by the checker": len(list(CRATES.glob("*/must-fail/*.edit"))),
         "tests": found(r"#\[test\]", code()),
-        "cases with their reports": len(list((TOP / "examples").glob("*.toml"))),
+        "cases with their reports, in `examples/`": len(list((TOP / "examples").glob("*.toml"))),
+        f"{firsts}, in `crates/hmc_faults/data`": faults(),
     }
 
 
+def number_table() -> list[str]:
+    """The counts, as the rows of a table."""
+    return ["| Number | Of |", "|---|---|", *(f"| {it:,} | {of} |" for of, it in counts().items())]
+
+
+# Layers that are of use by themselves: the highest crate of each, and the page with its calls.
+LAYERS = {
+    "the codec: packets, flits, the check": ("hmc_packet", "../crates/hmc_packet/CALLING.md"),
+    "links": ("hmc_link", "../crates/hmc_link/CALLING.md"),
+    "commands: what a request does": ("hmc_serial", "../crates/hmc_serial/CALLING.md"),
+    "routes": ("hmc_routes", "../crates/hmc_routes/src/routes.rt"),
+}
+
+
+def layer_table() -> list[str]:
+    """What is to be copied of each layer, as the rows of a table."""
+    known = libraries()
+    rows = ["| Layer | Crates | Libraries | How to call it |", "|---|---|---|---|"]
+    for title, (top, page) in LAYERS.items():
+        below = crates_below(top, known)
+        crates = ", ".join(f"`{it}`" for it in known if it in below)
+        named = {it for crate in below for it in known[crate]} - below
+        others = ", ".join(f"`{it}`" for it in sorted(named)) or "none"
+        shown = "/".join(page.split("/")[2:])
+        rows.append(f"| {title} | {crates} | {others} | [{shown}]({page}) |")
+    return rows
+
+
+# The tables of each page.
+PAGES = {
+    "ARCHITECTURE.md": (layer_table,),
+    "PROOFS.md": (number_table,),
+    "TRUST.md": (promise_table, reading_table, word_table),
+}
+
+
+def page_with(text: str, table: list[str]) -> str:
+    """A page with this table in the place of the one with the same head."""
+    at = text.index("\n".join(table[:2]))
+    end = text.index("\n\n", at) if "\n\n" in text[at:] else len(text.rstrip("\n"))
+    return text[:at] + "\n".join(table) + text[end:]
+
+
+def pages() -> Iterator[tuple[Path, str]]:
+    """Yields each page with a table, or with contracts, as it has to be."""
+    for name, tables in PAGES.items():
+        path = TOP / "docs" / name
+        text = path.read_text(encoding="utf-8")
+        for table in tables:
+            text = page_with(text, table())
+        yield path, text
+    for path in sorted(CRATES.glob("*/CALLING.md")):
+        yield path, quotes.requote(path)
+
+
+def write() -> None:
+    """Puts the tables and the contracts into their pages."""
+    for path, text in pages():
+        path.write_text(text, encoding="utf-8")
+
+
+def main(words: list[str]) -> None:
+    """Prints or writes the tables."""
+    if words == ["--write"]:
+        write()
+        return
+    for tables in PAGES.values():
+        for table in tables:
+            print("\n".join([*table(), ""]))
+
+
 if __name__ == "__main__":
-    for name, number in counts().items():
-        print(f"{number:,} {name}")
+    main(sys.argv[1:])

@@ -16,11 +16,13 @@ from itertools import islice
 
 from tool import files, report, schedule, script
 from tool.case import Document, plan_of
+from tool.final import FINAL
 from tool.lines import Entry, Gave, Landed, Line, Passed, Sent
-from tool.report import Block, Made, NotALine, Reader, read_line
+from tool.report import Block, Made, Reader, read_line
+from tool.trouble import NotALine
 
 # The lines that end a report.
-ENDS = frozenset((*report.FINAL, "passed"))
+ENDS = frozenset((*FINAL, "passed"))
 LEFT_OUT = "lines of steps are left out"
 NO_IDLE = "no line before it begins with `idle`. If no step was idle, name the case (--case)"
 # The step of a line, which is empty where it is of none, and its record.
@@ -49,8 +51,9 @@ class Fit:
         """Yields the lines, after they were compared."""
         number, last = 0, ""
         for read in blocks:
-            block = Block(read.start, read.texts, [line for _, line in read.made])
-            self._compare(block, [step for step, _ in read.made])
+            steps, lines = zip(*read.made)
+            block = Block(read.start, read.texts, [*lines])
+            self._compare(block, [*steps])
             number, last = block.start + len(block.made), block.made[-1].line
             yield block
         if last not in ("passed", "bad"):
@@ -61,11 +64,11 @@ class Fit:
         steps = list(islice(self._steps, len(named)))
         wanted = [step for step, _ in steps] + [""] * (len(named) - len(steps))
         fits = len(named) if named == wanted else _first_difference(named, wanted)
-        for place, line in enumerate(block.made[: min(fits, len(steps))]):
-            compare = _COMPARED.get(type(line))
+        compared = block.made[: min(fits, len(steps))]
+        for place, compare in enumerate(map(_COMPARED.get, map(type, compared))):
             if compare:
                 self._mask = steps[place][1]
-                compare(self, block.start + place, line)
+                compare(self, block.start + place, compared[place])
         for number, line, _ in islice(block.rows(), len(steps), fits):
             self._compare_final(number, line)
         if fits < len(named):

@@ -4,7 +4,7 @@ from __future__ import annotations
 
 from tool import packets
 from tool.lines import Landed
-from tool.report import NotALine
+from tool.trouble import NotALine
 
 
 class Gathering:

@@ -8,7 +8,8 @@ from collections.abc import Iterable, Iterator
 from tool.case import Document
 from tool.decode import Decoder, Fields
 from tool.lines import Line
-from tool.report import FINAL, Block, Known, read_json
+from tool.final import FINAL
+from tool.report import Block, Known, read_json
 
 # What the lines begin with that are of no step.
 NO_STEP = tuple(f"{word} " for word in (*FINAL, "bad"))

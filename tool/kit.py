@@ -14,6 +14,11 @@ NAMED = re.compile(r"`rt version`:\s+(\S+),\s+logic\s+([0-9a-f]+)")
 SECONDS = 30
 
 
+def project_version() -> str:
+    """The version of this project, which is in the file VERSION alone."""
+    return (TOP / "VERSION").read_text(encoding="utf-8").strip()
+
+
 def command() -> str:
     """The path of the kit's command."""
     found = shutil.which("rt")

@@ -29,7 +29,7 @@ from tool.lines import (
     Took,
     Unlocked,
 )
-from tool.report import NotALine
+from tool.trouble import NotALine
 
 # A queue, by a word and numbers, as ("bank", 0, 1, 0).
 Queue = tuple[Any, ...]
@@ -96,6 +96,11 @@ class Queues:
     def held(self) -> dict[Queue, int]:
         """How much each queue holds, by its name."""
         return dict(zip(self.names, self.counts))
+
+    @staticmethod
+    def has_move(kind: type[Line]) -> bool:
+        """Whether entries of this kind can change a count."""
+        return kind in _MOVES
 
     def apply(self, line: Line) -> Sequence[int]:
         """Counts an entry, and returns the queues that it changed."""

@@ -14,6 +14,7 @@ from itertools import chain, count, islice
 from typing import Any, Generic, NamedTuple, TypeVar
 
 from tool.commands import BY_WORD, REQUEST
+from tool.final import FINAL
 from tool.lines import (
     MOST_KNOWN,
     REGISTERS,
@@ -47,9 +48,8 @@ from tool.lines import (
     json_line,
     json_template,
 )
+from tool.trouble import NotALine
 
-# The first words of the lines that end a report.
-FINAL = ("memory", "register", "tokens", "counters", "host", "cube", "state")
 # The first words of the lines after which those of other steps may come.
 GOES_ON = frozenset(kind.line for kind in Entry.__subclasses__()) - {Passed.line}
 # The front of the lines that end a report, or are its only one.
@@ -60,10 +60,8 @@ AT_ONCE = 4096
 Made = TypeVar("Made")
 # The number of a line, its record, and its text.
 Numbered = tuple[int, Line, str]
-
-
-class NotALine(ValueError):
-    """A line that no report has, or that this report cannot have."""
+# The places of groups whose value is not their word, and what gives their value.
+Converts = tuple[tuple[int, Callable[[str], Any]], ...]
 
 
 class Words(NamedTuple):
@@ -187,12 +185,10 @@ LINES: dict[str, tuple[Callable[..., Line], tuple[Words, ...]]] = {
 
 
 class Form(NamedTuple):
-    """How the lines with one first word are read: their pattern, the values of its groups, and the
-    places of those whose value is not their word."""
+    """How the lines with one first word are read: their pattern, and what is made of its groups."""
 
     pattern: re.Pattern[str]
     make: Callable[..., Line]
-    converts: tuple[tuple[int, Callable[[str], Any]], ...]
     # The fields in JSON, to be formatted with the groups where these are numbers and words alone.
     template: str
 
@@ -202,7 +198,27 @@ def _form_of(first: str, make: Callable[..., Line], words: tuple[Words, ...]) ->
     pattern = re.compile("".join([first, *(f" ({it.pattern})" for it in words), "\n?"]))
     converts = tuple((at, it.convert) for at, it in enumerate(words) if it.convert is not str)
     template = json_template(make) if {it.convert for it in words} <= {int, str} else ""
-    return Form(pattern, make, converts, template)
+    return Form(pattern, _maker(make, converts), template)
+
+
+def _maker(make: Callable[..., Line], converts: Converts) -> Callable[..., Line]:
+    """What makes a record of groups: the values at these places are not their words."""
+
+    def from_words(*groups: str) -> Line:
+        values: list[Any] = [*groups]
+        for at, convert in converts:
+            values[at] = convert(values[at])
+        return make(*values)
+
+    def from_number(number: str, *groups: str) -> Line:
+        return make(int(number), *groups)
+
+    if not converts:
+        return make
+    if converts == ((0, int),):
+        # The lines of flits are read by this: they are most of those that do not come again.
+        return from_number
+    return from_words
 
 
 _FORMS = {first: _form_of(first, make, words) for first, (make, words) in LINES.items()}
@@ -214,10 +230,7 @@ def read_line(text: str) -> Line:
     found = form and form.pattern.fullmatch(text)
     if not form or not found:
         raise _not_a_line(text)
-    values: list[Any] = [*found.groups()]
-    for at, convert in form.converts:
-        values[at] = convert(values[at])
-    return form.make(*values)
+    return form.make(*found.groups())
 
 
 def read_json(text: str) -> str:

@@ -13,7 +13,7 @@ from pathlib import Path
 from typing import IO, BinaryIO
 
 from tool import case, explain_fault, files, processes
-from tool.report import FINAL
+from tool.final import FINAL
 from tool.trouble import SIGNALLED, USAGE, ClosedPipe, Trouble, note, say
 
 MEANINGS = {

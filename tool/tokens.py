@@ -17,7 +17,7 @@ from tool import packets
 from tool.case import Document, Endpoint, ends_of
 from tool.gathering import Gathering
 from tool.lines import Discarded, Dropped, Landed, Line, Sent, Shifted, Through, Took, Unlocked
-from tool.report import NotALine
+from tool.trouble import NotALine
 
 # Where a token is, in the order of a line `tokens`.
 PLACES = ("held", "transit", "used", "due", "returning")
@@ -66,6 +66,11 @@ class Tokens:
         """The tokens of each direction, by the names of their places."""
         rows = range(0, len(self.at), len(PLACES))
         return [dict(zip(PLACES, self.at[row : row + len(PLACES)])) for row in rows]
+
+    @staticmethod
+    def has_move(kind: type[Line]) -> bool:
+        """Whether entries of this kind can change a count."""
+        return kind in _MOVES
 
     def apply(self, line: Line) -> list[int]:
         """Counts an entry, and returns the places from and to which tokens moved."""

@@ -7,8 +7,9 @@ from collections.abc import Iterable
 
 from tool.fit import LEFT_OUT
 from tool.lines import Answer, Gave, Host, Took
-from tool.report import NotALine, numbered, request_of
+from tool.report import numbered, request_of
 from tool.traces import Load, Trace
+from tool.trouble import NotALine
 
 HOST = 0
 

@@ -25,6 +25,10 @@ class Trouble(Exception):
         self.status = status
 
 
+class NotALine(ValueError):
+    """A line that no report has, or that this report cannot have."""
+
+
 class ClosedPipe(Exception):
     """No one reads standard output any more."""
 

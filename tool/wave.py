@@ -8,13 +8,14 @@ for follows from its outcomes, and where tokens are from what is begun, accepted
 from __future__ import annotations
 
 from collections.abc import Callable, Iterable, Iterator
-from typing import Any
+from typing import Any, NamedTuple
 
 from tool.case import Document, plan_of
 from tool.lines import Entry, Gave, Idle, Landed, Line, Passed, Sent, Took, Unlocked
 from tool.queues import Queue, Queues, queues_of
-from tool.report import Block, NotALine
+from tool.report import Block
 from tool.tokens import PLACES, Tokens
+from tool.trouble import NotALine
 from tool.vcd import BIT, EVENT, FLIT, NUMBER, TEXT, Dump, Signal
 
 TOP = "network"
@@ -37,6 +38,26 @@ def mode_after(mode: str, line: Line) -> str:
         return mode
     outcome = "aborted" if line.outcome.startswith("aborted") else line.outcome
     return MODES.get(outcome, mode)
+
+
+class Bits(dict[int, str]):
+    """Numbers as the changes of their signals begin. Most are small, and come again and again."""
+
+    def __missing__(self, number: int) -> str:
+        self[number] = bin(number)[1:]
+        return self[number]
+
+
+class Rule(NamedTuple):
+    """What entries with one first word change, beside the time."""
+
+    # The change of the signal `entry`.
+    word: str
+    # The sides of directions at which the entry sets a flit.
+    sides: list[Side] | None
+    moves_packets: bool
+    moves_tokens: bool
+    show: Callable[[Wave, Any, list[str]], None] | None
 
 
 class Side:
@@ -71,13 +92,14 @@ class Wave:
         self._dump = Dump()
         self._step = self._dump.mark(self._dump.add((TOP,), "step"))
         self._entry = self._dump.mark(self._dump.add((TOP,), "entry", TEXT))
-        # The first word of the last entry.
-        self._word = NOTHING
+        # The last change of the signal `entry`.
+        self._word = ""
+        self._bits = Bits()
         directions = range(len(self._queues.ends))
         self._sent = [Side(self._dump, number, "sent") for number in directions]
         self._landed = [Side(self._dump, number, "landed") for number in directions]
-        self._sides = {Sent: self._sent, Landed: self._landed, Passed: self._landed}
-        self._sides |= {Unlocked: self._landed}
+        kinds: list[type[Line]] = [*Entry.__subclasses__()]
+        self._rules = {kind: self._rule(kind) for kind in kinds}
         # The side at which the last entry has set a flit, for that step alone.
         self._set: Side | None = None
         self._modes = [FIRST_MODE for _ in directions]
@@ -102,6 +124,18 @@ class Wave:
             [self._add(f"host{host}", name) for name in HOST_SIGNALS]
             for host in range(len(self.hosts))
         ]
+
+    def _rule(self, kind: type[Line]) -> Rule:
+        """The rule of one kind of entry."""
+        sides = {Sent: self._sent, Landed: self._landed, Passed: self._landed}
+        sides[Unlocked] = self._landed
+        return Rule(
+            word=f"s{kind.line} {self._entry}",
+            sides=sides.get(kind),
+            moves_packets=Queues.has_move(kind),
+            moves_tokens=Tokens.has_move(kind),
+            show=_SHOWN.get(kind),
+        )
 
     def _add(self, scope: str, name: str, kind: str = NUMBER) -> int:
         """Adds a signal of a part of the network."""
@@ -135,25 +169,30 @@ class Wave:
         """Yields the dump, some lines at a time."""
         out = [*self._dump.head(), "#0"]
         self._first_values(out)
-        last, step, was_idle = 0, self._step, False
+        last = 0
         for block in blocks:
-            for number, line, _ in block.rows():
-                is_idle = type(line) is Idle
-                if not is_idle and not isinstance(line, Entry):
-                    break
-                last = number
-                out.append(f"#{number}\n{bin(number)[1:]} {step}")
-                if is_idle and was_idle:
-                    continue
-                was_idle = is_idle
-                try:
-                    self._entry_lines(line, out)
-                except NotALine as error:
-                    raise NotALine(f"line {number}: {error}") from error
+            last += self._block_lines(block, out)
             yield _text(out)
             out.clear()
         out.append(f"#{last + 1}")
         yield _text(out)
+
+    def _block_lines(self, block: Block[Line], out: list[str]) -> int:
+        """Adds the changes of the entries of a block, and returns how many there are."""
+        rules, step, idle = self._rules, self._step, self._rules[Idle].word
+        add = out.append
+        for number, line in enumerate(block.made, block.start):
+            rule = rules.get(type(line))
+            if rule is None:
+                return number - block.start
+            add(f"#{number}\n{bin(number)[1:]} {step}")
+            if rule.word is idle and self._word is idle:
+                continue
+            try:
+                self._entry_lines(line, rule, out)
+            except NotALine as error:
+                raise NotALine(f"line {number}: {error}") from error
+        return len(block.made)
 
     def _first_values(self, out: list[str]) -> None:
         """Adds the values before the first step."""
@@ -169,35 +208,35 @@ class Wave:
                 change(number, 0, out)
         self._token_lines(range(len(self._token_marks)), out)
 
-    def _entry_lines(self, line: Line, out: list[str]) -> None:
+    def _entry_lines(self, line: Any, rule: Rule, out: list[str]) -> None:
         """Adds the changes of one entry."""
-        if line.line != self._word:
-            self._word = line.line
-            out.append(f"s{self._word} {self._entry}")
-        kind = type(line)
-        sides = self._sides.get(kind)
-        side = sides[line.direction] if sides else None  # type: ignore[attr-defined]
+        word, sides, moves_packets, moves_tokens, show = rule
+        if word is not self._word:
+            self._word = word
+            out.append(word)
+        side = sides[line.direction] if sides else None
         # A flit is there for its step alone; where one follows at once, it is not quiet between.
-        if self._set is not None and (side is not self._set or kind is Unlocked):
+        if self._set is not None and (side is not self._set or type(line) is Unlocked):
             out.append(self._set.quiet)
         self._set = side
-        for queue in self._queues.apply(line):
-            held = self._queues.counts[queue]
-            out.append(f"{bin(held)[1:]} {self._places[queue]}")
-            busy = self._busy[queue]
-            if busy is not None:
-                self._dump.change(busy, int(held > 0), out)
-        moved = self._tokens.apply(line)
-        if moved:
-            self._token_lines(dict.fromkeys(moved), out)
-        show = _SHOWN.get(kind)
+        if moves_packets:
+            for queue in self._queues.apply(line):
+                held = self._queues.counts[queue]
+                out.append(f"{self._bits[held]} {self._places[queue]}")
+                busy = self._busy[queue]
+                if busy is not None:
+                    self._dump.change(busy, int(held > 0), out)
+        if moves_tokens:
+            moved = self._tokens.apply(line)
+            if moved:
+                self._token_lines(dict.fromkeys(moved), out)
         if show:
             show(self, line, out)
 
     def _token_lines(self, places: Iterable[int], out: list[str]) -> None:
         """Adds how many tokens are at these places of directions."""
-        for place in places:
-            out.append(f"{bin(self._tokens.at[place])[1:]} {self._token_marks[place]}")
+        at, marks, bits = self._tokens.at, self._token_marks, self._bits
+        out += [f"{bits[at[place]]} {marks[place]}" for place in places]
 
     def show_sent(self, line: Sent, out: list[str]) -> None:
         """Adds the changes of a flit that is sent."""

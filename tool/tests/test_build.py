@@ -71,6 +71,7 @@ class Build(unittest.TestCase):
         ignored = shutil.ignore_patterns("tests", "__pycache__")
         shutil.copytree(TOP / "tool", self.top / "tool", ignore=ignored)
         shutil.copy(TOP / "zehimbado", self.top)
+        (self.top / "VERSION").write_text("9.8\n", encoding="utf-8")
         (self.top / "crates.txt").write_text("hmc_prog: std_other\n", encoding="utf-8")
         (self.crate / "src").mkdir(parents=True)
         self.source = self.crate / "src" / "main.rt"
@@ -188,7 +189,7 @@ class Build(unittest.TestCase):
         before, _, after = self.tool("--version"), self.tool("run"), self.tool("--version")
         self.assertIn("the proved program of these sources is not built", before.stdout)
         self.assertIn("the proved program of these sources is built", after.stdout)
-        self.assertIn("zehimbado 0.1, sources ", after.stdout)
+        self.assertIn("zehimbado 9.8, sources ", after.stdout)
 
     def test_a_checkout_that_cannot_be_written(self) -> None:
         """As one that is read-only: a file is where the folder of the program has to be."""

@@ -13,6 +13,8 @@ PAGES = {
     "hmc_serial": "serial",
     "hmc_case": "case",
     "hmc_report": "report",
+    "hmc_link": "link",
+    "hmc_net": "net",
 }
 MOST_COLUMNS = 100
 
@@ -34,7 +36,7 @@ def squeezed(text: str) -> str:
 
 def functions(contracts: str) -> list[str]:
     """Each function of a block of contracts, with its clauses, squeezed."""
-    text = re.sub(r"^impl .* \{$|^\}$", "", contracts, flags=re.MULTILINE)
+    text = re.sub(r"^impl.* \{$|^\}$", "", contracts, flags=re.MULTILINE)
     parts = re.split(r"^(?=\s*pub fn )", text, flags=re.MULTILINE)
     return [squeezed(part) for part in parts if part.strip()]
 

@@ -8,15 +8,22 @@ import tempfile
 import unittest
 from pathlib import Path
 
+from tool import counts, kit
+from tool import case as cases
 from tool.tests.shared import CASES, EXAMPLES, TOP, require_program, tool
 from tool.verbs import COMMANDS
 
 DOCS = sorted([*(TOP / "docs").glob("*.md"), *TOP.glob("crates/*/CALLING.md")])
+# The pages at the top.
+FIRST = [TOP / name for name in ("README.md", "CONTRIBUTING.md", "CHANGES.md")]
 # The line of a report that another report has otherwise.
 SENT = "sent 0 new 08090a0b0c0d0e0f02060840ce08fdd5"
 LINK = re.compile(r"\]\(([^)#]*)(?:#([^)]+))?\)")
 EXAMPLE = re.compile(r"^    \$ \./zehimbado (.*)\n((?:    .*\n)*)", re.MULTILINE)
 MOST_WORDS = 700
+MOST_SIGNS = 2000
+# What has a name in definitions and in code: definitions, fields, functions and clauses.
+NAMED = re.compile(r"(?:\bpub(?: record| data| fn)?|\bfn|\bensures) (\w+)")
 
 
 def anchors(text: str) -> set[str]:
@@ -40,7 +47,7 @@ class Docs(unittest.TestCase):
             self.assertIn(anchor, anchors(text), f"{page.name}: {target}")
 
     def test_links(self) -> None:
-        for page in (TOP / "README.md", *DOCS):
+        for page in (*FIRST, *DOCS):
             for target, anchor in LINK.findall(page.read_text(encoding="utf-8")):
                 if not target.startswith("http"):
                     self.check_link(page, target, anchor)
@@ -49,6 +56,44 @@ class Docs(unittest.TestCase):
         index = (TOP / "docs" / "README.md").read_text(encoding="utf-8")
         named = {(TOP / "docs" / target).resolve() for target, _ in LINK.findall(index)}
         self.assertEqual(set(DOCS) - named, {TOP / "docs" / "README.md"})
+
+    def test_what_scripts_write(self) -> None:
+        """Counts, lines of definitions and contracts are those of these sources; else run
+        `python3 -m tool.counts --write`."""
+        for path, text in counts.pages():
+            self.assertEqual(path.read_text(encoding="utf-8"), text, path.name)
+
+    def test_rows_of_proofs_are_short(self) -> None:
+        """None is longer than half a page."""
+        text = (TOP / "docs" / "PROOFS.md").read_text(encoding="utf-8")
+        self.assertLessEqual(max(map(len, text.splitlines())), MOST_SIGNS)
+
+    def test_the_names_of_promises(self) -> None:
+        """Each record, field, clause and law in the table of promises is there."""
+        sources = [*TOP.glob("crates/*/specs/*.antt"), *TOP.glob("crates/*/src/**/*.rt")]
+        text = "\n".join(path.read_text(encoding="utf-8") for path in sources)
+        known = set(NAMED.findall(text)) | {path.name for path in TOP.glob("crates/*")}
+        page = (TOP / "docs" / "PROOFS.md").read_text(encoding="utf-8")
+        table = page[page.index("### By promise") : page.index("### The top call")]
+        rows = [row.split("|")[3:] for row in table.splitlines() if row.startswith("| ")]
+        names = re.findall(r"`([\w.]+)`", str(rows))
+        self.assertGreater(len(names), 40)
+        for name in names:
+            self.assertLessEqual(set(name.split(".")), known, name)
+
+    def test_the_version(self) -> None:
+        """It is in one file; CHANGES.md has a section for it, the first one."""
+        version = kit.project_version()
+        headings = re.findall(r"^## (\S+)", (TOP / "CHANGES.md").read_text(encoding="utf-8"), re.M)
+        self.assertEqual(headings[0], version)
+        self.assertIn(f"zehimbado {version},", tool("--version").stdout.decode())
+
+    def test_the_template_of_a_case(self) -> None:
+        document, fault = cases.read((TOP / "docs" / "case-template.toml").read_bytes())
+        self.assertIsNone(fault)
+        stored, _ = cases.read((EXAMPLES / "write-then-read.toml").read_bytes())
+        for key in ("cubes", "links"):
+            self.assertEqual(document[key], stored[key])
 
     def test_the_readme_is_short(self) -> None:
         words = (TOP / "README.md").read_text(encoding="utf-8").split()

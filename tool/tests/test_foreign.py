@@ -7,6 +7,7 @@ from pathlib import Path
 from tool import case, report
 from tool.fit import checked
 from tool.tests.shared import CASES, EXAMPLES, tool
+from tool.trouble import NotALine
 
 NAME = "write-then-read"
 
@@ -22,7 +23,7 @@ def refusal(lines: list[str], name: str | None) -> str:
     try:
         for _ in checked(lines, document):
             pass
-    except report.NotALine as error:
+    except NotALine as error:
         return str(error)
     return ""
 

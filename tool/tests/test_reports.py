@@ -8,6 +8,7 @@ from typing import Any
 from tool import diff, report
 from tool.lines import Line, json_line
 from tool.tests.shared import CASES, EXAMPLES, output_of, tool
+from tool.trouble import NotALine
 
 
 def lines_of(name: str) -> list[str]:
@@ -72,7 +73,7 @@ class Json(unittest.TestCase):
             "state idle": "unexpected `idle`: drained or busy is expected",
         }
         for line, said in rows.items():
-            with self.assertRaises(report.NotALine, msg=line) as caught:
+            with self.assertRaises(NotALine, msg=line) as caught:
                 report.read_line(line)
             self.assertEqual(str(caught.exception), said)
         self.assertEqual(tool("json", given=b"state idle\n").returncode, 65)

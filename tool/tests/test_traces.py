@@ -9,7 +9,7 @@ from collections.abc import Iterator
 from pathlib import Path
 
 from tool import build, case, explain_fault, trace_case, trace_formats, trace_values, traces
-from tool.report import NotALine
+from tool.trouble import NotALine
 from tool.tests.shared import TOP, output_of, require_program, tool
 from tool.trouble import Trouble
 
