@@ -83,6 +83,13 @@ impl Payload {
         &self.bytes[..self.len]
     }
 
+    /// The bytes, and zeros after them.
+    pub fn padded(&self) -> &[u8; 256]
+        ensures { result.now ≡ padded_bytes 256 self.now }
+    {
+        &self.bytes
+    }
+
     /// The number of bytes, 0 to 256.
     pub fn len(&self) -> usize
         ensures { result ≡ length self.now }

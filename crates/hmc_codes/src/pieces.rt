@@ -131,6 +131,7 @@ fn spaced_digit(digit: u64) -> &'static str
 
 /// Appends a space and a number in decimal: at most 21 bytes.
 #[tactic(auto, using(crate::proofs::Digits::decimal_length, crate::proofs::Digits::decimal_last, crate::proofs::Digits::decimal_first))]
+#[inline(always)]
 pub fn append_spaced<const N: usize>(into: &mut ArrayString<N>, number: u64)
     requires room { length into.old.bytes + 21 ≤ N }
     ensures text { into.new.bytes ≡ into.old.bytes ++ (32 ∷ decimal number) }
