@@ -3,3 +3,4 @@ pub mod Bench
 pub mod Slot
 pub mod Slots
 pub mod Shipped
+pub mod Kinds

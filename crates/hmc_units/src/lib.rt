@@ -1,4 +1,5 @@
-//! Logic units: what a unit is, the bench that holds units in slots, and two shipped kinds.
+//! Logic units: what a unit is, the bench that holds units in slots, and two shipped kinds, each a
+//! type of its own and both together [`Shipped`].
 //!
 //! A unit serves the unit commands of one cube and code. It is known by its interface alone: a
 //! state, which is a list of numbers, and two functions of a state, a block and an operand, which
@@ -12,6 +13,7 @@
 mod boxed;
 mod laws;
 mod reverse;
+mod shipped;
 mod slot;
 mod slots;
 mod stamp;
@@ -20,6 +22,7 @@ mod workbench;
 
 pub use laws::empty_slots_stay_empty;
 pub use reverse::Reverse;
+pub use shipped::Shipped;
 pub use slots::{Bench, Slots};
 pub use stamp::Stamp;
 pub use unit::LogicUnit;
