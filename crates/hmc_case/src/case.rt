@@ -2,7 +2,7 @@
 
 ghost use Rattle.std.specs.Prelude.{◌≡◌, length, IfOk};
 ghost use Rattle.std.specs.List.{All};
-ghost use Rattle.hmc_schedule.specs.Plan.{IsStepOf, HasFlit};
+ghost use Rattle.hmc_schedule.specs.Plan.{IsStepOf};
 ghost use Rattle.hmc_script.specs.Items.{IsWithin};
 ghost use Rattle.hmc_case.specs.Net.{IsNet, net_with};
 ghost use Rattle.hmc_case.specs.Plan.{plan_of};
@@ -83,7 +83,6 @@ impl Case {
         requires net { IsNet (net_with cubes.items links.items) }
         requires script { All (IsWithin (host_count links.items) (length cubes.items)) script }
         requires schedule { All (IsStepOf (plan_of (net_with cubes.items links.items))) schedule }
-        requires masks { All HasFlit schedule }
         ensures { result ≡ record {
           net = net_with cubes.items links.items;
           script = script;
@@ -91,6 +90,7 @@ impl Case {
         } }
     {
         script.invariant();
+        schedule.invariant();
         Case {
             net: net_with(cubes, links),
             script,

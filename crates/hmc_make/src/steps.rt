@@ -3,7 +3,7 @@
 ghost use Rattle.std.specs.Prelude.{◌≡◌, ◌≤◌, IfOk};
 ghost use Rattle.std.specs.List.{All};
 ghost use Rattle.hmc_case.specs.Plan.{plan_of};
-ghost use Rattle.hmc_schedule.specs.Plan.{IsStepOf, HasFlit};
+ghost use Rattle.hmc_schedule.specs.Plan.{IsStepOf};
 ghost use Rattle.hmc_make.specs.Chain.{chain_of};
 ghost use Rattle.hmc_make.specs.Steps.{steps_of};
 
@@ -22,7 +22,6 @@ pub fn schedule_of(alloc: Global, cubes: u8) -> Result<Schedule, Memory>
     requires few { cubes ≤ 4 }
     ensures steps { IfOk result (λ schedule. schedule ≡ steps_of (plan_of (chain_of cubes))) }
     ensures within { IfOk result (λ schedule. All (IsStepOf (plan_of (chain_of cubes))) schedule) }
-    ensures masks { IfOk result (λ schedule. All HasFlit schedule) }
 {
     let plan = plan_of(alloc, cubes)?;
     let mut schedule = Schedule::new(alloc);

@@ -12,8 +12,9 @@ use Rattle.std.specs.Prelude.{IfSome}
 use Rattle.std.proofs.lemmas.List.Elements.{All-tail}
 use Rattle.std.proofs.Math.Seq.{take-length}
 use Rattle.hmc_schedule.specs.Round.{repeated}
+use Rattle.hmc_schedule.specs.declared.written.Rounds.{Rounds}
 use Rattle.hmc_schedule.specs.declared.written.Segment.{Segment}
-use Rattle.hmc_schedule.specs.Written.{stretch_of, steps_in, IsStretch}
+use Rattle.hmc_schedule.specs.Written.{Kept, held_steps, steps_in, IsHeld}
 use Rattle.hmc_schedule.specs.RoundsLeft.{noise_left, noise_of, count_of, rounds_in, IsCountdown, AreLeft}
 
 -- a count that is a whole turn more leaves the same masks
@@ -112,15 +113,15 @@ none_now noise count round none = rw none (by_noise noise) where
   by_noise (Some c) = refl
 
 -- nothing is left
-pub none_left : (all : List Step) (noise : Option Countdown) (count : ℕ) (round kept : List Step) (segments : List Segment) → count ≡ 0 → length segments < 1 → all ≡ noisy_if (noise_left noise) (repeated count round) ++ steps_in kept segments → all ≡ []
+pub none_left : (all : List Step) (noise : Option Countdown) (count : ℕ) (round : List Step) (kept : Kept) (segments : List Segment) → count ≡ 0 → length segments < 1 → all ≡ noisy_if (noise_left noise) (repeated count round) ++ steps_in kept segments → all ≡ []
 unfolding steps_in
 none_left all noise count round kept [] none few is =
     is ∙ ap (λ l. l ++ []) (none_now noise count round none)
 none_left all noise count round kept (s ∷ later) none few is = absurd (omega (arith, few))
 
 -- the next line
-pub next_line : (all : List Step) (noise next : Option Countdown) (count : ℕ) (round rounds kept : List Step) (segments : List Segment) (d : Segment) → count ≡ 0 → 1 ≤ length segments → all ≡ noisy_if (noise_left noise) (repeated count round) ++ steps_in kept segments
-    → rounds ≡ stretch_of kept (get_or segments 0 d).stretch → All (λ segment. IsStretch kept segment.stretch) segments → IfSome next IsCountdown
+pub next_line : (all : List Step) (noise next : Option Countdown) (count : ℕ) (round rounds : List Step) (kept : Kept) (segments : List Segment) (d : Segment) → count ≡ 0 → 1 ≤ length segments → all ≡ noisy_if (noise_left noise) (repeated count round) ++ steps_in kept segments
+    → rounds ≡ held_steps kept (get_or segments 0 d).held → All (λ segment. IsHeld kept segment.held) segments → IfSome next IsCountdown
     → AreLeft kept (take (length segments - 1) (drop 1 segments)) next × (all ≡ rounds ++ steps_in kept (take (length segments - 1) (drop 1 segments)))
 unfolding steps_in
 next_line all noise next count round rounds kept [] d none some is line kept_are keeps = absurd (omega (arith, some))
@@ -128,17 +129,17 @@ next_line all noise next count round rounds kept (s ∷ later) d none some is li
     let short : length (s ∷ later) - 1 ≡ length later = omega arith in
     let same : take (length (s ∷ later) - 1) later ≡ later = ap (λ k. take k later) short ∙ take-length later in
     rw same (
-      record { rounds = All-tail (λ (t : Segment). IsStretch kept t.stretch) s later kept_are; noise = keeps },
+      record { held = All-tail (λ (t : Segment). IsHeld kept t.held) s later kept_are; noise = keeps },
       is ∙ ap (λ l. l ++ steps_in kept (s ∷ later)) (none_now noise count round none) ∙ ap (λ l. l ++ steps_in kept later) (sym line),
     )
 
 -- as many rounds are left
-pub next_count : (all count next : ℕ) (segments : List Segment) (d : Segment) → count ≡ 0 → 1 ≤ length segments → all ≡ count + rounds_in segments → next ≡ count_of (get_or segments 0 d).stretch → all ≡ next + rounds_in (take (length segments - 1) (drop 1 segments))
+pub next_count : (all count next : ℕ) (many : List Rounds) (segments : List Segment) (d : Segment) → count ≡ 0 → 1 ≤ length segments → all ≡ count + rounds_in many segments → next ≡ count_of many (get_or segments 0 d).held → all ≡ next + rounds_in many (take (length segments - 1) (drop 1 segments))
 unfolding rounds_in
-next_count all count next [] d none some is line = absurd (omega (arith, some))
-next_count all count next (s ∷ later) d none some is line =
+next_count all count next many [] d none some is line = absurd (omega (arith, some))
+next_count all count next many (s ∷ later) d none some is line =
     let short : length (s ∷ later) - 1 ≡ length later = omega arith in
     let same : take (length (s ∷ later) - 1) later ≡ later = ap (λ k. take k later) short ∙ take-length later in
-    let here : next ≡ count_of s.stretch = line in
-    let before : all ≡ count + (count_of s.stretch + rounds_in later) = is in
+    let here : next ≡ count_of many s.held = line in
+    let before : all ≡ count + (count_of many s.held + rounds_in many later) = is in
     rw same (omega (arith, none, before, here))

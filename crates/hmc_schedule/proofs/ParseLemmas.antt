@@ -1,6 +1,8 @@
 -- The lines of a schedule in turn.
-use Rattle.std.proofs.Common.{◌≡◌, ◌∙◌, ◌≤◌, ℕ, ◌+◌, ◌*◌, Option, Some, None, IfSome, option_map, Result, Ok, Err, OnOk, List, [], ◌++◌, length, length-append, arith, sym, ap}
+use Rattle.std.proofs.Common.{◌≡◌, ◌∙◌, ◌≤◌, ℕ, ◌+◌, ◌*◌, Option, Some, None, IfSome, option_map, Result, Ok, Err, OnOk, List, [], ◌++◌, length, length-append, arith, sym, subst, ap}
 use Rattle.std.specs.Borrow.{Bor}
+use Rattle.std.specs.List.{All}
+use Rattle.hmc_codes.specs.Flit.{IsFlit}
 use Rattle.hmc_text.proofs.InTurnLemmas as turns
 use Rattle.hmc_text.proofs.InTurnLemmas.{after_left}
 use Rattle.hmc_text.specs.InTurn.{after_lines, at_line, Numbered, IsNextLine, Answers, ReportsBy, fault_of}
@@ -10,7 +12,7 @@ use Rattle.hmc_text.specs.declared.fault.TextFault.{TextFault}
 use Rattle.hmc_schedule.specs.declared.fault.ScheduleKind.{ScheduleKind}
 use Rattle.hmc_schedule.specs.declared.meaning.Meaning.{Meaning}
 use Rattle.hmc_schedule.specs.Meaning.{IsMeaning}
-use Rattle.hmc_schedule.specs.Plan.{PlanFields}
+use Rattle.hmc_schedule.specs.Plan.{PlanFields, HasFlit}
 use Rattle.std.proofs.Math.Nat.{mul-le-mul_left}
 use Rattle.hmc_codes.specs.Limits.{most_steps}
 use Rattle.hmc_schedule.specs.declared.noise.Noise.{Noise}
@@ -18,13 +20,13 @@ use Rattle.hmc_schedule.specs.declared.step.Step.{Step}
 use Rattle.hmc_schedule.specs.declared.written.KeptRound.{KeptRound}
 use Rattle.hmc_schedule.specs.declared.written.Rounds.{Rounds}
 use Rattle.hmc_schedule.specs.declared.written.Stretch.TheVariants.{Many}
-use Rattle.hmc_schedule.specs.Noise.{lands_in, counted, noisy_if, IsNoise}
-use Rattle.hmc_schedule.specs.Round.{repeated}
+use Rattle.hmc_schedule.specs.Noise.{new_noise, lands_in, counted, noisy_if, IsNoise}
+use Rattle.hmc_schedule.specs.Round.{repeated, round_of, rounds_of}
 use Rattle.hmc_schedule.specs.Written.{round_at, stretch_of, IsKept}
 use Rattle.hmc_schedule.proofs.NoiseLemmas.{noisy_if-length, lands-of, lands-le, lands-repeated}
 use Rattle.hmc_schedule.proofs.WrittenLemmas.{length-rounds, length-stretch, length-round_at}
-use Rattle.hmc_schedule.specs.Schedule.{Progress, add_steps, add_rounds, after_meaning, after_line, nothing_yet, schedule_of, IsProgress}
-use Rattle.hmc_schedule.proofs.WorkLemmas.{add_steps-ok, still_progress}
+use Rattle.hmc_schedule.specs.Schedule.{Progress, add_steps, add_rounds, after_meaning, after_line, nothing_yet, schedule_of, IsProgress, IsSchedule}
+use Rattle.hmc_schedule.proofs.WorkLemmas.{add_steps-ok, still_progress, rounds_masks}
 
 at_line-ok : {A K : Type 0} (number : ℕ) (r : Result A K) (x : A) → at_line number r ≡ Ok x → r ≡ Ok x
 at_line-ok number (Ok y) x is = cc (is)
@@ -74,6 +76,17 @@ pub few_rounds : (old mid new one round : List Step) (n : ℕ) (noise : Option N
 few_rounds old mid new one round n noise is same before room =
     let more : length (noisy_if noise (repeated n one)) ≡ n * length round = noisy_if-length noise (repeated n one) ∙ length-rounds n one ∙ ap (λ (l : List Step). n * length l) same in
     omega (arith, ap length is ∙ length-append mid (noisy_if noise (repeated n one)), more, ap length before, room)
+
+-- what a schedule keeps, after rounds were appended
+pub IsSchedule-rounds : (plan : PlanFields) (noise : Option (ℕ × List ℕ)) (n : ℕ) (old mid new one : List Step) (given : Option Noise) → new ≡ mid ++ noisy_if given (repeated n one) → one ≡ round_of plan → mid ≡ old → given ≡ option_map new_noise noise → IfSome given (λ m. IsFlit m.mask) → length old + n * length (round_of plan) ≤ most_steps → All HasFlit old → IsSchedule new
+unfolding rounds_of
+IsSchedule-rounds plan noise n old mid new one given is same before counts masks room all =
+    let steps : new ≡ old ++ noisy_if (option_map new_noise noise) (rounds_of plan n) =
+    is ∙ ap (λ (l : List Step). l ++ noisy_if given (repeated n one)) before ∙ ap (λ (r : List Step). old ++ noisy_if given (repeated n r)) same ∙ ap (λ (o : Option Noise). old ++ noisy_if o (repeated n (round_of plan))) counts in
+    record {
+      few = few_rounds old mid new one (round_of plan) n given is same before room;
+      masks = subst (All HasFlit) (sym steps) (rounds_masks plan noise n old (subst (λ (o : Option Noise). IfSome o (λ m. IsFlit m.mask)) counts masks) all);
+    }
 
 -- no line is left
 pub schedule_of-ok : (plan : PlanFields) (text : List ℕ) (left : Numbered) (progress : Progress) → left.lines ≡ [] → after_left (after_line plan) progress left ≡ after_lines (after_line plan) 1 nothing_yet (lines_of text) → schedule_of plan text ≡ Ok progress.steps

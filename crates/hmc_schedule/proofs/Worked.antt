@@ -2,6 +2,7 @@
 use Rattle.std.proofs.Common.{◌≡◌, ◌+◌, ℕ, List, length, nat_le, [], ◌∷◌, ◌++◌, Some, None, Result, Ok, Err, filter, replicate, true, false, refl, arith}
 use Rattle.std.proofs.lemmas.Bool.Decides.{nat_tests}
 use Rattle.std.specs.Prelude.{codes, map}
+use Rattle.std.proofs.lemmas.List.Elements.{All-nil, All-cons}
 use Rattle.hex.specs.Hex.{decode_pairs}
 use Rattle.hmc_codes.specs.declared.lift.Lift.TheVariants as lifts
 use Rattle.hmc_text.specs.InTurn.{after_lines}
@@ -17,17 +18,18 @@ use Rattle.hmc_schedule.specs.declared.step.Step.{Step}
 use Rattle.hmc_schedule.specs.declared.step.Step.TheVariants as steps
 use Rattle.hmc_schedule.specs.declared.verb.Verb.TheVariants as verbs
 use Rattle.hmc_schedule.specs.declared.written.Rounds.{Rounds}
+use Rattle.hmc_schedule.specs.declared.written.Held.TheVariants as held
 use Rattle.hmc_schedule.specs.declared.written.Segment.{Segment}
 use Rattle.hmc_schedule.specs.declared.written.Stretch.TheVariants as stretches
 use Rattle.hmc_schedule.specs.Meaning.{numbered_step, land_of, port_step, spread_of, bank_of, lift_of, step_of, one_of, rounds_meaning, noise_end, noise_begin, noise_meaning, noise_or_one, statement_of, meaning_of}
 use Rattle.hmc_schedule.specs.Operands.{port_words, vault_words, vault_lift, lift_word, mask_word, mask_words, due_mask, count_word}
-use Rattle.hmc_schedule.specs.Plan.{PlanFields, IsPlan, IsStepOf}
+use Rattle.hmc_schedule.specs.Plan.{PlanFields, IsPlan, IsStepOf, HasFlit}
 use Rattle.hmc_codes.specs.Flit.{zero_flit}
 use Rattle.hmc_schedule.specs.Round.{shifts_of, spreads_of, banks_of, lifts_of, round_of, rounds_of}
 use Rattle.hmc_schedule.specs.Noise.{is_land, noisy, IsNoise}
-use Rattle.hmc_schedule.specs.Schedule.{add_steps, add_rounds, add_one, after_line, schedule_of}
+use Rattle.hmc_schedule.specs.Schedule.{add_steps, add_rounds, add_one, after_line, schedule_of, IsSchedule}
 use Rattle.hmc_schedule.specs.Verb.{verbs as all_verbs, verb_of}
-use Rattle.hmc_schedule.specs.Written.{steps_in, IsKept, IsWritten}
+use Rattle.hmc_schedule.specs.Written.{Kept, kept_of, held_of, steps_in, IsKept, IsWritten}
 
 abbrev two_cubes : PlanFields
 two_cubes = record {
@@ -187,21 +189,38 @@ give_take = steps.Give 0 ∷ steps.Take 0 ∷ []
 abbrev two_rounds : Rounds
 two_rounds = record { round = record { start = 0; len = 2; lands = 0 }; count = 2; noise = None }
 
-abbrev rounds_and_send : ℕ → List Segment
-rounds_and_send start = record { start = 0; stretch = stretches.Many two_rounds } ∷ record { start = start; stretch = stretches.One (steps.Send 1) } ∷ []
+abbrev give_take_twice : Kept
+give_take_twice = kept_of give_take (two_rounds ∷ [])
 
-steps_in-rounds_and_send : steps_in give_take (rounds_and_send 4) ≡ steps.Give 0 ∷ steps.Take 0 ∷ steps.Give 0 ∷ steps.Take 0 ∷ steps.Send 1 ∷ []
+abbrev rounds_and_send : ℕ → List Segment
+rounds_and_send start = record { start = 0; held = held.Many 0 } ∷ record { start = start; held = held.One (steps.Send 1) } ∷ []
+
+steps_in-rounds_and_send : steps_in give_take_twice (rounds_and_send 4) ≡ steps.Give 0 ∷ steps.Take 0 ∷ steps.Give 0 ∷ steps.Take 0 ∷ steps.Send 1 ∷ []
 unfolding steps_in
 steps_in-rounds_and_send = refl
 
--- what is never kept: a segment that begins too early, a wrong number of steps, a round past the end
-IsWritten-early : IsWritten give_take (rounds_and_send 3) 5 → ⊥
-unfolding steps_in
-IsWritten-early is = omega (arith, is.starts 1 (record { start = 0; stretch = stretches.Many two_rounds }) (omega arith))
+-- how a segment holds rounds after those of one line, and a step
+held_of-rounds : held_of 1 (stretches.Many two_rounds) ≡ held.Many 1
+held_of-rounds = refl
 
-IsWritten-wrong_total : IsWritten give_take (rounds_and_send 4) 4 → ⊥
+held_of-step : held_of 1 (stretches.One (steps.Send 1)) ≡ held.One (steps.Send 1)
+held_of-step = refl
+
+-- what is never kept: a segment that begins too early, a wrong number of steps, rounds that are not
+-- there, more lines with rounds than steps, a round past the end
+IsWritten-early : IsWritten give_take_twice (rounds_and_send 3) 5 → ⊥
+unfolding steps_in
+IsWritten-early is = omega (arith, is.starts 1 (record { start = 0; held = held.Many 0 }) (omega arith))
+
+IsWritten-wrong_total : IsWritten give_take_twice (rounds_and_send 4) 4 → ⊥
 unfolding steps_in
 IsWritten-wrong_total is = omega (arith, is.total)
+
+IsWritten-no_rounds : IsWritten (kept_of give_take []) (record { start = 0; held = held.Many 0 } ∷ []) 0 → ⊥
+IsWritten-no_rounds is = is.held 0 (record { start = 0; held = held.Many 0 }) (omega arith)
+
+IsWritten-many_lines : IsWritten give_take_twice [] 0 → ⊥
+IsWritten-many_lines is = omega (arith, is.some)
 
 IsKept-past_the_end : IsKept give_take (record { start = 1; len = 2; lands = 0 }) → ⊥
 IsKept-past_the_end is = omega (arith, is.inside)
@@ -212,3 +231,12 @@ IsNoise-never is = omega (arith, is.some)
 
 IsNoise-many : IsNoise 5 (record { every = 1; mask = last_bit; count = 6 }) → ⊥
 IsNoise-many is = omega (arith, is.few)
+
+-- what is a schedule, and what is not: a mask of one byte
+IsSchedule-send : IsSchedule (steps.Send 1 ∷ [])
+IsSchedule-send = record { few = omega arith; masks = All-cons HasFlit (steps.Send 1) [] tt (All-nil HasFlit) }
+
+IsSchedule-short_mask : IsSchedule (steps.Land 0 (0 ∷ []) ∷ []) → ⊥
+IsSchedule-short_mask is =
+    let mask : HasFlit (steps.Land 0 (0 ∷ [])) = is.masks 0 (steps.Give 0) (omega arith) in
+    omega (arith, mask.long)

@@ -1,6 +1,8 @@
 -- In which segment a place is, and the step there.
 use Rattle.std.proofs.Common.{◌≡◌, ◌∙◌, ◌<◌, ◌≤◌, ℕ, zero, suc, ◌+◌, ◌-◌, ◌*◌, ◌/◌, ◌%◌, List, [], ◌∷◌, ◌++◌, length, take, drop, get_or, slice_get, slice_index_or, replicate, filter, Option, Some, None, nat_le, true, false, inl, inr, refl, sym, ap, subst, arith, append-nil, length-append}
 use Rattle.std.specs.List.{All, flat_map}
+use Rattle.std.specs.Option.{option_map_or}
+use Rattle.std.specs.Prelude.{IsSomeAnd}
 use Rattle.std.proofs.lemmas.List.Elements.{All-nil, All-cons, All-head, All-tail, All-append, All-take}
 use Rattle.std.specs.List.Sorted.{IsNonDecreasingBy, IsPartitionPoint, IsPartitionedBy}
 use Rattle.std.proofs.lemmas.Bool.{cases_lt}
@@ -12,6 +14,8 @@ use Rattle.std.proofs.Math.Nat.{add-mod_left, mod-eq_of_lt, mod-lt}
 use Rattle.std.proofs.Math.Seq.{take-suc, take-append_seam, take-length, drop-append_seam, get_or-append_seam}
 use Rattle.hmc_codes.specs.Limits.{most_steps}
 use Rattle.hmc_schedule.specs.declared.step.Step.{Step}
+use Rattle.hmc_schedule.specs.declared.written.Held.{Held}
+use Rattle.hmc_schedule.specs.declared.written.Held.TheVariants as holds
 use Rattle.hmc_schedule.specs.declared.written.Segment.{Segment}
 use Rattle.hmc_schedule.specs.declared.written.Stretch.{Stretch}
 use Rattle.hmc_schedule.specs.declared.written.Stretch.TheVariants.{One, Many}
@@ -21,21 +25,21 @@ use Rattle.hmc_schedule.specs.declared.written.KeptRound.{KeptRound}
 use Rattle.hmc_schedule.specs.declared.written.Rounds.{Rounds}
 use Rattle.hmc_schedule.specs.Noise.{is_land, lands_in, lands_of, mask_at, noisy_step, noisy, noisy_if}
 use Rattle.hmc_schedule.specs.Round.{repeated}
-use Rattle.hmc_schedule.specs.Written.{WrittenFields, round_at, stretch_of, noisy_at, steps_in, IsKept, IsRounds, IsStretch, IsWritten}
+use Rattle.hmc_schedule.specs.Written.{WrittenFields, Kept, kept_of, held_of, held_steps, rounds_of_line, round_at, stretch_of, noisy_at, steps_in, IsHeld, IsKept, IsRounds, IsStretch, IsWritten}
 use Rattle.hmc_schedule.proofs.NoiseLemmas.{noisy_if-length, noisy-rounds, number_in_round}
 
 -- the number of steps of the first k segments
-abbrev before : List Step → List Segment → ℕ → ℕ
-before round segments k = length (steps_in round (take k segments))
+abbrev before : Kept → List Segment → ℕ → ℕ
+before kept segments k = length (steps_in kept (take k segments))
 
-pub steps_in-more : (round : List Step) (segments : List Segment) (s : Segment) → steps_in round (segments ++ s ∷ []) ≡ steps_in round segments ++ stretch_of round s.stretch
+pub steps_in-more : (kept : Kept) (segments : List Segment) (s : Segment) → steps_in kept (segments ++ s ∷ []) ≡ steps_in kept segments ++ held_steps kept s.held
 unfolding steps_in
-steps_in-more round segments s =
-    flat_map-append (λ t. stretch_of round t.stretch) segments (s ∷ []) ∙ ap (λ l. steps_in round segments ++ l) (append-nil (stretch_of round s.stretch))
+steps_in-more kept segments s =
+    flat_map-append (λ t. held_steps kept t.held) segments (s ∷ []) ∙ ap (λ l. steps_in kept segments ++ l) (append-nil (held_steps kept s.held))
 
-before-more : (round : List Step) (segments : List Segment) (k : ℕ) (d : Segment) → k < length segments → before round segments (suc k) ≡ before round segments k + length (stretch_of round (get_or segments k d).stretch)
-before-more round segments k d small =
-    ap (λ l. length (steps_in round l)) (take-suc segments k d small) ∙ ap length (steps_in-more round (take k segments) (get_or segments k d)) ∙ length-append (steps_in round (take k segments)) (stretch_of round (get_or segments k d).stretch)
+before-more : (kept : Kept) (segments : List Segment) (k : ℕ) (d : Segment) → k < length segments → before kept segments (suc k) ≡ before kept segments k + length (held_steps kept (get_or segments k d).held)
+before-more kept segments k d small =
+    ap (λ l. length (steps_in kept l)) (take-suc segments k d small) ∙ ap length (steps_in-more kept (take k segments) (get_or segments k d)) ∙ length-append (steps_in kept (take k segments)) (held_steps kept (get_or segments k d).held)
 
 length-flat-take : {X Y : Type 0} (f : X → List Y) (xs : List X) (i j : ℕ) → i ≤ j → length (flat_map f (take i xs)) ≤ length (flat_map f (take j xs))
 length-flat-take f xs zero j le = omega arith
@@ -45,21 +49,21 @@ length-flat-take f (x ∷ xs) (suc i) (suc j) le =
     let later = length-flat-take f xs i j (omega (arith, le)) in
     rw (length-append (f x) (flat_map f (take i xs)), length-append (f x) (flat_map f (take j xs))) (omega (arith, later))
 
-before-le : (round : List Step) (segments : List Segment) (i j : ℕ) → i ≤ j → before round segments i ≤ before round segments j
+before-le : (kept : Kept) (segments : List Segment) (i j : ℕ) → i ≤ j → before kept segments i ≤ before kept segments j
 unfolding steps_in
-before-le round segments i j le = length-flat-take (λ s. stretch_of round s.stretch) segments i j le
+before-le kept segments i j le = length-flat-take (λ s. held_steps kept s.held) segments i j le
 
 -- segments begin in order
-pub in_order : (round : List Step) (segments : List Segment) (len : ℕ) → IsWritten round segments len → IsNonDecreasingBy (λ s. s.start) segments
-in_order round segments len is i j d le small =
-    rw (is.starts i d (omega (arith, le, small)), is.starts j d small) (before-le round segments i j le)
+pub in_order : (kept : Kept) (segments : List Segment) (len : ℕ) → IsWritten kept segments len → IsNonDecreasingBy (λ s. s.start) segments
+in_order kept segments len is i j d le small =
+    rw (is.starts i d (omega (arith, le, small)), is.starts j d small) (before-le kept segments i j le)
 
 -- a place in a segment: the segment's place, and the place in the segment
-pub record IsPlace (round : List Step) (s : Segment) (steps : List Step) (at : ℕ) : Type 0 where
+pub record IsPlace (kept : Kept) (s : Segment) (steps : List Step) (at : ℕ) : Type 0 where
   pub begun : s.start ≤ at
-  pub inside : at - s.start < length (stretch_of round s.stretch)
-  pub stretch : IsStretch round s.stretch
-  pub is : (x : Step) → slice_get (stretch_of round s.stretch) (at - s.start) ≡ Some x → slice_get steps at ≡ Some x
+  pub inside : at - s.start < length (held_steps kept s.held)
+  pub held : IsHeld kept s.held
+  pub is : (x : Step) → slice_get (held_steps kept s.held) (at - s.start) ≡ Some x → slice_get steps at ≡ Some x
 
 slice_get_or : {X : Type 0} (xs : List X) (k : ℕ) (x : X) → k < length xs → get_or xs k x ≡ x → slice_get xs k ≡ Some x
 slice_get_or xs k x small is = slice_get-get_or xs k x small ∙ ap Some is
@@ -79,32 +83,32 @@ in_middle a b rest at start x from begun inside is =
     rw place (slice_get_or (a ++ (b ++ rest)) (length a + j) x small value)
 
 -- the segment before the first that begins after a place
-pub place_in : (round : List Step) (segments : List Segment) (len at n : ℕ) (d : Segment) → IsWritten round segments len → at < length (steps_in round segments) → n ≤ length segments → IsPartitionPoint (λ s. s.start ≤ at) (λ s. at < s.start) segments n
-    → (0 < n) × IsPlace round (get_or segments (n - 1) d) (steps_in round segments) at
+pub place_in : (kept : Kept) (segments : List Segment) (len at n : ℕ) (d : Segment) → IsWritten kept segments len → at < length (steps_in kept segments) → n ≤ length segments → IsPartitionPoint (λ s. s.start ≤ at) (λ s. at < s.start) segments n
+    → (0 < n) × IsPlace kept (get_or segments (n - 1) d) (steps_in kept segments) at
 unfolding steps_in
-place_in round segments len at n d is within few point =
+place_in kept segments len at n d is within few point =
     let k = n - 1 in
     let small : k < length segments = omega (arith, some, few) in
     let s = get_or segments k d in
-    let starts : s.start ≡ before round segments k = is.starts k d small in
+    let starts : s.start ≡ before kept segments k = is.starts k d small in
     let next : suc k ≡ n = omega (arith, some) in
-    let until : at < before round segments (suc k) = rw next ends in
-    let more = before-more round segments k d small in
+    let until : at < before kept segments (suc k) = rw next ends in
+    let more = before-more kept segments k d small in
     let begun : s.start ≤ at = point.0 k d (omega arith) (omega (arith, some)) in
-    let inside : at - s.start < length (stretch_of round s.stretch) = omega (arith, starts, until, more, begun) in
+    let inside : at - s.start < length (held_steps kept s.held) = omega (arith, starts, until, more, begun) in
     let all : segments ≡ take k segments ++ s ∷ drop (suc k) segments =
     sym (take-append-drop (suc k) segments) ∙ ap (λ l. l ++ drop (suc k) segments) (take-suc segments k d small) ∙ append_assoc (take k segments) (s ∷ []) (drop (suc k) segments) in
-    let parts : steps_in round segments ≡ steps_in round (take k segments) ++ (stretch_of round s.stretch ++ steps_in round (drop (suc k) segments)) =
-    ap (steps_in round) all ∙ flat_map-append (λ t. stretch_of round t.stretch) (take k segments) (s ∷ drop (suc k) segments) in (
+    let parts : steps_in kept segments ≡ steps_in kept (take k segments) ++ (held_steps kept s.held ++ steps_in kept (drop (suc k) segments)) =
+    ap (steps_in kept) all ∙ flat_map-append (λ t. held_steps kept t.held) (take k segments) (s ∷ drop (suc k) segments) in (
       some,
       record {
         begun = begun;
         inside = inside;
-        stretch = is.rounds k d small;
-        is = λ x found. rw parts (in_middle (steps_in round (take k segments)) (stretch_of round s.stretch) (steps_in round (drop (suc k) segments)) at s.start x starts begun inside found);
+        held = is.held k d small;
+        is = λ x found. rw parts (in_middle (steps_in kept (take k segments)) (held_steps kept s.held) (steps_in kept (drop (suc k) segments)) at s.start x starts begun inside found);
       },
     ) where
-      ends : at < before round segments n
+      ends : at < before kept segments n
       ends = elim (cases_lt n (length segments)) [
         | inl under ↦ subst (λ m. at < m) (is.starts n d under) (point.1 n d (omega arith) under)
         | inr over ↦ rw (take_all n segments over) within
@@ -115,7 +119,7 @@ place_in round segments len at n d is within few point =
         | inl more ↦ more
         | inr none ↦
             let first : n ≡ 0 = omega (arith, none) in
-            absurd (omega (arith, subst (λ m. at < before round segments m) first ends))
+            absurd (omega (arith, subst (λ m. at < before kept segments m) first ends))
       ]
 
 -- rounds have at each place the step of one round
@@ -144,22 +148,26 @@ some_round : (n : ℕ) (round : List Step) (j : ℕ) → j < length (flat_map (�
 some_round n [] j small = absurd (omega (arith, length-rounds n [], small))
 some_round n (x ∷ xs) j small = omega arith
 
--- one segment more
-pub IsWritten-more : (round : List Step) (segments : List Segment) (len count : ℕ) (s : Segment) → IsWritten round segments len → IsStretch round s.stretch → s.start ≡ len → count ≡ length (stretch_of round s.stretch) → len + count ≤ most_steps → IsWritten round (segments ++ s ∷ []) (len + count)
-IsWritten-more round segments len count s is stretch from counted room = record {
-  few = room;
-  total =
-      let more : length (steps_in round (segments ++ s ∷ [])) ≡ length (steps_in round segments) + length (stretch_of round s.stretch) =
-      ap length (steps_in-more round segments s) ∙ length-append (steps_in round segments) (stretch_of round s.stretch) in
-      omega (arith, more, is.total, counted);
-  starts = λ k d small. elim (cases_lt k (length segments)) [
-    | inl under ↦
-        rw (get_or_append_left segments (s ∷ []) d k under, take-append-le k segments (s ∷ []) (omega (arith, under))) (is.starts k d under)
-    | inr over ↦
-        let last : k ≡ length segments = omega (arith, over, length-append segments (s ∷ []), small) in
-        rw (last, get_or-append_seam segments s [] d, take-append_seam segments (s ∷ [])) (from ∙ is.total)
-  ];
-  rounds = All-append (λ t. IsStretch round t.stretch) segments (s ∷ []) is.rounds (All-cons (λ t. IsStretch round t.stretch) s [] stretch (All-nil (λ t. IsStretch round t.stretch)));
+-- what more is kept leaves what a segment holds
+pub record IsGrown (kept new : Kept) : Type 0 where
+  pub steps : (h : Held) → IsHeld kept h → held_steps new h ≡ held_steps kept h
+  pub held : (h : Held) → IsHeld kept h → IsHeld new h
+
+pub steps_in-grown : (kept new : Kept) (segments : List Segment) → IsGrown kept new → All (λ s. IsHeld kept s.held) segments → steps_in new segments ≡ steps_in kept segments
+unfolding steps_in
+steps_in-grown kept new [] grown all = refl
+steps_in-grown kept new (s ∷ segments) grown all =
+    let first = grown.steps s.held (All-head (λ (t : Segment). IsHeld kept t.held) s segments all) in
+    let later = steps_in-grown kept new segments grown (All-tail (λ (t : Segment). IsHeld kept t.held) s segments all) in
+    ap (λ l. l ++ flat_map (λ (t : Segment). held_steps new t.held) segments) first ∙ ap (λ l. held_steps kept s.held ++ l) later
+
+pub IsWritten-grown : (kept new : Kept) (segments : List Segment) (len : ℕ) → IsGrown kept new → length new.many ≤ len → IsWritten kept segments len → IsWritten new segments len
+IsWritten-grown kept new segments len grown some is = record {
+  few = is.few;
+  total = is.total ∙ ap length (sym (steps_in-grown kept new segments grown is.held));
+  starts = λ k d small. is.starts k d small ∙ ap length (sym (steps_in-grown kept new (take k segments) grown (All-take (λ s. IsHeld kept s.held) k segments is.held)));
+  held = λ k d small. grown.held (get_or segments k d).held (is.held k d small);
+  some = some;
 }
 
 -- one round more is kept
@@ -174,31 +182,101 @@ IsKept-more kept more round is = record {
   lands = ap (filter is_land) (round_at-more kept more round is) ∙ is.lands;
 }
 
-IsStretch-more : (kept more : List Step) (s : Stretch) → IsStretch kept s → IsStretch (kept ++ more) s
-IsStretch-more kept more (One step) is = tt
-IsStretch-more kept more (Many rounds) is =
+IsRounds-more : (kept more : List Step) (rounds : Rounds) → IsRounds kept rounds → IsRounds (kept ++ more) rounds
+IsRounds-more kept more rounds is =
     record { round = IsKept-more kept more rounds.round is.round; noise = is.noise }
 
-stretch_of-more : (kept more : List Step) (s : Stretch) → IsStretch kept s → stretch_of (kept ++ more) s ≡ stretch_of kept s
-stretch_of-more kept more (One step) is = refl
-stretch_of-more kept more (Many rounds) is =
+stretch_of-more : (kept more : List Step) (rounds : Rounds) → IsRounds kept rounds → stretch_of (kept ++ more) (Many rounds) ≡ stretch_of kept (Many rounds)
+stretch_of-more kept more rounds is =
     ap (λ (r : List Step). noisy_if rounds.noise (repeated rounds.count r)) (round_at-more kept more rounds.round is.round)
 
-pub steps_in-kept : (kept more : List Step) (segments : List Segment) → All (λ s. IsStretch kept s.stretch) segments → steps_in (kept ++ more) segments ≡ steps_in kept segments
-unfolding steps_in
-steps_in-kept kept more [] all = refl
-steps_in-kept kept more (s ∷ segments) all =
-    let first = stretch_of-more kept more s.stretch (All-head (λ (t : Segment). IsStretch kept t.stretch) s segments all) in
-    let later = steps_in-kept kept more segments (All-tail (λ (t : Segment). IsStretch kept t.stretch) s segments all) in
-    ap (λ l. l ++ flat_map (λ (t : Segment). stretch_of (kept ++ more) t.stretch) segments) first ∙ ap (λ l. stretch_of kept s.stretch ++ l) later
+pub grown-kept : (kept more : List Step) (many : List Rounds) → IsGrown (kept_of kept many) (kept_of (kept ++ more) many)
+grown-kept kept more many = record { steps = steps; held = held } where
+  some_steps : (o : Option Rounds) → IsSomeAnd o (IsRounds kept) → option_map_or (λ (r : Rounds). stretch_of (kept ++ more) (Many r)) o [] ≡ option_map_or (λ (r : Rounds). stretch_of kept (Many r)) o []
+  some_steps None is = refl
+  some_steps (Some r) is = stretch_of-more kept more r is
 
-pub IsWritten-kept : (kept more : List Step) (segments : List Segment) (len : ℕ) → IsWritten kept segments len → IsWritten (kept ++ more) segments len
-IsWritten-kept kept more segments len is = record {
-  few = is.few;
-  total = is.total ∙ ap length (sym (steps_in-kept kept more segments is.rounds));
-  starts = λ k d small. is.starts k d small ∙ ap length (sym (steps_in-kept kept more (take k segments) (All-take (λ s. IsStretch kept s.stretch) k segments is.rounds)));
-  rounds = λ k d small. IsStretch-more kept more (get_or segments k d).stretch (is.rounds k d small);
-}
+  some_held : (o : Option Rounds) → IsSomeAnd o (IsRounds kept) → IsSomeAnd o (IsRounds (kept ++ more))
+  some_held None is = is
+  some_held (Some r) is = IsRounds-more kept more r is
+
+  steps : (h : Held) → IsHeld (kept_of kept many) h → held_steps (kept_of (kept ++ more) many) h ≡ held_steps (kept_of kept many) h
+  steps (holds.One step) is = refl
+  steps (holds.Many at) is = some_steps (slice_get many at) is
+
+  held : (h : Held) → IsHeld (kept_of kept many) h → IsHeld (kept_of (kept ++ more) many) h
+  held (holds.One step) is = tt
+  held (holds.Many at) is = some_held (slice_get many at) is
+
+-- rounds of one line more are kept
+get-more : {X : Type 0} (P : X → Type 0) (xs ys : List X) (k : ℕ) → IsSomeAnd (slice_get xs k) P → slice_get (xs ++ ys) k ≡ slice_get xs k
+get-more P [] ys k is = absurd is
+get-more P (x ∷ xs) ys zero is = refl
+get-more P (x ∷ xs) ys (suc k) is = get-more P xs ys k is
+
+get-last : {X : Type 0} (xs : List X) (x : X) → slice_get (xs ++ x ∷ []) (length xs) ≡ Some x
+get-last [] x = refl
+get-last (y ∷ xs) x = get-last xs x
+
+pub grown-many : (kept : List Step) (many more : List Rounds) → IsGrown (kept_of kept many) (kept_of kept (many ++ more))
+grown-many kept many more = record { steps = steps; held = held } where
+  steps : (h : Held) → IsHeld (kept_of kept many) h → held_steps (kept_of kept (many ++ more)) h ≡ held_steps (kept_of kept many) h
+  steps (holds.One step) is = refl
+  steps (holds.Many at) is =
+      ap (λ (o : Option Rounds). option_map_or (λ (r : Rounds). stretch_of kept (Many r)) o []) (get-more (IsRounds kept) many more at is)
+
+  held : (h : Held) → IsHeld (kept_of kept many) h → IsHeld (kept_of kept (many ++ more)) h
+  held (holds.One step) is = tt
+  held (holds.Many at) is =
+      subst (λ (o : Option Rounds). IsSomeAnd o (IsRounds kept)) (sym (get-more (IsRounds kept) many more at is)) is
+
+-- a stretch as a segment holds it
+pub held-stretch : (kept : List Step) (many : List Rounds) (stretch : Stretch) → IsStretch kept stretch → IsHeld (kept_of kept (many ++ rounds_of_line stretch)) (held_of (length many) stretch)
+held-stretch kept many (One step) is = tt
+held-stretch kept many (Many rounds) is =
+    subst (λ (o : Option Rounds). IsSomeAnd o (IsRounds kept)) (sym (get-last many rounds)) is
+
+pub held-steps : (kept : List Step) (many : List Rounds) (stretch : Stretch) → held_steps (kept_of kept (many ++ rounds_of_line stretch)) (held_of (length many) stretch) ≡ stretch_of kept stretch
+held-steps kept many (One step) = refl
+held-steps kept many (Many rounds) =
+    ap (λ (o : Option Rounds). option_map_or (λ (r : Rounds). stretch_of kept (Many r)) o []) (get-last many rounds)
+
+one_line : (stretch : Stretch) → length (rounds_of_line stretch) ≤ 1
+one_line (One step) = omega arith
+one_line (Many rounds) = omega arith
+
+pub steps_in-stretch : (kept : List Step) (many : List Rounds) (segments : List Segment) (len : ℕ) (stretch : Stretch) → IsWritten (kept_of kept many) segments len → steps_in (kept_of kept (many ++ rounds_of_line stretch)) (segments ++ record { start = len; held = held_of (length many) stretch } ∷ []) ≡ steps_in (kept_of kept many) segments ++ stretch_of kept stretch
+steps_in-stretch kept many segments len stretch is =
+    let new = kept_of kept (many ++ rounds_of_line stretch) in
+    steps_in-more new segments (record { start = len; held = held_of (length many) stretch })
+    ∙ ap (λ l. l ++ held_steps new (held_of (length many) stretch)) (steps_in-grown (kept_of kept many) new segments (grown-many kept many (rounds_of_line stretch)) is.held)
+    ∙ ap (λ l. steps_in (kept_of kept many) segments ++ l) (held-steps kept many stretch)
+
+-- a stretch more
+pub IsWritten-more : (kept : List Step) (many : List Rounds) (segments : List Segment) (len count : ℕ) (stretch : Stretch) → IsWritten (kept_of kept many) segments len → IsStretch kept stretch → 1 ≤ count → count ≡ length (stretch_of kept stretch) → len + count ≤ most_steps
+    → IsWritten (kept_of kept (many ++ rounds_of_line stretch)) (segments ++ record { start = len; held = held_of (length many) stretch } ∷ []) (len + count)
+IsWritten-more kept many segments len count stretch is kept_is some counted room =
+    let old = kept_of kept many in
+    let new = kept_of kept (many ++ rounds_of_line stretch) in
+    let grown : IsGrown old new = grown-many kept many (rounds_of_line stretch) in
+    let last_held : Held = held_of (length many) stretch in
+    let s : Segment = record { start = len; held = last_held } in
+    record {
+      few = room;
+      total =
+          let more : length (steps_in new (segments ++ s ∷ [])) ≡ length (steps_in old segments) + length (stretch_of kept stretch) =
+          ap length (steps_in-stretch kept many segments len stretch is) ∙ length-append (steps_in old segments) (stretch_of kept stretch) in
+          omega (arith, more, is.total, counted);
+      starts = λ k d small. elim (cases_lt k (length segments)) [
+        | inl under ↦
+            rw (get_or_append_left segments (s ∷ []) d k under, take-append-le k segments (s ∷ []) (omega (arith, under))) (is.starts k d under ∙ ap length (sym (steps_in-grown old new (take k segments) grown (All-take (λ t. IsHeld old t.held) k segments is.held))))
+        | inr over ↦
+            let last : k ≡ length segments = omega (arith, over, length-append segments (s ∷ []), small) in
+            rw (last, get_or-append_seam segments s [] d, take-append_seam segments (s ∷ [])) (is.total ∙ ap length (sym (steps_in-grown old new segments grown is.held)))
+      ];
+      held = All-append (λ t. IsHeld new t.held) segments (s ∷ []) (λ k d small. grown.held (get_or segments k d).held (is.held k d small)) (All-cons (λ t. IsHeld new t.held) s [] (held-stretch kept many stretch kept_is) (All-nil (λ t. IsHeld new t.held)));
+      some = omega (arith, length-append many (rounds_of_line stretch), one_line stretch, is.some, some);
+    }
 
 -- the round that was kept last
 pub round_at-last : (kept round : List Step) (lands : ℕ) → round_at (kept ++ round) (record { start = length kept; len = length round; lands = lands }) ≡ round
@@ -292,21 +370,25 @@ noisy_place kept rounds noise at d is small some =
     let steps : stretch_of kept (Many rounds) ≡ noisy noise noise.count (repeated rounds.count (round_at kept rounds.round)) = ap (λ (n : Option Noise). noisy_if n (repeated rounds.count (round_at kept rounds.round))) some in
     slice_get-get_or (stretch_of kept (Many rounds)) at d small ∙ ap Some (ap (λ (l : List Step). get_or l at d) steps ∙ noisy_place_step kept rounds noise at d is less place ∙ ap (noisy_at noise rounds.round at) (kept_step kept rounds.round at d place))
 
-place_of : (round : List Step) (segments looked : List Segment) (len at n : ℕ) (w : WrittenFields) (d : Segment) → IsWritten round segments len → record { kept = round; steps = steps_in round segments } ≡ w → at < length w.steps → looked ≡ segments → n ≤ length looked → IsPartitionPoint (λ s. s.start ≤ at) (λ s. at < s.start) looked n
-    → (0 < n) × IsPlace round (get_or segments (n - 1) d) w.steps at
-place_of round segments looked len at n w d is view within same few point =
-    let steps : steps_in round segments ≡ w.steps = ap (λ (v : WrittenFields). v.steps) view in
+place_of : (kept : Kept) (segments looked : List Segment) (len at n : ℕ) (w : WrittenFields) (d : Segment) → IsWritten kept segments len → record { kept = kept.steps; steps = steps_in kept segments } ≡ w → at < length w.steps → looked ≡ segments → n ≤ length looked → IsPartitionPoint (λ s. s.start ≤ at) (λ s. at < s.start) looked n
+    → (0 < n) × IsPlace kept (get_or segments (n - 1) d) w.steps at
+place_of kept segments looked len at n w d is view within same few point =
+    let steps : steps_in kept segments ≡ w.steps = ap (λ (v : WrittenFields). v.steps) view in
     let n_few = subst (λ l. n ≤ length l) same few in
     let n_point = subst (λ l. IsPartitionPoint (λ s. s.start ≤ at) (λ s. at < s.start) l n) same point in
-    rw (← steps) (place_in round segments len at n d is (rw steps within) n_few n_point)
+    rw (← steps) (place_in kept segments len at n d is (rw steps within) n_few n_point)
 
-pub some_begun : (round : List Step) (segments looked : List Segment) (len at n : ℕ) (w : WrittenFields) → IsWritten round segments len → record { kept = round; steps = steps_in round segments } ≡ w → at < length w.steps → looked ≡ segments → n ≤ length looked → IsPartitionPoint (λ s. s.start ≤ at) (λ s. at < s.start) looked n
+pub some_begun : (kept : Kept) (segments looked : List Segment) (len at n : ℕ) (w : WrittenFields) → IsWritten kept segments len → record { kept = kept.steps; steps = steps_in kept segments } ≡ w → at < length w.steps → looked ≡ segments → n ≤ length looked → IsPartitionPoint (λ s. s.start ≤ at) (λ s. at < s.start) looked n
     → 0 < n
-some_begun round segments looked len at n w is view within same few point =
-    (place_of round segments looked len at n w (record { start = 0; stretch = One (Give 0) }) is view within same few point).0
+some_begun kept segments looked len at n w is view within same few point =
+    (place_of kept segments looked len at n w (record { start = 0; held = holds.One (Give 0) }) is view within same few point).0
 
-pub place_at : (round again : List Step) (segments looked : List Segment) (len at n : ℕ) (w : WrittenFields) (s : Segment) → IsWritten round segments len → record { kept = round; steps = steps_in round segments } ≡ w → at < length w.steps → looked ≡ segments → n ≤ length looked → IsPartitionPoint (λ s. s.start ≤ at) (λ s. at < s.start) looked n
-    → s ≡ get_or segments (n - 1) s → again ≡ round → IsPlace again s w.steps at
-place_at round again segments looked len at n w s is view within same few point found again_is =
-    let place = (place_of round segments looked len at n w s is view within same few point).1 in
-    subst (λ (r : List Step). IsPlace r s w.steps at) (sym again_is) (subst (λ (t : Segment). IsPlace round t w.steps at) (sym found) place)
+pub place_at : (kept again : Kept) (segments looked : List Segment) (len at n : ℕ) (w : WrittenFields) (s : Segment) → IsWritten kept segments len → record { kept = kept.steps; steps = steps_in kept segments } ≡ w → at < length w.steps → looked ≡ segments → n ≤ length looked → IsPartitionPoint (λ s. s.start ≤ at) (λ s. at < s.start) looked n
+    → s ≡ get_or segments (n - 1) s → again ≡ kept → IsPlace again s w.steps at
+place_at kept again segments looked len at n w s is view within same few point found again_is =
+    let place = (place_of kept segments looked len at n w s is view within same few point).1 in
+    subst (λ (r : Kept). IsPlace r s w.steps at) (sym again_is) (subst (λ (t : Segment). IsPlace kept t w.steps at) (sym found) place)
+
+-- the same two lists
+pub same_kept : {kept again : List Step} {many more : List Rounds} → again ≡ kept → more ≡ many → kept_of again more ≡ kept_of kept many
+same_kept kept_is many_is = cc (kept_is, many_is)

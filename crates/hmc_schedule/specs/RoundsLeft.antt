@@ -1,14 +1,16 @@
 -- The steps that are left of a schedule that is gone through in its order.
-use Rattle.std.specs.Prelude.{◌≡◌, ◌<◌, ◌≤◌, ◌-◌, ◌+◌, ℕ, List, [], ◌∷◌, ◌++◌, Option, Some, None, IfSome}
+use Rattle.std.specs.Prelude.{◌≡◌, ◌<◌, ◌≤◌, ◌-◌, ◌+◌, ℕ, List, [], ◌∷◌, ◌++◌, Option, Some, None, IfSome, slice_get}
 use Rattle.std.specs.List.{All}
+use Rattle.std.specs.Option.{option_map_or}
 use Rattle.hmc_schedule.specs.Noise.{noisy_if}
 use Rattle.hmc_schedule.specs.declared.noise.Noise.{Noise}
 use Rattle.hmc_schedule.specs.declared.rounds_left.Countdown.{Countdown}
 use Rattle.hmc_schedule.specs.declared.step.Step.{Step}
+use Rattle.hmc_schedule.specs.declared.written.Held.{Held}
+use Rattle.hmc_schedule.specs.declared.written.Held.TheVariants.{One, Many}
+use Rattle.hmc_schedule.specs.declared.written.Rounds.{Rounds}
 use Rattle.hmc_schedule.specs.declared.written.Segment.{Segment}
-use Rattle.hmc_schedule.specs.declared.written.Stretch.{Stretch}
-use Rattle.hmc_schedule.specs.declared.written.Stretch.TheVariants.{One, Many}
-use Rattle.hmc_schedule.specs.Written.{IsStretch}
+use Rattle.hmc_schedule.specs.Written.{Kept, IsHeld}
 
 -- what is left, as contracts see it: the noise of the round at hand, with the landings that were
 -- counted so far, the further rounds of its line, and the steps of the later lines; and the number
@@ -20,14 +22,14 @@ pub record LeftFields : Type 0 where
   pub rounds : ℕ
 
 -- the rounds of a line; a single step is a round of its own
-abbrev pub count_of : Stretch → ℕ
-count_of (One step) = 1
-count_of (Many rounds) = rounds.count
+abbrev pub count_of : List Rounds → Held → ℕ
+count_of many (One step) = 1
+count_of many (Many at) = option_map_or (λ (rounds : Rounds). rounds.count) (slice_get many at) 0
 
 -- the rounds of all lines
-unfoldable pub rounds_in : List Segment → ℕ
-rounds_in [] = 0
-rounds_in (segment ∷ segments) = count_of segment.stretch + rounds_in segments
+unfoldable pub rounds_in : List Rounds → List Segment → ℕ
+rounds_in many [] = 0
+rounds_in many (segment ∷ segments) = count_of many segment.held + rounds_in many segments
 
 -- the steps that are left, where these are left of the round at hand
 abbrev pub steps_left : LeftFields → (rest : List Step) → List Step
@@ -51,6 +53,7 @@ pub record IsCountdown (countdown : Countdown) : Type 0 where
   pub within : countdown.until ≤ countdown.every
 
 -- the rounds of the later lines are kept
-pub record AreLeft (kept : List Step) (segments : List Segment) (countdown : Option Countdown) : Type 0 where
-  pub rounds : All (λ segment. IsStretch kept segment.stretch) segments
+pub record AreLeft (kept : Kept) (segments : List Segment) (countdown : Option Countdown) :
+    Type 0 where
+  pub held : All (λ segment. IsHeld kept segment.held) segments
   pub noise : IfSome countdown IsCountdown

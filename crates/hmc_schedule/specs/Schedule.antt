@@ -14,7 +14,7 @@ use Rattle.hmc_schedule.specs.declared.noise.Noise.{Noise}
 use Rattle.hmc_schedule.specs.declared.step.Step.{Step}
 use Rattle.hmc_schedule.specs.Meaning.{meaning_of}
 use Rattle.hmc_schedule.specs.Noise.{lands_in, counted, noisy_if, IsNoise}
-use Rattle.hmc_schedule.specs.Plan.{PlanFields, IsWorking}
+use Rattle.hmc_schedule.specs.Plan.{PlanFields, HasFlit, IsWorking}
 use Rattle.hmc_schedule.specs.Round.{rounds_of}
 
 -- what some lines make: the steps, and the noise of the rounds that follow
@@ -70,3 +70,8 @@ pub record IsProgress (plan : PlanFields) (progress : Progress) : Type 0 where
   pub few : length progress.steps ≤ most_steps
   pub works : All (IsWorking plan) progress.steps
   pub noise : IfSome progress.noise (IsNoise (length progress.steps))
+
+-- what every schedule keeps: not too many steps, and each mask is as long as a flit
+pub record IsSchedule (steps : List Step) : Type 0 where
+  pub few : length steps ≤ most_steps
+  pub masks : All HasFlit steps

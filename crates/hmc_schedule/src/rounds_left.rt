@@ -5,13 +5,14 @@ ghost use Rattle.std.specs.List.{All};
 ghost use Rattle.hmc_schedule.specs.Noise.{is_land, noisy_if};
 ghost use Rattle.hmc_schedule.specs.RoundsLeft.{steps_left, noise_left, noise_of, count_of, IsCountdown};
 ghost use Rattle.hmc_schedule.specs.Round.{repeated};
-ghost use Rattle.hmc_schedule.specs.Written.{steps_in, stretch_of, IsStretch};
+ghost use Rattle.hmc_schedule.specs.Written.{kept_of, held_steps, steps_in, stretch_of, IsHeld, IsRounds};
 ghost use Rattle.hmc_schedule.specs.declared.step.Step.{Step};
 ghost use Rattle.hmc_schedule.specs.declared.step.Step.TheVariants as steps;
+ghost use Rattle.hmc_schedule.specs.declared.written.Stretch.TheVariants as stretch;
 
 use crate::Step;
 use crate::noise::Noise;
-use crate::written::{Segment, Stretch};
+use crate::written::{Held, Rounds, Segment};
 use hmc_codes::Flit;
 use std::marker::Model;
 use std::slice;
@@ -39,6 +40,7 @@ pub struct Line<'a> {
 #[derive(Drop)]
 pub struct RoundsLeft<'a> {
     kept: &'a [Step],
+    many: &'a [Rounds],
     segments: &'a [Segment],
     round: &'a [Step],
     count: u32,
@@ -49,18 +51,19 @@ impl<'a> Model for RoundsLeft<'a> {
     ghost use Rattle.std.specs.Prelude.{◌+◌};
     ghost use Rattle.hmc_schedule.specs.Round.{repeated};
     ghost use Rattle.hmc_schedule.specs.RoundsLeft.{LeftFields, noise_left, AreLeft, rounds_in};
-    ghost use Rattle.hmc_schedule.specs.Written.{steps_in};
+    ghost use Rattle.hmc_schedule.specs.Written.{kept_of, steps_in};
 
     ghost Value = { LeftFields };
 
     ghost view = { λ l. record {
       noise = noise_left l.noise;
       more = repeated l.count l.round.now;
-      later = steps_in l.kept.now l.segments.now;
-      rounds = l.count + rounds_in l.segments.now;
+      later = steps_in (kept_of l.kept.now l.many.now) l.segments.now;
+      rounds = l.count + rounds_in l.many.now l.segments.now;
     } };
 
-    ghost invariant = { λ l. AreLeft l.kept.now l.segments.now l.noise };
+    ghost invariant = { λ l.
+        AreLeft (kept_of l.kept.now l.many.now) l.segments.now l.noise };
 }
 
 impl Countdown {
@@ -163,39 +166,53 @@ fn countdown_of(noise: Option<Noise>) -> Option<Countdown>
     }
 }
 
-// The rounds of a line.
-fn line_of<'a>(kept: &'a [Step], stretch: &'a Stretch) -> Line<'a>
-    requires { IsStretch kept.now stretch.now }
+// The rounds of a line that states rounds.
+fn line_of_rounds<'a>(kept: &'a [Step], rounds: &'a Rounds) -> Line<'a>
+    requires { IsRounds kept.now rounds.now }
     ensures keeps { IfSome result.noise IsCountdown }
     ensures steps { noisy_if (noise_left result.noise) (repeated result.count result.round.now)
-        ≡ stretch_of kept.now stretch.now }
-    ensures count { result.count ≡ count_of stretch.now }
+        ≡ stretch_of kept.now (stretch.Many rounds.now) }
+    ensures count { result.count ≡ rounds.now.count }
 {
-    match stretch {
-        Stretch::One(step) => Line {
+    let round = rounds.round;
+    Line {
+        round: &kept[round.start..round.start + round.len],
+        count: rounds.count,
+        noise: countdown_of(rounds.noise),
+    }
+}
+
+// The rounds of a line.
+fn line_of<'a>(kept: &'a [Step], many: &'a [Rounds], held: &'a Held) -> Line<'a>
+    requires { IsHeld (kept_of kept.now many.now) held.now }
+    ensures keeps { IfSome result.noise IsCountdown }
+    ensures steps { noisy_if (noise_left result.noise) (repeated result.count result.round.now)
+        ≡ held_steps (kept_of kept.now many.now) held.now }
+    ensures count { result.count ≡ count_of many.now held.now }
+{
+    match held {
+        Held::One(step) => Line {
             round: slice::from_ref(step),
             count: 1,
             noise: None,
         },
-        Stretch::Many(rounds) => {
-            let round = rounds.round;
-            Line {
-                round: &kept[round.start..round.start + round.len],
-                count: rounds.count,
-                noise: countdown_of(rounds.noise),
-            }
-        }
+        Held::Many(place) => line_of_rounds(kept, &many[*place as usize]),
     }
 }
 
 impl<'a> RoundsLeft<'a> {
     /// All rounds of these segments.
-    pub(crate) fn of(kept: &'a [Step], segments: &'a [Segment]) -> RoundsLeft<'a>
-        requires { All (λ segment. IsStretch kept.now segment.stretch) segments.now }
-        ensures { steps_left result [] ≡ steps_in kept.now segments.now }
+    pub(crate) fn of(
+        kept: &'a [Step],
+        many: &'a [Rounds],
+        segments: &'a [Segment],
+    ) -> RoundsLeft<'a>
+        requires { All (λ segment. IsHeld (kept_of kept.now many.now) segment.held) segments.now }
+        ensures { steps_left result [] ≡ steps_in (kept_of kept.now many.now) segments.now }
     {
         RoundsLeft {
             kept,
+            many,
             segments,
             round: &kept[..0],
             count: 0,
@@ -214,7 +231,7 @@ impl<'a> RoundsLeft<'a> {
             let [segment, later @ ..] = self.segments else {
                 return None;
             };
-            let line = line_of(self.kept, &segment.stretch);
+            let line = line_of(self.kept, self.many, &segment.held);
             self.segments = later;
             self.round = line.round;
             self.count = line.count;

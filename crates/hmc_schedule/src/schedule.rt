@@ -9,6 +9,7 @@ ghost use Rattle.hmc_schedule.specs.Noise.{new_noise, noisy_if};
 ghost use Rattle.hmc_schedule.specs.Round.{round_of, rounds_of};
 ghost use Rattle.hmc_schedule.specs.RoundsLeft.{steps_left};
 ghost use Rattle.hmc_schedule.specs.Written.{IsRoundOf};
+ghost use Rattle.hmc_schedule.specs.Schedule.{IsSchedule};
 
 use crate::noise::Noise;
 use crate::round::round;
@@ -19,8 +20,9 @@ use hmc_codes::{Flit, Memory};
 use std::alloc::Global;
 use std::marker::Model;
 
-/// At most `MOST_STEPS` steps, in order. Contracts see them as a list. It takes memory for each
-/// line that states steps and for one round, and for a round at each call of `rounds`.
+/// At most `MOST_STEPS` steps, in order, whose masks are 16 bytes. Contracts see them as a list. It
+/// takes memory for each line that states steps and for one round, and for a round at each call of
+/// `rounds`.
 #[derive(Drop)]
 pub struct Schedule {
     alloc: Global,
@@ -28,15 +30,15 @@ pub struct Schedule {
 }
 
 impl Model for Schedule {
-    ghost use Rattle.std.specs.Prelude.{List, length, ◌≤◌};
-    ghost use Rattle.hmc_codes.specs.Limits.{most_steps};
+    ghost use Rattle.std.specs.Prelude.{List};
     ghost use Rattle.hmc_schedule.specs.declared.step.Step.{Step};
+    ghost use Rattle.hmc_schedule.specs.Schedule.{IsSchedule};
 
     ghost Value = { List Step };
 
     ghost view = { λ s. s.written.steps };
 
-    ghost invariant = { λ s. length s.written.steps ≤ most_steps };
+    ghost invariant = { λ s. IsSchedule s.written.steps };
 }
 
 // Noise of this number and mask that has counted nothing yet.
@@ -57,6 +59,7 @@ fn new_noise(noise: Option<(u32, Flit)>) -> Option<Noise>
 
 impl Schedule {
     pub(crate) fn of(alloc: Global, written: Written) -> Schedule
+        requires { All HasFlit written.steps }
         ensures steps { result ≡ written.steps }
         ensures few { length result ≤ most_steps }
     {
@@ -72,6 +75,13 @@ impl Schedule {
             alloc,
             written: Written::new(alloc),
         }
+    }
+
+    /// Does nothing. Its contract is what every schedule keeps.
+    pub fn invariant(&self)
+        ensures { IsSchedule self.now }
+    {
+        let _ = &self.written;
     }
 
     /// The number of steps.

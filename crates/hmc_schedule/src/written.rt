@@ -1,12 +1,12 @@
 //! A schedule as it is written: a segment for each line that has steps.
 
-ghost use Rattle.std.specs.Prelude.{◌≡◌, ◌<◌, ◌≤◌, ◌+◌, ◌-◌, ◌*◌, ◌/◌, ◌%◌, ◌++◌, [], length, filter, slice_get, Some, IfOk, OnOk, OnErr};
+ghost use Rattle.std.specs.Prelude.{◌≡◌, ◌<◌, ◌≤◌, ◌^◌, ◌+◌, ◌-◌, ◌*◌, ◌/◌, ◌%◌, ◌++◌, [], length, filter, slice_get, Some, IfOk, OnOk, OnErr};
 ghost use Rattle.std.specs.List.Sorted.{IsNonDecreasingBy, IsPartitionPoint};
 ghost use Rattle.hmc_codes.specs.Limits.{most_steps};
 ghost use Rattle.hmc_schedule.specs.Noise.{is_land, lands_of, mask_at};
 ghost use Rattle.hmc_schedule.specs.declared.written.Stretch.TheVariants as stretch;
 ghost use Rattle.hmc_schedule.specs.RoundsLeft.{steps_left};
-ghost use Rattle.hmc_schedule.specs.Written.{round_at, stretch_of, noisy_at, IsKept, IsRounds, IsStretch};
+ghost use Rattle.hmc_schedule.specs.Written.{round_at, stretch_of, noisy_at, kept_of, held_of, rounds_of_line, held_steps, IsKept, IsRounds, IsStretch, IsHeld};
 
 use crate::Step;
 use crate::noise::Noise;
@@ -46,35 +46,50 @@ pub enum Stretch {
     Many(Rounds),
 }
 
+/// The steps of a line, as a segment holds them.
+#[derive(Clone, Copy)]
+pub enum Held {
+    /// One step.
+    One(Step),
+    /// The place of its rounds among those that are kept for lines.
+    Many(u32),
+}
+
 /// The steps of a line, and where they begin.
 #[derive(Clone, Copy)]
 pub struct Segment {
     /// The number of steps before them.
     pub start: u32,
     /// The steps.
-    pub stretch: Stretch,
+    pub held: Held,
 }
+
+// A line with one step takes no more memory than that step and two numbers. Rounds take more, so
+// they are kept apart.
+const _: () = prove!(size_of::<Segment>() == 24);
 
 /// At most `MOST_STEPS` steps, in memory for the lines that state them and for each kept round.
 /// Contracts see the steps of the kept rounds, and the list of all steps.
 #[derive(Drop)]
 pub struct Written {
     kept: Vec<Step>,
+    many: Vec<Rounds>,
     segments: Vec<Segment>,
     len: u32,
 }
 
 impl Model for Written {
-    ghost use Rattle.hmc_schedule.specs.Written.{WrittenFields, steps_in, IsWritten};
+    ghost use Rattle.hmc_schedule.specs.Written.{WrittenFields, kept_of, steps_in, IsWritten};
 
     ghost Value = { WrittenFields };
 
     ghost view = { λ w. record {
       kept = w.kept.items;
-      steps = steps_in w.kept.items w.segments.items;
+      steps = steps_in (kept_of w.kept.items w.many.items) w.segments.items;
     } };
 
-    ghost invariant = { λ w. IsWritten w.kept.items w.segments.items w.len };
+    ghost invariant = { λ w.
+        IsWritten (kept_of w.kept.items w.many.items) w.segments.items w.len };
 }
 
 // The number of segments that begin at or before this place.
@@ -131,15 +146,35 @@ fn step_of_rounds(kept: &[Step], rounds: Rounds, at: u32) -> Step
 }
 
 // The step at this place of the kept rounds and their segments. The segment has the place.
-fn step_of(kept: &[Step], segment: Segment, at: u32) -> Step
-    requires stretch { IsStretch kept.now segment.stretch }
+fn step_of(kept: &[Step], many: &[Rounds], segment: Segment, at: u32) -> Step
+    requires held { IsHeld (kept_of kept.now many.now) segment.held }
     requires begun { segment.start ≤ at }
-    requires inside { at - segment.start < length (stretch_of kept.now segment.stretch) }
-    ensures { slice_get (stretch_of kept.now segment.stretch) (at - segment.start) ≡ Some result }
+    requires inside { at - segment.start
+        < length (held_steps (kept_of kept.now many.now) segment.held) }
+    ensures { slice_get (held_steps (kept_of kept.now many.now) segment.held) (at - segment.start)
+        ≡ Some result }
 {
-    match segment.stretch {
-        Stretch::One(step) => step,
-        Stretch::Many(rounds) => step_of_rounds(kept, rounds, at - segment.start),
+    match segment.held {
+        Held::One(step) => step,
+        Held::Many(place) => step_of_rounds(kept, many[place as usize], at - segment.start),
+    }
+}
+
+// Keeps the rounds of a stretch if it has rounds, and returns how a segment holds it.
+fn hold(many: &mut Vec<Rounds>, stretch: Stretch) -> Result<Held, AllocError>
+    requires few { length many.old.items < 2 ^ 32 }
+    ensures held { IfOk result (λ held. held ≡ held_of (length many.old.items) stretch) }
+    ensures more { OnOk result
+        (many.new.items ≡ many.old.items ++ rounds_of_line stretch) }
+    ensures err { OnErr result (many.new.items ≡ many.old.items) }
+{
+    match stretch {
+        Stretch::One(step) => Ok(Held::One(step)),
+        Stretch::Many(rounds) => {
+            let place = many.len() as u32;
+            many.push(rounds)?;
+            Ok(Held::Many(place))
+        }
     }
 }
 
@@ -151,6 +186,7 @@ impl Written {
     {
         Written {
             kept: Vec::new(alloc),
+            many: Vec::new(alloc),
             segments: Vec::new(alloc),
             len: 0,
         }
@@ -170,14 +206,14 @@ impl Written {
         ensures { slice_get self.now.steps at ≡ Some result }
     {
         let segment = self.segments[begun_count(&self.segments, at) - 1];
-        step_of(&self.kept, segment, at)
+        step_of(&self.kept, &self.many, segment, at)
     }
 
     /// All rounds, in their order.
     pub fn in_rounds(&self) -> RoundsLeft<'_>
         ensures { steps_left result [] ≡ self.now.steps }
     {
-        RoundsLeft::of(&self.kept, &self.segments)
+        RoundsLeft::of(&self.kept, &self.many, &self.segments)
     }
 
     /// Keeps a round with this number of landings, one in each direction, and returns where it is.
@@ -204,10 +240,16 @@ impl Written {
             (self.new.steps ≡ self.old.steps ++ stretch_of self.old.kept stretch) }
         ensures err { OnErr result (self.new ≡ self.old) }
     {
-        self.segments.push(Segment {
-            start: self.len,
-            stretch,
-        })?;
+        if count == 0 {
+            return Ok(());
+        }
+        let before = self.many.len();
+        let held = hold(&mut self.many, stretch)?;
+        let start = self.len;
+        if let Err(memory) = self.segments.push(Segment { start, held }) {
+            self.many.truncate(before);
+            return Err(AllocError::from(memory));
+        }
         self.len += count;
         Ok(())
     }

@@ -33,3 +33,6 @@ returns-clause-masks c = rw c.of.ensures.steps (λ k d small. (c.lines.invariant
 pub keep-requires : goal.keep-requires
 keep-requires c =
     rw (c.deref.ensures.value, c.in_ok-steps.ensures) (round_lands c.args.plan.now ∙ ap (λ (p : PlanFields). lands_of p.directions) (sym c.plan.view_is))
+
+pub of-requires : goal.of-requires
+of-requires c = λ k d small. (c.lines.invariant.read.works k d small).mask

@@ -1,13 +1,14 @@
 use Rattle.std.proofs.Common.{rules, ◌≡◌, ◌∙◌, ◌*◌, ◌++◌, List, Option, IfSome, length, sym, subst, ap}
+use Rattle.std.specs.List.{All}
 use Rattle.hmc_codes.specs.Flit.{IsFlit}
 use Rattle.hmc_schedule.specs.declared.noise.Noise.{Noise}
 use Rattle.hmc_schedule.specs.declared.step.Step.{Step}
 use Rattle.hmc_schedule.specs.Noise.{lands_of, noisy_if}
-use Rattle.hmc_schedule.specs.Plan.{PlanFields}
+use Rattle.hmc_schedule.specs.Plan.{PlanFields, HasFlit}
 use Rattle.hmc_schedule.specs.Round.{repeated, round_of, rounds_of}
 use Rattle.hmc_schedule.specs.Written.{round_at}
 use Rattle.hmc_schedule.proofs.NoiseLemmas.{noisy_if-length, round_lands}
-use Rattle.hmc_schedule.proofs.ParseLemmas.{few_rounds}
+use Rattle.hmc_schedule.proofs.ParseLemmas.{IsSchedule-rounds}
 use Rattle.hmc_schedule.proofs.WorkLemmas.{rounds_within, rounds_masks}
 use Rattle.hmc_schedule.proofs.WrittenLemmas.{length-rounds}
 use Rattle.hmc_schedule.proofs.schedule.Schedule.rounds.Goals as goal
@@ -24,7 +25,7 @@ append-requires-clause-count c =
 
 pub invariant_of-self-2 : goal.invariant_of-self-2
 invariant_of-self-2 c =
-    few_rounds c.args.self.now c.keep.new.self.steps c.append.new.self.steps (round_at c.keep.new.self.kept c.in_ok-kept.kept) (round_of c.args.plan.now) c.args.n c.new_noise.result c.in_ok-append.ensures.ok (c.in_ok-kept.ensures.round ∙ c.deref.ensures.value ∙ c.in_ok-steps.ensures) (c.in_ok-kept.ensures.steps ∙ c.self.view_is) c.requires.room
+    IsSchedule-rounds c.args.plan.now c.args.noise c.args.n c.args.self.now c.keep.new.self.steps c.append.new.self.steps (round_at c.keep.new.self.kept c.in_ok-kept.kept) c.new_noise.result c.in_ok-append.ensures.ok (c.in_ok-kept.ensures.round ∙ c.deref.ensures.value ∙ c.in_ok-steps.ensures) (c.in_ok-kept.ensures.steps ∙ c.self.view_is) c.new_noise.ensures.value c.new_noise.ensures.mask c.requires.room (subst (All HasFlit) c.self.view_is c.self.invariant.masks)
 
 pub returns-clause-ok : goal.returns-clause-ok
 unfolding rounds_of

@@ -1,12 +1,16 @@
-use Rattle.std.proofs.Common.{◌∙◌, ap}
-use Rattle.hmc_schedule.proofs.WrittenLemmas.{IsWritten-kept, steps_in-kept}
-use Rattle.hmc_schedule.specs.Written.{WrittenFields}
+use Rattle.std.proofs.Common.{◌∙◌, ◌++◌, ap}
+use Rattle.hmc_schedule.proofs.WrittenLemmas.{IsWritten-grown, steps_in-grown, grown-kept}
+use Rattle.hmc_schedule.specs.Written.{WrittenFields, kept_of}
 use Rattle.hmc_schedule.proofs.written.Written.keep.Goals as goal
 
 pub invariant_of-self-2 : goal.invariant_of-self-2
 invariant_of-self-2 c =
-    rw (c.in_ok-extend_from_slice.ensures.items) (IsWritten-kept c.self.inside.kept.items c.args.round.now c.self.inside.segments.items c.self.inside.len c.self.invariant)
+    let kept = c.self.inside.kept.items in
+    let many = c.self.inside.many.items in
+    rw (c.in_ok-extend_from_slice.ensures.items) (IsWritten-grown (kept_of kept many) (kept_of (kept ++ c.args.round.now) many) c.self.inside.segments.items c.self.inside.len (grown-kept kept c.args.round.now many) c.self.invariant.some c.self.invariant)
 
 pub returns-clause-steps : goal.returns-clause-steps
 returns-clause-steps c =
-    rw (c.in_ok-extend_from_slice.ensures.items) (steps_in-kept c.self.inside.kept.items c.args.round.now c.self.inside.segments.items c.self.invariant.rounds ∙ ap (λ (w : WrittenFields). w.steps) c.self.view_is)
+    let kept = c.self.inside.kept.items in
+    let many = c.self.inside.many.items in
+    rw (c.in_ok-extend_from_slice.ensures.items) (steps_in-grown (kept_of kept many) (kept_of (kept ++ c.args.round.now) many) c.self.inside.segments.items (grown-kept kept c.args.round.now many) c.self.invariant.held ∙ ap (λ (w : WrittenFields). w.steps) c.self.view_is)
