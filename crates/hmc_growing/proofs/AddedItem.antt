@@ -1,5 +1,5 @@
 -- A request is added to the script of a case.
-use Rattle.std.proofs.Common.{◌≡◌, ◌∙◌, ◌<◌, ◌≤◌, ◌==◌, ◌++◌, ◌+◌, Option, Some, None, ap, arith, ℕ, zero, suc, Bool, true, false, List, [], ◌∷◌, length, length-append, refl, sym, subst, eqb-true, if◌then◌else◌}
+use Rattle.std.proofs.Common.{◌≡◌, ◌∙◌, ◌<◌, ◌≤◌, ◌==◌, ◌++◌, ◌+◌, Option, Some, None, ap, arith, ℕ, zero, suc, Bool, true, false, List, [], ◌∷◌, length, drop, length-append, refl, sym, subst, eqb-true, if◌then◌else◌}
 use Rattle.std.specs.Prelude.{slice_get, filter}
 use Rattle.std.proofs.lemmas.List.Elements.{All-nil, All-cons, All-append, filter-append}
 use Rattle.std.proofs.lemmas.List.{append-nil}
@@ -19,7 +19,7 @@ use Rattle.hmc_journal.specs.Network.{IsItemOf, IsNetwork}
 use Rattle.hmc_journal.specs.Next.{next, choice}
 use Rattle.hmc_journal.specs.Setup.{Setup, hosts_in, cubes_in}
 use Rattle.hmc_journal.specs.StepView.{state_of, view_of}
-use Rattle.hmc_journal.proofs.EntryRule.{EntryRule, HasGiven, entry_rule, lawful_past}
+use Rattle.hmc_journal.proofs.EntryRule.{EntryRule, HasGiven, entry_rule, lawful_past, drop-first, next_at}
 use Rattle.hmc_growing.specs.Growing.{with_item, is_end_of, IsOpen}
 use Rattle.hmc_growing.proofs.HostEnds.{end_is_give, itself}
 
@@ -40,17 +40,17 @@ pub one_of : (item : ItemFields) (h : ℕ) (test : Bool) → (item.host == h) �
 one_of item h test is = ap (λ (t : Bool). if t then item ∷ [] else []) is
 
 -- what a host gives next stays, unless it was at its end
-next_same : (host : HostFields) (item : ItemFields) (h : ℕ) (room : Bool) (o : Option ItemFields) (test : Bool)
-    → next_item host ≡ o → (item.host == h) ≡ test → is_end_of item.host (gave_entry h (next_says host o room)) ≡ false
-    → slice_get (host.items ++ filter (λ (x : ItemFields). x.host == h) (item ∷ [])) host.given ≡ o
-next_same host item h room (Some x) test is at more = get_front host.items _ host.given x is
-next_same host item h room None true is at more = absurd (cc)
-next_same host item h room None false is at more =
-    ap (λ (ys : List ItemFields). slice_get (host.items ++ ys) host.given) (one_of item h false at) ∙ ap (λ (xs : List ItemFields). slice_get xs host.given) (append-nil host.items) ∙ is
+next_same : (host : HostFields) (items : List ItemFields) (item : ItemFields) (h : ℕ) (room : Bool) (o : Option ItemFields) (test : Bool)
+    → slice_get items host.given ≡ o → (item.host == h) ≡ test → is_end_of item.host (gave_entry h (next_says host o room)) ≡ false
+    → slice_get (items ++ filter (λ (x : ItemFields). x.host == h) (item ∷ [])) host.given ≡ o
+next_same host items item h room (Some x) test is at more = get_front items _ host.given x is
+next_same host items item h room None true is at more = absurd (cc)
+next_same host items item h room None false is at more =
+    ap (λ (ys : List ItemFields). slice_get (items ++ ys) host.given) (one_of item h false at) ∙ ap (λ (xs : List ItemFields). slice_get xs host.given) (append-nil items) ∙ is
 
 -- what else a host gives depends on its number and its tags alone
 says_any : (number given : ℕ) (tags : List Bool) (xs ys : List ItemFields) (o : Option ItemFields) (room : Bool)
-    → next_says (record { number = number; items = xs; given = given; tags = tags }) o room ≡ next_says (record { number = number; items = ys; given = given; tags = tags }) o room
+    → next_says (record { number = number; left = xs; given = given; tags = tags }) o room ≡ next_says (record { number = number; left = ys; given = given; tags = tags }) o room
 says_any number given tags xs ys None room = refl
 says_any number given tags xs ys (Some item) room = refl
 
@@ -59,11 +59,13 @@ give_with : (setup : Setup) (item : ItemFields) (past : List Entry) (h : ℕ) (r
 unfolding give_says host_of
 give_with setup item past h room more =
     let host = host_of setup past h in
-    let longer : List ItemFields → HostFields = λ xs. record { number = h; items = xs; given = host.given; tags = host.tags } in
+    let items = items_of h setup.script in
     let all = items_of h (setup.script ++ item ∷ []) in
-    ap (λ (xs : List ItemFields). gave_entry h (next_says (longer all) (slice_get xs host.given) room)) (more_items setup item h)
-    ∙ ap (λ (o : Option ItemFields). gave_entry h (next_says (longer all) o room)) (next_same host item h room (next_item host) (item.host == h) refl refl more)
-    ∙ ap (gave_entry h) (says_any h host.given host.tags all (items_of h setup.script) (next_item host) room)
+    let longer : HostFields = record { number = h; left = drop host.given all; given = host.given; tags = host.tags } in
+    ap (λ (o : Option ItemFields). gave_entry h (next_says longer o room)) (drop-first all host.given)
+    ∙ ap (λ (xs : List ItemFields). gave_entry h (next_says longer (slice_get xs host.given) room)) (more_items setup item h)
+    ∙ ap (λ (o : Option ItemFields). gave_entry h (next_says longer o room)) (next_same host items item h room (next_item host) (item.host == h) (sym (drop-first items host.given)) refl more)
+    ∙ ap (gave_entry h) (says_any h host.given host.tags longer.left host.left (next_item host) room)
 
 -- ---- entries
 
@@ -113,7 +115,7 @@ unfolding given_count
 entry_within setup h (Gave host tag poisoned request) past right is = gave_within setup (host == h) host h past tag poisoned request refl right is
 entry_within setup h _ past right is = is
 
-given_within : (setup : Setup) (h : ℕ) (past : List Entry) → Lawful setup past → given_count h past ≤ length (items_of h setup.script)
+pub given_within : (setup : Setup) (h : ℕ) (past : List Entry) → Lawful setup past → given_count h past ≤ length (items_of h setup.script)
 unfolding given_count
 given_within setup h [] lawful = omega arith
 given_within setup h (entry ∷ past) lawful = entry_within setup h entry past (entry_rule setup entry past lawful) (given_within setup h past (lawful_past setup entry past lawful))
@@ -125,13 +127,13 @@ none_past (x ∷ xs) (suc i) none = omega (arith, none_past xs i none)
 
 -- a request more is left of those of its host
 one_left : (setup : Setup) (item : ItemFields) (past : List Entry) → Lawful setup past → next_item (host_of (with_item setup item) past item.host) ≡ None → ⊥
-unfolding host_of
 one_left setup item past lawful none =
     let h = item.host in
+    let past_all : slice_get (items_of h (setup.script ++ item ∷ [])) (given_count h past) ≡ None = sym (next_at (with_item setup item) past h) ∙ none in
     let few : given_count h past ≤ length (items_of h setup.script) = given_within setup h past lawful in
     let longer : items_of h (setup.script ++ item ∷ []) ≡ items_of h setup.script ++ item ∷ [] =
     more_items setup item h ∙ ap (λ (ys : List ItemFields). items_of h setup.script ++ ys) (one_of item h true (itself h)) in
-    let all : length (items_of h (setup.script ++ item ∷ [])) ≤ given_count h past = none_past (items_of h (setup.script ++ item ∷ [])) (given_count h past) none in
+    let all : length (items_of h (setup.script ++ item ∷ [])) ≤ given_count h past = none_past (items_of h (setup.script ++ item ∷ [])) (given_count h past) past_all in
     let long : length (items_of h (setup.script ++ item ∷ [])) ≡ length (items_of h setup.script) + 1 = ap (λ (xs : List ItemFields). length xs) longer ∙ length-append (items_of h setup.script) (item ∷ []) in
     absurd (omega (arith, few, all, long))
 

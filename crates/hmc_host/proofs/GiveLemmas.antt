@@ -1,12 +1,12 @@
 -- What a host gives next, in the field's terms.
-use Rattle.std.proofs.Common.{◌≡◌, ◌≢◌, ◌≤◌, ◌<◌, ◌∙◌, ◌↔◌, ℕ, Bool, true, false, not, cond, if◌then◌else◌, List, [], ◌∷◌, length, get_or, set, length-set, get_or-set_same, subst, ap, sym, arith, inl, inr, refl, suc, zero}
+use Rattle.std.proofs.Common.{◌≡◌, ◌≢◌, ◌≤◌, ◌<◌, ◌∙◌, ◌↔◌, ℕ, Bool, true, false, not, cond, if◌then◌else◌, List, [], ◌∷◌, length, get_or, set, length-set, get_or-set_same, subst, ap, sym, arith, refl}
 use Rattle.std.specs.Prelude.{slice_get, Option, Some, None, is_none, nat_lt}
 use Rattle.std.specs.Option.{ForSome, option_map}
 use Rattle.std.specs.List.{position_or_len}
-use Rattle.std.proofs.lemmas.Bool.{and_parts, cases_lt, ltb-false, not-true, not-false}
+use Rattle.std.proofs.lemmas.Bool.{and_parts, ltb-false, not-true, not-false}
 use Rattle.std.proofs.lemmas.List.Sums.{fails_before_first}
 use Rattle.std.proofs.lemmas.List.Quantifiers.{position-Some}
-use Rattle.std.proofs.lemmas.Option.{slice_get_past, slice_get-get_or, slice_get_within}
+use Rattle.std.proofs.lemmas.Option.{slice_get-get_or, slice_get_within}
 use Rattle.hmc_script.specs.Items.{ItemFields, outline_of}
 use Rattle.hmc_host.specs.declared.given.Given.{Given}
 use Rattle.hmc_host.specs.declared.given.Given.TheVariants.{Ended, Fence, Tags, Full, Gave}
@@ -101,32 +101,26 @@ says_hindrance host room = next_hindrance host (next_item host) room
 
 -- ---- the clauses of a give
 
-none_past : {X : Type 0} (xs : List X) (i : ℕ) → slice_get xs i ≡ None → length xs ≤ i
-none_past [] i none = omega arith
-none_past (x ∷ xs) zero none = absurd cc
-none_past (x ∷ xs) (suc i) none = omega (arith, none_past xs i none)
+nothing_left : {X : Type 0} (left : List X) → slice_get left 0 ≡ None → left ≡ []
+nothing_left [] none = refl
+nothing_left (x ∷ left) none = absurd cc
 
-left_when_some : (host : HostFields) → next_item host ≢ None → host.given < length host.items
-left_when_some host some =
-    elim (cases_lt host.given (length host.items)) [
-      | inl less ↦ less
-      | inr past ↦ absurd (some (slice_get_past host.items host.given past))
-    ]
+some_left : {X : Type 0} (left : List X) → slice_get left 0 ≢ None → 0 < length left
+some_left [] some = absurd (some refl)
+some_left (x ∷ left) some = omega arith
 
 -- a host that isn't at its end has a request left
-pub says_left : (host : HostFields) (room : Bool) (given : Given) → given ≡ give_says host room → given ≢ Ended → host.given < length host.items
+pub says_left : (host : HostFields) (room : Bool) (given : Given) → given ≡ give_says host room → given ≢ Ended → 0 < length host.left
 unfolding give_says
 says_left host room given is more =
-    left_when_some host (λ none. more (is ∙ ap (λ (next : Option ItemFields). next_says host next room) none))
+    some_left host.left (λ none. more (is ∙ ap (λ (next : Option ItemFields). next_says host next room) none))
 
 -- it ends exactly where it has given all of its requests
-pub says_ended : (host : HostFields) (room : Bool) (given : Given) → IsHost host → given ≡ give_says host room → (given ≡ Ended) ↔ (host.given ≡ length host.items)
+pub says_ended : (host : HostFields) (room : Bool) (given : Given) → given ≡ give_says host room → (given ≡ Ended) ↔ (host.left ≡ [])
 unfolding give_says
-says_ended host room given are is = (
-  λ ended.
-      let none : next_item host ≡ None = next_not_ended host (next_item host) room (sym is ∙ ended) in
-      omega (arith, are.given, none_past host.items host.given none),
-  λ all. is ∙ ap (λ (next : Option ItemFields). next_says host next room) (slice_get_past host.items host.given (omega (arith, all))),
+says_ended host room given is = (
+  λ ended. nothing_left host.left (next_not_ended host (next_item host) room (sym is ∙ ended)),
+  λ all. is ∙ ap (λ (left : List ItemFields). next_says host (slice_get left 0) room) all,
 )
 
 -- it lacks a tag only where each is out

@@ -1,3 +1,4 @@
 pub mod TagLemmas
+pub mod WaitingLemmas
 pub mod GiveLemmas
 mod Worked

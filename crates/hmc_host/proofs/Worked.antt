@@ -1,5 +1,5 @@
 -- Definitions computed at host 2: with three tags, and with all of them.
-use Rattle.std.proofs.Common.{◌≡◌, ℕ, Bool, List, [], ◌∷◌, Option, Some, None, true, false, refl}
+use Rattle.std.proofs.Common.{◌≡◌, ℕ, Bool, List, [], ◌∷◌, Option, Some, None, true, false, refl, arith}
 use Rattle.std.specs.Prelude.{map, length, replicate, ◌++◌}
 use Rattle.hmc_codes.specs.Table.{table_line}
 use Rattle.hmc_codes.specs.declared.command.Command.{Command}
@@ -14,7 +14,8 @@ use Rattle.hmc_host.specs.declared.given.Given.TheVariants.{Ended, Fence, Tags, 
 use Rattle.hmc_host.specs.declared.given.Hindrance.TheVariants as hindrances
 use Rattle.hmc_host.specs.declared.settled.Settled.TheVariants.{Discarded, Took}
 use Rattle.hmc_host.specs.Tags.{none_out, lowest_free, number_out, IsFree, IsOut}
-use Rattle.hmc_host.specs.Host.{HostFields, items_of}
+use Rattle.hmc_host.specs.Host.{HostFields, IsHost, items_of, asked, asked_count}
+use Rattle.hmc_host.specs.Waiting.{waiting_in, IsWaiting}
 use Rattle.hmc_host.specs.Give.{wants_tag, give_says, after_give, hindrance_of, nothing_given}
 use Rattle.hmc_host.specs.Settle.{settle_says, after_settle}
 
@@ -44,7 +45,7 @@ abbrev two_out : List Bool
 two_out = true ∷ false ∷ true ∷ []
 
 abbrev host_with : List ItemFields → (tags : List Bool) → HostFields
-host_with items tags = record { number = 2; items = items; given = 0; tags = tags }
+host_with left tags = record { number = 2; left = left; given = 0; tags = tags }
 
 -- a request goes out under a tag, or under none
 abbrev goes_out : Command → (tag : ℕ) → Option ℕ → (poisoned : Bool) → Given
@@ -99,7 +100,7 @@ unfolding give_says table_line
 give_says-order = refl
 
 -- where no request is left nothing else matters
-give_says-ended : give_says (record (host_with (fenced ∷ []) all_out) { given = 1 }) false ≡ Ended
+give_says-ended : give_says (record (host_with [] all_out) { given = 1 }) false ≡ Ended
 unfolding give_says
 give_says-ended = refl
 
@@ -124,9 +125,34 @@ unfolding give_says table_line
 give_says-full = refl
 
 -- the second request follows the first
-give_says-second : give_says (record (host_with (read ∷ posted ∷ []) two_out) { given = 1 }) true ≡ goes_out Pinc8 0 None false
+give_says-second : give_says (after_give (goes_out Rd16 0 (Some 0) false) (host_with (read ∷ posted ∷ []) two_out)) true ≡ goes_out Pinc8 0 None false
 unfolding give_says table_line
 give_says-second = refl
+
+-- a request that is asked for comes last; those that were given count too
+asked-last : asked fenced (record (host_with (read ∷ posted ∷ []) two_out) { given = 5 }) ≡ record (host_with (read ∷ posted ∷ fenced ∷ []) two_out) { given = 5 }
+asked-last = refl
+
+asked_count-both : asked_count (record (host_with (read ∷ posted ∷ []) two_out) { given = 5 }) ≡ 7
+asked_count-both = refl
+
+-- so a host is asked for 4,294,967,295 requests in all, and for no more
+abbrev host_given : ℕ → HostFields
+host_given given = record (host_with (read ∷ posted ∷ []) none_out) { given = given }
+
+IsHost-most : IsHost (host_given 4294967293)
+unfolding none_out
+IsHost-most = record { number = omega arith; few = omega arith; tags = refl }
+
+IsHost-past : IsHost (host_given 4294967294) → ⊥
+IsHost-past is = omega (arith, is.few)
+
+-- of the front those from a place on wait, and then those of the back
+waiting_in-both : waiting_in (read ∷ posted ∷ fenced ∷ []) 1 (poisoned ∷ read ∷ []) ≡ posted ∷ fenced ∷ poisoned ∷ read ∷ []
+waiting_in-both = refl
+
+IsWaiting-used_up : IsWaiting (read ∷ []) 1 (posted ∷ []) → ⊥
+IsWaiting-used_up is = absurd cc (is.turned refl)
 
 -- the reason where nothing is given, and none where something is
 hindrance_of-each : map hindrance_of (Ended ∷ Fence ∷ Tags ∷ Full ∷ goes_out Rd16 1 (Some 1) false ∷ []) ≡
@@ -137,10 +163,10 @@ nothing_given-each : map nothing_given (hindrances.Ended ∷ hindrances.Fence �
 nothing_given-each = refl
 
 -- one more was given, and its tag is out
-after_give-tag : after_give (goes_out Rd16 1 (Some 1) false) (host_with (read ∷ posted ∷ []) two_out) ≡ record (host_with (read ∷ posted ∷ []) all_out) { given = 1 }
+after_give-tag : after_give (goes_out Rd16 1 (Some 1) false) (host_with (read ∷ posted ∷ []) two_out) ≡ record (host_with (posted ∷ []) all_out) { given = 1 }
 after_give-tag = refl
 
-after_give-without_tag : after_give (goes_out Pinc8 0 None false) (host_with (posted ∷ []) two_out) ≡ record (host_with (posted ∷ []) two_out) { given = 1 }
+after_give-without_tag : after_give (goes_out Pinc8 0 None false) (host_with (posted ∷ []) two_out) ≡ record (host_with [] two_out) { given = 1 }
 after_give-without_tag = refl
 
 after_give-nothing : map (λ (given : Given). after_give given (host_with (read ∷ []) two_out)) (Ended ∷ Fence ∷ Tags ∷ Full ∷ []) ≡ map (λ (given : Given). host_with (read ∷ []) two_out) (Ended ∷ Fence ∷ Tags ∷ Full ∷ [])

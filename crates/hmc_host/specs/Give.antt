@@ -1,5 +1,5 @@
 -- What a host gives next, and what that leaves.
-use Rattle.std.specs.Prelude.{ℕ, ◌+◌, Bool, not, ◌&&◌, if◌then◌else◌, List, slice_get, Option, Some, None, is_none}
+use Rattle.std.specs.Prelude.{ℕ, ◌+◌, Bool, not, ◌&&◌, if◌then◌else◌, List, drop, slice_get, Option, Some, None, is_none}
 use Rattle.std.specs.Option.{unwrap_or}
 use Rattle.hmc_codes.specs.Commands.{is_posted}
 use Rattle.hmc_script.specs.Items.{ItemFields}
@@ -38,9 +38,9 @@ item_says host item room =
     if not room then Full else
     gave_request host.number item (tag_for item host.tags))
 
--- the request that follows those that were given, if one is left
+-- the first of the requests that are left, if one is
 abbrev pub next_item : HostFields → Option ItemFields
-next_item host = slice_get host.items host.given
+next_item host = slice_get host.left 0
 
 -- it has given all of its requests
 abbrev pub is_at_end : HostFields → Bool
@@ -89,7 +89,7 @@ nothing_given hindrances.Full = Full
 -- what it leaves: one more request was given, and its tag is out; or nothing changed
 abbrev pub after_give : Given → HostFields → HostFields
 after_give (Gave packet request tag poisoned) host =
-    record host { given = host.given + 1; tags = with_out tag host.tags }
+    record host { left = drop 1 host.left; given = host.given + 1; tags = with_out tag host.tags }
 after_give _ host = host
 
 -- the tag that was taken, if one was

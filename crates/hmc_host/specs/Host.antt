@@ -1,13 +1,13 @@
 -- A host, as the contracts see it.
-use Rattle.std.specs.Prelude.{◌≡◌, ◌≤◌, ◌<◌, ◌++◌, ◌∷◌, ℕ, Bool, List, [], length}
-use Rattle.hmc_codes.specs.Limits.{most_hosts, most_requests, tags as all_tags}
-use Rattle.hmc_script.specs.Items.{ItemFields, of_host}
+use Rattle.std.specs.Prelude.{◌≡◌, ◌≤◌, ◌<◌, ◌+◌, ◌++◌, ◌∷◌, ℕ, Bool, List, [], length}
+use Rattle.hmc_codes.specs.Limits.{most_hosts, tags as all_tags}
+use Rattle.hmc_script.specs.Items.{ItemFields, most_asked, of_host}
 use Rattle.hmc_host.specs.Tags.{none_out}
 
--- its number, its own requests of the script, the number of those given, and its tags
+-- its number, its own requests that it has not given yet, the number of those given, and its tags
 pub record HostFields : Type 0 where
   pub number : ℕ
-  pub items : List ItemFields
+  pub left : List ItemFields
   pub given : ℕ
   pub tags : List Bool
 
@@ -19,23 +19,26 @@ items_of number script = of_host number script
 abbrev pub opening_host : (number : ℕ) → (script : List ItemFields) → HostFields
 opening_host number script = record {
   number = number;
-  items = items_of number script;
+  left = items_of number script;
   given = 0;
   tags = none_out;
 }
 
+-- for how many requests it was asked, given or not
+abbrev pub asked_count : HostFields → ℕ
+asked_count host = host.given + length host.left
+
 -- what every host keeps
 pub record IsHost (host : HostFields) : Type 0 where
   pub number : host.number < most_hosts
-  pub few : length host.items ≤ most_requests
-  pub given : host.given ≤ length host.items
+  pub few : asked_count host ≤ most_asked
   pub tags : length host.tags ≡ all_tags
 
 -- one that is asked for a request more, which comes after its others
 abbrev pub asked : ItemFields → HostFields → HostFields
 asked item host = record {
   number = host.number;
-  items = host.items ++ item ∷ [];
+  left = host.left ++ item ∷ [];
   given = host.given;
   tags = host.tags;
 }

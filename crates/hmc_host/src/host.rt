@@ -1,14 +1,16 @@
 //! One host.
 
-ghost use Rattle.std.specs.Prelude.{◌≡◌, ◌≢◌, ◌<◌, ◌≤◌, ◌↔◌, ℕ, IfOk, OnOk, OnErr, true, false, length, ◌++◌, ◌∷◌, []};
+ghost use Rattle.std.specs.Prelude.{◌≡◌, ◌≢◌, ◌<◌, ◌≤◌, ◌↔◌, ℕ, IfOk, OnOk, OnErr, true, false, length, []};
 ghost use Rattle.std.specs.Option.{ForSome};
-ghost use Rattle.hmc_codes.specs.Limits.{most_hosts, most_requests, tags as all_tags};
+ghost use Rattle.hmc_codes.specs.Limits.{most_hosts, tags as all_tags};
+ghost use Rattle.hmc_script.specs.Items.{most_asked};
 ghost use Rattle.hmc_host.specs.Tags.{number_out, IsFree, IsOut, IsLowestFree};
-ghost use Rattle.hmc_host.specs.Host.{opening_host, asked, IsHost};
+ghost use Rattle.hmc_host.specs.Host.{opening_host, asked, asked_count, IsHost};
 ghost use Rattle.hmc_host.specs.Give.{wants_tag, outline_wants_tag, tag_for, gave_request, is_at_end, give_says, after_give, taken_tag, hindrance_of, hindrance_by, nothing_given};
 ghost use Rattle.hmc_host.specs.Settle.{IsAwaited, settle_says, after_settle};
 
 use crate::tags::Tags;
+use crate::waiting::Waiting;
 use crate::{Given, Hindrance, Settled};
 use hmc_codes::{Memory, Request};
 use hmc_packet::{Packet, answer_of, ask};
@@ -16,12 +18,13 @@ use hmc_script::{Item, Outline, Script};
 use std::alloc::Global;
 use std::marker::Model;
 
-/// One host. Contracts see its number, its requests, the number of those given, and its tags.
+/// One host. Contracts see its number, the requests that it has not given yet, the number of those
+/// given, and its tags. It forgets requests that it gave.
 #[derive(Drop)]
 pub struct Host {
     number: u8,
-    // Its own requests.
-    items: Script,
+    // Its own requests that it has not given yet.
+    left: Waiting,
     given: u32,
     tags: Tags,
 }
@@ -33,14 +36,14 @@ impl Model for Host {
 
     ghost view = { λ h. record {
       number = h.number;
-      items = h.items;
+      left = h.left;
       given = h.given;
       tags = h.tags;
     } };
 
     ghost invariant = { λ h. IsHost (record {
       number = h.number;
-      items = h.items;
+      left = h.left;
       given = h.given;
       tags = h.tags;
     }) };
@@ -58,7 +61,7 @@ impl Host {
         tags.invariant();
         Ok(Host {
             number,
-            items,
+            left: Waiting::of(alloc, items),
             given: 0,
             tags,
         })
@@ -83,27 +86,27 @@ impl Host {
     pub fn hindrance(&self, room: bool) -> Option<Hindrance>
         ensures { result ≡ hindrance_of (give_says self.now room) }
     {
-        hindrance_by(self.items.outline(self.given), &self.tags, room)
+        hindrance_by(self.left.outline(), &self.tags, room)
     }
 
-    /// The number of its requests, given or not.
-    pub fn len(&self) -> u32
-        ensures { result ≡ length self.now.items }
+    /// For how many requests it was asked, given or not.
+    pub fn asked(&self) -> u32
+        ensures { result ≡ asked_count self.now }
     {
-        self.items.len()
+        self.given + self.left.len()
     }
 
     /// Whether it has given all of its requests.
     pub fn is_at_end(&self) -> bool
         ensures { result ≡ is_at_end self.now }
     {
-        self.items.outline(self.given).is_none()
+        self.left.outline().is_none()
     }
 
-    /// Asks for one request more, which the host gives after its others. It has fewer than
-    /// `MOST_REQUESTS`. Where it is out of memory nothing changes.
+    /// Asks for one request more, which the host gives after its others. It was asked for fewer than
+    /// `MOST_ASKED`. Where it is out of memory nothing changes.
     pub fn ask(&mut self, fenced: bool, poisoned: bool, request: &Request) -> Result<(), Memory>
-        requires { length self.old.items < most_requests }
+        requires { asked_count self.old < most_asked }
         ensures ok { OnOk result (self.new ≡ asked (record {
           host = self.old.number;
           fenced = fenced;
@@ -113,7 +116,7 @@ impl Host {
         ensures err { OnErr result (self.new ≡ self.old) }
     {
         self.invariant();
-        self.items.append(self.number, fenced, poisoned, request)
+        self.left.append(self.number, fenced, poisoned, request)
     }
 
     /// Gives the next request to the link, which has room or not.
@@ -123,7 +126,7 @@ impl Host {
         ensures leaves { self.new ≡ after_give result self.old }
 
         // Where it ends, where it lacks a tag, and which tag it takes.
-        ensures ended { (result ≡ Given.Ended) ↔ (self.old.given ≡ length self.old.items) }
+        ensures ended { (result ≡ Given.Ended) ↔ (self.old.left ≡ []) }
         ensures tags { result ≡ Given.Tags → (tag : ℕ) → tag < all_tags → IsOut self.old.tags tag }
         ensures lowest { ForSome (taken_tag result) (IsLowestFree self.old.tags) }
     {
@@ -161,21 +164,22 @@ impl Host {
         if let Some(hindrance) = self.hindrance(room) {
             return nothing_given(hindrance);
         }
-        if self.given >= self.items.len() {
+        if self.left.len() == 0 {
             return Given::Ended;
         }
-        let item = self.items.item(self.given);
+        let item = self.left.first();
         gave_request(self.number, &item, tag_for(&item, &self.tags))
     }
 
     // A request was given, or nothing.
     fn note(&mut self, given: &Given)
-        requires left { given.now ≢ Given.Ended → self.old.given < length self.old.items }
+        requires left { given.now ≢ Given.Ended → 0 < length self.old.left }
         requires free { ForSome (taken_tag given.now) (IsFree self.old.tags) }
         ensures { self.new ≡ after_give given.now self.old }
     {
         if let Given::Gave { tag, .. } = given {
             self.given += 1;
+            self.left.drop_first();
             self.tags.take(*tag);
         }
     }

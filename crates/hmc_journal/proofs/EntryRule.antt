@@ -1,5 +1,5 @@
 -- What an entry is that follows: by its variant, what its step saw.
-use Rattle.std.proofs.Common.{◌≡◌, ◌==◌, ◌&&◌, ◌||◌, ◌⊎◌, ◌∙◌, inl, inr, ℕ, Bool, true, false, not, if◌then◌else◌, Option, Some, None, is_none, List, [], ◌∷◌, length, slice_get, refl, sym, ap, subst}
+use Rattle.std.proofs.Common.{◌≡◌, ◌==◌, ◌&&◌, ◌||◌, ◌⊎◌, ◌∙◌, inl, inr, ℕ, Bool, true, false, not, if◌then◌else◌, Option, Some, None, is_none, List, [], ◌∷◌, length, drop, slice_get, zero, suc, refl, sym, ap, subst}
 use Rattle.std.specs.Prelude.{is_some, option_and_then}
 use Rattle.hmc_codes.specs.Commands.{is_posted, family_of}
 use Rattle.hmc_codes.specs.Request.{RequestFields}
@@ -30,6 +30,7 @@ use Rattle.hmc_vault.specs.Execute.{must_wait}
 use Rattle.hmc_host.specs.declared.given.Given.TheVariants as givens
 use Rattle.hmc_host.specs.declared.settled.Settled.TheVariants as settles
 use Rattle.hmc_host.specs.Tags.{is_some_out, lowest_free}
+use Rattle.hmc_host.specs.Host.{items_of}
 use Rattle.hmc_host.specs.Give.{wants_tag, tag_for, lacks_tag, next_item, next_says, give_says, gave_request}
 use Rattle.hmc_host.specs.Settle.{took_answer}
 use Rattle.hmc_entries.specs.declared.outcome.Cause.TheVariants as causes
@@ -50,7 +51,7 @@ use Rattle.hmc_journal.specs.Setup.{Setup, Topology, shape_of, graph_of, directi
 use Rattle.hmc_journal.specs.Routes.{port_towards}
 use Rattle.hmc_journal.specs.Queues.{QueueId, contents, queue_of, output_from, goal_queue}
 use Rattle.hmc_journal.specs.Queues.QueueId.{Port, Host, Vault, Answers}
-use Rattle.hmc_journal.specs.Hosts.{host_of}
+use Rattle.hmc_journal.specs.Hosts.{given_count, host_of}
 use Rattle.hmc_journal.specs.Piped.{forwarded_onto, pipe_onto}
 use Rattle.hmc_journal.specs.StepView.{state_of, view_of}
 use Rattle.hmc_journal.specs.Links.{toward, sizes_on, entries_on, direction_to, fed_after}
@@ -72,7 +73,7 @@ IsTagged false free tag = tag ≡ None
 
 pub record HasGiven (setup : Setup) (past : List Entry) (host : ℕ) (tag : Option ℕ) (poisoned : Bool) (request : RequestFields) : Type 0 where
   pub item : ItemFields
-  pub is_next : next_item (host_of setup past host) ≡ Some item
+  pub is_next : slice_get (items_of host setup.script) (given_count host past) ≡ Some item
   pub is_poisoned : poisoned ≡ item.poisoned
   pub is_request : request ≡ item.request
   pub is_tagged : IsTagged (wants_tag item) (lowest_free (host_of setup past host).tags) tag
@@ -190,6 +191,19 @@ fronted setup past step room [] does is right = tt
 fronted setup past step room (front ∷ rest) does is right = right (record { front = front; rest = rest; is = is })
 
 -- give
+
+-- what is left begins with the element at a place
+pub drop-first : {X : Type 0} (xs : List X) (n : ℕ) → slice_get (drop n xs) 0 ≡ slice_get xs n
+drop-first [] zero = refl
+drop-first [] (suc n) = refl
+drop-first (x ∷ xs) zero = refl
+drop-first (x ∷ xs) (suc n) = drop-first xs n
+
+-- the next request of a host, by its place among those of the script
+pub next_at : (setup : Setup) (past : List Entry) (host : ℕ) → next_item (host_of setup past host) ≡ slice_get (items_of host setup.script) (given_count host past)
+unfolding host_of
+next_at setup past host = drop-first (items_of host setup.script) (given_count host past)
+
 tagged : (item : ItemFields) (tags : List Bool) (awaited : Bool) (free : Option ℕ) → wants_tag item ≡ awaited → lowest_free tags ≡ free → (awaited && is_none free) ≡ false
     → IsTagged awaited free (if awaited then free else None)
 tagged item tags true (Some tag) needs found lacks = (tag, refl, refl)
@@ -204,7 +218,7 @@ give_item setup past host item false true lacks_place is lack none = tt
 give_item setup past host item false false true is lack none = tt
 give_item setup past host item false false false is lack none = record {
   item = item;
-  is_next = is;
+  is_next = sym (next_at setup past host) ∙ is;
   is_poisoned = refl;
   is_request = refl;
   is_tagged = tagged item (host_of setup past host).tags (wants_tag item) (lowest_free (host_of setup past host).tags) refl refl lack;

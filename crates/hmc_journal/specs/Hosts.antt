@@ -1,5 +1,5 @@
 -- What a journal says of a host: how many requests it gave, and which of its tags are out.
-use Rattle.std.specs.Prelude.{ℕ, ◌+◌, Bool, true, false, ◌==◌, List, [], ◌∷◌, slice_set}
+use Rattle.std.specs.Prelude.{ℕ, ◌+◌, Bool, true, false, ◌==◌, List, [], ◌∷◌, drop, slice_set}
 use Rattle.hmc_journal.specs.Choice.{choose}
 use Rattle.hmc_host.specs.Host.{HostFields, items_of}
 use Rattle.hmc_host.specs.Tags.{none_out, with_out}
@@ -28,12 +28,12 @@ tags_out h (Took host tag answer ∷ past) =
     choose (host == h) (slice_set (tags_out h past) tag false) (tags_out h past)
 tags_out h (_ ∷ past) = tags_out h past
 
--- the host with a number
+-- the host with a number: of its requests those are left that follow the ones that it gave
 unfoldable pub host_of : Setup → List Entry → ℕ → HostFields
 host_of setup past host =
     record {
       number = host;
-      items = items_of host setup.script;
+      left = drop (given_count host past) (items_of host setup.script);
       given = given_count host past;
       tags = tags_out host past;
     }

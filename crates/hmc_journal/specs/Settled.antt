@@ -28,7 +28,8 @@ unfoldable pub line_whats : Toward → List LinkEntry → List What
 line_whats d past = drop (landings d past) (sent_whats d past)
 
 -- a direction of a link is settled
-pub record IsSettledDirection (link : LinkFields) (d : Toward) (past : List LinkEntry) : Type 0 where
+pub record IsSettledDirection (link : LinkFields) (d : Toward) (past : List LinkEntry) :
+    Type 0 where
   -- its receiver accepts packets, and its sender may begin them
   pub good : mode (receiver_entries d past) ≡ modes.Good
   pub opened : is_open (sender_entries link d past) ≡ true

@@ -1,5 +1,5 @@
 -- What an entry leaves of hosts and links is what the journal says of them.
-use Rattle.std.proofs.Common.{◌≡◌, ◌<◌, ◌==◌, ◌∙◌, ℕ, Bool, true, false, Option, Some, None, List, ◌∷◌, length, refl, sym, ap, arith, eqb-true}
+use Rattle.std.proofs.Common.{◌≡◌, ◌<◌, ◌==◌, ◌+◌, ◌∙◌, ℕ, zero, suc, Bool, true, false, Option, Some, None, List, [], ◌∷◌, length, drop, refl, sym, ap, arith, eqb-true}
 use Rattle.std.specs.Prelude.{slice_set}
 use Rattle.std.proofs.lemmas.List.{length-set}
 use Rattle.hmc_codes.specs.Request.{RequestFields}
@@ -38,10 +38,21 @@ host_changed hosts h host f before after true is inside same next there =
 host_changed hosts h host f before after false is inside same next there =
     changed_at hosts h host (f (host_in hosts h)) no_host false is inside ∙ same host there ∙ sym next
 
+-- one more is dropped
+drop-more : {X : Type 0} (xs : List X) (n : ℕ) → drop (suc n) xs ≡ drop 1 (drop n xs)
+drop-more [] zero = refl
+drop-more [] (suc n) = refl
+drop-more (x ∷ xs) zero = refl
+drop-more (x ∷ xs) (suc n) = drop-more xs n
+
+drop-one : {X : Type 0} (xs : List X) (n : ℕ) → drop (n + 1) xs ≡ drop 1 (drop n xs)
+drop-one xs n = let more : n + 1 ≡ suc n = omega arith in ap (λ (k : ℕ). drop k xs) more ∙ drop-more xs n
+
 pub gave_by : (test : Bool) (n : ℕ) (items : List ItemFields) (given : ℕ) (tags : List Bool) (tag : Option ℕ)
-    → ◌≡◌ {A = HostFields} (record { number = n; items = items; given = count_if test given; tags = choose test (with_out tag tags) tags })
-    (choose test (gave_one tag (record { number = n; items = items; given = given; tags = tags })) (record { number = n; items = items; given = given; tags = tags }))
-gave_by true n items given tags tag = refl
+    → ◌≡◌ {A = HostFields} (record { number = n; left = drop (count_if test given) items; given = count_if test given; tags = choose test (with_out tag tags) tags })
+    (choose test (gave_one tag (record { number = n; left = drop given items; given = given; tags = tags })) (record { number = n; left = drop given items; given = given; tags = tags }))
+gave_by true n items given tags tag =
+    ap (λ (left : List ItemFields). record { number = n; left = left; given = given + 1; tags = with_out tag tags }) (drop-one items given)
 gave_by false n items given tags tag = refl
 
 pub gave_host : (setup : Setup) (past : List Entry) (h host : ℕ) (tag : Option ℕ) (poisoned : Bool) (request : RequestFields)
@@ -49,16 +60,16 @@ pub gave_host : (setup : Setup) (past : List Entry) (h host : ℕ) (tag : Option
 unfolding host_of given_count tags_out
 gave_host setup past h host tag poisoned request = gave_by (h == host) host (items_of host setup.script) (given_count host past) (tags_out host past) tag
 
-pub took_by : (test : Bool) (n : ℕ) (items : List ItemFields) (given : ℕ) (tags : List Bool) (tag : ℕ) (answer : Answer)
-    → ◌≡◌ {A = HostFields} (record { number = n; items = items; given = given; tags = choose test (slice_set tags tag false) tags })
-    (choose test (after_settle (settles.Took tag answer) (record { number = n; items = items; given = given; tags = tags })) (record { number = n; items = items; given = given; tags = tags }))
-took_by true n items given tags tag answer = refl
-took_by false n items given tags tag answer = refl
+pub took_by : (test : Bool) (n : ℕ) (left : List ItemFields) (given : ℕ) (tags : List Bool) (tag : ℕ) (answer : Answer)
+    → ◌≡◌ {A = HostFields} (record { number = n; left = left; given = given; tags = choose test (slice_set tags tag false) tags })
+    (choose test (after_settle (settles.Took tag answer) (record { number = n; left = left; given = given; tags = tags })) (record { number = n; left = left; given = given; tags = tags }))
+took_by true n left given tags tag answer = refl
+took_by false n left given tags tag answer = refl
 
 pub took_host : (setup : Setup) (past : List Entry) (h host tag : ℕ) (answer : Answer)
     → host_of setup (Took h tag answer ∷ past) host ≡ choose (h == host) (after_settle (settles.Took tag answer) (host_of setup past host)) (host_of setup past host)
 unfolding host_of given_count tags_out
-took_host setup past h host tag answer = took_by (h == host) host (items_of host setup.script) (given_count host past) (tags_out host past) tag answer
+took_host setup past h host tag answer = took_by (h == host) host (drop (given_count host past) (items_of host setup.script)) (given_count host past) (tags_out host past) tag answer
 
 pub hosts_then : (setup : Setup) (past : List Entry) (entry : Entry) (hosts : List HostFields) → IsHostIn hosts entry → ((k : ℕ) → k < length hosts → host_in hosts k ≡ host_of setup past k)
     → (host : ℕ) → host < length (hosts_after entry hosts) → host_in (hosts_after entry hosts) host ≡ host_of setup (entry ∷ past) host

@@ -1,5 +1,5 @@
 -- The hosts, and what an entry leaves of them.
-use Rattle.std.specs.Prelude.{◌<◌, ℕ, List, [], length, slice_get, slice_index_or, Option, ◌≡◌, ◌+◌, slice_set, Some, None}
+use Rattle.std.specs.Prelude.{◌<◌, ℕ, List, [], length, drop, slice_get, slice_index_or, Option, ◌≡◌, ◌+◌, slice_set, Some, None}
 use Rattle.hmc_codes.specs.declared.counts.HostCounts.{HostCounts}
 use Rattle.hmc_host.specs.Host.{HostFields, opening_host}
 use Rattle.hmc_tally.specs.Tally.{TallyFields, host_row}
@@ -16,7 +16,7 @@ use Rattle.hmc_entries.specs.declared.outcome.Cause.TheVariants as causes
 
 -- in place of a host that isn't there: one without requests
 abbrev pub no_host : HostFields
-no_host = record { number = 0; items = []; given = 0; tags = [] }
+no_host = record { number = 0; left = []; given = 0; tags = [] }
 
 -- the host with a number
 abbrev pub host_in : List HostFields → ℕ → HostFields
@@ -41,7 +41,8 @@ IsHostIn hosts _ = Unit {0}
 
 -- a request goes out under its tag
 abbrev pub gave_one : (tag : Option ℕ) → HostFields → HostFields
-gave_one tag host = record host { given = host.given + 1; tags = with_out tag host.tags }
+gave_one tag host =
+    record host { left = drop 1 host.left; given = host.given + 1; tags = with_out tag host.tags }
 
 -- the hosts after an entry
 abbrev pub hosts_after : Entry → List HostFields → List HostFields

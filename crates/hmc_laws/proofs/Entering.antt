@@ -16,7 +16,8 @@ use Rattle.hmc_packet.specs.Packet.{PacketFields}
 use Rattle.hmc_codes.specs.Answer.{CanReply, IsAnswer}
 use Rattle.hmc_packet.specs.Transactions.{request_packet, reply_packet, request_in}
 use Rattle.hmc_host.specs.Tags.{lowest_free}
-use Rattle.hmc_host.specs.Give.{wants_tag, next_item}
+use Rattle.hmc_host.specs.Give.{wants_tag}
+use Rattle.hmc_host.specs.Host.{items_of}
 use Rattle.hmc_script.specs.Items.{ItemFields}
 use Rattle.hmc_serial.specs.Machine.{cube_state_at, answer_to}
 use Rattle.hmc_serial.proofs.AnswerLemmas.{performed_is_carried}
@@ -52,7 +53,7 @@ use Rattle.hmc_journal.specs.Directions.{sent_flits, landed_packets, accepted}
 use Rattle.hmc_journal.specs.Links.{toward, landing_mask, link_sizes, link_entries, sizes_on, entries_on}
 use Rattle.hmc_journal.specs.Queues.{QueueId, buffer_at, landing_buffer, unless_gone, enters, left, entered, contents, goal_queue, output_from, queue_of, answers_of, unless_posted, tag_number, Arrival, arrival_in, arrival_of, front_of}
 use Rattle.hmc_journal.specs.Queues.QueueId.{Output, Port, Vault, Bank, Answers}
-use Rattle.hmc_journal.specs.Hosts.{host_of, tags_out}
+use Rattle.hmc_journal.specs.Hosts.{given_count, host_of, tags_out}
 use Rattle.hmc_journal.specs.StepView.{StepView, state_of, view_of}
 use Rattle.hmc_journal.proofs.EntryRule.{EntryRule, HasFront, IsTagged, HasGiven, HasLanded, HasShifted, HasExecuted, HasLifted, goal_by, goal_of}
 use Rattle.hmc_journal.proofs.Moves.{front_is, arrives}
@@ -150,8 +151,7 @@ pub at_cube : (topology : Topology) (d : ℕ) (packet : PacketFields) → EndsAt
 at_cube topology d packet is moving = subst (λ (p : Place). GoesTo topology p packet) (sym is.is) moving
 
 -- give
-pub own_item : (setup : Setup) (past : List Entry) (host : ℕ) (item : ItemFields) → IsNetwork setup → next_item (host_of setup past host) ≡ Some item → (item.host ≡ host) × IsItemOf (hosts_in setup.topology) (cubes_in setup.topology) item
-unfolding host_of
+pub own_item : (setup : Setup) (past : List Entry) (host : ℕ) (item : ItemFields) → IsNetwork setup → slice_get (items_of host setup.script) (given_count host past) ≡ Some item → (item.host ≡ host) × IsItemOf (hosts_in setup.topology) (cubes_in setup.topology) item
 own_item setup past host item network is = (
   eqb-true item.host host (all_get (λ (i : ItemFields). (i.host == host) ≡ true) _ _ item (filter_passes (λ (i : ItemFields). i.host == host) setup.script) is),
   all_get (IsItemOf (hosts_in setup.topology) (cubes_in setup.topology)) _ _ item (All-filter (λ (i : ItemFields). i.host == host) (IsItemOf (hosts_in setup.topology) (cubes_in setup.topology)) setup.script network.items) is,

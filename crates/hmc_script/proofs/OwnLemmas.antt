@@ -35,6 +35,6 @@ another number at script items items' item so_far found is now =
 
 -- so there is room for one more
 pub has_room : (number : ℕ) (script : List ItemFields) (at : ℕ) (items : List ItemFields) →
-    items ≡ of_host number (take at script) → at < length script → length script ≤ 65536 → length items < 65536
+    items ≡ of_host number (take at script) → at < length script → length script ≤ 4294967295 → length items < 4294967295
 has_room number script at items is small few =
     omega (arith, ap length is, length-filter (asks number) (take at script), count_by-le-length (asks number) (take at script), length-take at script)

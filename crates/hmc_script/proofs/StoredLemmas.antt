@@ -1,4 +1,4 @@
--- Where the payloads of a script in memory are.
+-- Where the payloads of requests in memory are.
 use Rattle.std.proofs.Common.{◌≡◌, ◌∙◌, ◌<◌, ◌≤◌, ℕ, ◌+◌, List, [], ◌∷◌, ◌++◌, length, take, drop, get_or, slice_get, option_map, Some, refl, sym, ap, subst, arith, length-append, length-drop}
 use Rattle.std.specs.List.{All}
 use Rattle.std.proofs.lemmas.List.{take-append-le, drop-append-le, take_all, map-append, length-map}
@@ -9,7 +9,7 @@ use Rattle.hmc_codes.specs.Commands.{payload_len_of}
 use Rattle.hmc_codes.specs.Limits.{most_hosts, most_requests}
 use Rattle.hmc_codes.specs.Request.{RequestFields, IsRequest}
 use Rattle.hmc_script.specs.declared.stored.Short.{Short}
-use Rattle.hmc_script.specs.Items.{ItemFields, IsScript}
+use Rattle.hmc_script.specs.Items.{ItemFields, IsScript, AreItems, most_asked}
 use Rattle.hmc_script.specs.Stored.{item_of, items_in, IsInside, IsStored}
 
 -- bytes behind a payload don't change it
@@ -29,10 +29,10 @@ items_in-more bytes more (s ∷ shorts) inside =
 inside-more : (bytes more : List ℕ) (shorts : List Short) → All (IsInside bytes) shorts → All (IsInside (bytes ++ more)) shorts
 inside-more bytes more shorts inside k d small = omega (arith, inside k d small, length-append bytes more)
 
--- more bytes alone are the same script
+-- more bytes alone are the same requests
 pub IsStored-more_bytes : (bytes more : List ℕ) (shorts : List Short) → IsStored bytes shorts → IsStored (bytes ++ more) shorts
 IsStored-more_bytes bytes more shorts is = record {
-  script = rw (items_in-more bytes more shorts is.inside) is.script;
+  are = rw (items_in-more bytes more shorts is.inside) is.are;
   inside = inside-more bytes more shorts is.inside;
 }
 
@@ -49,7 +49,14 @@ items-more bytes payload shorts s r inside from long view =
     rw (last_item bytes payload s from long) (ap (λ (q : RequestFields). record { host = s.host; fenced = s.fenced; poisoned = s.poisoned; request = q }) view) in
     map-append (item_of (bytes ++ payload)) shorts (s ∷ []) ∙ rw (items_in-more bytes payload shorts inside, last) refl
 
-IsScript-more : (items : List ItemFields) (item : ItemFields) → IsScript items → length items < most_requests → item.host < most_hosts → IsRequest item.request → IsScript (items ++ item ∷ [])
+AreItems-more : (items : List ItemFields) (item : ItemFields) → AreItems items → length items < most_asked → item.host < most_hosts → IsRequest item.request → AreItems (items ++ item ∷ [])
+AreItems-more items item are room host request = record {
+  few = omega (arith, length-append items (item ∷ []), room);
+  hosts = All-append (λ i. i.host < most_hosts) items (item ∷ []) are.hosts (All-cons (λ i. i.host < most_hosts) item [] host (All-nil (λ i. i.host < most_hosts)));
+  requests = All-append (λ i. IsRequest i.request) items (item ∷ []) are.requests (All-cons (λ i. IsRequest i.request) item [] request (All-nil (λ i. IsRequest i.request)));
+}
+
+pub IsScript-more : (items : List ItemFields) (item : ItemFields) → IsScript items → length items < most_requests → item.host < most_hosts → IsRequest item.request → IsScript (items ++ item ∷ [])
 IsScript-more items item is room host request = record {
   few = omega (arith, length-append items (item ∷ []), room);
   hosts = All-append (λ i. i.host < most_hosts) items (item ∷ []) is.hosts (All-cons (λ i. i.host < most_hosts) item [] host (All-nil (λ i. i.host < most_hosts)));
@@ -63,7 +70,7 @@ without_item bytes bytes2 payload shorts shorts2 is more same =
 
 -- both were appended
 pub with_item : (bytes bytes2 payload : List ℕ) (shorts shorts2 : List Short) (s : Short) (r : RequestFields) → IsStored bytes shorts → bytes2 ≡ bytes ++ payload → shorts2 ≡ shorts ++ s ∷ [] → s.start ≡ length bytes → IsRequest r → record { command = s.command; cube = s.cube; address = s.address; payload = payload } ≡ r
-    → s.host < most_hosts → length (items_in bytes shorts) < most_requests
+    → s.host < most_hosts → length (items_in bytes shorts) < most_asked
     → IsStored bytes2 shorts2 × (items_in bytes2 shorts2 ≡ items_in bytes shorts ++ record { host = s.host; fenced = s.fenced; poisoned = s.poisoned; request = r } ∷ [])
 with_item bytes bytes2 payload shorts shorts2 s r is more one from request view host room =
     let long : length payload ≡ payload_len_of s.command = ap (λ (q : RequestFields). length q.payload) view ∙ request.payload ∙ sym (ap (λ (q : RequestFields). payload_len_of q.command) view) in
@@ -71,7 +78,7 @@ with_item bytes bytes2 payload shorts shorts2 s r is more one from request view 
     let ends : IsInside (bytes ++ payload) s = omega (arith, length-append bytes payload, from, long) in
     rw (more, one) (
       record {
-        script = rw items (IsScript-more (items_in bytes shorts) _ is.script room host request);
+        are = rw items (AreItems-more (items_in bytes shorts) _ is.are room host request);
         inside = All-append (IsInside (bytes ++ payload)) shorts (s ∷ []) (inside-more bytes payload shorts is.inside) (All-cons (IsInside (bytes ++ payload)) s [] ends (All-nil (IsInside (bytes ++ payload))));
       },
       items,
@@ -85,7 +92,7 @@ item_at bytes looked shorts items k s view small is same =
 
 pub item_rule : (bytes : List ℕ) (shorts : List Short) (items : List ItemFields) (k : ℕ) (item : ItemFields) → IsStored bytes shorts → items_in bytes shorts ≡ items → slice_get items k ≡ Some item → (item.host < most_hosts) × IsRequest item.request
 item_rule bytes shorts items k item is view found =
-    let script = subst IsScript view is.script in
+    let are = subst AreItems view is.are in
     let small = slice_get_within items k item found in
     let same = get_or_from_slice_get items k item item found in
-    (subst (λ (i : ItemFields). i.host < most_hosts) same (script.hosts k item small), subst (λ (i : ItemFields). IsRequest i.request) same (script.requests k item small))
+    (subst (λ (i : ItemFields). i.host < most_hosts) same (are.hosts k item small), subst (λ (i : ItemFields). IsRequest i.request) same (are.requests k item small))

@@ -27,6 +27,17 @@ pub record IsWithin (hosts cubes : ℕ) (item : ItemFields) : Type 0 where
   pub host : item.host < hosts
   pub cube : item.request.cube < cubes
 
+-- the most requests that a list in memory has, and that a host is asked for
+abbrev pub most_asked : ℕ
+most_asked = 4294967295
+
+-- what every list of requests in memory keeps: it has not too many, and each is of a host that
+-- there can be
+pub record AreItems (items : List ItemFields) : Type 0 where
+  pub few : length items ≤ most_asked
+  pub hosts : All (λ item. item.host < most_hosts) items
+  pub requests : All (λ item. IsRequest item.request) items
+
 -- what every script keeps: it has not too many requests, and each is of a host that there can be
 pub record IsScript (items : List ItemFields) : Type 0 where
   pub few : length items ≤ most_requests

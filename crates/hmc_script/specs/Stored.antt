@@ -1,9 +1,9 @@
--- A script in memory: short items, and the payload bytes of all items.
+-- Requests in memory: short items, and the payload bytes of all items.
 use Rattle.std.specs.Prelude.{◌≤◌, ℕ, ◌+◌, List, length, map, take, drop}
 use Rattle.std.specs.List.{All}
 use Rattle.hmc_codes.specs.Commands.{payload_len_of}
 use Rattle.hmc_script.specs.declared.stored.Short.{Short}
-use Rattle.hmc_script.specs.Items.{ItemFields, IsScript}
+use Rattle.hmc_script.specs.Items.{ItemFields, AreItems}
 
 -- the item, whose payload begins at its place among the bytes
 abbrev pub item_of : List ℕ → Short → ItemFields
@@ -27,7 +27,7 @@ items_in bytes shorts = map (item_of bytes) shorts
 abbrev pub IsInside : List ℕ → Short → Type 0
 IsInside bytes short = short.start + payload_len_of short.command ≤ length bytes
 
--- what every script in memory keeps
+-- what every list of requests in memory keeps
 pub record IsStored (bytes : List ℕ) (shorts : List Short) : Type 0 where
-  pub script : IsScript (items_in bytes shorts)
+  pub are : AreItems (items_in bytes shorts)
   pub inside : All (IsInside bytes) shorts

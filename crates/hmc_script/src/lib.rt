@@ -4,7 +4,8 @@
 //! fence is before it. [`Script::parse`] reads a text and returns the script, or the first fault
 //! with its line, by `specs/Script.antt`. [`Script::print`] writes a script as a text that is read
 //! again as the same script. [`Script::new`] and [`Script::add`] make a script item by item, and
-//! [`Script::of_host`] takes out the items of one host.
+//! [`Script::of_host`] takes out the items of one host. A script has at most 65,536 items; a list
+//! of items in memory ([`Items`]) may have more.
 //!
 //! Lines, words and numbers are those of `hmc_text`.
 #![tactic(auto)]
@@ -12,6 +13,7 @@
 mod command;
 mod fault;
 mod item;
+mod items;
 mod laws;
 mod meaning;
 mod parse;
@@ -23,6 +25,7 @@ mod stored;
 
 pub use fault::{ScriptFault, ScriptKind};
 pub use item::{Item, Outline};
+pub use items::{Items, MOST_ASKED};
 pub use laws::printed_is_read;
 pub use payload::hex_payload;
 pub use request::take_request;

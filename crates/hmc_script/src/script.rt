@@ -1,34 +1,29 @@
 //! Scripts.
 
-ghost use Rattle.std.specs.Prelude.{◌≡◌, ◌<◌, ◌≤◌, ◌+◌, [], ◌∷◌, ◌++◌, length, take, slice_get, option_map, Some, false, IfOk, OnOk, OnErr};
+ghost use Rattle.std.specs.Prelude.{◌≡◌, ◌<◌, [], ◌∷◌, ◌++◌, length, slice_get, option_map, Some, false, IfOk, OnOk, OnErr};
 ghost use Rattle.hmc_codes.specs.Limits.{most_hosts, most_requests};
-ghost use Rattle.hmc_codes.specs.Request.{IsRequest};
 ghost use Rattle.hmc_script.specs.Items.{IsScript, outline_of, of_host};
 
-use crate::stored::{Short, item_of, payload_bytes};
-use crate::{Item, Outline};
+use crate::{Item, Items, Outline};
 use hmc_codes::{Memory, Request};
 use std::alloc::Global;
 use std::marker::Model;
 
-/// At most `MOST_REQUESTS` requests of hosts, in order. Contracts see them as a list. The payload
-/// bytes of all requests are in one vector, in order.
+/// At most `MOST_REQUESTS` requests of hosts, in order. Contracts see them as a list.
 #[derive(Drop)]
 pub struct Script {
-    shorts: Vec<Short>,
-    bytes: Vec<u8>,
+    items: Items,
 }
 
 impl Model for Script {
     ghost use Rattle.std.specs.Prelude.{List};
-    ghost use Rattle.hmc_script.specs.Items.{ItemFields};
-    ghost use Rattle.hmc_script.specs.Stored.{items_in, IsStored};
+    ghost use Rattle.hmc_script.specs.Items.{ItemFields, IsScript};
 
     ghost Value = { List ItemFields };
 
-    ghost view = { λ s. items_in s.bytes.items s.shorts.items };
+    ghost view = { λ s. s.items };
 
-    ghost invariant = { λ s. IsStored s.bytes.items s.shorts.items };
+    ghost invariant = { λ s. IsScript s.items };
 }
 
 impl Script {
@@ -37,8 +32,7 @@ impl Script {
         ensures { result ≡ [] }
     {
         Script {
-            shorts: Vec::new(alloc),
-            bytes: Vec::new(alloc),
+            items: Items::new(alloc),
         }
     }
 
@@ -46,14 +40,14 @@ impl Script {
     pub fn invariant(&self)
         ensures { IsScript self.now }
     {
-        let _ = &self.shorts;
+        let _ = &self.items;
     }
 
     /// The number of requests.
     pub fn len(&self) -> u32
         ensures { result ≡ length self.now }
     {
-        self.shorts.len() as u32
+        self.items.len()
     }
 
     /// The request at this place, counted from 0 and below the length.
@@ -62,89 +56,25 @@ impl Script {
         ensures item { slice_get self.now at ≡ Some result }
         ensures host { result.host < most_hosts }
     {
-        item_of(&self.shorts[at as usize], &self.bytes)
+        self.items.item(at)
     }
 
     /// What decides when the request at this place may be given, if there is one.
     pub fn outline(&self, at: u32) -> Option<Outline>
         ensures { result ≡ option_map outline_of (slice_get self.now at) }
     {
-        let short = self.shorts.get(at as usize)?;
-        Some(Outline {
-            fenced: short.fenced,
-            poisoned: short.poisoned,
-            command: short.command,
-        })
+        self.items.outline(at)
     }
 
-    /// A script of the requests of this host alone, in their order. `Memory` if out of memory.
-    pub fn of_host(&self, alloc: Global, host: u8) -> Result<Script, Memory>
+    /// The requests of this host alone, in their order. `Memory` if out of memory.
+    pub fn of_host(&self, alloc: Global, host: u8) -> Result<Items, Memory>
         ensures { IfOk result (λ own. own ≡ of_host host self.now) }
     {
-        self.invariant();
-        let mut own = Script::new(alloc);
-        'items: for at in 0..self.len() {
-            if let Err(memory) = self.append_own(at, host, &mut own) {
-                return Err(memory);
-            }
-        }
-        Ok(own)
+        self.items.of_host(alloc, host)
     }
 
-    // Appends the request at this place to the earlier ones of a host, if it is the host's.
-    fn append_own(&self, at: u32, host: u8, own: &mut Script) -> Result<(), Memory>
-        requires at { at < length self.now }
-        requires few { length self.now ≤ most_requests }
-        requires earlier { own.old ≡ of_host host (take at self.now) }
-        ensures { OnOk result (own.new ≡ of_host host (take (at + 1) self.now)) }
-    {
-        let short = &self.shorts[at as usize];
-        if short.host != host {
-            return Ok(());
-        }
-        own.push(short, payload_bytes(short, &self.bytes))?;
-        Ok(())
-    }
-
-    // Appends an item with this payload, wherever the item's payload was.
-    fn push(&mut self, short: &Short, payload: &[u8]) -> Result<(), Memory>
-        requires room { length self.old < most_requests }
-        requires host { short.now.host < most_hosts }
-        requires request { IsRequest (record {
-          command = short.now.command;
-          cube = short.now.cube;
-          address = short.now.address;
-          payload = payload.now;
-        }) }
-        ensures ok { OnOk result (self.new ≡ self.old ++ record {
-          host = short.now.host;
-          fenced = short.now.fenced;
-          poisoned = short.now.poisoned;
-          request = record {
-            command = short.now.command;
-            cube = short.now.cube;
-            address = short.now.address;
-            payload = payload.now;
-          };
-        } ∷ []) }
-        ensures err { OnErr result (self.new ≡ self.old) }
-    {
-        let start = self.bytes.len();
-        self.bytes.extend_from_slice(payload)?;
-        self.shorts.push(Short {
-            host: short.host,
-            fenced: short.fenced,
-            poisoned: short.poisoned,
-            command: short.command,
-            cube: short.cube,
-            address: short.address,
-            start,
-        })?;
-        Ok(())
-    }
-
-    /// Appends a request, with a fence before it or without. Its host is below 8, and the script has
-    /// fewer than `MOST_REQUESTS` requests. Where it is out of memory nothing changes.
+    /// Appends a request, with a fence before it or without. Its host is below 8, and the script
+    /// has fewer than `MOST_REQUESTS` requests. Where it is out of memory nothing changes.
     pub fn append(
         &mut self,
         host: u8,
@@ -163,16 +93,7 @@ impl Script {
         ensures err { OnErr result (self.new ≡ self.old) }
     {
         request.invariant();
-        let short = Short {
-            host,
-            fenced,
-            poisoned,
-            command: request.command,
-            cube: request.cube,
-            address: request.address,
-            start: 0,
-        };
-        self.push(&short, request.payload.as_slice())
+        self.items.append(host, fenced, poisoned, request)
     }
 
     /// Appends a request without a fence. Its host is below 8, and the script has fewer than

@@ -9,7 +9,7 @@ pub note-requires-clause-free : goal.note-requires-clause-free
 note-requires-clause-free c = says_free _ _ _ c.next_given-given.ensures
 
 pub returns-clause-ended : goal.returns-clause-ended
-returns-clause-ended c = says_ended _ _ _ c.invariant.ensures c.next_given-given.ensures
+returns-clause-ended c = says_ended _ _ _ c.next_given-given.ensures
 
 pub returns-clause-tags : goal.returns-clause-tags
 returns-clause-tags c = says_tags _ _ _ c.invariant.ensures c.next_given-given.ensures

@@ -1,4 +1,4 @@
-use Rattle.hmc_script.proofs.script.Script.append.Goals as goal
+use Rattle.hmc_script.proofs.items.Items.append.Goals as goal
 
 pub push-requires-clause-request : goal.push-requires-clause-request
 push-requires-clause-request c = rw (c.as_slice.ensures.bytes, c.request.view_is) c.invariant.ensures

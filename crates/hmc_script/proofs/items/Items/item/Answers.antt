@@ -1,6 +1,6 @@
 use Rattle.std.proofs.Common.{◌∙◌, sym, ap, Some}
 use Rattle.hmc_script.proofs.StoredLemmas.{item_at, item_rule}
-use Rattle.hmc_script.proofs.script.Script.item.Goals as goal
+use Rattle.hmc_script.proofs.items.Items.item.Goals as goal
 
 pub item_of-requires-clause-request : goal.item_of-requires-clause-request
 item_of-requires-clause-request c =

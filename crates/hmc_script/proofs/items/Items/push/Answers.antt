@@ -1,6 +1,6 @@
 use Rattle.std.proofs.Common.{◌∙◌, refl, rules}
 use Rattle.hmc_script.proofs.StoredLemmas.{without_item, with_item}
-use Rattle.hmc_script.proofs.script.Script.push.Goals as goal
+use Rattle.hmc_script.proofs.items.Items.push.Goals as goal
 
 pub invariant_of-self-in_err-push : goal.invariant_of-self-in_err-push
 invariant_of-self-in_err-push c =

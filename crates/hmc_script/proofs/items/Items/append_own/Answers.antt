@@ -1,7 +1,7 @@
 use Rattle.std.proofs.Common.{refl}
 use Rattle.hmc_script.proofs.StoredLemmas.{item_at, item_rule}
 use Rattle.hmc_script.proofs.OwnLemmas.{one_more, another, has_room}
-use Rattle.hmc_script.proofs.script.Script.append_own.Goals as goal
+use Rattle.hmc_script.proofs.items.Items.append_own.Goals as goal
 
 pub returns-then-short-host : goal.returns-then-short-host
 returns-then-short-host c =
