@@ -91,11 +91,11 @@ impl Cube {
     }
 
     /// Appends a request to a vault's queue, or to the queue of the registers.
-    pub fn enter(&mut self, to: To, packet: Packet)
+    pub fn put(&mut self, to: To, packet: &Packet)
         requires here { IsHere self.old to }
         requires room { length (entrance self.old to) < self.old.size }
-        requires request { IsFor to packet }
-        ensures { self.new ≡ after_enter to packet self.old }
+        requires request { IsFor to packet.now }
+        ensures { self.new ≡ after_enter to packet.now self.old }
     {
         match to {
             To::Vault(vault) => self.enter_vault(vault, packet),
@@ -104,22 +104,32 @@ impl Cube {
         }
     }
 
-    fn enter_vault(&mut self, vault: u8, packet: Packet)
-        requires here { vault < 2 ^ self.old.state.shape.vault_bits }
-        requires room { length (entrance self.old (To.Vault vault)) < self.old.size }
-        requires request { IsForBanks packet }
-        ensures { self.new ≡ after_enter (To.Vault vault) packet self.old }
+    /// The same, with the packet by value.
+    pub fn enter(&mut self, to: To, packet: Packet)
+        requires here { IsHere self.old to }
+        requires room { length (entrance self.old to) < self.old.size }
+        requires request { IsFor to packet }
+        ensures { self.new ≡ after_enter to packet self.old }
     {
-        let vault = &mut self.vaults[usize::from(vault)];
-        vault.enter(packet);
+        self.put(to, &packet);
     }
 
-    fn enter_registers(&mut self, packet: Packet)
-        requires room { length self.old.register_queue < self.old.size }
-        requires request { IsForRegisters packet }
-        ensures { self.new ≡ after_enter To.Registers packet self.old }
+    fn enter_vault(&mut self, vault: u8, packet: &Packet)
+        requires here { vault < 2 ^ self.old.state.shape.vault_bits }
+        requires room { length (entrance self.old (To.Vault vault)) < self.old.size }
+        requires request { IsForBanks packet.now }
+        ensures { self.new ≡ after_enter (To.Vault vault) packet.now self.old }
     {
-        self.register_queue.put(&packet);
+        let vault = &mut self.vaults[usize::from(vault)];
+        vault.put(packet);
+    }
+
+    fn enter_registers(&mut self, packet: &Packet)
+        requires room { length self.old.register_queue < self.old.size }
+        requires request { IsForRegisters packet.now }
+        ensures { self.new ≡ after_enter To.Registers packet.now self.old }
+    {
+        self.register_queue.put(packet);
     }
 
     /// Moves the front of a vault's queue to the queue of its bank.
@@ -212,7 +222,8 @@ impl Cube {
     /// The front of the answers of a vault, or of the registers, lent.
     pub fn lift_front_ref(&self, from: Lift) -> Option<&Packet>
         requires { HasLift self.now from }
-        ensures { option_map (λ packet. packet.now) result ≡ slice_get (answers_at self.now from) 0 }
+        ensures { option_map (λ packet. packet.now) result ≡
+            slice_get (answers_at self.now from) 0 }
     {
         match from {
             Lift::Vault(vault) => self.vaults[usize::from(vault)].lift_front_ref(),

@@ -312,6 +312,7 @@ impl LastEntry {
 
     // Appends the line.
     #[tactic(auto, unfolding(crate::specs::Lines::line_of))]
+    #[inline(always)]
     fn append<const N: usize>(&self, into: &mut ArrayString<N>)
         requires room { length into.old.bytes + 2048 ≤ N }
         ensures text { into.new.bytes ≡ into.old.bytes ++ line_of self.now }
@@ -416,6 +417,7 @@ impl LastEntry {
 impl Line for LastEntry {
     ghost text = { line_of };
 
+    #[inline(always)]
     fn put(&self, into: &mut Gathered) {
         self.append(into);
     }

@@ -122,6 +122,7 @@ pub fn flits_seen(mode: Mode, gathered: &[Flit]) -> Option<&[Flit]>
 }
 
 /// A return pointer that was taken acknowledges packets.
+#[inline(always)]
 pub fn note(sender: &mut Sender, rrp: Option<u16>)
     ensures stands { (past : List SenderEntry) → StandsFor sender.old past →
         StandsFor sender.new (noted sender.old.retry.profile rrp past) }
@@ -145,6 +146,7 @@ pub fn note_run(sender: &mut Sender, outcome: Outcome)
 
 /// A packet that was accepted returns tokens, and goes into the buffer if it is a request or a
 /// response.
+#[inline(never)]
 pub fn store<I: Intake>(intake: &mut I, account: &mut Account, packet: &Packet)
     requires held { account.old.held + tokens_of_code packet.now.rtc ≤ most_tokens }
     requires room { is_token packet.now ≡ true →

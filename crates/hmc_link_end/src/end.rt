@@ -331,6 +331,7 @@ impl<I: Intake> End<I> {
 
     /// The flits of the request or response that the latest landing accepted, which had this
     /// outcome; 0 where it accepted none.
+    #[inline(always)]
     pub fn arrived_flits(&self, outcome: Outcome) -> u32
         ensures { result ≡ flits_in (stored (landed_with outcome self.now.receiver.packet)) }
     {
@@ -341,6 +342,7 @@ impl<I: Intake> End<I> {
     }
 
     // Stores the packet that a landing with this outcome accepted, if it did.
+    #[inline(always)]
     fn store(&mut self, outcome: Outcome)
         requires { CanTake outcome self.old }
         ensures { self.new ≡ record self.old {

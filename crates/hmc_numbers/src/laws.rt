@@ -58,7 +58,8 @@ pub fn skips_no_packet()
 /// Where the retry buffer is no larger than the window, the tests of a receiver in Good show
 /// whether a packet is the next one or a repeat. So it is never out of order.
 pub fn shows_repeats()
-    ensures next { (profile : Profile) (retry n k : ℕ) (xs : List Item) → retry ≤ window_of profile →
+    ensures next { (profile : Profile) (retry n k : ℕ) (xs : List Item) →
+        retry ≤ window_of profile →
         Always retry (λ w. IsGood w.far → w.line ≡ part n k 0 ∷ xs →
         n ≡ w.accepted + 1 → PassesNext profile w n) }
     ensures not_next { (profile : Profile) (retry n k : ℕ) (xs : List Item) →

@@ -70,6 +70,7 @@ impl<W: Write + Drop> StdSink<W> {
 
 impl<W: Write + Drop> StdSink<W> {
     // Moves the text to the bytes held.
+    #[inline(never)]
     fn hold_text(&mut self) -> Result<(), Failed>
         ensures kept { Keeps (contents_of W.contents self.old) (contents_of W.contents self.new) }
         ensures none { OnOk result (self.new.text.value.bytes ≡ []) }
@@ -86,6 +87,7 @@ impl<W: Write + Drop> StdSink<W> {
     }
 
     // Makes room in the text for a line.
+    #[inline(always)]
     fn make_room(&mut self) -> Result<(), Failed>
         ensures kept { Keeps (contents_of W.contents self.old) (contents_of W.contents self.new) }
         ensures room { OnOk result (length self.new.text.value.bytes + 2048 ≤ 8192) }
@@ -99,6 +101,7 @@ impl<W: Write + Drop> StdSink<W> {
     }
 
     // Makes a line in the room for it.
+    #[inline(always)]
     fn add_line<L: Line>(&mut self, line: &L)
         requires room { length self.old.text.value.bytes + 2048 ≤ 8192 }
         requires all { self.old.sent ≡ 0 }
@@ -110,6 +113,7 @@ impl<W: Write + Drop> StdSink<W> {
     }
 
     // Makes room for a line, and the line in it.
+    #[inline(always)]
     fn gather<L: Line>(&mut self, line: &L) -> Result<(), Failed>
         ensures appended { OnOk result (Appends
             (contents_of W.contents self.old) (contents_of W.contents self.new) (L.text line.now)) }
@@ -177,6 +181,7 @@ impl<W: Write + Drop> Sink for StdSink<W> {
         written
     }
 
+    #[inline(always)]
     fn write_line<L: Line>(&mut self, line: &L) -> Result<(), Failed> {
         let made = self.gather(line);
         self.counts.count_write(made.is_err());

@@ -281,6 +281,7 @@ impl Receiver {
     }
 
     // A flit of a packet came, or a NULL.
+    #[inline(always)]
     fn land_in_good(&mut self, flit: &Flit) -> Reception
         requires good { self.old.mode ≡ Good }
         ensures value { result ≡ good_reception self.old.profile (view_of self.old) flit.now }
@@ -340,6 +341,7 @@ impl Receiver {
 
     // A flit came.
     #[tactic(auto, unfolding(hmc_packet::specs::Receptions::reception_by))]
+    #[inline(always)]
     fn step(&mut self, flit: &Flit) -> Reception
         ensures value { result ≡ reception_by self.old.profile (view_of self.old) flit.now }
         ensures follows { Follows self.old self.new (Land flit.now result.outcome) }
@@ -366,6 +368,7 @@ impl Receiver {
 
     /// A flit lands: what the receiver makes of it, the return pointer that is taken, and whether
     /// a check succeeded. Where a packet is accepted, [`Receiver::packet`] returns it.
+    #[inline(always)]
     pub fn receive(&mut self, flit: &Flit) -> Reception
         ensures gives { (profile : Profile) (past : List ReceiverEntry) →
             ReceiverStandsFor profile self.old past →

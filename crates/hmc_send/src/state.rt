@@ -172,6 +172,7 @@ impl State {
     }
 
     /// Begins the packet at the position again; `None` where all were sent.
+    #[inline(always)]
     pub fn begin_again(&mut self, rrp: u16) -> Option<Sent>
         requires sender { IsSender self.old }
         requires nothing { self.old.under_way ≡ None }
@@ -224,34 +225,7 @@ impl State {
         }
     }
 
-    // The next packet, with its numbers.
-    fn numbered(&self, packet: &Packet, rtc: u8) -> Packet
-        requires number { self.now.number < 8 }
-        requires pointer { self.now.pointer < modulus_of self.now.profile }
-        requires rtc { rtc < 8 }
-        requires sequenced { IsSequenced packet.now }
-        ensures { result ≡ next_packet self.now.profile self.now.pointer self.now.number rtc
-            packet.now }
-    {
-        packet.invariant();
-        let numbers = self.next_numbers(packet.flits(), rtc);
-        Packet {
-            command: packet.command,
-            tag: packet.tag,
-            address: packet.address,
-            cube: packet.cube,
-            slid: packet.slid,
-            flag: packet.flag,
-            errstat: packet.errstat,
-            rtc: numbers.rtc,
-            seq: numbers.seq,
-            frp: numbers.frp,
-            poisoned: packet.poisoned,
-            payload: packet.payload,
-        }
-    }
-
-    // Begins a packet for the first time. It is kept, and its first flit is sent.
+    // Begins a packet for the first time, with its numbers. It is kept, and its first flit is sent.
     #[inline(never)]
     fn begin_new(&mut self, packet: &Packet, rtc: u8, rrp: u16) -> Flit
         requires sender { IsSender self.old }
@@ -268,7 +242,22 @@ impl State {
             (next_packet self.old.profile self.old.pointer self.old.number rtc packet.now) rrp
             result self.old }
     {
-        let packet = self.numbered(packet, rtc);
+        packet.invariant();
+        let numbers = self.next_numbers(packet.flits(), rtc);
+        let packet = Packet {
+            command: packet.command,
+            tag: packet.tag,
+            address: packet.address,
+            cube: packet.cube,
+            slid: packet.slid,
+            flag: packet.flag,
+            errstat: packet.errstat,
+            rtc: numbers.rtc,
+            seq: numbers.seq,
+            frp: numbers.frp,
+            poisoned: packet.poisoned,
+            payload: packet.payload,
+        };
         self.pointer = packet.frp;
         self.number = packet.seq;
         self.retry.put(packet);

@@ -98,7 +98,8 @@ impl Plain {
     /// The number of cubes.
     pub fn cubes(&self) -> usize
         ensures count { result ≡ length self.now }
-        ensures machine { (slots : List (Option UnitFields)) → IsMachine (machine_of self.now slots) }
+        ensures machine { (slots : List (Option UnitFields)) →
+            IsMachine (machine_of self.now slots) }
     {
         self.cubes.len()
     }

@@ -72,12 +72,23 @@ impl Vault {
     }
 
     /// Appends a request to a bank to the vault queue.
+    pub fn put(&mut self, packet: &Packet)
+        requires room { length self.old.vault_queue < self.old.size }
+        requires request { IsForBanks packet.now }
+        ensures { self.new ≡ record self.old {
+          vault_queue = self.old.vault_queue ++ packet.now ∷ [];
+        } }
+    {
+        self.vault_queue.put(packet);
+    }
+
+    /// The same, with the packet by value.
     pub fn enter(&mut self, packet: Packet)
         requires room { length self.old.vault_queue < self.old.size }
         requires request { IsForBanks packet }
         ensures { self.new ≡ record self.old { vault_queue = self.old.vault_queue ++ packet ∷ [] } }
     {
-        self.vault_queue.put(&packet);
+        self.put(&packet);
     }
 
     /// Moves the front of the vault queue to the queue of the bank that its address names. The

@@ -10,4 +10,4 @@ put-requires c = room_in c.self.inside.banks c.self.inside.registers c.self.insi
 pub invariant_of-self : goal.invariant_of-self
 invariant_of-self c =
     kept_queues c.self.inside.banks.shape c.self.inside.banks.shape c.self.inside.vaults.items c.self.inside.register_queue c.put.new.self c.self.inside.answers c.self.inside.answers c.self.invariant refl c.put.ensures.size refl
-    (requests_with_one_more (packets_of c.self.inside.register_queue) (packets_of c.put.new.self) c.args.packet c.put.ensures.packets c.self.invariant.requests c.requires.request)
+    (requests_with_one_more (packets_of c.self.inside.register_queue) (packets_of c.put.new.self) c.args.packet.now c.put.ensures.packets c.self.invariant.requests c.requires.request)

@@ -1,5 +1,5 @@
 -- Where all kept packets were sent, nothing is begun.
-use Rattle.std.proofs.Common.{◌≡◌, Option, ap, sym}
+use Rattle.std.proofs.Common.{Option, ap, sym}
 use Rattle.hmc_packet.specs.Packet.{PacketFields}
 use Rattle.hmc_send.specs.Sender.{again_sent, again_begun}
 use Rattle.hmc_send.proofs.SendLemmas.{none_left}
