@@ -69,7 +69,7 @@ landed-items None e h n ws lands all = subst (λ (l : List Item). AreItems l (dr
 landed-items (Some rrp) e h n ws lands all = subst (λ (l : List Item). AreItems l (drop 1 ws)) (sym (lands_line h.direction e lands).0) (items-rest h.direction.line ws all)
 
 -- a landing of the other direction leaves the line
-other-line : (o : Option ℕ) (e : Event) (own other : Half) → (other_after own other (counted_move o e)).direction.line ≡ other.direction.line
+pub other-line : (o : Option ℕ) (e : Event) (own other : Half) → (other_after own other (counted_move o e)).direction.line ≡ other.direction.line
 other-line None e own other = refl
 other-line (Some rrp) e own other = refl
 
@@ -78,7 +78,7 @@ event-lands m touched changed reading o = ap way (sym (event-same m touched chan
 
 -- ---- as many were sent as there are flits
 
-length-as : (q : Profile) (d : Toward) (past : List LinkEntry) → length (sent_as d past) ≡ length (sent_flits q d past)
+pub length-as : (q : Profile) (d : Toward) (past : List LinkEntry) → length (sent_as d past) ≡ length (sent_flits q d past)
 unfolding sent_as sent_flits
 length-as q d [] = refl
 length-as q Forth (entry.sent Forth feed w flit ∷ past) = length-append (sent_as Forth past) (w ∷ []) ∙ ap (λ (n : ℕ). n + 1) (length-as q Forth past) ∙ sym (length-append (sent_flits q Forth past) _)
@@ -91,7 +91,7 @@ length-as q d (entry.landed way mask flit o ∷ past) = length-as q d past
 length-as q d (entry.unlocked way ∷ past) = length-as q d past
 length-as q d (entry.through way head flits ∷ past) = length-as q d past
 
-landed-few : (link : LinkFields) (d : Toward) (past : List LinkEntry) → IsKept link past → landings d past ≤ length (sent_as d past)
+pub landed-few : (link : LinkFields) (d : Toward) (past : List LinkEntry) → IsKept link past → landings d past ≤ length (sent_as d past)
 landed-few link Forth past kept = let count = (kept-joins 0 link past kept).forth.count in let same = length-as link.profile Forth past in omega arith
 landed-few link Back past kept = let count = (kept-joins 0 link past kept).back.count in let same = length-as link.profile Back past in omega arith
 

@@ -8,4 +8,7 @@ pub mod RealRuns
 pub mod Pieces
 pub mod SentPieces
 pub mod LinkWires
+pub mod PieceItems
+pub mod Gathered
 mod Worked
+mod WorkedLaws

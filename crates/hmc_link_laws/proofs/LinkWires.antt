@@ -49,7 +49,7 @@ use Rattle.hmc_link_laws.proofs.SentPieces.{Facts, step-sent}
 
 -- ---- what is known of the sender of a direction
 
-laws-of : (link : LinkFields) (d : Toward) (past : List LinkEntry) → IsKept link past → HalfLaws link.profile link.retry link.tokens (half_after link d past) (half_after link (other d) past)
+pub laws-of : (link : LinkFields) (d : Toward) (past : List LinkEntry) → IsKept link past → HalfLaws link.profile link.retry link.tokens (half_after link d past) (half_after link (other d) past)
 laws-of link Forth past kept = (pair_laws link.profile link.retry link.tokens (turns_of link past) kept.retry (turns-may link past kept)).forth
 laws-of link Back past kept = (pair_laws link.profile link.retry link.tokens (turns_of link past) kept.retry (turns-may link past kept)).back
 
@@ -61,7 +61,7 @@ last-few link d past kept =
     let last = fields.last in
     omega arith
 
-facts-of : (link : LinkFields) (d : Toward) (past : List LinkEntry) → IsKept link past → Facts link.profile link.retry (sender_entries link d past)
+pub facts-of : (link : LinkFields) (d : Toward) (past : List LinkEntry) → IsKept link past → Facts link.profile link.retry (sender_entries link d past)
 facts-of link Forth past kept = let j = (kept-joins 0 link past kept).forth in record { chosen = j.chosen; fed = kept.met.forth; fit = j.fit; parts = j.parts; last = last-few link Forth past kept }
 facts-of link Back past kept = let j = (kept-joins 0 link past kept).back in record { chosen = j.chosen; fed = kept.met.back; fit = j.fit; parts = j.parts; last = last-few link Back past kept }
 
@@ -186,7 +186,7 @@ WireIn link d past = WireOf link.profile (sender_entries link d past) (map (λ (
 flits-push : (q : Profile) (t : List SenderEntry) (l : List StampedFlit) (x : StampedFlit) → WireOf q t (map (λ (y : StampedFlit). y.flit) l ++ x.flit ∷ []) → WireOf q t (map (λ (y : StampedFlit). y.flit) (l ++ x ∷ []))
 flits-push q t l x is = subst (WireOf q t) (sym (map_push (λ (y : StampedFlit). y.flit) l x)) is
 
-through-none : (q : Profile) (retry : ℕ) (t : List SenderEntry) (head : List ℕ) (flits due : ℕ) → Chosen q retry (SenderEntry.through head flits due ∷ t) → unfinished t ≡ None
+pub through-none : (q : Profile) (retry : ℕ) (t : List SenderEntry) (head : List ℕ) (flits due : ℕ) → Chosen q retry (SenderEntry.through head flits due ∷ t) → unfinished t ≡ None
 unfolding Chosen
 through-none q retry t head flits due chosen = chosen.0
 

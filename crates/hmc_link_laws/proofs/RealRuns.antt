@@ -234,7 +234,7 @@ good-of Train is = absurd (cc is)
 good-of Abort is = absurd (cc is)
 good-of Good is = refl
 
-fronts-length : (g : ℕ → List ℕ) (k : ℕ) → length (fronts g k) ≡ k
+pub fronts-length : (g : ℕ → List ℕ) (k : ℕ) → length (fronts g k) ≡ k
 fronts-length g zero = refl
 fronts-length g (suc k) = let more = length-append (fronts g k) (g k ∷ []) in let rest = fronts-length g k in omega arith
 

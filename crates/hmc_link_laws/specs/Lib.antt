@@ -4,3 +4,4 @@ pub mod Tokens
 pub mod Pointers
 pub mod Lines
 pub mod Wire
+pub mod Items

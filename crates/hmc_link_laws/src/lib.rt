@@ -11,7 +11,8 @@
 //! - [`tokens_balance`]: the five numbers of a direction's tokens, none of them below zero.
 //! - [`counted_pointers_acknowledge`]: a return pointer that is counted is never stray.
 //! - [`runs_are_real`]: the 17th and each later IRTRY of a run was sent as one.
-//! - [`lines_are_of_numbers`]: the line of hmc_numbers is that of the list.
+//! - [`lines_are_of_numbers`], [`items_are_of_flits`]: the line of hmc_numbers is that of the list,
+//!   and each of its items is a flit of the wire.
 //! - [`packets_are_whole`]: on a wire packets are whole and unmixed.
 #![tactic(auto)]
 
@@ -24,7 +25,7 @@ mod wires;
 
 pub use lists::{calls_keep_the_other_list, queues_and_lines_fit, sends_change_lists};
 pub use pointers::counted_pointers_acknowledge;
-pub use runs::{lines_are_of_numbers, runs_are_real};
+pub use runs::{items_are_of_flits, lines_are_of_numbers, runs_are_real};
 pub use sends::{nulls_come_last, one_code_returns_most, starved_sends_wait};
 pub use tokens::tokens_balance;
 pub use wires::packets_are_whole;

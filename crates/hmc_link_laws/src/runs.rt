@@ -9,6 +9,7 @@ ghost use Rattle.hmc_send.specs.LinkEntries.{LinkEntry, receiver_entries};
 ghost use Rattle.hmc_send.specs.declared.toward.Toward.{Toward};
 ghost use Rattle.hmc_wire.specs.FieldsAre.{half_after};
 ghost use Rattle.hmc_wire.specs.LinkLaws.{IsKept};
+ghost use Rattle.hmc_link_laws.specs.Items.{items_on, IsGatheredAs};
 ghost use Rattle.hmc_link_laws.specs.Lines.{line_as, irtry_as, LineIs};
 
 /// A landing that lengthens a run of IRTRYs of a kind to 17 or more is of a flit that was sent as
@@ -28,4 +29,14 @@ pub fn runs_are_real()
 pub fn lines_are_of_numbers()
     ensures { (link : LinkFields) (d : Toward) (past : List LinkEntry) →
         IsKept link past → LineIs link d past (half_after link d past) }
+{}
+
+/// Each item of that line is a flit of the wire (`packets_are_whole`), in order: an item of packet
+/// n with k flits before it is flit k of the piece of that packet. What a receiver has gathered
+/// inside packet n are the first flits of the packet's place.
+pub fn items_are_of_flits()
+    ensures line { (link : LinkFields) (d : Toward) (past : List LinkEntry) →
+        IsKept link past → (half_after link d past).direction.line ≡ items_on link d past }
+    ensures far { (link : LinkFields) (d : Toward) (past : List LinkEntry) →
+        IsKept link past → IsGatheredAs link d past (half_after link d past).direction.far }
 {}

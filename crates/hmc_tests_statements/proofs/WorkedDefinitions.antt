@@ -1,8 +1,8 @@
 -- Definitions computed, each where a wrong one agrees with it in all other rows: what the commands of
 -- logic units and the reads of 48, 80 and 96 bytes do, which requests are the registers', where a
 -- packet goes on to, and when a direction can take one.
-use Rattle.std.proofs.Common.{◌≡◌, ℕ, Bool, true, false, List, [], ◌∷◌, Option, Some, None, refl}
-use Rattle.std.specs.Prelude.{map}
+use Rattle.std.proofs.Common.{◌≡◌, ◌∙◌, ◌/◌, ℕ, Bool, true, false, List, [], ◌∷◌, Option, Some, None, refl}
+use Rattle.std.specs.Prelude.{◌||◌, if◌then◌else◌, is_none, map, not, slice_get}
 use Rattle.hmc_codes.specs.Link.{LinkFields}
 use Rattle.hmc_codes.specs.Request.{RequestFields}
 use Rattle.hmc_codes.specs.Table.{table_line}
@@ -27,14 +27,16 @@ use Rattle.hmc_serial.specs.Actions.{action_of}
 use Rattle.hmc_serial.specs.Unit.{unit_of}
 use Rattle.hmc_serial.specs.declared.action.Action.TheVariants.{Read, Work}
 use Rattle.hmc_send.specs.Choice.{SendView}
-use Rattle.hmc_send.specs.LinkCalls.{may_pass_on}
+use Rattle.hmc_send.specs.LinkCalls.{may_pass_on, view_in}
 use Rattle.hmc_entries.specs.declared.entry.Entry.{Entry}
-use Rattle.hmc_entries.specs.declared.entry.Entry.TheVariants.{Gave, Executed, Idle}
-use Rattle.hmc_entries.specs.declared.outcome.Cause.TheVariants.{NoPacket}
+use Rattle.hmc_entries.specs.declared.entry.Entry.TheVariants.{Gave, Executed, Idle, Through}
+use Rattle.hmc_entries.specs.declared.outcome.Cause.TheVariants.{Busy, NoPacket}
 use Rattle.hmc_journal.specs.Filters.{same_unit, given_to, executed_by}
+use Rattle.hmc_journal.specs.Links.{direction_to, sizes_on, toward}
+use Rattle.hmc_journal.specs.Queues.QueueId.{Port}
 use Rattle.hmc_journal.specs.Setup.{Topology}
 use Rattle.hmc_journal.specs.StepView.{StepView}
-use Rattle.hmc_journal.specs.ThroughSteps.{port_by, onward_port, through_head}
+use Rattle.hmc_journal.specs.ThroughSteps.{forwarded_entry, is_forwarded, onward_port, port_by, takes_on, through_head}
 
 -- ---- what commands do
 
@@ -140,3 +142,17 @@ may_pass_on-tokens = refl
 
 may_pass_on-room : map (λ room. may_pass_on (sees 64 room) 9) (8 ∷ 9 ∷ 10 ∷ []) ≡ false ∷ true ∷ true ∷ []
 may_pass_on-room = refl
+
+-- the step asks so of the packet's own flits, on the direction ahead, and of nothing else: where the
+-- packet isn't forwarded yet and the buffer of its port is empty
+takes_on-is : (view : StepView) (direction flits : ℕ) → takes_on three_cubes view direction flits ≡ may_pass_on (view_in (sizes_on three_cubes direction) (toward direction) (view.entries (direction / 2)) Waiting) flits
+takes_on-is view direction flits = refl
+
+through_entry-when : (view : StepView) (takes : Bool) → is_forwarded view (direction_to three_cubes (places.Port 1 1)) ≡ false → view.inside (Port 1 1) ≡ [] → takes_on three_cubes view 3 2 ≡ takes →
+    forwarded_entry three_cubes view 1 1 (asks 0) (Some 3) ≡ (if takes then Through 1 1 3 else Idle (steps.Through 1 1) Busy)
+through_entry-when view takes fresh empty is =
+    (λ i. if fresh i || not (is_none (slice_get (empty i) 0)) || not (is i) then Idle (steps.Through 1 1) Busy else Through 1 1 3) ∙ by_takes takes
+  where
+    by_takes : (b : Bool) → (if not b then Idle (steps.Through 1 1) Busy else Through 1 1 3) ≡ (if b then Through 1 1 3 else Idle (steps.Through 1 1) Busy)
+    by_takes true = refl
+    by_takes false = refl
