@@ -96,6 +96,15 @@ impl LinkList {
         self.links[usize::from(direction / 2)].has_arrived(toward_of(direction))
     }
 
+    /// The packet that has been longest in the buffer at the end of a direction, lent.
+    #[inline(always)]
+    pub fn front_ref(&self, direction: u8) -> Option<&Packet>
+        requires { IsDirection self.now direction }
+        ensures { IsFrontAt self.now direction (option_map (λ packet. packet.now) result) }
+    {
+        self.links[usize::from(direction / 2)].front_ref(toward_of(direction))
+    }
+
     /// The packet that has been longest in the buffer at the end of a direction.
     pub fn front(&self, direction: u8) -> Option<Packet>
         requires { IsDirection self.now direction }

@@ -1,7 +1,7 @@
 -- A host of a network is asked for a request more.
-use Rattle.std.proofs.Common.{◌≡◌, ◌∙◌, ◌<◌, ◌==◌, ◌++◌, ap, ap₂, ℕ, Option, Bool, true, false, List, length, refl, sym, subst, length-set, eqb-true}
+use Rattle.std.proofs.Common.{◌≡◌, ◌∙◌, ◌<◌, ◌==◌, ◌++◌, ap, ap₂, ℕ, Option, Bool, true, false, List, [], ◌∷◌, length, drop, refl, sym, subst, length-set, eqb-true}
 use Rattle.std.specs.Prelude.{slice_set, Result, Ok, Err, OnOk}
-use Rattle.std.proofs.lemmas.List.{append-nil}
+use Rattle.std.proofs.lemmas.List.{append-nil, drop-append-le}
 use Rattle.hmc_codes.specs.Request.{RequestFields, IsRequest}
 use Rattle.hmc_script.specs.Items.{ItemFields}
 use Rattle.hmc_units.specs.Unit.{UnitFields}
@@ -9,7 +9,8 @@ use Rattle.hmc_link.specs.Held.{LinkHeld}
 use Rattle.hmc_cube.specs.Cube.{CubeFields}
 use Rattle.hmc_host.specs.Host.{HostFields, items_of, asked}
 use Rattle.hmc_entries.specs.declared.entry.Entry.{Entry}
-use Rattle.hmc_journal.specs.Hosts.{host_of}
+use Rattle.hmc_journal.specs.Hosts.{given_count, host_of}
+use Rattle.hmc_journal.specs.Lawful.{Lawful}
 use Rattle.hmc_journal.specs.Network.{IsItemOf}
 use Rattle.hmc_journal.specs.Setup.{Setup, Topology, hosts_in, cubes_in}
 use Rattle.hmc_journal.specs.StepView.{state_of}
@@ -18,26 +19,32 @@ use Rattle.hmc_kept.specs.Hosts.{with_host, host_in, no_host}
 use Rattle.hmc_kept.specs.Pipes.{PipesHeld}
 use Rattle.hmc_kept.proofs.Elements.{changed_at}
 use Rattle.hmc_growing.specs.Growing.{with_item, IsOpen}
-use Rattle.hmc_growing.proofs.AddedItem.{more_items, one_of, lawful_with_item, network_with_item}
+use Rattle.hmc_growing.proofs.AddedItem.{more_items, one_of, given_within, lawful_with_item, network_with_item}
 use Rattle.hmc_net.specs.Asked.{item_with, net_asked}
 use Rattle.hmc_net.specs.NetState.{NetState}
 use Rattle.hmc_net.specs.Stands.{StandsFor}
 use Rattle.hmc_net.proofs.Indexed.{net_with}
 
--- a host whose requests are these, and which is else as the journal says
-abbrev with_items : Setup → List Entry → ℕ → List ItemFields → HostFields
-with_items setup past k items = record (host_of setup past k) { items = items }
+-- a host of which these are left, and which is else as the journal says
+abbrev with_left : Setup → List Entry → ℕ → List ItemFields → HostFields
+with_left setup past k left = record (host_of setup past k) { left = left }
+
+-- a request more is left after those that were
+left_with : (setup : Setup) (item : ItemFields) (past : List Entry) (k : ℕ) (ys : List ItemFields) → Lawful setup past → items_of k (setup.script ++ item ∷ []) ≡ items_of k setup.script ++ ys
+    → drop (given_count k past) (items_of k setup.script) ++ ys ≡ drop (given_count k past) (items_of k (setup.script ++ item ∷ []))
+left_with setup item past k ys lawful longer =
+    sym (ap (drop (given_count k past)) longer ∙ drop-append-le (given_count k past) (items_of k setup.script) ys (given_within setup k past lawful))
 
 host_asked : (setup : Setup) (item : ItemFields) (past : List Entry) (hosts : List HostFields) (k : ℕ) (test : Bool) → (item.host == k) ≡ test → item.host < length hosts
-    → ((j : ℕ) → j < length hosts → host_in hosts j ≡ host_of setup past j) → k < length hosts → host_in (with_host item.host (asked item) hosts) k ≡ host_of (with_item setup item) past k
+    → ((j : ℕ) → j < length hosts → host_in hosts j ≡ host_of setup past j) → Lawful setup past → k < length hosts → host_in (with_host item.host (asked item) hosts) k ≡ host_of (with_item setup item) past k
 unfolding host_of
-host_asked setup item past hosts k true is inside same there =
+host_asked setup item past hosts k true is inside same lawful there =
     changed_at hosts item.host k (asked item (host_in hosts item.host)) no_host true is inside
     ∙ ap (λ (j : ℕ). asked item (host_in hosts j)) (eqb-true item.host k is) ∙ ap (asked item) (same k there)
-    ∙ ap (with_items setup past k) (sym (more_items setup item k ∙ ap (λ (ys : List ItemFields). items_of k setup.script ++ ys) (one_of item k true is)))
-host_asked setup item past hosts k false is inside same there =
+    ∙ ap (with_left setup past k) (left_with setup item past k (item ∷ []) lawful (more_items setup item k ∙ ap (λ (ys : List ItemFields). items_of k setup.script ++ ys) (one_of item k true is)))
+host_asked setup item past hosts k false is inside same lawful there =
     changed_at hosts item.host k (asked item (host_in hosts item.host)) no_host false is inside ∙ same k there
-    ∙ ap (with_items setup past k) (sym (more_items setup item k ∙ ap (λ (ys : List ItemFields). items_of k setup.script ++ ys) (one_of item k false is) ∙ append-nil (items_of k setup.script)))
+    ∙ ap (λ (items : List ItemFields). with_left setup past k (drop (given_count k past) items)) (sym (more_items setup item k ∙ ap (λ (ys : List ItemFields). items_of k setup.script ++ ys) (one_of item k false is) ∙ append-nil (items_of k setup.script)))
 
 -- the network whose host was asked stands for the case with the request, and the same journal
 pub stands_with_item : (net : NetState) (setup : Setup) (item : ItemFields) (past : List Entry) → StandsFor net setup past → IsOpen item.host past → IsItemOf (hosts_in setup.topology) (cubes_in setup.topology) item
@@ -56,7 +63,7 @@ stands_with_item net setup item past s free is =
       queues = s.queues;
       moves = s.moves;
       state = s.state;
-      hosts = λ k there. host_asked setup item past net.hosts k (item.host == k) refl inside s.hosts (subst (λ (n : ℕ). k < n) as_many there);
+      hosts = λ k there. host_asked setup item past net.hosts k (item.host == k) refl inside s.hosts s.lawful (subst (λ (n : ℕ). k < n) as_many there);
       forwarded = s.forwarded;
       pipes = s.pipes;
       links = s.links;

@@ -36,7 +36,7 @@ use Rattle.hmc_kept.specs.After.{entries_after}
 use Rattle.hmc_kept.specs.Called.{sizes_by, called}
 use Rattle.hmc_links.specs.LinkList.{LinksStandFor, IsDirection, IsRoom, IsFrontAt, MayHand}
 use Rattle.hmc_net.specs.NetState.{NetState, cube_in}
-use Rattle.hmc_net.specs.Ports.{IsShifting, IsWayOut}
+use Rattle.hmc_net.specs.Ports.{IsShifting, IsLeaving, IsWayOut}
 use Rattle.hmc_kept.specs.Ways.{IsInner}
 use Rattle.hmc_wiring.specs.Ready.{IsLiftIn}
 use Rattle.hmc_net.specs.Sees.{Sees, IsSized, IsReady}
@@ -115,6 +115,41 @@ here_by : (x : CubeFields) (shape : ShapeFields) (packet : PacketFields) (goal :
 here_by x shape packet (goals.Vault vault) same inner is = subst (λ (s : ShapeFields). vault < 2 ^ s.vault_bits) (sym same) (vault_below shape packet (is_for_registers packet.command) vault is.goal_is)
 here_by x shape packet goals.Registers same inner is = tt
 here_by x shape packet (goals.Port port) same inner is = absurd inner
+
+-- the front goes where it leads
+pub leaving_by : (net : NetState) (cube port direction : ℕ) (front : PacketFields) (to : To)
+    (goal : Goal) → direction_to net.topology (places.Port cube port) ≡ Some direction
+    → IsFrontAt net.links direction (Some front)
+    → to ≡ where_to (graph_of net.topology) (shape_of net.topology cube) cube front
+    → goal_at to ≡ Some goal → IsLeaving net cube port direction goal
+leaving_by net cube port direction front to goal ends is where_is goes = record {
+  front = front;
+  shifting = record { ends = ends; is_front = is; goes = ap goal_at (sym where_is) ∙ goes };
+}
+
+-- the front that is found again is the same
+front_again : (net : NetState) (direction : ℕ) (front : PacketFields) (found : Option PacketFields)
+    → IsReady net → IsFrontAt net.links direction (Some front)
+    → IsFrontAt net.links direction found → found ≡ Some front
+front_again net direction front found ready is again =
+    again net.topology.links ready.view.entries ready.sees.shows.links
+    ∙ sym (is net.topology.links ready.view.entries ready.sees.shows.links)
+
+pub shifting_again : (net : NetState) (cube port direction : ℕ) (goal : Goal)
+    (found : PacketFields) → IsReady net → IsLeaving net cube port direction goal
+    → IsFrontAt net.links direction (Some found)
+    → IsShifting net cube port direction found goal
+shifting_again net cube port direction goal found ready leaving again =
+    let is = front_again net direction leaving.front (Some found) ready leaving.shifting.is_front
+    again in
+    let same : leaving.front ≡ found = cc in
+    subst (λ (f : PacketFields). IsShifting net cube port direction f goal) same leaving.shifting
+
+pub some_leaving : (net : NetState) (cube port direction : ℕ) (goal : Goal) → IsReady net
+    → IsLeaving net cube port direction goal → IsFrontAt net.links direction None → ⊥
+some_leaving net cube port direction goal ready leaving none =
+    let is = front_again net direction leaving.front None ready leaving.shifting.is_front none in
+    cc
 
 pub shift_here : (net : NetState) (cube port direction : ℕ) (front : PacketFields) (goal : Goal) → IsSized net → cube < cubes_in net.topology → IsShifting net cube port direction front goal → IsInner goal → IsHere (cube_in net.cubes cube) (to_of goal)
 shift_here net cube port direction front goal sized there is inner =

@@ -49,6 +49,7 @@ use Rattle.hmc_net.specs.Sees.{Sees}
 use Rattle.hmc_net.specs.Stands.{StandsFor, IsNext}
 use Rattle.hmc_tally.specs.Tally.{TallyFields, IsWithin, tallied, step_changes, unlocks_good}
 use Rattle.hmc_net.specs.Went.{went_by, went_of}
+use Rattle.hmc_net.specs.declared.went.Went.{Went}
 use Rattle.hmc_net.specs.declared.went.Went.TheVariants as wents
 use Rattle.hmc_net.proofs.CubeMoves.{moves_of}
 use Rattle.hmc_journal.proofs.DirectionEnds.{ends_at}
@@ -206,3 +207,8 @@ idle_cause false (Some why) cause is = cc
 
 pub went_cause : (entry : Entry) (cause : Cause) → went_of entry ≡ wents.Idle cause → cause_of entry ≡ Some cause
 went_cause entry cause is = idle_cause (is_passed entry) (cause_of entry) cause is
+
+-- and nothing is counted of it
+pub idle_uncounted : (entry : Entry) (went : Went) (cause : Cause) (changed was_good : Bool) (tally : TallyFields) → went ≡ went_of entry → went ≡ wents.Idle cause → tally ≡ tallied changed was_good (event_of entry) tally
+idle_uncounted entry went cause changed was_good tally is idle =
+    ap (λ e. tallied changed was_good e tally) (sym (idle_other entry cause (went_cause entry cause (sym is ∙ idle))))

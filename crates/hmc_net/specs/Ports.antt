@@ -21,6 +21,11 @@ pub record IsShifting (net : NetState) (cube port direction : ℕ) (front : Pack
   pub goes : goal_at (where_to (graph_of net.topology) (shape_of net.topology cube) cube front)
       ≡ Some goal
 
+-- the buffer of a port has a front, which goes to this goal
+pub record IsLeaving (net : NetState) (cube port direction : ℕ) (goal : Goal) : Type 0 where
+  pub front : PacketFields
+  pub shifting : IsShifting net cube port direction front goal
+
 -- this is the direction that starts at a port, where its output queue has room
 pub record IsWayOut (net : NetState) (cube port : ℕ) (found : Option ℕ) : Type 0 where
   pub room : (view : StepView) → Sees net view →

@@ -27,7 +27,6 @@ ghost use Rattle.hmc_net.specs.Stands.{StandsFor, IsNext};
 ghost use Rattle.hmc_net.specs.Went.{went_of};
 
 use crate::Went;
-use crate::went::went_of;
 use hmc_bound::{drains, under_way_by_parts};
 use hmc_case::Case;
 use hmc_codes::{Memory, TokenRow};
@@ -142,17 +141,18 @@ impl<B: Workbench> Network<B> {
             net_of B.slots self.new ≡ record (net_of B.slots self.old) { last = self.new.last } }
     {
         let was_good = self.unlocks_good(step);
-        self.act(step);
-        self.count(step, was_good);
-        went_of(&self.last)
+        let went = self.act(step);
+        self.count(step, went, was_good);
+        went
     }
 
     // What the step does.
     #[inline(always)]
-    fn act(&mut self, step: &Step)
+    fn act(&mut self, step: &Step) -> Went
         requires there { IsStepFor self.old.topology step.now }
         requires ready { IsReady (net_of B.slots self.old) }
-        ensures { DoesStep (net_of B.slots self.old) (net_of B.slots self.new) step.now }
+        ensures does { DoesStep (net_of B.slots self.old) (net_of B.slots self.new) step.now }
+        ensures went { result ≡ went_of self.new.last }
     {
         match step {
             Step::Give(host) => self.give(*host),

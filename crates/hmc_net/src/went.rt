@@ -1,9 +1,11 @@
 //! How a step went.
 
 ghost use Rattle.std.specs.Prelude.{◌≡◌};
-ghost use Rattle.hmc_net.specs.Went.{went_of};
+ghost use Rattle.hmc_entries.specs.declared.entry.Entry.TheVariants as entries;
+ghost use Rattle.hmc_net.specs.declared.went.Went.TheVariants as wents;
 
 use hmc_entries::{Cause, LastEntry};
+use hmc_schedule::Step;
 
 /// How a step went.
 #[derive(Clone, Copy, Debug, PartialEq, Eq)]
@@ -16,15 +18,11 @@ pub enum Went {
     Passed,
 }
 
-// How the step of this entry went.
-pub fn went_of(last: &LastEntry) -> Went
-    ensures { result ≡ went_of last.now }
+/// The last entry becomes that of a step that did nothing, for this cause.
+pub fn idle(last: &mut LastEntry, step: &Step, cause: Cause) -> Went
+    ensures last { last.new ≡ entries.Idle step.now cause }
+    ensures went { result ≡ wents.Idle cause }
 {
-    if last.has_passed() {
-        return Went::Passed;
-    }
-    match last.cause() {
-        Some(cause) => Went::Idle(cause),
-        None => Went::Done,
-    }
+    last.idle(step, cause);
+    Went::Idle(cause)
 }

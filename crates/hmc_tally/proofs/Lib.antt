@@ -4,3 +4,4 @@ pub mod TallyLaw
 mod WorkedCounts
 pub mod Alike
 pub mod Opening
+pub mod Within

@@ -6,7 +6,7 @@ ghost use Rattle.hmc_packet.specs.Receptions.{is_arrival};
 ghost use Rattle.hmc_journal.specs.Counts.{is_good};
 ghost use Rattle.hmc_journal.specs.Hosts.{count_if};
 ghost use Rattle.hmc_journal.specs.Setup.{unit_cube};
-ghost use Rattle.hmc_tally.specs.Tally.{no_counters, no_host_steps, no_cube_counts, direction_row, host_row, cube_row, is_repeat, is_abort, one_landed, directions_after, host_steps_after, cube_counts_after, tallied, step_changes, CountersWithin, HostWithin, CubeWithin, IsWithin, with_row, one_executed};
+ghost use Rattle.hmc_tally.specs.Tally.{no_counters, no_host_steps, no_cube_counts, direction_row, host_row, cube_row, is_repeat, is_abort, one_more_sent, one_landed, one_unlocked, one_given, one_taken, one_executed, one_dropped, tallied, step_changes, CountersWithin, HostWithin, CubeWithin, IsWithin, with_row};
 
 use hmc_codes::{Counters, CubeCounts, Memory, Unit};
 use hmc_entries::Event;
@@ -108,43 +108,65 @@ fn add_landing(row: &mut Counters, changed: bool, outcome: Outcome)
     row.aborts = count_if(is_abort(outcome), row.aborts);
 }
 
-// A step more: of its direction, if it has one.
-fn add_to_directions(rows: &mut [Counters], event: Event, changed: bool, was_good: bool)
+// A flit was sent in a direction.
+fn add_sent(rows: &mut [Counters], direction: u8)
     requires { (most : ℕ) × (most + 1 < 2 ^ 32) × All (CountersWithin most) rows.old }
-    ensures counted { rows.new ≡ directions_after changed was_good event rows.old }
+    ensures counted { rows.new ≡ with_row no_counters direction one_more_sent rows.old }
     ensures within { (most : ℕ) → All (CountersWithin most) rows.old →
         All (CountersWithin (most + 1)) rows.new }
 {
-    match event {
-        Event::Sent { direction } if usize::from(direction) < rows.len() => {
-            rows[usize::from(direction)].sent += 1;
-        }
-        Event::Landed { direction, outcome } if usize::from(direction) < rows.len() => {
-            add_landing(&mut rows[usize::from(direction)], changed, outcome);
-        }
-        Event::Unlocked { direction } if usize::from(direction) < rows.len() => {
-            let row = &mut rows[usize::from(direction)];
-            row.aborts = count_if(was_good, row.aborts);
-        }
-        _ => {}
+    if usize::from(direction) < rows.len() {
+        rows[usize::from(direction)].sent += 1;
     }
 }
 
-// A step more: of its host, if it has one.
-fn add_to_hosts(rows: &mut [HostSteps], event: Event)
+// A flit landed in a direction.
+fn add_landed(rows: &mut [Counters], direction: u8, changed: bool, outcome: Outcome)
+    requires { (most : ℕ) × (most + 1 < 2 ^ 32) × All (CountersWithin most) rows.old }
+    ensures counted { rows.new
+        ≡ with_row no_counters direction (one_landed changed outcome) rows.old }
+    ensures within { (most : ℕ) → All (CountersWithin most) rows.old →
+        All (CountersWithin (most + 1)) rows.new }
+{
+    if usize::from(direction) < rows.len() {
+        add_landing(&mut rows[usize::from(direction)], changed, outcome);
+    }
+}
+
+// The receiver of a direction lost its framing.
+fn add_unlocked(rows: &mut [Counters], direction: u8, was_good: bool)
+    requires { (most : ℕ) × (most + 1 < 2 ^ 32) × All (CountersWithin most) rows.old }
+    ensures counted { rows.new ≡ with_row no_counters direction (one_unlocked was_good) rows.old }
+    ensures within { (most : ℕ) → All (CountersWithin most) rows.old →
+        All (CountersWithin (most + 1)) rows.new }
+{
+    if usize::from(direction) < rows.len() {
+        let row = &mut rows[usize::from(direction)];
+        row.aborts = count_if(was_good, row.aborts);
+    }
+}
+
+// A host gave one more request.
+fn add_given(rows: &mut [HostSteps], host: u8)
     requires { (most : ℕ) × (most + 1 < 2 ^ 32) × All (HostWithin most) rows.old }
-    ensures counted { rows.new ≡ host_steps_after event rows.old }
+    ensures counted { rows.new ≡ with_row no_host_steps host one_given rows.old }
     ensures within { (most : ℕ) → All (HostWithin most) rows.old →
         All (HostWithin (most + 1)) rows.new }
 {
-    match event {
-        Event::Gave { host } if usize::from(host) < rows.len() => {
-            rows[usize::from(host)].given += 1;
-        }
-        Event::Took { host } if usize::from(host) < rows.len() => {
-            rows[usize::from(host)].taken += 1;
-        }
-        _ => {}
+    if usize::from(host) < rows.len() {
+        rows[usize::from(host)].given += 1;
+    }
+}
+
+// A host took one more answer.
+fn add_taken(rows: &mut [HostSteps], host: u8)
+    requires { (most : ℕ) × (most + 1 < 2 ^ 32) × All (HostWithin most) rows.old }
+    ensures counted { rows.new ≡ with_row no_host_steps host one_taken rows.old }
+    ensures within { (most : ℕ) → All (HostWithin most) rows.old →
+        All (HostWithin (most + 1)) rows.new }
+{
+    if usize::from(host) < rows.len() {
+        rows[usize::from(host)].taken += 1;
     }
 }
 
@@ -160,19 +182,15 @@ fn add_executed(rows: &mut [CubeCounts], cube: u8)
     }
 }
 
-// A step more: of its cube, if it has one.
-fn add_to_cubes(rows: &mut [CubeCounts], event: Event)
+// A cube dropped one more packet.
+fn add_dropped(rows: &mut [CubeCounts], cube: u8)
     requires { (most : ℕ) × (most + 1 < 2 ^ 32) × All (CubeWithin most) rows.old }
-    ensures counted { rows.new ≡ cube_counts_after event rows.old }
+    ensures counted { rows.new ≡ with_row no_cube_counts cube one_dropped rows.old }
     ensures within { (most : ℕ) → All (CubeWithin most) rows.old →
         All (CubeWithin (most + 1)) rows.new }
 {
-    match event {
-        Event::Executed { unit } => add_executed(rows, unit_cube(unit)),
-        Event::Dropped { cube } if usize::from(cube) < rows.len() => {
-            rows[usize::from(cube)].dropped += 1;
-        }
-        _ => {}
+    if usize::from(cube) < rows.len() {
+        rows[usize::from(cube)].dropped += 1;
     }
 }
 
@@ -227,9 +245,20 @@ impl Tally {
         ensures counted { self.new ≡ tallied changed was_good event self.old }
         ensures within { (most : ℕ) → IsWithin most self.old → IsWithin (most + 1) self.new }
     {
-        add_to_directions(&mut self.directions, event, changed, was_good);
-        add_to_hosts(&mut self.hosts, event);
-        add_to_cubes(&mut self.cubes, event);
+        match event {
+            Event::Sent { direction } => add_sent(&mut self.directions, direction),
+            Event::Landed { direction, outcome } => {
+                add_landed(&mut self.directions, direction, changed, outcome);
+            }
+            Event::Unlocked { direction } => {
+                add_unlocked(&mut self.directions, direction, was_good);
+            }
+            Event::Gave { host } => add_given(&mut self.hosts, host),
+            Event::Took { host } => add_taken(&mut self.hosts, host),
+            Event::Executed { unit } => add_executed(&mut self.cubes, unit_cube(unit)),
+            Event::Dropped { cube } => add_dropped(&mut self.cubes, cube),
+            Event::Other => {}
+        }
     }
 
     /// The number of directions.

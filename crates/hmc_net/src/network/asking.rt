@@ -1,7 +1,8 @@
 //! Hosts that are asked for more requests while the network runs.
 
 ghost use Rattle.std.specs.Prelude.{◌≡◌, ◌<◌, List, OnOk, OnErr, length};
-ghost use Rattle.hmc_codes.specs.Limits.{most_requests};
+ghost use Rattle.hmc_script.specs.Items.{most_asked};
+ghost use Rattle.hmc_host.specs.Host.{asked_count};
 ghost use Rattle.hmc_host.specs.Give.{is_at_end};
 ghost use Rattle.hmc_entries.specs.declared.entry.Entry.{Entry};
 ghost use Rattle.hmc_journal.specs.Setup.{Setup, cubes_in};
@@ -19,9 +20,9 @@ impl<B: Workbench> Network<B> {
     /// For how many requests this host was asked, those of the case's script among them.
     pub fn asked(&self, host: u8) -> u32
         requires { host < length self.now.hosts }
-        ensures { result ≡ length (host_in self.now.hosts host).items }
+        ensures { result ≡ asked_count (host_in self.now.hosts host) }
     {
-        self.hosts[usize::from(host)].len()
+        self.hosts[usize::from(host)].asked()
     }
 
     /// Whether this host has given all of its requests.
@@ -33,7 +34,7 @@ impl<B: Workbench> Network<B> {
     }
 
     /// Asks this host for one request more, which it gives after its others. It was asked for fewer
-    /// than `MOST_REQUESTS`. `Memory` if out of memory: then nothing changes.
+    /// than `MOST_ASKED`. `Memory` if out of memory: then nothing changes.
     pub fn ask(
         &mut self,
         host: u8,
@@ -42,7 +43,7 @@ impl<B: Workbench> Network<B> {
         request: &Request,
     ) -> Result<(), Memory>
         requires there { host < length self.old.hosts }
-        requires room { length (host_in self.old.hosts host).items < most_requests }
+        requires room { asked_count (host_in self.old.hosts host) < most_asked }
 
         // Where no entry says that the host has given all, the network stands for the case with
         // this request, and for the same journal.

@@ -9,8 +9,10 @@ ghost use Rattle.hmc_net.specs.Apply.{DoesStep};
 ghost use Rattle.hmc_net.specs.NetState.{net_of, cube_in};
 ghost use Rattle.hmc_wiring.specs.Ready.{IsVaultIn, IsBankIn};
 ghost use Rattle.hmc_net.specs.Sees.{IsReady};
+ghost use Rattle.hmc_net.specs.Went.{went_of};
 
-use crate::Network;
+use crate::went::idle;
+use crate::{Network, Went};
 use hmc_codes::{Command, Unit};
 use hmc_cube::{Executed, Spread};
 use hmc_entries::{Cause, LastEntry};
@@ -20,114 +22,122 @@ use hmc_units::Workbench;
 impl<B: Workbench> Network<B> {
     // The front of a vault's queue goes to its bank.
     #[inline(always)]
-    pub(crate) fn spread(&mut self, cube: u8, vault: u8)
+    pub(crate) fn spread(&mut self, cube: u8, vault: u8) -> Went
         requires there { IsVaultIn self.old.topology cube vault }
         requires ready { IsReady (net_of B.slots self.old) }
-        ensures { DoesStep (net_of B.slots self.old) (net_of B.slots self.new)
+        ensures does { DoesStep (net_of B.slots self.old) (net_of B.slots self.new)
             (Step.Spread cube vault) }
+        ensures went { result ≡ went_of self.new.last }
     {
         let owner = &mut self.cubes[usize::from(cube)];
         owner.invariant();
         let spread = owner.spread(vault);
-        note_spread(&mut self.last, cube, vault, spread);
+        note_spread(&mut self.last, cube, vault, spread)
     }
 
     // A bank executes the front of its queue.
     #[inline(always)]
-    pub(crate) fn bank(&mut self, cube: u8, vault: u8, bank: u8)
+    pub(crate) fn bank(&mut self, cube: u8, vault: u8, bank: u8) -> Went
         requires there { IsBankIn self.old.topology cube vault bank }
         requires ready { IsReady (net_of B.slots self.old) }
-        ensures { DoesStep (net_of B.slots self.old) (net_of B.slots self.new)
+        ensures does { DoesStep (net_of B.slots self.old) (net_of B.slots self.new)
             (Step.Bank cube vault bank) }
+        ensures went { result ≡ went_of self.new.last }
     {
         if self.cubes[usize::from(cube)].bank_is_empty(vault, bank) {
-            self.last.idle(&Step::Bank(cube, vault, bank), Cause::Empty);
-            return;
+            return idle(&mut self.last, &Step::Bank(cube, vault, bank), Cause::Empty);
         }
         if self.cubes[usize::from(cube)].bank_waits(vault, bank) {
-            self.bank_full(cube, vault, bank);
-            return;
+            return self.bank_full(cube, vault, bank);
         }
-        self.bank_front(cube, vault, bank);
+        self.bank_front(cube, vault, bank)
     }
 
     // Its front waits for room among the answers.
-    fn bank_full(&mut self, cube: u8, vault: u8, bank: u8)
+    fn bank_full(&mut self, cube: u8, vault: u8, bank: u8) -> Went
         requires there { IsBankIn self.old.topology cube vault bank }
         requires ready { IsReady (net_of B.slots self.old) }
         requires full { bank_says (cube_in (net_of B.slots self.old).cubes cube)
             (net_of B.slots self.old).slots vault bank ≡ Executed.Full }
-        ensures { DoesStep (net_of B.slots self.old) (net_of B.slots self.new)
+        ensures does { DoesStep (net_of B.slots self.old) (net_of B.slots self.new)
             (Step.Bank cube vault bank) }
+        ensures went { result ≡ went_of self.new.last }
     {
         self.cubes[usize::from(cube)].invariant();
-        self.last.idle(&Step::Bank(cube, vault, bank), Cause::Full);
+        idle(&mut self.last, &Step::Bank(cube, vault, bank), Cause::Full)
     }
 
     // The same. Where the queue is empty, no request is to be moved.
     #[inline(never)]
-    fn bank_front(&mut self, cube: u8, vault: u8, bank: u8)
+    fn bank_front(&mut self, cube: u8, vault: u8, bank: u8) -> Went
         requires there { IsBankIn self.old.topology cube vault bank }
         requires ready { IsReady (net_of B.slots self.old) }
-        ensures { DoesStep (net_of B.slots self.old) (net_of B.slots self.new)
+        ensures does { DoesStep (net_of B.slots self.old) (net_of B.slots self.new)
             (Step.Bank cube vault bank) }
+        ensures went { result ≡ went_of self.new.last }
     {
         let unit = Unit::Bank { cube, vault, bank };
         let owner = &mut self.cubes[usize::from(cube)];
         owner.invariant();
         let ran = owner.execute(vault, bank, &mut self.bench);
-        note_ran(&mut self.last, unit, &Step::Bank(cube, vault, bank), &ran);
+        note_ran(&mut self.last, unit, &Step::Bank(cube, vault, bank), &ran)
     }
 
     // The registers execute the front of their queue.
     #[inline(always)]
-    pub(crate) fn registers(&mut self, cube: u8)
+    pub(crate) fn registers(&mut self, cube: u8) -> Went
         requires there { cube < cubes_in self.old.topology }
         requires ready { IsReady (net_of B.slots self.old) }
-        ensures { DoesStep (net_of B.slots self.old) (net_of B.slots self.new)
+        ensures does { DoesStep (net_of B.slots self.old) (net_of B.slots self.new)
             (Step.Registers cube) }
+        ensures went { result ≡ went_of self.new.last }
     {
         if self.cubes[usize::from(cube)].register_queue_is_empty() {
-            self.last.idle(&Step::Registers(cube), Cause::Empty);
-            return;
+            return idle(&mut self.last, &Step::Registers(cube), Cause::Empty);
         }
-        self.registers_front(cube);
+        self.registers_front(cube)
     }
 
     // The same. Where the queue is empty, no request is to be moved.
     #[inline(never)]
-    fn registers_front(&mut self, cube: u8)
+    fn registers_front(&mut self, cube: u8) -> Went
         requires there { cube < cubes_in self.old.topology }
         requires ready { IsReady (net_of B.slots self.old) }
-        ensures { DoesStep (net_of B.slots self.old) (net_of B.slots self.new)
+        ensures does { DoesStep (net_of B.slots self.old) (net_of B.slots self.new)
             (Step.Registers cube) }
+        ensures went { result ≡ went_of self.new.last }
     {
         let unit = Unit::Registers { cube };
         let owner = &mut self.cubes[usize::from(cube)];
         let ran = owner.registers(&mut self.bench);
-        note_ran(&mut self.last, unit, &Step::Registers(cube), &ran);
+        note_ran(&mut self.last, unit, &Step::Registers(cube), &ran)
     }
 }
 
 // The last entry becomes that of a spread.
-fn note_spread(last: &mut LastEntry, cube: u8, vault: u8, spread: Spread)
-    ensures { last.new ≡ spread_entry cube vault spread }
+fn note_spread(last: &mut LastEntry, cube: u8, vault: u8, spread: Spread) -> Went
+    ensures entry { last.new ≡ spread_entry cube vault spread }
+    ensures went { result ≡ went_of last.new }
 {
     match spread {
-        Spread::Empty => last.idle(&Step::Spread(cube, vault), Cause::Empty),
-        Spread::Full => last.idle(&Step::Spread(cube, vault), Cause::Full),
-        Spread::Moved { bank } => last.spread(cube, vault, bank),
+        Spread::Empty => idle(last, &Step::Spread(cube, vault), Cause::Empty),
+        Spread::Full => idle(last, &Step::Spread(cube, vault), Cause::Full),
+        Spread::Moved { bank } => {
+            last.spread(cube, vault, bank);
+            Went::Done
+        }
     }
 }
 
 // The last entry becomes that of an execution.
 #[inline(always)]
-fn note_ran(last: &mut LastEntry, unit: Unit, step: &Step, ran: &Executed)
-    ensures { last.new ≡ ran_entry unit step.now ran.now }
+fn note_ran(last: &mut LastEntry, unit: Unit, step: &Step, ran: &Executed) -> Went
+    ensures entry { last.new ≡ ran_entry unit step.now ran.now }
+    ensures went { result ≡ went_of last.new }
 {
     match ran {
-        Executed::Empty => last.idle(step, Cause::Empty),
-        Executed::Full => last.idle(step, Cause::Full),
+        Executed::Empty => idle(last, step, Cause::Empty),
+        Executed::Full => idle(last, step, Cause::Full),
         Executed::Ran {
             host,
             tag,
@@ -136,6 +146,7 @@ fn note_ran(last: &mut LastEntry, unit: Unit, step: &Step, ran: &Executed)
         } => {
             let tag = tag_of(request.command, *tag);
             last.executed(unit, *host, tag, request, answer);
+            Went::Done
         }
     }
 }

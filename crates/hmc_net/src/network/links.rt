@@ -7,18 +7,20 @@ ghost use Rattle.hmc_send.specs.LinkEntries.{LinkEntry};
 ghost use Rattle.hmc_net.specs.Apply.{DoesStep};
 ghost use Rattle.hmc_journal.specs.Piped.{goes_on};
 ghost use Rattle.hmc_links.specs.LinkList.{AreGoing, LinksStandFor, IsDirection};
-ghost use Rattle.hmc_kept.specs.LinkAnswers.{landing_goes_on, after_landing};
+ghost use Rattle.hmc_kept.specs.LinkAnswers.{landing_goes_on, after_landing, sent_by, landed_by};
 ghost use Rattle.hmc_kept.specs.Called.{taken_where};
 ghost use Rattle.hmc_net.specs.Links.{MayForward};
 ghost use Rattle.hmc_kept.specs.Pipes.{AreGathering, IsLastOf, forwarded_at, after_flit};
 ghost use Rattle.hmc_wiring.specs.Ready.{IsLandingIn};
 ghost use Rattle.hmc_net.specs.NetState.{net_of};
 ghost use Rattle.hmc_net.specs.Sees.{IsReady};
+ghost use Rattle.hmc_net.specs.Went.{went_of};
 
-use crate::Network;
+use crate::{Network, Went};
 use hmc_codes::Flit;
+use hmc_entries::Cause;
 use hmc_kept::{Pipes, goes_on, note_landed, note_sent};
-use hmc_link::LinkOutcome;
+use hmc_link::{LinkOutcome, LinkSent};
 use hmc_links::LinkList;
 use hmc_packet::Outcome;
 use hmc_schedule::Step;
@@ -27,42 +29,48 @@ use hmc_units::Workbench;
 impl<B: Workbench> Network<B> {
     // A flit is sent in a direction.
     #[inline(always)]
-    pub(crate) fn send(&mut self, direction: u8)
+    pub(crate) fn send(&mut self, direction: u8) -> Went
         requires there { direction < directions_in self.old.topology }
         requires ready { IsReady (net_of B.slots self.old) }
-        ensures { DoesStep (net_of B.slots self.old) (net_of B.slots self.new)
+        ensures does { DoesStep (net_of B.slots self.old) (net_of B.slots self.new)
             (Step.Send direction) }
+        ensures went { result ≡ went_of self.new.last }
     {
         let place = self.links.through_at(direction);
         let feed = self.piped.feed(direction, place);
         let sent = self.links.send(direction, feed);
         note_sent(&mut self.last, direction, &sent);
+        went_sent(&sent)
     }
 
     // The next flit of a direction lands under a mask.
     #[inline(always)]
-    pub(crate) fn land(&mut self, direction: u8, mask: &Flit)
+    pub(crate) fn land(&mut self, direction: u8, mask: &Flit) -> Went
         requires there { IsLandingIn self.old.topology direction (length mask.now) }
         requires ready { IsReady (net_of B.slots self.old) }
-        ensures { DoesStep (net_of B.slots self.old) (net_of B.slots self.new)
+        ensures does { DoesStep (net_of B.slots self.old) (net_of B.slots self.new)
             (Step.Land direction mask.now) }
+        ensures went { result ≡ went_of self.new.last }
     {
         let landed = self.links.land(direction, mask);
         forward_landed(&mut self.links, &mut self.piped, direction, &landed);
         note_landed(&mut self.last, direction, &landed);
+        went_landed(&landed)
     }
 
     // The receiver of a direction loses its framing.
     #[inline(never)]
-    pub(crate) fn unlock(&mut self, direction: u8)
+    pub(crate) fn unlock(&mut self, direction: u8) -> Went
         requires there { direction < directions_in self.old.topology }
         requires ready { IsReady (net_of B.slots self.old) }
-        ensures { DoesStep (net_of B.slots self.old) (net_of B.slots self.new)
+        ensures does { DoesStep (net_of B.slots self.old) (net_of B.slots self.new)
             (Step.Unlock direction) }
+        ensures went { result ≡ went_of self.new.last }
     {
         self.links.unlock(direction);
         self.piped.lose(direction);
         self.last.unlocked(direction);
+        Went::Done
     }
 }
 
@@ -125,5 +133,27 @@ fn take_where(links: &mut LinkList, direction: u8, goes: bool)
 {
     if goes {
         links.take(direction);
+    }
+}
+
+// How a send went.
+fn went_sent(sent: &LinkSent) -> Went
+    ensures { (direction : ℕ) → result ≡ went_of (sent_by direction sent.now) }
+{
+    match sent {
+        LinkSent::Full => Went::Idle(Cause::Full),
+        LinkSent::Starved => Went::Idle(Cause::Starved),
+        LinkSent::Out { .. } => Went::Done,
+    }
+}
+
+// How a landing went.
+fn went_landed(landing: &LinkOutcome) -> Went
+    ensures { (direction : ℕ) → result ≡ went_of (landed_by direction landing.now) }
+{
+    match landing {
+        LinkOutcome::Empty => Went::Idle(Cause::Empty),
+        LinkOutcome::Passed(_) => Went::Passed,
+        LinkOutcome::Came { .. } => Went::Done,
     }
 }

@@ -3,99 +3,95 @@
 ghost use Rattle.std.specs.Prelude.{◌≡◌, ◌<◌};
 ghost use Rattle.hmc_journal.specs.Setup.{cubes_in};
 ghost use Rattle.hmc_net.specs.Apply.{DoesStep, to_of};
-ghost use Rattle.hmc_net.specs.Ports.{IsShifting, IsWayOut};
+ghost use Rattle.hmc_net.specs.Ports.{IsLeaving, IsWayOut};
 ghost use Rattle.hmc_kept.specs.Ways.{IsInner};
 ghost use Rattle.hmc_net.specs.NetState.{net_of};
 ghost use Rattle.hmc_wiring.specs.Ready.{IsPortIn, IsLiftIn};
 ghost use Rattle.hmc_net.specs.Sees.{IsReady};
+ghost use Rattle.hmc_net.specs.Went.{went_of};
 
-use crate::Network;
+use crate::went::idle;
+use crate::{Network, Went};
 use hmc_codes::Lift;
 use hmc_crossbar::To;
 use hmc_entries::{Cause, Goal};
-use hmc_packet::Packet;
 use hmc_schedule::Step;
 use hmc_units::Workbench;
 
 impl<B: Workbench> Network<B> {
     // The front of a port's buffer goes on, or is dropped.
     #[inline(always)]
-    pub(crate) fn shift(&mut self, cube: u8, port: u8)
+    pub(crate) fn shift(&mut self, cube: u8, port: u8) -> Went
         requires there { IsPortIn self.old.topology cube port }
         requires ready { IsReady (net_of B.slots self.old) }
-        ensures { DoesStep (net_of B.slots self.old) (net_of B.slots self.new)
+        ensures does { DoesStep (net_of B.slots self.old) (net_of B.slots self.new)
             (Step.Shift cube port) }
+        ensures went { result ≡ went_of self.new.last }
     {
         let direction = self.wiring.to_port(cube, port);
-        if !self.links.has_arrived(direction) {
-            self.last.idle(&Step::Shift(cube, port), Cause::Empty);
-            return;
-        }
-        self.shift_front(cube, port);
-    }
-
-    // The same. Where no packet came, none is to be moved.
-    #[inline(never)]
-    fn shift_front(&mut self, cube: u8, port: u8)
-        requires there { IsPortIn self.old.topology cube port }
-        requires ready { IsReady (net_of B.slots self.old) }
-        ensures { DoesStep (net_of B.slots self.old) (net_of B.slots self.new)
-            (Step.Shift cube port) }
-    {
-        let direction = self.wiring.to_port(cube, port);
-        let Some(front) = self.links.front(direction) else {
-            self.last.idle(&Step::Shift(cube, port), Cause::Empty);
-            return;
+        let Some(front) = self.links.front_ref(direction) else {
+            return idle(&mut self.last, &Step::Shift(cube, port), Cause::Empty);
         };
-        let to = self.wiring.goal(cube, &front);
+        let to = self.wiring.goal(cube, front);
         match to {
-            To::Vault(vault) => self.shift_in(cube, port, direction, Goal::Vault(vault), front),
-            To::Registers => self.shift_in(cube, port, direction, Goal::Registers, front),
-            To::Port(out) => self.shift_out(cube, port, direction, out, front),
+            To::Vault(vault) => self.shift_in(cube, port, direction, Goal::Vault(vault)),
+            To::Registers => self.shift_in(cube, port, direction, Goal::Registers),
+            To::Port(out) => self.shift_out(cube, port, direction, out),
             To::Nowhere => {
                 self.links.take(direction);
                 self.last.dropped(cube, port);
+                Went::Done
             }
         }
     }
 
     // The front of a port's buffer goes into the cube, to this goal.
-    fn shift_in(&mut self, cube: u8, port: u8, direction: u8, goal: Goal, front: Packet)
+    #[inline(never)]
+    fn shift_in(&mut self, cube: u8, port: u8, direction: u8, goal: Goal) -> Went
         requires there { IsPortIn self.old.topology cube port }
         requires ready { IsReady (net_of B.slots self.old) }
-        requires front { IsShifting (net_of B.slots self.old) cube port direction front goal }
+        requires leaving { IsLeaving (net_of B.slots self.old) cube port direction goal }
         requires inner { IsInner goal }
-        ensures { DoesStep (net_of B.slots self.old) (net_of B.slots self.new)
+        ensures does { DoesStep (net_of B.slots self.old) (net_of B.slots self.new)
             (Step.Shift cube port) }
+        ensures went { result ≡ went_of self.new.last }
     {
         let to = to_of(goal);
         if !self.cubes[usize::from(cube)].room(to) {
-            self.last.idle(&Step::Shift(cube, port), Cause::Full);
-            return;
+            return idle(&mut self.last, &Step::Shift(cube, port), Cause::Full);
         }
-        self.links.take(direction);
+        let Some(front) = self.links.front_ref(direction) else {
+            unreachable!()
+        };
         let owner = &mut self.cubes[usize::from(cube)];
         owner.invariant();
-        owner.enter(to, front);
+        owner.put(to, front);
+        self.links.take(direction);
         self.last.shifted(cube, port, goal);
+        Went::Done
     }
 
     // The front of a port's buffer goes on through another port.
-    fn shift_out(&mut self, cube: u8, port: u8, direction: u8, out: u8, front: Packet)
+    #[inline(never)]
+    fn shift_out(&mut self, cube: u8, port: u8, direction: u8, out: u8) -> Went
         requires there { IsPortIn self.old.topology cube port }
         requires ready { IsReady (net_of B.slots self.old) }
-        requires front { IsShifting (net_of B.slots self.old)
-            cube port direction front (Goal.Port out) }
-        ensures { DoesStep (net_of B.slots self.old) (net_of B.slots self.new)
+        requires leaving { IsLeaving (net_of B.slots self.old) cube port direction
+            (Goal.Port out) }
+        ensures does { DoesStep (net_of B.slots self.old) (net_of B.slots self.new)
             (Step.Shift cube port) }
+        ensures went { result ≡ went_of self.new.last }
     {
         let Some(onward) = self.room_through(cube, out) else {
-            self.last.idle(&Step::Shift(cube, port), Cause::Full);
-            return;
+            return idle(&mut self.last, &Step::Shift(cube, port), Cause::Full);
+        };
+        let Some(front) = self.links.front(direction) else {
+            unreachable!()
         };
         self.links.take(direction);
         self.links.hand(onward, &front);
         self.last.shifted(cube, port, Goal::Port(out));
+        Went::Done
     }
 
     // The direction that starts at a port, if its output queue has room.
@@ -114,41 +110,41 @@ impl<B: Workbench> Network<B> {
 
     // An answer goes to the output queue of the port towards its host.
     #[inline(always)]
-    pub(crate) fn lift(&mut self, cube: u8, from: Lift)
+    pub(crate) fn lift(&mut self, cube: u8, from: Lift) -> Went
         requires there { IsLiftIn self.old.topology cube from }
         requires ready { IsReady (net_of B.slots self.old) }
-        ensures { DoesStep (net_of B.slots self.old) (net_of B.slots self.new)
+        ensures does { DoesStep (net_of B.slots self.old) (net_of B.slots self.new)
             (Step.Lift cube from) }
+        ensures went { result ≡ went_of self.new.last }
     {
         if self.cubes[usize::from(cube)].answers_are_empty(from) {
-            self.last.idle(&Step::Lift(cube, from), Cause::Empty);
-            return;
+            return idle(&mut self.last, &Step::Lift(cube, from), Cause::Empty);
         }
-        self.lift_answer(cube, from);
+        self.lift_answer(cube, from)
     }
 
     // The same. Where there is no answer, no packet is to be moved.
     #[inline(never)]
-    fn lift_answer(&mut self, cube: u8, from: Lift)
+    fn lift_answer(&mut self, cube: u8, from: Lift) -> Went
         requires there { IsLiftIn self.old.topology cube from }
         requires ready { IsReady (net_of B.slots self.old) }
-        ensures { DoesStep (net_of B.slots self.old) (net_of B.slots self.new)
+        ensures does { DoesStep (net_of B.slots self.old) (net_of B.slots self.new)
             (Step.Lift cube from) }
+        ensures went { result ≡ went_of self.new.last }
     {
         let Some(front) = self.cubes[usize::from(cube)].lift_front(from) else {
-            self.last.idle(&Step::Lift(cube, from), Cause::Empty);
-            return;
+            return idle(&mut self.last, &Step::Lift(cube, from), Cause::Empty);
         };
         let port = self.wiring.port_towards(cube, front.slid);
         let Some(onward) = self.room_through(cube, port) else {
-            self.last.idle(&Step::Lift(cube, from), Cause::Full);
-            return;
+            return idle(&mut self.last, &Step::Lift(cube, from), Cause::Full);
         };
         let owner = &mut self.cubes[usize::from(cube)];
         owner.invariant();
         owner.drop_lifted(from);
         self.links.hand(onward, &front);
         self.last.lifted(cube, from, port);
+        Went::Done
     }
 }
 

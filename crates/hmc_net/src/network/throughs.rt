@@ -1,15 +1,17 @@
 //! The step through: a packet is forwarded that is still being gathered at a port.
 
-ghost use Rattle.std.specs.Prelude.{◌<◌, ◌*◌, length};
+ghost use Rattle.std.specs.Prelude.{◌≡◌, ◌<◌, ◌*◌, length};
 ghost use Rattle.hmc_packet.specs.Head.{head_in};
 ghost use Rattle.hmc_net.specs.Apply.{DoesStep};
 ghost use Rattle.hmc_net.specs.NetState.{net_of};
 ghost use Rattle.hmc_wiring.specs.Ready.{IsPortIn};
 ghost use Rattle.hmc_net.specs.Sees.{IsReady};
+ghost use Rattle.hmc_net.specs.Went.{went_of};
 ghost use Rattle.hmc_net.specs.Throughs.{IsHeadAt, IsFree, IsComing};
 ghost use Rattle.hmc_kept.specs.Throughs.{IsOnto};
 
-use crate::Network;
+use crate::went::idle;
+use crate::{Network, Went};
 use hmc_entries::Cause;
 use hmc_kept::{may_go, pipe_of};
 use hmc_packet::{Head, head_of, lng_of};
@@ -19,26 +21,24 @@ use hmc_units::Workbench;
 impl<B: Workbench> Network<B> {
     // The packet that is gathered at a port is forwarded, if there is one that may be.
     #[inline(never)]
-    pub(crate) fn through(&mut self, cube: u8, port: u8)
+    pub(crate) fn through(&mut self, cube: u8, port: u8) -> Went
         requires there { IsPortIn self.old.topology cube port }
         requires ready { IsReady (net_of B.slots self.old) }
-        ensures { DoesStep (net_of B.slots self.old) (net_of B.slots self.new)
+        ensures does { DoesStep (net_of B.slots self.old) (net_of B.slots self.new)
             (Step.Through cube port) }
+        ensures went { result ≡ went_of self.new.last }
     {
         let from = self.wiring.to_port(cube, port);
         let Some(head) = self.gathered_head(from) else {
-            self.last.idle(&Step::Through(cube, port), Cause::NoPacket);
-            return;
+            return idle(&mut self.last, &Step::Through(cube, port), Cause::NoPacket);
         };
         let Some(onto) = self.way_on(cube, port, &head) else {
-            self.last.idle(&Step::Through(cube, port), Cause::NoPacket);
-            return;
+            return idle(&mut self.last, &Step::Through(cube, port), Cause::NoPacket);
         };
         if !self.may_forward(from, onto, head.flits) {
-            self.last.idle(&Step::Through(cube, port), Cause::Busy);
-            return;
+            return idle(&mut self.last, &Step::Through(cube, port), Cause::Busy);
         }
-        self.begin(cube, port, from, onto);
+        self.begin(cube, port, from, onto)
     }
 
     // The head of the packet that is gathered at the end of a direction.
@@ -76,12 +76,13 @@ impl<B: Workbench> Network<B> {
     }
 
     // The packet begins to be forwarded: its pipe has the flits that came.
-    fn begin(&mut self, cube: u8, port: u8, from: u8, onto: u8)
+    fn begin(&mut self, cube: u8, port: u8, from: u8, onto: u8) -> Went
         requires there { IsPortIn self.old.topology cube port }
         requires ready { IsReady (net_of B.slots self.old) }
         requires coming { IsComing (net_of B.slots self.old) cube port from onto }
-        ensures { DoesStep (net_of B.slots self.old) (net_of B.slots self.new)
+        ensures does { DoesStep (net_of B.slots self.old) (net_of B.slots self.new)
             (Step.Through cube port) }
+        ensures went { result ≡ went_of self.new.last }
     {
         let profile = self.wiring.profile(from);
         let Some(flits) = self.links.through_view(from) else {
@@ -92,5 +93,6 @@ impl<B: Workbench> Network<B> {
         self.links.begin_through(onto, head, lng_of(&head));
         self.piped.begin(from, onto, pipe);
         self.last.through(cube, port, onto);
+        Went::Done
     }
 }

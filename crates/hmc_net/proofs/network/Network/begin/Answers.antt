@@ -107,8 +107,8 @@ begin-requires-clause-onto g c =
     let there = onto_there net c.args.cube c.args.port c.args.onto c.requires.coming.head c.requires.coming.goes in
     subst (λ (n : NetState). c.args.onto < length n.piped.pipes) (sym view) (omega (arith, there, c.requires.ready.sized.piped.pipes))
 
-pub returns : goal.returns
-returns g c =
+pub returns-clause-does : goal.returns-clause-does
+returns-clause-does g c =
     begin_for _ (net_of g.B.Workbench.slots c.args.self.now) c.begin_through.new.self c.begin.new.self c.through.new.self c.args.cube c.args.port c.args.from c.args.onto c.lng_of.result (slice_index_or c.in-Some.flits.now 0 []) c.in-Some.flits.now c.profile-profile.result c.pipe_of-pipe.result
     (ap (net_of g.B.Workbench.slots) c.self.view_is) c.requires.ready c.requires.coming (λ rows entries stand. c.in-Some.ensures rows entries stand) c.profile-profile.ensures c.pipe_of-pipe.ensures refl c.lng_of.ensures
     c.begin_through.ensures c.begin.ensures c.through.ensures

@@ -21,7 +21,7 @@ forward_landed-requires-clause-may g c =
     (λ rows entries stand. c.land-landed.ensures.answer rows entries (subst (λ (n : NetState). LinksStandFor rows n.links entries) (sym view) stand))
     (λ rows entries stand. c.land-landed.ensures.stand rows entries (subst (λ (n : NetState). LinksStandFor rows n.links entries) (sym view) stand)))
 
-pub returns : goal.returns
-returns g c =
+pub returns-clause-does : goal.returns-clause-does
+returns-clause-does g c =
     land_for _ (net_of g.B.Workbench.slots c.args.self.now) c.land-landed.new.self c.forward_landed.new.links c.forward_landed.new.piped c.note_landed.new.last c.args.direction c.args.mask.now c.land-landed.result (ap (net_of g.B.Workbench.slots) c.self.view_is) c.requires.ready c.requires.there c.note_landed.ensures.entry c.note_landed.ensures.size
     c.land-landed.ensures.answer c.land-landed.ensures.stand c.land-landed.ensures.idle c.forward_landed.ensures.stands c.forward_landed.ensures.idle c.forward_landed.ensures.piped

@@ -22,12 +22,12 @@ lift_front-requires g c =
     let found = cube_found c.self.inside.cubes.items (net_of g.B.Workbench.slots c.args.self.now) c.from.result c.args.cube c.index.result.now (ap (λ (n : NetState). n.cubes) (ap (net_of g.B.Workbench.slots) c.self.view_is)) c.from.ensures c.index.ensures c.requires.ready.sized c.requires.there.some_cube in
     subst (λ (x : CubeFields). HasLift x c.args.from) (sym found) (lift_here (net_of g.B.Workbench.slots c.args.self.now) c.args.cube c.args.from c.requires.ready.sized c.requires.there)
 
-pub returns-in_default : goal.returns-in_default
-returns-in_default g c =
+pub returns-in_default-clause-does : goal.returns-in_default-clause-does
+returns-in_default-clause-does g c =
     let found = cube_found c.self.inside.cubes.items (net_of g.B.Workbench.slots c.args.self.now) c.from.result c.args.cube c.index.result.now (ap (λ (n : NetState). n.cubes) (ap (net_of g.B.Workbench.slots) c.self.view_is)) c.from.ensures c.index.ensures c.requires.ready.sized c.requires.there.some_cube in
     lift_none (net_of g.B.Workbench.slots c.args.self.now) _ c.args.cube c.args.from c.requires.ready.sized
     (ap (λ (x : CubeFields). slice_get (answers_at x c.args.from) 0) (sym found) ∙ sym c.lift_front.ensures ∙ c.in_default.is)
-    (entry_changed _ (net_of g.B.Workbench.slots c.args.self.now) _ _ _ _ c.idle.new.self _ (ap (net_of g.B.Workbench.slots) c.self.view_is) c.idle.ensures)
+    (entry_changed _ (net_of g.B.Workbench.slots c.args.self.now) _ _ _ _ c.idle.new.last _ (ap (net_of g.B.Workbench.slots) c.self.view_is) c.idle.ensures.last)
 
 pub port_towards-port-requires-clause-host : goal.port_towards-port-requires-clause-host
 port_towards-port-requires-clause-host g c =
@@ -36,14 +36,14 @@ port_towards-port-requires-clause-host g c =
     subst (λ (n : NetState). c.front.inside.slid < hosts_in n.topology) (sym (ap (net_of g.B.Workbench.slots) c.self.view_is))
     (subst (λ (p : PacketFields). p.slid < hosts_in (net_of g.B.Workbench.slots c.args.self.now).topology) (sym c.front.view_is) (lift_answer (net_of g.B.Workbench.slots c.args.self.now) c.args.cube c.args.from c.in-Some.front c.requires.ready some).host)
 
-pub returns-in_default-room_through : goal.returns-in_default-room_through
-returns-in_default-room_through g c =
+pub returns-in_default-room_through-clause-does : goal.returns-in_default-room_through-clause-does
+returns-in_default-room_through-clause-does g c =
     let found = cube_found c.self.inside.cubes.items (net_of g.B.Workbench.slots c.args.self.now) c.from.result c.args.cube c.index.result.now (ap (λ (n : NetState). n.cubes) (ap (net_of g.B.Workbench.slots) c.self.view_is)) c.from.ensures c.index.ensures c.requires.ready.sized c.requires.there.some_cube in
     let some : slice_get (answers_at (cube_in (net_of g.B.Workbench.slots c.args.self.now).cubes c.args.cube) c.args.from) 0 ≡ Some c.in-Some.front = ap (λ (x : CubeFields). slice_get (answers_at x c.args.from) 0) (sym found) ∙ sym c.lift_front.ensures ∙ c.in-Some.is in
     lift_full (net_of g.B.Workbench.slots c.args.self.now) _ c.args.cube c.args.from c.in-Some.front c.port_towards-port.result c.requires.ready.sized some
     (ap (λ (p : PacketFields). port_towards (net_of g.B.Workbench.slots c.args.self.now).topology c.args.cube p.slid) (sym c.front.view_is) ∙ ap (λ (n : NetState). port_towards n.topology c.args.cube c.front.inside.slid) (sym (ap (net_of g.B.Workbench.slots) c.self.view_is)) ∙ c.port_towards-port.ensures)
     (subst (IsWayOut (net_of g.B.Workbench.slots c.args.self.now) c.args.cube c.port_towards-port.result) c.in_default-room_through.is c.room_through.ensures)
-    (entry_changed _ (net_of g.B.Workbench.slots c.args.self.now) _ _ _ _ c.idle-in_default-room_through.new.self _ (ap (net_of g.B.Workbench.slots) c.self.view_is) c.idle-in_default-room_through.ensures)
+    (entry_changed _ (net_of g.B.Workbench.slots c.args.self.now) _ _ _ _ c.idle-in_default-room_through.new.last _ (ap (net_of g.B.Workbench.slots) c.self.view_is) c.idle-in_default-room_through.ensures.last)
 
 pub drop_lifted-requires : goal.drop_lifted-requires
 drop_lifted-requires g c =
@@ -64,8 +64,8 @@ hand-requires-clause-may g c =
     subst (λ (n : NetState). MayHand n.links c.in-Some-room_through.onward c.in-Some.front) (sym (ap (net_of g.B.Workbench.slots) c.self.view_is))
     (lift_may (net_of g.B.Workbench.slots c.args.self.now) c.args.cube c.args.from c.in-Some.front c.port_towards-port.result c.in-Some-room_through.onward c.requires.ready some way)
 
-pub returns : goal.returns
-returns g c =
+pub returns-clause-does : goal.returns-clause-does
+returns-clause-does g c =
     let found = cube_found c.self.inside.cubes.items (net_of g.B.Workbench.slots c.args.self.now) c.from.result c.args.cube c.index.result.now (ap (λ (n : NetState). n.cubes) (ap (net_of g.B.Workbench.slots) c.self.view_is)) c.from.ensures c.index.ensures c.requires.ready.sized c.requires.there.some_cube in
     let owned = cube_found c.self.inside.cubes.items (net_of g.B.Workbench.slots c.args.self.now) c.from-2.result c.args.cube c.index_mut-owner.result.now (ap (λ (n : NetState). n.cubes) (ap (net_of g.B.Workbench.slots) c.self.view_is)) c.from-2.ensures c.index_mut-owner.ensures.value c.requires.ready.sized c.requires.there.some_cube in
     let some : slice_get (answers_at (cube_in (net_of g.B.Workbench.slots c.args.self.now).cubes c.args.cube) c.args.from) 0 ≡ Some c.in-Some.front = ap (λ (x : CubeFields). slice_get (answers_at x c.args.from) 0) (sym found) ∙ sym c.lift_front.ensures ∙ c.in-Some.is in

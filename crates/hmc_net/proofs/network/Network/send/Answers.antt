@@ -32,7 +32,7 @@ send-sent-requires-clause-may g c =
     (may_send net c.args.direction c.feed-feed.result c.requires.ready c.requires.there
     (λ seen sees. feed_seen net.topology seen net.piped c.args.direction c.through_at-place.result c.feed-feed.result (sees.shows.pipes c.args.direction c.requires.there) (at net.topology.links seen.entries sees.shows.links) (c.feed-feed.ensures ∙ ap (λ (n : NetState). fed c.through_at-place.result (pipe_at n.piped c.args.direction)) view)))
 
-pub returns : goal.returns
-returns g c =
+pub returns-clause-does : goal.returns-clause-does
+returns-clause-does g c =
     send_for _ (net_of g.B.Workbench.slots c.args.self.now) c.send-sent.new.self c.note_sent.new.last c.args.direction c.through_at-place.result c.feed-feed.result c.send-sent.result (ap (net_of g.B.Workbench.slots) c.self.view_is) c.requires.ready c.requires.there c.note_sent.ensures
     c.through_at-place.ensures c.feed-feed.ensures c.send-sent.ensures.answer c.send-sent.ensures.stand c.send-sent.ensures.idle

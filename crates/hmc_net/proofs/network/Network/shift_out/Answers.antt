@@ -1,23 +1,33 @@
 -- A front that goes on through another port is an entry.
-use Rattle.std.proofs.Common.{ap, sym, subst}
+use Rattle.std.proofs.Common.{Some, None, ap, sym, subst}
 use Rattle.hmc_codes.specs.declared.place.Place.TheVariants as places
-use Rattle.hmc_links.specs.LinkList.{AreGoing, IsDirection, LinksStandFor}
+use Rattle.hmc_entries.specs.declared.outcome.Goal.TheVariants as goals
+use Rattle.hmc_links.specs.LinkList.{AreGoing, IsDirection, IsFrontAt, LinksStandFor}
 use Rattle.hmc_net.specs.NetState.{net_of, NetState}
 use Rattle.hmc_net.specs.Ports.{IsWayOut}
 use Rattle.hmc_net.proofs.Doing.{ends_in}
 use Rattle.hmc_net.proofs.Indexed.{links_changed, entry_changed}
-use Rattle.hmc_net.proofs.PortSteps.{shift_out_full, shift_out_may, shift_out_does, onward_after}
+use Rattle.hmc_net.proofs.PortSteps.{shift_out_full, shift_out_may, shift_out_does, onward_after, shifting_again, some_leaving}
 use Rattle.hmc_net.proofs.network.Network.shift_out.Goals as goal
 
-pub returns-in_default : goal.returns-in_default
-returns-in_default g c =
-    shift_out_full (net_of g.B.Workbench.slots c.args.self.now) _ c.args.cube c.args.port c.args.direction c.args.out c.args.front c.requires.ready.sized c.requires.front
+pub returns-in_default-clause-does : goal.returns-in_default-clause-does
+returns-in_default-clause-does g c =
+    shift_out_full (net_of g.B.Workbench.slots c.args.self.now) _ c.args.cube c.args.port c.args.direction c.args.out c.requires.leaving.front c.requires.ready.sized c.requires.leaving.shifting
     (subst (IsWayOut (net_of g.B.Workbench.slots c.args.self.now) c.args.cube c.args.out) c.in_default.is c.room_through.ensures)
-    (entry_changed _ (net_of g.B.Workbench.slots c.args.self.now) _ _ _ _ c.idle.new.self _ (ap (net_of g.B.Workbench.slots) c.self.view_is) c.idle.ensures)
+    (entry_changed _ (net_of g.B.Workbench.slots c.args.self.now) _ _ _ _ c.idle.new.last _ (ap (net_of g.B.Workbench.slots) c.self.view_is) c.idle.ensures.last)
+
+pub front-requires : goal.front-requires
+front-requires g c =
+    subst (λ (n : NetState). IsDirection n.links c.args.direction) (sym (ap (net_of g.B.Workbench.slots) c.self.view_is)) (ends_in (net_of g.B.Workbench.slots c.args.self.now) (places.Port c.args.cube c.args.port) c.args.direction c.requires.ready c.requires.leaving.shifting.ends)
+
+pub unreachable-requires : goal.unreachable-requires
+unreachable-requires g c =
+    some_leaving (net_of g.B.Workbench.slots c.args.self.now) c.args.cube c.args.port c.args.direction (goals.Port c.args.out) c.requires.ready c.requires.leaving
+    (subst (λ (n : NetState). IsFrontAt n.links c.args.direction None) (ap (net_of g.B.Workbench.slots) c.self.view_is) (λ rows entries stand. c.in_default-front.ensures rows entries stand))
 
 pub take-requires-clause-there : goal.take-requires-clause-there
 take-requires-clause-there g c =
-    subst (λ (n : NetState). IsDirection n.links c.args.direction) (sym (ap (net_of g.B.Workbench.slots) c.self.view_is)) (ends_in (net_of g.B.Workbench.slots c.args.self.now) (places.Port c.args.cube c.args.port) c.args.direction c.requires.ready c.requires.front.ends)
+    subst (λ (n : NetState). IsDirection n.links c.args.direction) (sym (ap (net_of g.B.Workbench.slots) c.self.view_is)) (ends_in (net_of g.B.Workbench.slots c.args.self.now) (places.Port c.args.cube c.args.port) c.args.direction c.requires.ready c.requires.leaving.shifting.ends)
 
 pub take-requires-clause-going : goal.take-requires-clause-going
 take-requires-clause-going g c = subst (λ (n : NetState). AreGoing n.links) (sym (ap (net_of g.B.Workbench.slots) c.self.view_is)) c.requires.ready.sees.shows.links.going
@@ -29,11 +39,15 @@ hand-requires-clause-there g c =
 
 pub hand-requires-clause-may : goal.hand-requires-clause-may
 hand-requires-clause-may g c =
-    shift_out_may (net_of g.B.Workbench.slots c.args.self.now) c.args.cube c.args.port c.args.direction c.args.out c.in-Some.onward c.args.front c.take.new.self c.requires.ready c.requires.front (subst (IsWayOut (net_of g.B.Workbench.slots c.args.self.now) c.args.cube c.args.out) c.in-Some.is c.room_through.ensures)
+    let shifting = shifting_again (net_of g.B.Workbench.slots c.args.self.now) c.args.cube c.args.port c.args.direction (goals.Port c.args.out) c.in-Some-front.front c.requires.ready c.requires.leaving
+    (subst (λ (n : NetState). IsFrontAt n.links c.args.direction (Some c.in-Some-front.front)) (ap (net_of g.B.Workbench.slots) c.self.view_is) (λ rows entries stand. c.in-Some-front.ensures rows entries stand)) in
+    shift_out_may (net_of g.B.Workbench.slots c.args.self.now) c.args.cube c.args.port c.args.direction c.args.out c.in-Some.onward c.in-Some-front.front c.take.new.self c.requires.ready shifting (subst (IsWayOut (net_of g.B.Workbench.slots c.args.self.now) c.args.cube c.args.out) c.in-Some.is c.room_through.ensures)
     (λ rows entries stand. c.take.ensures rows entries (subst (λ (n : NetState). LinksStandFor rows n.links entries) (sym (ap (net_of g.B.Workbench.slots) c.self.view_is)) stand))
 
-pub returns : goal.returns
-returns g c =
-    shift_out_does (net_of g.B.Workbench.slots c.args.self.now) _ c.args.cube c.args.port c.args.direction c.args.out c.in-Some.onward c.args.front c.take.new.self c.hand.new.self c.requires.ready c.requires.front (subst (IsWayOut (net_of g.B.Workbench.slots c.args.self.now) c.args.cube c.args.out) c.in-Some.is c.room_through.ensures)
+pub returns-clause-does : goal.returns-clause-does
+returns-clause-does g c =
+    let shifting = shifting_again (net_of g.B.Workbench.slots c.args.self.now) c.args.cube c.args.port c.args.direction (goals.Port c.args.out) c.in-Some-front.front c.requires.ready c.requires.leaving
+    (subst (λ (n : NetState). IsFrontAt n.links c.args.direction (Some c.in-Some-front.front)) (ap (net_of g.B.Workbench.slots) c.self.view_is) (λ rows entries stand. c.in-Some-front.ensures rows entries stand)) in
+    shift_out_does (net_of g.B.Workbench.slots c.args.self.now) _ c.args.cube c.args.port c.args.direction c.args.out c.in-Some.onward c.in-Some-front.front c.take.new.self c.hand.new.self c.requires.ready shifting (subst (IsWayOut (net_of g.B.Workbench.slots c.args.self.now) c.args.cube c.args.out) c.in-Some.is c.room_through.ensures)
     (λ rows entries stand. c.take.ensures rows entries (subst (λ (n : NetState). LinksStandFor rows n.links entries) (sym (ap (net_of g.B.Workbench.slots) c.self.view_is)) stand)) c.hand.ensures
     (links_changed _ (net_of g.B.Workbench.slots c.args.self.now) _ _ _ c.hand.new.self _ c.shifted.new.self _ (ap (net_of g.B.Workbench.slots) c.self.view_is) c.shifted.ensures)

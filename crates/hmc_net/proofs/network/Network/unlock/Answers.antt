@@ -19,5 +19,5 @@ lose-requires-clause-gathering g c =
     let ready = c.requires.ready in
     subst (λ (n : NetState). AreGathering n.piped c.args.direction) (sym view) (are_gathering net.topology ready.view net.piped c.args.direction ready.sees.laws (shows_pipes net ready.view ready.sized ready.sees) c.requires.there)
 
-pub returns : goal.returns
-returns g c = unlock_for _ (net_of g.B.Workbench.slots c.args.self.now) c.unlock.new.self c.lose.new.self c.unlocked.new.self c.args.direction (ap (net_of g.B.Workbench.slots) c.self.view_is) c.requires.ready c.unlocked.ensures c.unlock.ensures c.lose.ensures
+pub returns-clause-does : goal.returns-clause-does
+returns-clause-does g c = unlock_for _ (net_of g.B.Workbench.slots c.args.self.now) c.unlock.new.self c.lose.new.self c.unlocked.new.self c.args.direction (ap (net_of g.B.Workbench.slots) c.self.view_is) c.requires.ready c.unlocked.ensures c.unlock.ensures c.lose.ensures
