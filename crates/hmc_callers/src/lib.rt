@@ -9,6 +9,7 @@ mod net;
 mod packet;
 mod report;
 mod serial;
+mod session;
 mod units;
 
 pub use case::is_case;
@@ -18,4 +19,5 @@ pub use net::entry_of;
 pub use packet::round_trip;
 pub use report::ending_of;
 pub use serial::answer_of;
+pub use session::ask_and_run;
 pub use units::{Swap, swapped_by_bench};

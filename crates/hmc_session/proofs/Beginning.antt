@@ -1,7 +1,6 @@
 -- A session begins.
-use Rattle.std.proofs.Common.{◌≡◌, ◌<◌, ◌^◌, ℕ, Bool, true, false, List, [], ◌∷◌, length, Option, refl, sym, subst, arith}
-use Rattle.std.specs.List.{All}
-use Rattle.std.specs.Prelude.{slice_index_or, replicate}
+use Rattle.std.proofs.Common.{◌≡◌, false, List, [], ◌∷◌, Option, refl, sym, subst, arith}
+use Rattle.std.specs.Prelude.{replicate}
 use Rattle.std.proofs.lemmas.List.Elements.{All-nil, All-cons, All-head}
 use Rattle.hmc_codes.specs.Limits.{most_hosts}
 use Rattle.hmc_units.specs.Unit.{UnitFields}
@@ -11,7 +10,7 @@ use Rattle.hmc_case.specs.Case.{CaseFields, IsCase}
 use Rattle.hmc_case.specs.Plan.{plan_of}
 use Rattle.hmc_journal.specs.Hosts.{host_of}
 use Rattle.hmc_journal.specs.Lawful.{Lawful}
-use Rattle.hmc_journal.specs.Setup.{Setup, Topology, setup_of}
+use Rattle.hmc_journal.specs.Setup.{Topology, setup_of}
 use Rattle.hmc_journal.specs.StepView.{state_of}
 use Rattle.hmc_growing.specs.Growing.{IsOpen}
 use Rattle.hmc_wiring.specs.Ready.{IsStepFor}

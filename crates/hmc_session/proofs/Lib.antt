@@ -1,3 +1,6 @@
 pub mod Standing
 pub mod Beginning
 pub mod Running
+pub mod Laying
+pub mod Runs
+pub mod Shown

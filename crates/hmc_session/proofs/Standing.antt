@@ -1,12 +1,12 @@
 -- What a session stands for after a step, after a request, and after a host is finished.
-use Rattle.std.proofs.Common.{◌≡◌, ◌∙◌, ◌<◌, ◌+◌, ◌^◌, ◌++◌, ◌==◌, ◌&&◌, ◌||◌, if◌then◌else◌, ℕ, suc, Bool, true, false, not, List, [], ◌∷◌, length, length-append, length-set, Option, None, Some, refl, sym, ap, ap₂, subst, arith}
+use Rattle.std.proofs.Common.{◌≡◌, ◌∙◌, ◌<◌, ◌+◌, ◌^◌, ◌==◌, ◌&&◌, ◌||◌, if◌then◌else◌, ℕ, suc, Bool, true, false, not, List, [], ◌∷◌, length, length-append, length-set, None, Some, refl, sym, ap, ap₂, subst, arith}
 use Rattle.std.specs.Prelude.{slice_index_or, slice_set, is_none, nat_le}
 use Rattle.std.proofs.lemmas.Bool.{leb-false}
 use Rattle.hmc_script.specs.Items.{ItemFields}
 use Rattle.hmc_schedule.specs.declared.step.Step.{Step}
 use Rattle.hmc_schedule.specs.declared.step.Step.TheVariants as steps
 use Rattle.hmc_schedule.specs.Plan.{PlanFields, IsStepOf, HasFlit}
-use Rattle.hmc_host.specs.Give.{is_at_end, next_item}
+use Rattle.hmc_host.specs.Give.{is_at_end}
 use Rattle.hmc_entries.specs.declared.entry.Entry.{Entry}
 use Rattle.hmc_entries.specs.Event.{is_passed}
 use Rattle.hmc_journal.specs.Next.{next}
@@ -17,7 +17,6 @@ use Rattle.hmc_growing.proofs.HostEnds.{end_is_give}
 use Rattle.hmc_kept.specs.Hosts.{host_in}
 use Rattle.hmc_kept.proofs.Elements.{changed_at}
 use Rattle.hmc_wiring.specs.Ready.{IsStepFor}
-use Rattle.hmc_net.specs.NetState.{NetState}
 use Rattle.hmc_net.specs.Stands.{StandsFor, IsNext}
 use Rattle.hmc_net.proofs.Growing.{next_with_step}
 use Rattle.hmc_session.specs.declared.refusal.NotTaken.TheVariants.{Unknown, Over, Waits}

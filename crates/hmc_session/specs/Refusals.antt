@@ -1,6 +1,8 @@
 -- Why a session doesn't take a step, and why it doesn't ask a host.
-use Rattle.std.specs.Prelude.{ℕ, ◌||◌, ◌&&◌, not, if◌then◌else◌, nat_lt, nat_le, Bool, true, length, Option, Some, None}
-use Rattle.hmc_codes.specs.Limits.{most_requests, ports}
+use Rattle.std.specs.Prelude.{ℕ, ◌||◌, ◌&&◌, not, if◌then◌else◌, nat_lt, nat_le, Bool, length, Option, Some, None}
+use Rattle.hmc_codes.specs.Limits.{ports}
+use Rattle.hmc_script.specs.Items.{most_asked}
+use Rattle.hmc_host.specs.Host.{asked_count}
 use Rattle.hmc_codes.specs.declared.lift.Lift.{Lift}
 use Rattle.hmc_codes.specs.declared.lift.Lift.TheVariants as lifts
 use Rattle.hmc_schedule.specs.declared.step.Step.{Step}
@@ -60,5 +62,5 @@ ask_refusal session host cube =
     (if nat_le session.plan.hosts host then Some NoHost else
     if nat_le (length session.plan.cubes) cube then Some NoCube else
     if is_finished session host then Some Finished else
-    if nat_le most_requests (length (host_in session.net.hosts host).items) then Some Full else
+    if nat_le most_asked (asked_count (host_in session.net.hosts host)) then Some Full else
     None)

@@ -1,10 +1,12 @@
 -- What a session keeps, and which case and which journal it stands for.
 use Rattle.std.specs.Prelude.{◌≡◌, ◌<◌, ℕ, Bool, true, false, not, ◌&&◌, List, [], ◌∷◌, length, slice_index_or, Option}
-use Rattle.hmc_codes.specs.Limits.{most_hosts, most_requests}
+use Rattle.hmc_codes.specs.Limits.{most_hosts}
+use Rattle.hmc_script.specs.Items.{most_asked}
 use Rattle.hmc_units.specs.Unit.{UnitFields}
 use Rattle.hmc_schedule.specs.declared.step.Step.{Step}
 use Rattle.hmc_schedule.specs.declared.step.Step.TheVariants as steps
 use Rattle.hmc_schedule.specs.Plan.{PlanFields, IsStepOf, HasFlit}
+use Rattle.hmc_host.specs.Host.{asked_count}
 use Rattle.hmc_host.specs.Give.{is_at_end}
 use Rattle.hmc_case.specs.Case.{CaseFields}
 use Rattle.hmc_entries.specs.declared.entry.Entry.{Entry}
@@ -85,12 +87,12 @@ waits session (steps.Give host) =
 waits session _ = false
 
 -- a host may be asked for a request to a cube: both are there, the host isn't finished, and it was
--- asked for fewer requests than a script may have
+-- asked for fewer requests than it may be
 pub record MayAsk (session : SessionFields) (host cube : ℕ) : Type 0 where
   pub some_host : host < session.plan.hosts
   pub some_cube : cube < length session.plan.cubes
   pub free : is_finished session host ≡ false
-  pub room : length (host_in session.net.hosts host).items < most_requests
+  pub room : asked_count (host_in session.net.hosts host) < most_asked
 
 -- a case without its steps
 abbrev pub begun : CaseFields → List (Option UnitFields) → Setup

@@ -1,7 +1,7 @@
 //! Which steps name parts of a plan.
 
 ghost use Rattle.std.specs.Prelude.{◌≡◌, ◌<◌, ◌≤◌, ◌&&◌, nat_lt, length, IsTrue};
-ghost use Rattle.hmc_codes.specs.Limits.{most_hosts};
+ghost use Rattle.hmc_codes.specs.Limits.{most_cubes, most_hosts};
 ghost use Rattle.hmc_schedule.specs.Plan.{IsStepOf, IsPortOf, IsVaultOf, IsBankOf, IsLiftOf, banks_at};
 ghost use Rattle.hmc_session.specs.Refusals.{has_cube, has_port, has_vault, has_lift, has_step};
 
@@ -14,6 +14,14 @@ pub fn host_count(plan: &Plan) -> u8
     ensures few { result ≤ most_hosts }
 {
     plan.hosts
+}
+
+/// The number of cubes of a plan.
+pub fn cube_count(plan: &Plan) -> u8
+    ensures count { result ≡ length plan.now.cubes }
+    ensures few { result ≤ most_cubes }
+{
+    plan.cubes.len() as u8
 }
 
 fn has_cube(plan: &Plan, cube: u8) -> bool
@@ -62,7 +70,8 @@ fn has_direction(plan: &Plan, direction: u8) -> bool
 }
 
 fn has_bank(plan: &Plan, cube: u8, vault: u8, bank: u8) -> bool
-    ensures value { result ≡ (has_vault plan.now cube vault && nat_lt bank (banks_at plan.now cube)) }
+    ensures value { result ≡
+        (has_vault plan.now cube vault && nat_lt bank (banks_at plan.now cube)) }
     ensures means { IsTrue result → IsBankOf plan.now cube vault bank }
 {
     has_vault(plan, cube, vault) && bank < plan.banks(cube)

@@ -3,6 +3,7 @@
 ghost use Rattle.std.specs.Prelude.{◌≡◌};
 
 use hmc_codes::Memory;
+use hmc_script::ScriptKind;
 
 /// Why a step isn't taken. The first of several causes counts.
 #[derive(Clone, Copy, Debug, PartialEq, Eq)]
@@ -24,7 +25,7 @@ pub enum NotAsked {
     NoCube,
     /// The host is finished.
     Finished,
-    /// The host was asked for `MOST_REQUESTS` requests.
+    /// The host was asked for `MOST_ASKED` requests.
     Full,
     /// Out of memory.
     Memory,
@@ -38,4 +39,16 @@ impl From<Memory> for NotAsked {
     fn from(_: Memory) -> Self {
         NotAsked::Memory
     }
+}
+
+/// Why no host is asked for the request of a text. The first of several causes counts.
+#[derive(Clone, Copy, Debug, PartialEq, Eq)]
+pub enum LineNotAsked {
+    /// The text is no script for the hosts and cubes of the session: its first fault, by its line,
+    /// counted from 1, and what is wrong there.
+    Fault { line: u32, kind: ScriptKind },
+    /// It has no request, or more than one.
+    NotOne,
+    /// Its host isn't asked.
+    Refused(NotAsked),
 }

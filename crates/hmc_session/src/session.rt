@@ -16,9 +16,10 @@ ghost use Rattle.hmc_session.specs.Refusals.{step_refusal, ask_refusal};
 use crate::parts::{has_step, host_count};
 use crate::{NotAsked, NotTaken};
 use hmc_case::Case;
-use hmc_codes::{MOST_HOSTS, MOST_REQUESTS, Memory, Request};
+use hmc_codes::{MOST_HOSTS, Memory, Request};
 use hmc_net::{Network, Went};
 use hmc_schedule::{Plan, Step};
+use hmc_script::MOST_ASKED;
 use hmc_units::Workbench;
 use std::alloc::Global;
 use std::marker::Model;
@@ -218,7 +219,7 @@ impl<B: Workbench> Session<B> {
         if self.finished[usize::from(host)] {
             return Some(NotAsked::Finished);
         }
-        if self.network.asked(host) >= MOST_REQUESTS {
+        if self.network.asked(host) >= MOST_ASKED {
             return Some(NotAsked::Full);
         }
         None

@@ -1,11 +1,11 @@
 -- The host may be asked.
-use Rattle.std.proofs.Common.{◌≡◌, ◌∙◌, ◌<◌, length, refl, ap, sym, subst}
+use Rattle.std.proofs.Common.{◌≡◌, ◌<◌, length, refl, ap, sym, subst}
 use Rattle.hmc_codes.specs.Request.{RequestFields}
 use Rattle.hmc_script.specs.Items.{ItemFields}
 use Rattle.hmc_growing.specs.Growing.{with_item}
 use Rattle.hmc_net.specs.Asked.{item_with}
 use Rattle.hmc_net.specs.NetState.{NetState}
-use Rattle.hmc_session.specs.Session.{SessionFields, StandsIn, IsSession, MayAsk, session_of}
+use Rattle.hmc_session.specs.Session.{SessionFields, StandsIn, IsSession, session_of}
 use Rattle.hmc_session.proofs.Standing.{may_from, stands_asked, keeps_with, host_there, cube_there}
 use Rattle.hmc_session.proofs.session.Session.ask.Goals as goal
 

@@ -1,5 +1,5 @@
 -- A host of the plan is there.
-use Rattle.std.proofs.Common.{◌≡◌, ◌<◌, ap, arith}
+use Rattle.std.proofs.Common.{arith}
 use Rattle.hmc_session.specs.Session.{SessionFields, session_of}
 use Rattle.hmc_session.proofs.Standing.{host_there}
 use Rattle.hmc_session.proofs.session.Session.ask_refusal.Goals as goal

@@ -1,6 +1,4 @@
 -- The first session of the case.
-use Rattle.std.proofs.Common.{◌≡◌}
-use Rattle.hmc_units.specs.Unit.{UnitFields}
 use Rattle.hmc_net.specs.NetState.{net_of}
 use Rattle.hmc_session.proofs.Beginning.{stands_first, keeps_first}
 use Rattle.hmc_session.proofs.session.Session.begin.Goals as goal

@@ -1,0 +1,14 @@
+-- So many steps were tried, and none of their entries is of a chosen kind.
+use Rattle.std.proofs.Common.{◌≡◌, List, false}
+use Rattle.hmc_entries.specs.declared.entry.Entry.{Entry}
+use Rattle.hmc_journal.specs.Setup.{Setup}
+use Rattle.hmc_session.specs.Running.{RunsOn}
+use Rattle.hmc_session.specs.Session.{session_of, StandsIn}
+use Rattle.hmc_session.proofs.session.Session.run.Given as goal
+
+abbrev pub invariant-steps : goal.invariant-steps
+invariant-steps g l = record {
+  runs : (setup : Setup) (past : List Entry) → StandsIn (session_of g.B.Workbench.slots l.initial.self) setup past → RunsOn (session_of g.B.Workbench.slots l.self) setup past l.initial.laid l.laid l.stops l.at false;
+  finished : l.self.finished ≡ l.initial.self.finished;
+  plan : l.self.plan ≡ l.initial.self.plan;
+}

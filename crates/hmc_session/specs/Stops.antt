@@ -1,0 +1,23 @@
+-- The kinds of entries at which a run of laid steps stops.
+use Rattle.std.specs.Prelude.{Bool}
+use Rattle.hmc_entries.specs.declared.entry.Entry.{Entry}
+use Rattle.hmc_entries.specs.declared.entry.Entry.TheVariants.{Gave, Sent, Landed, Shifted, Dropped, Spread, Executed, Lifted, Took, Discarded, Through, Unlocked, Retired, Passed, Idle}
+use Rattle.hmc_session.specs.declared.stops.Stops.{Stops}
+
+-- the entry is of a kind that is among these
+abbrev pub is_stop : Stops → Entry → Bool
+is_stop stops (Gave host tag poisoned request) = stops.gave
+is_stop stops (Sent direction what flit) = stops.sent
+is_stop stops (Landed direction flit outcome) = stops.landed
+is_stop stops (Shifted cube port goal) = stops.shifted
+is_stop stops (Dropped cube port) = stops.dropped
+is_stop stops (Spread cube vault bank) = stops.spread
+is_stop stops (Executed unit host tag request answer) = stops.executed
+is_stop stops (Lifted cube from port) = stops.lifted
+is_stop stops (Took host tag answer) = stops.took
+is_stop stops (Discarded host) = stops.discarded
+is_stop stops (Through cube port direction) = stops.through
+is_stop stops (Unlocked direction) = stops.unlocked
+is_stop stops (Retired slot) = stops.retired
+is_stop stops (Passed direction flit) = stops.passed
+is_stop stops (Idle step cause) = stops.idle

@@ -1,0 +1,113 @@
+//! Steps that are laid down ahead.
+
+ghost use Rattle.std.specs.Prelude.{◌≡◌, ◌∷◌, [], List, length, IfOk, IfSome};
+ghost use Rattle.std.specs.List.{All};
+ghost use Rattle.hmc_schedule.specs.Plan.{HasFlit, IsStepOf};
+ghost use Rattle.hmc_schedule.specs.Schedule.{schedule_of};
+ghost use Rattle.hmc_schedule.specs.declared.step.Step.{Step};
+ghost use Rattle.hmc_session.specs.Ahead.{TakesFirst, StepsBy, IsWithoutStep};
+ghost use Rattle.hmc_session.specs.Session.{session_of};
+ghost use Rattle.hmc_text.specs.InTurn.{Answers};
+
+use crate::{NotTaken, Session};
+use hmc_net::Went;
+use hmc_schedule::{Schedule, ScheduleFault, Step};
+use hmc_units::Workbench;
+use std::alloc::Global;
+use std::marker::Model;
+
+/// Steps that are laid down ahead, in order. Contracts see the list of those that are left.
+#[derive(Drop)]
+pub struct Laid {
+    steps: Schedule,
+    at: u32,
+}
+
+impl Model for Laid {
+    ghost use Rattle.std.specs.Prelude.{List, drop};
+    ghost use Rattle.std.specs.List.{All};
+    ghost use Rattle.hmc_schedule.specs.Plan.{HasFlit};
+    ghost use Rattle.hmc_schedule.specs.declared.step.Step.{Step};
+
+    ghost Value = { List Step };
+
+    ghost view = { λ l. drop l.at l.steps };
+
+    ghost invariant = { λ l. All HasFlit l.steps };
+}
+
+impl Laid {
+    /// The steps of a schedule. Each mask of a landing is as long as a flit.
+    pub fn new(steps: Schedule) -> Self
+        requires { All HasFlit steps }
+        ensures { result ≡ steps }
+    {
+        Laid { steps, at: 0 }
+    }
+
+    /// The number of steps that are left.
+    pub fn len(&self) -> u32
+        ensures { result ≡ length self.now }
+    {
+        self.steps.len().saturating_sub(self.at)
+    }
+
+    /// Takes the next step off the list, if one is left.
+    pub fn take(&mut self) -> Option<Step>
+        ensures taken { TakesFirst self.old result self.new }
+        ensures mask { IfSome result HasFlit }
+    {
+        if self.at >= self.steps.len() {
+            return None;
+        }
+        let step = self.steps.step(self.at);
+        self.at += 1;
+        Some(step)
+    }
+}
+
+impl<B: Workbench> Session<B> {
+    /// Lays down the steps of a schedule for the parts of the session. The fault is its first one:
+    /// its line, counted from 1, and what is wrong there.
+    pub fn lay(&self, alloc: Global, text: &str) -> Result<Laid, ScheduleFault>
+        ensures exact { Answers (λ laid. laid) result (schedule_of self.now.plan text.now) }
+        ensures within { IfOk result (All (IsStepOf self.now.plan)) }
+    {
+        let steps = Schedule::parse(alloc, text, self.plan())?;
+        Ok(Laid::new(steps))
+    }
+
+    /// Takes the next of the steps that are laid down. `None` if none is left. A step that is
+    /// refused is off the list too.
+    pub fn next(&mut self, laid: &mut Laid) -> Result<Option<Went>, NotTaken>
+        // Without a step nothing changes.
+        ensures none { laid.old ≡ [] → IsWithoutStep result
+            (session_of B.slots self.old) (session_of B.slots self.new) laid.new }
+
+        // A step is taken or refused as by `step`.
+        ensures steps { (step : Step) (rest : List Step) → laid.old ≡ step ∷ rest →
+            (laid.new ≡ rest) × StepsBy
+            (session_of B.slots self.old) (session_of B.slots self.new) step result }
+        ensures finished { self.new.finished ≡ self.old.finished }
+        ensures plan { self.new.plan ≡ self.old.plan }
+    {
+        match laid.take() {
+            Some(step) => self.step_on(&step),
+            None => Ok(None),
+        }
+    }
+
+    // Takes a step, if nothing refuses it.
+    fn step_on(&mut self, step: &Step) -> Result<Option<Went>, NotTaken>
+        requires { HasFlit step.now }
+        ensures steps { StepsBy
+            (session_of B.slots self.old) (session_of B.slots self.new) step.now result }
+        ensures finished { self.new.finished ≡ self.old.finished }
+        ensures plan { self.new.plan ≡ self.old.plan }
+    {
+        match self.step(step) {
+            Ok(went) => Ok(Some(went)),
+            Err(refusal) => Err(refusal),
+        }
+    }
+}

@@ -1,0 +1,76 @@
+//! A session takes laid steps up to an entry of a chosen kind.
+
+ghost use Rattle.std.specs.Prelude.{◌≡◌, List};
+ghost use Rattle.hmc_entries.specs.declared.entry.Entry.{Entry};
+ghost use Rattle.hmc_journal.specs.Setup.{Setup};
+ghost use Rattle.hmc_session.specs.Running.{RunsTo, Tries, stopped_at};
+ghost use Rattle.hmc_session.specs.Session.{session_of, StandsIn};
+
+use crate::stops::stops_at;
+use crate::{Laid, NotTaken, Session, Stops};
+use hmc_units::Workbench;
+
+/// How a run of laid steps ended.
+#[derive(Clone, Copy, Debug, PartialEq, Eq)]
+pub enum Ran {
+    /// The latest entry is of a chosen kind.
+    Stopped,
+    /// As many steps as it was to try were tried.
+    Tried,
+    /// No step is left.
+    Ended,
+    /// A step names a part that isn't there. It is off the list.
+    Unknown,
+    /// A landing passed, or `MOST_TAKEN` steps were taken, and a step was to follow. It is off the
+    /// list.
+    Over,
+}
+
+impl<B: Workbench> Session<B> {
+    /// Takes laid steps up to an entry of a chosen kind, and tries at most so many. A step that
+    /// waits is passed over; one that is refused for another cause ends the run.
+    pub fn run(&mut self, laid: &mut Laid, most: u32, stops: &Stops) -> Ran
+        // The session stands for the case with the steps that were taken, and for the journal with
+        // their entries. No earlier entry than the latest is of a chosen kind.
+        ensures stands { (setup : Setup) (past : List Entry) →
+            StandsIn (session_of B.slots self.old) setup past →
+            RunsTo result (session_of B.slots self.new) setup past laid.old laid.new
+            stops.now most }
+        ensures finished { self.new.finished ≡ self.old.finished }
+        ensures plan { self.new.plan ≡ self.old.plan }
+    {
+        'steps: for at in 0..most {
+            if let Some(ran) = self.try_next(laid, stops) {
+                return ran;
+            }
+        }
+        Ran::Tried
+    }
+
+    // Takes the next laid step, unless it waits. `Some` where a run ends with it.
+    fn try_next(&mut self, laid: &mut Laid, stops: &Stops) -> Option<Ran>
+        ensures tries { (setup : Setup) (past : List Entry) →
+            StandsIn (session_of B.slots self.old) setup past →
+            Tries result (session_of B.slots self.new) setup past laid.old laid.new stops.now }
+        ensures finished { self.new.finished ≡ self.old.finished }
+        ensures plan { self.new.plan ≡ self.old.plan }
+    {
+        match self.next(laid) {
+            Ok(Some(_)) => self.stopped(stops),
+            Ok(None) => Some(Ran::Ended),
+            Err(NotTaken::Waits) => None,
+            Err(NotTaken::Unknown) => Some(Ran::Unknown),
+            Err(NotTaken::Over) => Some(Ran::Over),
+        }
+    }
+
+    // `Some` where the latest entry is of a chosen kind.
+    fn stopped(&self, stops: &Stops) -> Option<Ran>
+        ensures { result ≡ stopped_at stops.now (session_of B.slots self.now).net.last }
+    {
+        if stops_at(stops, self.network().last()) {
+            return Some(Ran::Stopped);
+        }
+        None
+    }
+}
