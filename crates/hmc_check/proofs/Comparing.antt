@@ -1,7 +1,10 @@
 -- What has come of a report and of a text, and where they differ.
 use Rattle.std.proofs.Common.{◌≡◌, ◌≤◌, ◌<◌, ◌+◌, ◌-◌, ◌∙◌, ℕ, zero, suc, Bool, true, false, not, if◌then◌else◌, nat_lt, Option, Some, None, List, [], ◌∷◌, ◌++◌, length, take, drop, min, get_or, slice_get, ◌==◌, refl, sym, ap, subst, arith, append_assoc, append-nil, lt-ltb, eq-eqb, ne_eqb, eqb-true}
 use Rattle.std.proofs.Math.Seq.{take-append_seam, drop-append_seam, take-suc}
+use Rattle.std.specs.Str.{bytes_eq}
 use Rattle.std.specs.List.{concat}
+use Rattle.std.proofs.lemmas.Bool.Decides.{Decides-eqb}
+use Rattle.std.proofs.lemmas.Slice.Eq.{starts_is}
 use Rattle.std.proofs.lemmas.List.{take-append-drop, length-append, length-take-le}
 use Rattle.hmc_check.specs.Fronts.{is_feed, front_lines, feeds_in, is_open_after, lines_in}
 use Rattle.hmc_check.specs.Verdict.{capped}
@@ -141,6 +144,18 @@ first_left (y ∷ ys) (suc n) x xs is = first_left ys n x xs is
 
 pub common_apart : (a b : List ℕ) (n : ℕ) → take n a ≡ take n b → n ≤ length a → (get_or a n 0 ≡ get_or b n 0 → ⊥) → HaveInCommon a b n
 common_apart a b n same few apart = same_parts a b n same few (λ x xs ys a_is b_is. apart (first_left a n x xs a_is ∙ sym (first_left b n x ys b_is)))
+
+-- one begins with all of the other
+pub common_front : (a b : List ℕ) → bytes_eq b (take (length b) a) ≡ true → HaveInCommon a b (length b)
+common_front a b is = record {
+  came = b;
+  a_rest = drop (length b) a;
+  b_rest = [];
+  a_is = (starts_is Decides-eqb a b true (sym is)).0 refl;
+  b_is = sym (append-nil b);
+  count = refl;
+  apart = λ x xs ys a_is b_is. absurd (cc);
+}
 
 none_left : (a : List ℕ) (n x : ℕ) (xs : List ℕ) → drop n a ≡ x ∷ xs → n < length a
 none_left [] zero x xs is = absurd (cc)

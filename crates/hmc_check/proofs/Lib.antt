@@ -22,6 +22,7 @@ pub mod Opening
 pub mod Lists
 pub mod Shown
 pub mod Following
+pub mod Rounds
 pub mod DueLines
 mod Worked
 pub mod Drained

@@ -1,6 +1,6 @@
 //! The check of a report.
 
-ghost use Rattle.std.specs.Prelude.{◌≡◌, ◌≤◌, ◌<◌, [], ◌∷◌, List, ℕ, length, IfOk};
+ghost use Rattle.std.specs.Prelude.{◌≡◌, ◌≤◌, [], ◌∷◌, List, ℕ, length, IfOk};
 ghost use Rattle.std.specs.List.{concat};
 ghost use Rattle.hmc_entries.specs.declared.entry.Entry.{Entry};
 ghost use Rattle.hmc_entries.specs.Lines.{line_of};
@@ -9,7 +9,9 @@ ghost use Rattle.hmc_report.specs.Final.{final_lines};
 ghost use Rattle.hmc_check.specs.Past.{past_of};
 ghost use Rattle.hmc_check.specs.Differs.{HasCome, FollowsLine};
 ghost use Rattle.hmc_check.specs.Verdict.{IsVerdict};
-ghost use Rattle.hmc_check.specs.Following.{IsAt, IsAfter, FollowedAll, FollowsSteps};
+ghost use Rattle.hmc_check.specs.Following.{IsAt, IsDueStep, IsAfter, IsFollowing, FollowedAll, FollowsRound, FollowsSteps};
+ghost use Rattle.hmc_schedule.specs.RoundsLeft.{steps_left};
+ghost use Rattle.hmc_schedule.specs.declared.step.Step.{Step};
 ghost use Rattle.hmc_journal.specs.Report.{report_text};
 ghost use Rattle.hmc_journal.specs.Lawful.{journal_of};
 
@@ -18,7 +20,7 @@ use crate::past::Past;
 use hmc_case::Case;
 use hmc_codes::LineText;
 use hmc_report::{Finished, Lines, Part};
-use hmc_schedule::Schedule;
+use hmc_schedule::{RoundsLeft, Schedule, Step};
 use hmc_units::Workbench;
 use std::alloc::Global;
 
@@ -34,18 +36,85 @@ pub enum CheckFault {
     },
 }
 
-// Takes a step of the schedule. True where it is a landing that passed: then none follows.
-pub(crate) fn take_step<B: Workbench>(past: &mut Past<B>, schedule: &Schedule, at: u32) -> bool
-    requires inside { at < length schedule.now }
-    requires there { (setup : Setup) × (lines : List Entry) ×
-        IsAt (past_of B.slots past.old) setup schedule.now lines at }
+// Takes the step that is due. True where it is a landing that passed: then none follows.
+pub(crate) fn take_step<B: Workbench>(past: &mut Past<B>, due: &Step) -> bool
+    requires { (setup : Setup) × (lines : List Entry) ×
+        IsDueStep (past_of B.slots past.old) setup lines due.now }
     ensures { (setup : Setup) (lines : List Entry) →
-        IsAt (past_of B.slots past.old) setup schedule.now lines at →
+        IsDueStep (past_of B.slots past.old) setup lines due.now →
         IsAfter (past_of B.slots past.new) setup lines result }
 {
-    let due = schedule.step(at);
-    past.step(&due);
+    past.step(due);
     past.last().has_passed()
+}
+
+// How far a report was followed: what is left of it after the lines of so many entries, and memory
+// for the next one.
+#[derive(Drop)]
+struct Followed<'a> {
+    rest: &'a [u8],
+    entries: u32,
+    line: LineText,
+}
+
+// Takes the step that is due, and compares the report with its line. True where it is a landing
+// that passed; or the first line that differs.
+fn follow_step<'a, B: Workbench>(
+    past: &mut Past<B>,
+    due: &Step,
+    report: &'a [u8],
+    followed: &mut Followed<'a>,
+) -> Result<bool, u32>
+    requires { (setup : Setup) × (steps : List Step) × (lines : List Entry) × (left : List Step) ×
+        IsFollowing (past_of B.slots past.old) setup steps lines (due.now ∷ left)
+        report.now followed.old.rest.now followed.old.entries }
+    ensures { (setup : Setup) (steps : List Step) (lines : List Entry) (left : List Step) →
+        IsFollowing (past_of B.slots past.old) setup steps lines (due.now ∷ left)
+        report.now followed.old.rest.now followed.old.entries →
+        FollowsRound result (past_of B.slots past.new) setup steps left
+        report.now followed.new.rest.now followed.new.entries }
+{
+    let passed = take_step(past, due);
+    followed.line.clear();
+    past.last().line(&mut followed.line);
+    match after_line(report, followed.rest, followed.line.as_str().as_bytes()) {
+        Ok(more) => {
+            followed.rest = more;
+            followed.entries += 1;
+            Ok(passed)
+        }
+        Err(differs) => Err(differs),
+    }
+}
+
+// Compares the report with the line of each step of the round at hand. True where a landing
+// passed: then no further step is taken; or the first line that differs.
+fn follow_round<'a, B: Workbench>(
+    past: &mut Past<B>,
+    rounds: &mut RoundsLeft<'_>,
+    round: &[Step],
+    report: &'a [u8],
+    followed: &mut Followed<'a>,
+) -> Result<bool, u32>
+    requires { (setup : Setup) × (steps : List Step) × (lines : List Entry) ×
+        IsFollowing (past_of B.slots past.old) setup steps lines (steps_left rounds.old round.now)
+        report.now followed.old.rest.now followed.old.entries }
+    ensures followed { (setup : Setup) (steps : List Step) (lines : List Entry) →
+        IsFollowing (past_of B.slots past.old) setup steps lines (steps_left rounds.old round.now)
+        report.now followed.old.rest.now followed.old.entries →
+        FollowsRound result (past_of B.slots past.new) setup steps (steps_left rounds.new [])
+        report.now followed.new.rest.now followed.new.entries }
+    ensures rounds { rounds.new.rounds ≡ rounds.old.rounds }
+{
+    'steps: for step in round {
+        let due = rounds.due(*step);
+        match follow_step(past, &due, report, followed) {
+            Ok(false) => {}
+            Ok(true) => return Ok(true),
+            Err(differs) => return Err(differs),
+        }
+    }
+    Ok(false)
 }
 
 // Compares the report with the line of each step, up to a landing that passed. Gives what is left
@@ -59,21 +128,20 @@ fn follow_steps<'a, B: Workbench>(
     ensures { (setup : Setup) → IsAt (past_of B.slots past.old) setup schedule.now [] 0 →
         FollowsSteps (past_of B.slots past.new) setup report.now result }
 {
-    let mut line = LineText::new();
-    let mut rest = report;
-    'steps: for at in 0..schedule.len() {
-        let passed = take_step(past, schedule, at);
-        line.clear();
-        past.last().line(&mut line);
-        match after_line(report, rest, line.as_str().as_bytes()) {
-            Ok(more) => rest = more,
+    let mut followed = Followed {
+        rest: report,
+        entries: 0,
+        line: LineText::new(),
+    };
+    let mut rounds = schedule.in_rounds();
+    'rounds: while let Some(round) = rounds.next() {
+        match follow_round(past, &mut rounds, round, report, &mut followed) {
+            Ok(false) => {}
+            Ok(true) => return Ok((followed.rest, true, followed.entries)),
             Err(differs) => return Err(differs),
         }
-        if passed {
-            return Ok((rest, true, at + 1));
-        }
     }
-    Ok((rest, false, schedule.len()))
+    Ok((followed.rest, false, followed.entries))
 }
 
 // Compares what is left of the report with the final lines: what is left then, or the first line

@@ -53,7 +53,8 @@ fn due_after<B: Workbench>(past: &mut Past<B>, schedule: &Schedule, before: u32)
         ≡ slice_get (report_lines setup (journal_of setup)) before }
 {
     'steps: for at in 0..schedule.len() {
-        let passed = take_step(past, schedule, at);
+        let due = schedule.step(at);
+        let passed = take_step(past, &due);
         if at == before {
             return Some(last_line(past));
         }

@@ -18,7 +18,8 @@ AreLeft setup past slots = slots ≡ (state_of setup past).slots
 
 -- They are those after the steps so far, whose lines were written; the last one broke off. So no
 -- step is taken before the line of the step before it was written.
-pub record AreLeftAt (setup : Setup) (slots : List (Option UnitFields)) (old new : SinkView) : Type 0 where
+pub record AreLeftAt (setup : Setup) (slots : List (Option UnitFields)) (old new : SinkView) :
+    Type 0 where
   pub past : List Entry
   pub lawful : Lawful setup past
   pub slots_are : AreLeft setup past slots

@@ -19,7 +19,8 @@ use hmc_units::Workbench;
 // Writes the line of a word, of at most 16 bytes, and a number.
 fn write_number<O: Sink>(sink: &mut O, word: &str, number: u64) -> Result<(), Failed>
     requires { length word.now ≤ 16 }
-    ensures { Writes result (O.shows sink.old) (O.shows sink.new) (number_line word.now number ∷ []) }
+    ensures { Writes result (O.shows sink.old) (O.shows sink.new)
+        (number_line word.now number ∷ []) }
 {
     let mut text = LineText::new();
     number_line(&mut text, word, number);

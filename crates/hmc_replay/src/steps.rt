@@ -31,6 +31,7 @@ fn has_passed(went: Went) -> bool
 }
 
 // Takes the next step. Returns whether it is a landing that passed.
+#[inline(always)]
 fn take_step<B: Workbench>(network: &mut Network<B>, due: &Step) -> bool
     requires { (setup : Setup) × (past : List Entry) ×
         IsNext (net_of B.slots network.old) setup past due.now }
@@ -41,7 +42,8 @@ fn take_step<B: Workbench>(network: &mut Network<B>, due: &Step) -> bool
     has_passed(network.step(due))
 }
 
-// Takes the steps of the round at hand. Returns whether a landing passed: then none is taken after it.
+// Takes the steps of the round at hand. Returns whether a landing passed: then none is taken
+// after it.
 fn take_round<B: Workbench>(
     network: &mut Network<B>,
     rounds: &mut RoundsLeft<'_>,
@@ -79,6 +81,7 @@ pub fn take_steps<B: Workbench>(network: &mut Network<B>, schedule: &Schedule) -
 }
 
 /// Writes the line of an entry.
+#[inline(always)]
 pub fn write_entry<O: Sink>(sink: &mut O, entry: &LastEntry) -> Result<(), Failed>
     ensures { Writes result (O.shows sink.old) (O.shows sink.new) (line_of entry.now ∷ []) }
 {

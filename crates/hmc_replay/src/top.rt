@@ -64,7 +64,7 @@ fn replay_with<S: Source, O: Sink, U: LogicUnit>(
 /// | `run` | a case | its report: the line of each step, and all final lines |
 /// | `make N` | none | the final lines of the case of the number N, from those of tokens on |
 /// | `check` | `case N`, a case of N bytes, and a report | whether it is that of the case |
-/// | `bound` | a case of one cube and one link | how many packets are under way, and rounds to drain |
+/// | `bound` | a case of one cube and one link | how many packets are under way; rounds to drain |
 /// | `trace` | a trace of loads and stores | its script, a line for each request |
 ///
 /// The number of `make` has one to twenty decimal digits and is below 2^64, and `make` reads
@@ -80,13 +80,13 @@ fn replay_with<S: Source, O: Sink, U: LogicUnit>(
 ///
 /// | Status | Meaning | Written |
 /// |---|---|---|
-/// | 0 | the answer is whole | the report, `lawful` with its entries, the bound's lines, or the script |
+/// | 0 | the answer is whole | the report, `lawful` and its entries, the bound's lines, the script |
 /// | 1 | out of memory | nothing |
 /// | 2 | the words are no defined form | nothing, and nothing is read |
 /// | 3 | the source failed | nothing |
 /// | 4 | the sink failed: a write, or the finish | whole lines, and a prefix of the next; or all |
 /// | 5 | the input is longer than 4,194,304 bytes, for `check` 67,108,864 | nothing |
-/// | 6 | the input is not a valid case, or trace, or has no `case N` | a line with its first fault |
+/// | 6 | the input is no valid case, or trace, or has no `case N` | a line with its first fault |
 /// | 7 | a check succeeded over flits that masks changed | the lines up to there, or the last |
 /// | 8 | the report is not lawful | `unlawful` with the number of its first line that shows it |
 ///

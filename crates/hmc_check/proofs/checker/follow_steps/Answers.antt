@@ -1,37 +1,38 @@
--- One step more, and its line; or no further one is taken; or the report differs.
-use Rattle.std.proofs.Common.{[], ◌∷◌, ◌≡◌, ◌+◌, ℕ, length, arith, sym, ap, ◌∙◌}
-use Rattle.hmc_entries.specs.Lines.{line_of}
-use Rattle.hmc_check.proofs.Following.{at_more, due_come, line_has, no_lines, rest_few, followed_all, followed_passed}
+-- One round more, and its lines; or no further one is taken; or the report differs.
+use Rattle.std.proofs.Common.{[], ◌∙◌, Ok, ap, arith}
+use Rattle.hmc_check.proofs.Rounds.{follows_first, left_same, round_told, all_followed}
 use Rattle.hmc_check.proofs.checker.follow_steps.Goals as goal
 
-pub steps-init : goal.steps-init
-steps-init g c = λ setup is. ([], is, no_lines _)
+pub rounds-init : goal.rounds-init
+rounds-init g c = λ setup is. ([], follows_first _ setup _ _ _ is c.in_rounds-rounds.ensures)
+
+pub follow_round-requires : goal.follow_round-requires
+follow_round-requires g c =
+    let now = c.rounds.invariant c.requires.0 c.requires.1 in
+    (c.requires.0, _, now.0, left_same _ c.requires.0 _ now.0 _ _ _ _ _ now.1 c.in-Some.ensures.some)
+
+pub returns-in-Ok-true : goal.returns-in-Ok-true
+returns-in-Ok-true g c = λ setup is.
+    let now = c.rounds.invariant setup is in
+    let here = left_same _ setup _ now.0 _ _ _ _ _ now.1 c.in-Some.ensures.some in
+    round_told _ setup _ _ _ _ _ _ _ (c.in-Ok-true.is ∙ ap Ok c.in-Ok-true.field-0-test) (c.follow_round.ensures.followed setup _ now.0 here)
+
+pub rounds-smaller : goal.rounds-smaller
+rounds-smaller g c = omega (arith, c.follow_round.ensures.rounds, c.in-Some.ensures.fewer)
+
+pub rounds-preserved : goal.rounds-preserved
+rounds-preserved g c = λ setup is.
+    let now = c.rounds.invariant setup is in
+    let here = left_same _ setup _ now.0 _ _ _ _ _ now.1 c.in-Some.ensures.some in
+    round_told _ setup _ _ _ _ _ _ _ (c.in-Ok-false.is ∙ ap Ok c.in-Ok-false.field-0-test) (c.follow_round.ensures.followed setup _ now.0 here)
 
 pub returns-in-Err : goal.returns-in-Err
 returns-in-Err g c = λ setup is.
-    let now = c.steps.invariant setup is in
-    let after = c.take_step-passed.ensures setup now.0 now.1 in
-    let due = c.as_bytes.ensures.value ∙ c.as_str.ensures.value ∙ c.line.ensures.text ∙ ap line_of c.last.ensures in
-    c.in-Err.ensures.follows _ _ (due_come setup now.0 _ _ _ _ after.stands.holds.lawful now.2 due)
-
-pub returns-then-passed : goal.returns-then-passed
-returns-then-passed g c = λ setup is.
-    let now = c.steps.invariant setup is in
-    let after = c.take_step-passed.ensures setup now.0 now.1 in
-    let due = c.as_bytes.ensures.value ∙ c.as_str.ensures.value ∙ c.line.ensures.text ∙ ap line_of c.last.ensures in
-    let come = c.in-Ok.ensures.follows _ _ (due_come setup now.0 _ _ _ _ after.stands.holds.lawful now.2 due) in
-    followed_passed _ setup now.0 _ _ _ _ after c.if-passed.true (line_has setup now.0 _ _ _ after.stands.holds.lawful come) (ap (λ (n : ℕ). n + 1) (sym now.1.done))
-
-pub steps-preserved : goal.steps-preserved
-steps-preserved g c = λ setup is.
-    let now = c.steps.invariant setup is in
-    let after = c.take_step-passed.ensures setup now.0 now.1 in
-    let due = c.as_bytes.ensures.value ∙ c.as_str.ensures.value ∙ c.line.ensures.text ∙ ap line_of c.last.ensures in
-    let come = c.in-Ok.ensures.follows _ _ (due_come setup now.0 _ _ _ _ after.stands.holds.lawful now.2 due) in
-    (_, at_more _ _ setup _ now.0 _ _ now.1 after c.if-passed.false, line_has setup now.0 _ _ _ after.stands.holds.lawful come)
+    let now = c.rounds.invariant setup is in
+    let here = left_same _ setup _ now.0 _ _ _ _ _ now.1 c.in-Some.ensures.some in
+    round_told _ setup _ _ _ _ _ _ _ c.in-Err.is (c.follow_round.ensures.followed setup _ now.0 here)
 
 pub returns : goal.returns
 returns g c = λ setup is.
-    let now = c.steps.invariant setup is in
-    let end : c.steps.at ≡ length c.args.schedule.now = omega (arith, c.steps-test.false, c.len-at-end.ensures) in
-    followed_all _ setup _ now.0 _ _ _ _ now.1 end now.2 (c.len.ensures ∙ sym end)
+    let now = c.rounds.invariant setup is in
+    all_followed _ setup _ _ now.0 _ _ _ now.1 c.in_default.ensures.none
