@@ -1,0 +1,98 @@
+//! Steps by numbers, and the end of requests.
+
+ghost use Rattle.std.specs.Prelude.{◌≡◌, List, None};
+ghost use Rattle.hmc_entries.specs.declared.entry.Entry.{Entry};
+ghost use Rattle.hmc_journal.specs.Setup.{Setup};
+ghost use Rattle.hmc_session.specs.Numbers.{step_named};
+ghost use Rattle.hmc_session.specs.Session.{StandsIn};
+ghost use Rattle.hmc_c.specs.Handles.{HandleStands, shown};
+ghost use Rattle.hmc_c.specs.Steps.{IsStepped, Stepped};
+ghost use Rattle.hmc_c.specs.Status.{closed};
+
+use crate::handle::{Handle, put, taken};
+use crate::held::Held;
+use crate::status::{CLOSED, NO_HOST, NONE, OK, refused_status, taken_status};
+use hmc_codes::{Flit, MOST_HOSTS};
+use hmc_session::step_named;
+use std::alloc::Global;
+
+// Takes the step of these numbers, if it is one that is taken.
+fn step_by(held: &mut Held, kind: u8, a: u8, b: u8, c: u8, mask: &Flit) -> u8
+    ensures { (setup : Setup) (past : List Entry) → StandsIn (shown held.old) setup past →
+        Stepped result held.old held.new setup past (step_named kind a b c mask.now) }
+{
+    let Some(step) = step_named(kind, a, b, c, mask) else {
+        return NONE;
+    };
+    match held.session.step(&step) {
+        Ok(went) => taken_status(went),
+        Err(refusal) => refused_status(refusal),
+    }
+}
+
+/// Takes the step that these numbers name: its kind, the numbers of its words in order, and the
+/// mask of a landing. The kinds are 0 give, 1 send, 2 land, 3 shift, 4 spread, 5 bank, 6 registers,
+/// 7 lift, 8 take, 9 through, 10 unlock and 11 retire. A lift of the answers of the registers has
+/// 255 in place of a vault.
+///
+/// 0: it is taken. 7: it is taken, and its landing passed; no step may follow. 8: it names no part
+/// of the network. 9: the handle is closed. 10: it is a give of a host that has given all of its
+/// requests and may be asked for more. 11: no step may be taken any more. With 8 to 11 nothing
+/// changes.
+#[unsafe(no_mangle)]
+pub extern "C" fn hmc_step(
+    alloc: Global,
+    handle: &mut Handle,
+    kind: u8,
+    a: u8,
+    b: u8,
+    c: u8,
+    mask: &Flit,
+) -> u8
+    ensures stands { (setup : Setup) (past : List Entry) →
+        HandleStands handle.old.value setup past →
+        IsStepped result handle.old.value handle.new.value setup past
+        (step_named kind a b c mask.now) }
+    ensures closed { handle.old.value ≡ None → result ≡ closed }
+    ensures stays { handle.old.value ≡ None → handle.new.value ≡ None }
+{
+    let Some(held) = taken(alloc, handle) else {
+        return CLOSED;
+    };
+    let mut held = held;
+    let status = step_by(&mut held, kind, a, b, c, mask);
+    put(handle, held);
+    status
+}
+
+// Asks a host for nothing more, if it is there.
+fn finish(held: &mut Held, host: u8) -> u8
+    ensures { (setup : Setup) (past : List Entry) → StandsIn (shown held.old) setup past →
+        StandsIn (shown held.new) setup past }
+{
+    if host >= MOST_HOSTS {
+        return NO_HOST;
+    }
+    held.session.finish(host);
+    OK
+}
+
+/// Asks a host for nothing more, from now on: where it has given all of its requests, its gives are
+/// steps that do nothing.
+///
+/// 0: so it is. 9: the handle is closed. 12: there is no such host; nothing changes.
+#[unsafe(no_mangle)]
+pub extern "C" fn hmc_finish(alloc: Global, handle: &mut Handle, host: u8) -> u8
+    ensures stands { (setup : Setup) (past : List Entry) →
+        HandleStands handle.old.value setup past → HandleStands handle.new.value setup past }
+    ensures closed { handle.old.value ≡ None → result ≡ closed }
+    ensures stays { handle.old.value ≡ None → handle.new.value ≡ None }
+{
+    let Some(held) = taken(alloc, handle) else {
+        return CLOSED;
+    };
+    let mut held = held;
+    let status = finish(&mut held, host);
+    put(handle, held);
+    status
+}
