@@ -7,21 +7,28 @@ ghost use Rattle.hmc_host.specs.Give.{taken_tag};
 use hmc_codes::{Answer, Command, MOST_REQUESTS, Memory, Payload, Request, TAGS};
 use hmc_host::{Given, Host, HostBuffer, Settled};
 use hmc_packet::{Packet, ask, reply};
-use hmc_script::Script;
+use hmc_script::{MOST_ASKED, Script};
 use hmc_tokens::Intake;
 use std::alloc::Global;
 use std::process::Abort;
 use std::test::Fail;
 
-// A read of the first 16 bytes of cube 0.
+// A read of 16 bytes of cube 0.
 #[tactic(auto, unfolding(hmc_codes::specs::Table::table_line))]
-fn read() -> Request {
+fn read_at(address: u64) -> Request
+    requires { address < 2 ^ 34 }
+{
     Request {
         command: Command::Rd16,
         cube: 0,
-        address: 0,
+        address,
         payload: Payload::empty(),
     }
+}
+
+// A read of the first 16 bytes of cube 0.
+fn read() -> Request {
+    read_at(0)
 }
 
 // The reply that something was done.
@@ -161,5 +168,41 @@ fn poisoned(rt: HostRuntime) -> Result<(), Fail> {
     let packet = through(&mut buffer).ok_or("nothing came")?;
     let mut host = Host::new(rt.alloc(), 0, &Script::new(rt.alloc()))?;
     assert!(rt; is_discarded(&mut host, &packet), "discarded");
+    Ok(())
+}
+
+// Asks for a read of this address more, where the host takes one.
+fn ask_for(rt: &impl Abort, host: &mut Host, address: u64) -> Result<(), Memory>
+    requires { address < 2 ^ 34 }
+{
+    assert!(rt; host.asked() < MOST_ASKED, "it takes no more");
+    host.ask(false, false, &read_at(address))
+}
+
+// Requests that a host is asked for while it runs come after those that wait, in their order.
+#[test]
+fn asked_while_some_wait(rt: HostRuntime) -> Result<(), Fail> {
+    let mut host = Host::new(rt.alloc(), 1, &reads(rt.alloc(), 1)?)?;
+    ask_for(&rt, &mut host, 0x10)?;
+    give_under(&rt, &mut host, 0, 0);
+    ask_for(&rt, &mut host, 0x20)?;
+    give_under(&rt, &mut host, 1, 0x10);
+    give_under(&rt, &mut host, 2, 0x20);
+    assert!(rt; matches!(&host.give(true), Given::Ended), "all are given");
+    assert!(rt; host.asked() == 3, "three were asked");
+    Ok(())
+}
+
+// A host takes more requests while it runs than a script has.
+#[test]
+fn asked_for_more_than_a_script_has(rt: HostRuntime) -> Result<(), Fail> {
+    let mut host = Host::new(rt.alloc(), 1, &Script::new(rt.alloc()))?;
+    for _ in 0..MOST_REQUESTS + 2 {
+        ask_for(&rt, &mut host, 0x30)?;
+        give_under(&rt, &mut host, 0, 0x30);
+        settle(&rt, &mut host, 0);
+    }
+    assert!(rt; host.asked() == MOST_REQUESTS + 2, "all were asked");
+    assert!(rt; matches!(&host.give(true), Given::Ended), "all are given");
     Ok(())
 }
