@@ -29,12 +29,19 @@ SCRATCH = range(4, 16)
 
 @dataclass(frozen=True)
 class Packet:
-    """A request or an answer on its way: its flits, its host, and the request."""
+    """A request or an answer on its way: its flits, its host, the request, and its line."""
 
     flits: int
     host: int
     request: Request
+    line: int
     is_answer: bool = False
+    is_error: bool = False
+
+    def __str__(self) -> str:
+        if not self.is_answer:
+            return f"the request of line {self.line}"
+        return f"the {'error that answers' if self.is_error else 'answer to'} line {self.line}"
 
 
 def returns_of(tokens: int) -> int:
@@ -68,6 +75,9 @@ class Follower:
         # The packet that each direction sends and receives, and how many flits are left of it.
         self._sending: list[tuple[Packet, int] | None] = [None] * count
         self._landing = [0] * count
+        # The packet of which a flit last left, and last arrived, in each direction.
+        self._left: list[Packet | None] = [None] * count
+        self._came: list[Packet | None] = [None] * count
         self._flying = [deque[Packet | None]() for _ in range(count)]
         self._buffers = [deque[Packet]() for _ in range(count)]
         self._arrived: list[deque[int]] = [deque() for _ in document["cubes"]]
@@ -106,13 +116,16 @@ class Follower:
         self.script.append(event.text)
         self.steps.append(f"give {event.host}")
         flits = BY_WORD[event.request.command].lengths[0]
-        packet = Packet(flits, event.host, event.request)
+        packet = Packet(flits, event.host, event.request, event.line)
         self._output[self._out[Endpoint(event.host)]].append(packet)
 
     def _answer(self, event: Event) -> None:
         direction = self._out[Endpoint(event.host)] ^ 1
         if not self._buffers[direction]:
-            raise wrong(event.line, f"no whole answer has arrived at h{event.host}")
+            said, packet = f"no whole answer has arrived at h{event.host}", self._came[direction]
+            if packet and self._landing[direction]:
+                said += f": {self._landing[direction]} of {packet.flits} flits of {packet}"
+            raise wrong(event.line, said)
         self._due[direction] += self._buffers[direction].popleft().flits
         self.steps.append(f"take {event.host}")
 
@@ -138,8 +151,13 @@ class Follower:
         while not waiting and end.host is None and self._arrived[end.cube] and self._work(end.cube):
             pass
         if not waiting:
-            raise wrong(event.line, f"no packet that has arrived could leave {end} now")
+            said = f"no packet that has arrived could leave {end} now"
+            before = self._left[direction]
+            if before:
+                said += f"; the last one was {before}, flits: {before.flits}"
+            raise wrong(event.line, said)
         packet = waiting.popleft()
+        self._left[direction] = packet
         self._free_tokens(direction, packet.flits)
         returned = returned_of(self._due[direction ^ 1])
         self._due[direction ^ 1] -= returned
@@ -177,6 +195,7 @@ class Follower:
         self.steps.append(f"land {direction}")
         if packet is None:
             return
+        self._came[direction] = packet
         self._landing[direction] += 1
         if self._landing[direction] == packet.flits:
             self._landing[direction] = 0
@@ -226,8 +245,11 @@ class Follower:
             self.steps.append(f"registers {cube}")
         if goal is not None:
             self.steps.append(f"lift {cube} {place[0] if place else 'r'}")
-            flits = self._answer_flits(packet.request)
-            self._output[goal].append(Packet(flits, packet.host, packet.request, True))
+            asked = packet.request
+            is_error = is_refused(asked, self._document, self._units)
+            flits = 1 if is_error else answer_flits(asked)
+            answer = Packet(flits, packet.host, asked, packet.line, True, is_error)
+            self._output[goal].append(answer)
 
     def _goal(self, cube: int, packet: Packet) -> int | None:
         """The direction that leads on from a cube: of a request for it, that of its answer."""
@@ -237,15 +259,6 @@ class Follower:
         if goal == cube:
             return self._out[host_end]
         return next_hop(cube, self._distances[goal], self._hops).direction
-
-    def _answer_flits(self, request: Request) -> int:
-        """How many flits the answer of a request has."""
-        command = BY_WORD[request.command]
-        if is_refused(request, self._document, self._units):
-            return 1
-        if command.reply == "rd_rs" and request.command.startswith("rd"):
-            return 1 + int(request.command[2:]) // 16
-        return 2 if command.reply in ("rd_rs", "md_rd_rs") else 1
 
     def _return_tokens(self) -> None:
         """Adds flow packets that the log leaves out, where tokens are due and a line is quiet."""
@@ -259,6 +272,14 @@ class Follower:
                 due -= returned_of(due)
                 self.steps += [f"send {back}", f"land {back}"]
             self._due[direction] = due
+
+
+def answer_flits(request: Request) -> int:
+    """How many flits the answer of a request has, if it is no error."""
+    command = BY_WORD[request.command]
+    if command.reply == "rd_rs" and request.command.startswith("rd"):
+        return 1 + int(request.command[2:]) // 16
+    return 2 if command.reply in ("rd_rs", "md_rd_rs") else 1
 
 
 def vault_and_bank(cube: Document, request: Request) -> tuple[int, int] | None:

@@ -13,6 +13,7 @@ from tool import quotes
 from tool.build import crates_below, libraries
 from tool.kit import TOP
 from tool.promises import promise_table, reading_table, word_table
+from tool.touched import named_table
 
 CRATES = TOP / "crates"
 # What only tests, beside the crates hmc_tests_.
@@ -105,7 +106,7 @@ def layer_table() -> list[str]:
 
 # The tables of each page.
 PAGES = {
-    "ARCHITECTURE.md": (layer_table,),
+    "ARCHITECTURE.md": (layer_table, named_table),
     "PROOFS.md": (number_table,),
     "TRUST.md": (promise_table, reading_table, word_table),
 }

@@ -8,10 +8,8 @@ final lines have to be those of the network, and what they count what the lines 
 from __future__ import annotations
 
 import os
-import re
 from collections import Counter, deque
 from collections.abc import Callable, Iterable, Iterator
-from functools import partial
 from itertools import islice
 
 from tool import files, report, schedule, script
@@ -160,6 +158,10 @@ COUNTED = {
     ("cube", "executed"): ("executed", "cube"),
     ("cube", "dropped"): ("dropped", "cube"),
 }
+COUNTED_WORDS = frozenset(word for word, _ in COUNTED.values())
+# The front of a line, and what is made of it: the front is the first word, and the number after it
+# where lines with it are counted.
+Fronted = tuple[str, Made]
 
 
 class Whole:
@@ -170,19 +172,21 @@ class Whole:
         self._counts: Counter[str] = Counter()
         self._first_end = 0
 
-    def blocks(self, blocks: Iterable[Block[tuple[str, Made]]]) -> Iterator[Block[Made]]:
+    def blocks(self, blocks: Iterable[Block[Fronted[Made]]]) -> Iterator[Block[Made]]:
         """Yields what is made of lines, after they were compared with those before them."""
         for block in blocks:
-            fronts = [front for front, _ in block.made]
+            fronts, made = zip(*block.made)
             self._counts.update(fronts)
             if not ENDS.isdisjoint(fronts):
                 for number, text in enumerate(block.texts, block.start):
                     self._compare_end(number, text)
-            yield Block(block.start, block.texts, [made for _, made in block.made])
+            yield Block(block.start, block.texts, [*made])
+        if not self._counts:
+            raise NotALine("there is no line, and a report has one at least")
 
     def _compare_end(self, number: int, text: str) -> None:
         """Compares a line, if it is one that ends a report, with those before it."""
-        if _front_of(text) not in ENDS:
+        if text.partition(" ")[0] not in ENDS:
             return
         # Where this is the first line, the report has no lines of steps at all.
         self._first_end = self._first_end or number
@@ -203,19 +207,11 @@ class Whole:
             raise NotALine(f"line {number}: {LEFT_OUT}: {said}")
 
 
-# The first word of a line, with the number after it where lines with it are counted.
-_FRONT = re.compile(rf"(?:{'|'.join(kind for kind, _ in COUNTED.values())}) [^ \n]*|[^ \n]*")
-
-
-def _front_of(text: str) -> str:
-    found = _FRONT.match(text)
-    assert found is not None
-    return found.group()
-
-
-def _with_front(make: Callable[[str], Made], text: str) -> tuple[str, Made]:
-    """The front of a line, and what is made of it."""
-    return _front_of(text), make(text)
+def _with_front(text: str) -> Fronted[Line]:
+    """The front of a line, and its record."""
+    first, _, words = text.partition(" ")
+    front = f"{first} {words.partition(' ')[0]}" if first in COUNTED_WORDS else first
+    return front, read_line(text)
 
 
 def _with_step(text: str) -> Named:
@@ -229,14 +225,14 @@ def fitting(lines: Iterable[str], document: Document) -> Iterator[Block[Line]]:
     return Fit(document).blocks(Reader(_with_step).blocks(lines))
 
 
-def whole(lines: Iterable[str], make: Callable[[str], Made]) -> Iterator[Block[Made]]:
+def whole(lines: Iterable[str], make: Callable[[str], Fronted[Made]]) -> Iterator[Block[Made]]:
     """Yields what is made of the lines of a report that is whole as far as it shows."""
-    return Whole().blocks(Reader(partial(_with_front, make)).blocks(lines))
+    return Whole().blocks(Reader(make).blocks(lines))
 
 
 def checked(lines: Iterable[str], document: Document | None) -> Iterator[Block[Line]]:
     """Yields the records of a report that fits this case, or that is whole as far as it shows."""
-    return fitting(lines, document) if document else whole(lines, read_line)
+    return fitting(lines, document) if document else whole(lines, _with_front)
 
 
 def refuse_without_idle(name: str) -> None:

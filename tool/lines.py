@@ -2,13 +2,10 @@
 
 from __future__ import annotations
 
-from dataclasses import dataclass, fields
-from functools import lru_cache
-from typing import Any, ClassVar
+from dataclasses import dataclass
+from typing import ClassVar
 
 REGISTERS = "r"
-# So much that comes again and again is remembered at most.
-MOST_KNOWN = 50_000
 
 
 @dataclass(frozen=True, slots=True)
@@ -298,55 +295,3 @@ class Bad(Line):
     number: int
     kind: str
     line: ClassVar[str] = "bad"
-
-
-# Fields that a record may lack. A tag that it lacks is `null`.
-OPTIONAL = ("bank", "bytes", "value", "flag", "error")
-# Fields whose name in JSON is taken here.
-RENAMED = {"from_": "from", "idle_step": "step"}
-# The name in JSON of each field of a record.
-_WRITTEN = {
-    kind: {field.name: RENAMED.get(field.name, field.name) for field in fields(kind)}
-    for kind in (Request, Answer, *Entry.__subclasses__(), *Line.__subclasses__())
-    if kind is not Entry
-}
-
-
-def json_template(kind: Any) -> str:
-    """The inside of a JSON object for the fields of a kind of line, to be formatted with them."""
-    marks = {"int": "%s", "str": '"%s"'}
-    rows = [(_WRITTEN[kind][field.name], marks[str(field.type)]) for field in fields(kind)]
-    shown = [f'"{written}": {mark}' for written, mark in rows]
-    return ", ".join([f'"line": "{kind.line}"', *shown])
-
-
-def json_fields(record: Any) -> str:
-    """The fields of a record as the inside of a JSON object."""
-    shown = []
-    for name, written in _WRITTEN[type(record)].items():
-        value = getattr(record, name)
-        if value is not None or name not in OPTIONAL:
-            shown.append(f'"{written}": {_json_value(value)}')
-    return ", ".join(shown)
-
-
-@lru_cache(MOST_KNOWN)
-def _json_object(record: Request | Answer) -> str:
-    """A request or an answer in JSON. A report has each more than once."""
-    return f"{{{json_fields(record)}}}"
-
-
-def _json_value(value: Any) -> str:
-    """A value of a field in JSON. Its words are lower-case letters, digits, `-` and blanks."""
-    if isinstance(value, str):
-        return f'"{value}"'
-    if value is None:
-        return "null"
-    if isinstance(value, bool):
-        return "true" if value else "false"
-    return str(value) if isinstance(value, int) else _json_object(value)
-
-
-def json_line(line: Line) -> str:
-    """A line as the inside of a JSON object, without the number of an entry."""
-    return f'"line": "{line.line}", {json_fields(line)}'

@@ -5,6 +5,7 @@ from __future__ import annotations
 import re
 
 from tool.packets import FLIT_BYTES
+from tool.report import not_a_line
 from tool.trouble import USAGE, Trouble
 
 DIGITS = 2 * FLIT_BYTES
@@ -12,6 +13,8 @@ DIGITS = 2 * FLIT_BYTES
 LINE = re.compile(
     r"\s*(?:[0-9]+:? +)?(?:sent [0-9]+ [a-z]+|landed [0-9]+|passed [0-9]+) ([0-9a-f]{32})\b.*"
 )
+# A line that begins as one with a flit does.
+BEGUN = re.compile(r"\s*(?:[0-9]+:? +)?((?:sent|landed|passed) .*)")
 # Other lines of a report.
 OTHER = re.compile(
     r"\s*(?:[0-9]+:? +)?(?:gave|shifted|dropped|spread|executed|lifted|took|discarded|through"
@@ -28,16 +31,22 @@ def flits_in(text: str, is_reversed: bool = False) -> list[bytes]:
     Their digits may have `0x` in front, underscores, commas and blanks. With `is_reversed` the
     last byte of each flit is written first, as a bus of 128 bits is printed.
     """
-    digits = ""
+    digits, other = "", ""
     for line in text.splitlines():
-        found = LINE.fullmatch(line)
+        found, begun = LINE.fullmatch(line), BEGUN.fullmatch(line)
         if found:
             digits += found[1]
-        elif not OTHER.fullmatch(line):
+        elif begun:
+            raise Trouble(USAGE, f"`{begun[1]}` is not a line of a report: {not_a_line(begun[1])}")
+        elif OTHER.fullmatch(line):
+            other = other or line.strip()
+        else:
             digits += BETWEEN.sub("", FRONT.sub("", line))
     wrong = re.search("[^0-9a-fA-F]", digits)
     if wrong:
         raise Trouble(USAGE, f"`{wrong[0]}` is not a hexadecimal digit: a flit is {DIGITS} digits")
+    if other and not digits:
+        raise Trouble(USAGE, f"`{other}` has no flit: docs/report.md explains each kind of line")
     if not digits or len(digits) % DIGITS:
         raise Trouble(USAGE, f"a flit is {DIGITS} hexadecimal digits, and here are {len(digits)}")
     flits = [digits[at : at + DIGITS] for at in range(0, len(digits), DIGITS)]

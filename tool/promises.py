@@ -36,7 +36,10 @@ PROMISES: dict[str, Roots] = {
     },
     "`check`": {f"{REPLAY}/CheckAnswer.antt": ("IsCheckAnswer",)},
     "`trace`": {f"{REPLAY}/TraceAnswer.antt": ("IsTraceAnswer",)},
-    "all that `replay` promises": {f"{REPLAY}/Top.antt": ("Replayed",)},
+    "all that `replay` promises": {
+        f"{REPLAY}/Top.antt": ("Replayed",),
+        f"{REPLAY}/Complete.antt": ("IsComplete",),
+    },
 }
 HEADLINE_NAME = "the headline below"
 
@@ -95,6 +98,8 @@ WORDS = {
     f"{JOURNAL}/LinkSteps.antt": ("land_entry",),
     f"{JOURNAL}/Drained.antt": ("is_drained", "IsDrained"),
     f"{JOURNAL}/Report.antt": ("report_lines",),
+    f"{JOURNAL}/Final.antt": ("values_of", "final_lines_of"),
+    "crates/hmc_entries/specs/Lines.antt": ("line_of",),
     DELIVERED: ("IsScripted", "LinksInOrder", "DeliveredInOrder", "AllServed"),
     "crates/hmc_wire/specs/LinkLaws.antt": ("TokenLaws",),
     "crates/hmc_send/specs/LinkLines.antt": ("passes",),
@@ -102,10 +107,11 @@ WORDS = {
     "crates/hmc_serial/specs/Cube.antt": ("CubeState", "opening"),
     "crates/hmc_serial/specs/Perform.antt": ("perform_on",),
     "crates/hmc_report/specs/Lines.antt": ("memory_lines", "register_lines"),
-    "crates/hmc_bound/specs/Ends.antt": ("EndsDrained",),
+    "crates/hmc_bound/specs/Ends.antt": ("EndsDrained", "EndsWithRounds", "AreEnough"),
     "crates/hmc_check/specs/Verdict.antt": ("IsLawfulReport", "IsLeastUnfit"),
     f"{CASE}/Case.antt": ("case_of",),
     f"{REPLAY}/Report.antt": ("report_of", "report_status"),
+    f"{REPLAY}/RunAnswer.antt": ("IsRunAnswer",),
     f"{REPLAY}/Reported.antt": ("IsReport",),
     f"{REPLAY}/Top.antt": ("Replayed",),
     f"{REPLAY}/Complete.antt": ("IsComplete",),

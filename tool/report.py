@@ -16,7 +16,6 @@ from typing import Any, Generic, NamedTuple, TypeVar
 from tool.commands import BY_WORD, REQUEST
 from tool.final import FINAL
 from tool.lines import (
-    MOST_KNOWN,
     REGISTERS,
     Answer,
     Bad,
@@ -45,8 +44,6 @@ from tool.lines import (
     Tokens,
     Took,
     Unlocked,
-    json_line,
-    json_template,
 )
 from tool.trouble import NotALine
 
@@ -54,8 +51,12 @@ from tool.trouble import NotALine
 GOES_ON = frozenset(kind.line for kind in Entry.__subclasses__()) - {Passed.line}
 # The front of the lines that end a report, or are its only one.
 ENDING = tuple(f"{word} " for word in (*FINAL, Passed.line, "bad"))
+# The front of lines that seldom come twice: their flits differ.
+SELDOM_TWICE = ("sent ", "landed ")
 # So many lines are read at once.
-AT_ONCE = 4096
+AT_ONCE = 1024
+# So much that comes again and again is remembered at most.
+MOST_KNOWN = 50_000
 
 Made = TypeVar("Made")
 # The number of a line, its record, and its text.
@@ -189,16 +190,13 @@ class Form(NamedTuple):
 
     pattern: re.Pattern[str]
     make: Callable[..., Line]
-    # The fields in JSON, to be formatted with the groups where these are numbers and words alone.
-    template: str
 
 
 def _form_of(first: str, make: Callable[..., Line], words: tuple[Words, ...]) -> Form:
     """The form of the lines with this first word, with or without their line feed."""
     pattern = re.compile("".join([first, *(f" ({it.pattern})" for it in words), "\n?"]))
     converts = tuple((at, it.convert) for at, it in enumerate(words) if it.convert is not str)
-    template = json_template(make) if {it.convert for it in words} <= {int, str} else ""
-    return Form(pattern, _maker(make, converts), template)
+    return Form(pattern, _maker(make, converts))
 
 
 def _maker(make: Callable[..., Line], converts: Converts) -> Callable[..., Line]:
@@ -221,31 +219,22 @@ def _maker(make: Callable[..., Line], converts: Converts) -> Callable[..., Line]
     return from_words
 
 
-_FORMS = {first: _form_of(first, make, words) for first, (make, words) in LINES.items()}
+FORMS = {first: _form_of(first, make, words) for first, (make, words) in LINES.items()}
 
 
 def read_line(text: str) -> Line:
     """The record of a line."""
-    form = _FORMS.get(text.partition(" ")[0])
+    form = FORMS.get(text.partition(" ")[0])
     found = form and form.pattern.fullmatch(text)
     if not form or not found:
-        raise _not_a_line(text)
+        raise not_a_line(text)
     return form.make(*found.groups())
 
 
-def read_json(text: str) -> str:
-    """The fields of a line as the inside of a JSON object, as those of its record are."""
-    form = _FORMS.get(text.partition(" ")[0])
-    if not form or not form.template:
-        return json_line(read_line(text))
-    found = form.pattern.fullmatch(text)
-    if not found:
-        raise _not_a_line(text)
-    return form.template % found.groups()
-
-
-def _not_a_line(text: str) -> NotALine:
+def not_a_line(text: str) -> NotALine:
     """What is wrong with a text that is no line of a report."""
+    if "\r" in text:
+        return NotALine("it has a carriage return, and lines of reports have none")
     first = text.partition(" ")[0]
     if first not in LINES:
         return NotALine(f"no line begins with `{first.strip()}`")
@@ -271,10 +260,10 @@ class Known(dict[str, Made]):
 
     def __init__(self, make: Callable[[str], Made]):
         super().__init__()
-        self._make = make
+        self.make = make
 
     def __missing__(self, text: str) -> Made:
-        made = self._make(text)
+        made = self.make(text)
         if len(self) >= MOST_KNOWN:
             self.clear()
         self[text] = made
@@ -301,10 +290,12 @@ class _Lines(Known[Made]):
     is_ending = False
 
     def __missing__(self, text: str) -> Made:
+        if text.startswith(SELDOM_TWICE):
+            return self.make(text)
         if not text.startswith(ENDING):
             return super().__missing__(text)
         self.is_ending = True
-        return self._make(text)
+        return self.make(text)
 
 
 class Reader(Generic[Made]):

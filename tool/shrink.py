@@ -1,5 +1,5 @@
-"""Finds a small case for which a command still fails: lines are left out, rounds are fewer, and
-hosts and cubes that nothing needs go."""
+"""Finds a small case for which a command still fails: lines are left out, requests are of host 0
+and to cube 0 where they may be, hosts and cubes that nothing needs go, and rounds are fewer."""
 
 from __future__ import annotations
 
@@ -27,9 +27,11 @@ class Shrinker:
             before = self.document
             for key in ("schedule", "script"):
                 self._shrink_lines(key)
-            self._shrink_rounds()
+            self._lower_numbers()
             for smaller in _smaller_networks(self.document):
                 self._take(smaller)
+            # Last: with rounds to spare the network may change more.
+            self._shrink_rounds()
         return self.document
 
     def _take(self, candidate: Document) -> bool:
@@ -45,7 +47,7 @@ class Shrinker:
 
     def _shrink_lines(self, key: str) -> None:
         """Leaves out lines of a text: halves, quarters, and so on down to single ones."""
-        lines = [line for line in texts.lines_of(self.document[key]) if texts.words_of(line)]
+        lines = _lines_with_words(self.document[key])
         size = len(lines)
         while size >= 1:
             at = 0
@@ -72,6 +74,30 @@ class Shrinker:
                     most, lines = middle, changed
                 else:
                     least = middle
+
+    def _lower_numbers(self) -> None:
+        """Gives requests to host 0 and to cube 0 where they may be, so that others can go."""
+        lines = _lines_with_words(self.document["script"])
+        for place, line in enumerate(lines):
+            for lower in _lower_lines(line):
+                changed = [*lines[:place], lower, *lines[place + 1 :]]
+                if self._take({**self.document, "script": _text(changed)}):
+                    lines = changed
+                    break
+
+
+def _lower_lines(line: str) -> Iterator[str]:
+    """Yields the line of a request as one of host 0 to cube 0, and with each of both changes."""
+    words = texts.plain_words_of(line)
+    cube = 3 if "poison" in words else 2
+    if len(words) > cube:
+        both = ["0", *words[1:cube], "0", *words[cube + 1 :]]
+        lower = (both, ["0", *words[1:]], [words[0], *both[1:]])
+        yield from (" ".join(it) for it in lower if it != words)
+
+
+def _lines_with_words(text: str) -> list[str]:
+    return [line for line in texts.lines_of(text) if texts.words_of(line)]
 
 
 def _text(lines: list[str]) -> str:

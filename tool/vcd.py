@@ -24,6 +24,17 @@ DECLARED = {
 # hexadecimal, as bits.
 SHOWN = {TEXT: "820", NUMBER: "24", FLIT: "22", BIT: "28", EVENT: "28"}
 OPENS_GROUP, CLOSES_GROUP = "@800200", "@1000200"
+# How a save file opens the window: some 40 steps from the first one, with room for the names and
+# the values at the marker.
+WINDOW = (
+    "[timestart] 0",
+    "[size] 1400 960",
+    "[pos] 0 0",
+    "*-3.000000 0 -1 -1",
+    "[sst_width] 160",
+    "[signals_width] 320",
+    "[sst_expanded] 0",
+)
 Value = int | str
 
 
@@ -98,11 +109,14 @@ def save_lines(dump: str, groups: dict[str, list[Signal]]) -> Iterator[str]:
     """Yields the lines of a save file of GTKWave, with the signals in groups."""
     yield "[*] Open it together with its dump: gtkwave --save=THIS DUMP"
     yield f'[dumpfile] "{dump}"'
-    yield "[timestart] 0"
+    yield from WINDOW
     for name, signals in groups.items():
         yield from (OPENS_GROUP, f"-{name}")
         for signal in signals:
-            yield from (f"@{SHOWN[signal.kind]}", signal.path)
+            # GTKWave shows what is after the last point: that of a vault would lack its vault.
+            inner = " ".join([*signal.scopes[2:], signal.name])
+            renamed = f"+{{{inner}}} " if len(signal.scopes) > 2 else ""
+            yield from (f"@{SHOWN[signal.kind]}", f"{renamed}{signal.path}")
         yield from (CLOSES_GROUP, f"-{name}")
 
 

@@ -152,7 +152,9 @@ class Wave:
     def groups(self) -> dict[str, list[Signal]]:
         """The signals for a save file, by the part of the network that they are of."""
         groups: dict[str, list[Signal]] = {}
-        for signal in self._dump.signals:
+        signals = self._dump.signals
+        order = list(dict.fromkeys(signal.scopes for signal in signals))
+        for signal in sorted(signals, key=lambda it: order.index(it.scopes)):
             part = signal.scopes[1] if len(signal.scopes) > 1 else "steps"
             groups.setdefault(self._title(part), []).append(signal)
         return groups

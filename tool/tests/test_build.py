@@ -154,8 +154,10 @@ class Build(unittest.TestCase):
             with subprocess.Popen(
                 command, env=self.environment(), stdin=null, stderr=null
             ) as running:
-                until = time.monotonic() + 30
-                while not number.exists() and time.monotonic() < until:
+                until = time.monotonic() + 120
+                # The kit opens the file before it writes its number.
+                while not (number.exists() and number.read_text("utf-8")):
+                    self.assertLess(time.monotonic(), until)
                     time.sleep(0.05)
                 running.send_signal(ending)
             self.assertEqual(running.returncode, 128 + ending)

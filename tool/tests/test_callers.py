@@ -15,6 +15,7 @@ PAGES = {
     "hmc_report": "report",
     "hmc_link": "link",
     "hmc_net": "net",
+    "hmc_session": "session",
 }
 MOST_COLUMNS = 100
 

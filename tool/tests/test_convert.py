@@ -143,6 +143,30 @@ class Convert(unittest.TestCase):
                 convert.converted(events_of(log, document, False), document, True)
             self.assertTrue(str(caught.exception).startswith(said), str(caught.exception))
 
+    def test_an_answer_of_another_length(self) -> None:
+        """The message names the answer that the model has there."""
+        begun = ["2 out h0", "3 in c0.0", "4 out c0.0"]
+        rows = (
+            (
+                "1 request 0 rd16 0 0x44",
+                ["5 out c0.0"],
+                "line 5 of the log: no packet that has arrived could leave c0.0 now; "
+                "the last one was the error that answers line 1, flits: 1",
+            ),
+            (
+                "1 request 0 rd64 0 0x40",
+                ["5 in h0", "6 answer 0"],
+                "line 6 of the log: no whole answer has arrived at h0: "
+                "1 of 5 flits of the answer to line 1",
+            ),
+        )
+        document = document_of("fence")
+        for request, rest, said in rows:
+            with self.assertRaises(Trouble) as caught:
+                events = events_of([request, *begun, *rest], document, False)
+                convert.converted(events, document, True)
+            self.assertEqual(str(caught.exception), said)
+
     def test_every_event_has_a_row_in_the_page(self) -> None:
         page = PAGE.read_text("utf-8")
         rows = set(re.findall(r"^\| `TIME ([a-z]+) ", page, re.MULTILINE))

@@ -100,19 +100,20 @@ class Docs(unittest.TestCase):
         self.assertLessEqual(len(words), MOST_WORDS)
 
     def test_the_example_of_the_readme(self) -> None:
-        """Its lines are those of a case and a report of examples/, in their order."""
+        """The lines of each block are those of a case or a report of examples/, in their order."""
         text = (TOP / "README.md").read_text(encoding="utf-8")
         text = text[text.index("## An example") : text.index("## Documents")]
-        shown = [line[4:] for line in text.splitlines() if line.startswith("    ")]
+        blocks = re.findall(r"(?:^ {4}.*\n|^\n(?= {4}))+", text, re.MULTILINE)
         path = EXAMPLES / "write-then-read.toml"
         stored = path.read_text(encoding="utf-8").splitlines()
         stored += path.with_suffix(".report").read_text(encoding="utf-8").splitlines()
-        at = 0
-        for line in shown:
-            if line and line != "..":
-                self.assertIn(line, stored[at:])
-                at = stored.index(line, at) + 1
-        self.assertGreater(len(shown), 20)
+        for block in blocks:
+            at = 0
+            for line in (it.removeprefix("    ") for it in block.splitlines()):
+                if line and line != "..":
+                    self.assertIn(line, stored[at:])
+                    at = stored.index(line, at) + 1
+        self.assertGreater(len("".join(blocks).splitlines()), 20)
 
     def test_each_case_is_in_the_index(self) -> None:
         """Each case of examples/ is in docs/examples.md, and a comment says what it shows."""

@@ -46,6 +46,18 @@ class Pasted(unittest.TestCase):
             with self.assertRaises(Trouble):
                 flits_in(text)
 
+    def test_a_line_that_lacks_a_digit(self) -> None:
+        said = tool("explain", f"sent 0 new {FIRST[:-1]}").stderr.decode()
+        wanted = f"unexpected `{FIRST[:-1]}`: a flit of 32 digits is expected"
+        self.assertIn(f"is not a line of a report: {wanted}", said)
+
+    def test_a_line_without_a_flit(self) -> None:
+        """Alone it is not explained; beside flits it is skipped."""
+        for line in ("took 0 1 read 0 0001", "  1141: memory 0 0x40 00", "state drained", "gave"):
+            said = tool("explain", line).stderr.decode()
+            self.assertIn(f"`{line.strip()}` has no flit: docs/report.md explains", said)
+        self.assertEqual(flits_in(f"took 0 0 done 0\n{FIRST}"), [bytes.fromhex(FIRST)])
+
     def test_standard_input(self) -> None:
         given = f"sent 0 new {FIRST}\nsent 0 new {LAST}\n".encode()
         said = tool("explain", "-", given=given).stdout.decode()

@@ -39,6 +39,11 @@ class Foreign(unittest.TestCase):
             self.assertTrue(refusal(lines, None).endswith(said), path.stem)
             self.assertEqual(refusal(lines, None) == "", said == "", path.stem)
 
+    def test_no_line_at_all(self) -> None:
+        self.assertEqual(refusal([], None), "there is no line, and a report has one at least")
+        self.assertTrue(refusal([], NAME).startswith("line 1 is not one of this case"))
+        self.assertEqual(tool("json").returncode, 65)
+
     def test_no_report_fits_another_case(self) -> None:
         """The examples' cases differ, and so no report is one of two of them."""
         names = [path.stem for path in CASES][::5]

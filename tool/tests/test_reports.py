@@ -6,7 +6,7 @@ import unittest
 from typing import Any
 
 from tool import diff, report
-from tool.lines import Line, json_line
+from tool.lines import Line
 from tool.tests.shared import CASES, EXAMPLES, output_of, tool
 from tool.trouble import NotALine
 
@@ -31,8 +31,9 @@ class Json(unittest.TestCase):
         """What is read of a line spells the line again."""
         for path in CASES:
             lines = path.with_suffix(".report").read_text(encoding="utf-8").splitlines()
-            for line, (_, record, _) in zip(lines, entries(lines), strict=True):
-                self.assertEqual(spelled(json.loads(f"{{{json_line(record)}}}")), line)
+            shown = output_of("json", "--case", str(path), str(path.with_suffix(".report")))
+            for line, row in zip(lines, shown.splitlines(), strict=True):
+                self.assertEqual(spelled(json.loads(row)), line)
 
     def test_an_object_a_line(self) -> None:
         text = output_of("json", str(EXAMPLES / "each-kind-of-step.report"))
@@ -71,6 +72,7 @@ class Json(unittest.TestCase):
             "idle jump 0 full": "unexpected `jump`: a step is expected",
             "gave 0 0 wr16 0 0x0 00": "wr16 carries 32 digits, and here are 2",
             "state idle": "unexpected `idle`: drained or busy is expected",
+            "took 0 0 done 0\r": "it has a carriage return, and lines of reports have none",
         }
         for line, said in rows.items():
             with self.assertRaises(NotALine, msg=line) as caught:

@@ -1,5 +1,6 @@
 """Tests of `sample`, which docs/many-cases.md uses, and of `shrink`."""
 
+import re
 import sys
 import tempfile
 import unittest
@@ -75,6 +76,20 @@ class Shrink(unittest.TestCase):
         self.assertEqual(sorted(lines), ["0", "1", "2", "round", "shift"])
         self.assertEqual(smallest["script"], "")
         self.assertEqual(len(smallest["cubes"]), 3)
+
+    def test_requests_go_to_cube_0(self) -> None:
+        """So the other cubes and hosts can go, and as many rounds are left as these need."""
+        document = case.read((EXAMPLES / "two-hosts-two-cubes.toml").read_bytes())[0]
+
+        def fails(candidate: bytes) -> bool:
+            found = case.read(candidate)[0]
+            rounds = sum(map(int, re.findall("round ([0-9]+)", found["schedule"])))
+            return "rd16" in found["script"] and rounds >= 10 * len(found["links"])
+
+        smallest = Shrinker(document, fails).shrink()
+        self.assertRegex(smallest["script"], "^0 rd16 0 [0-9a-fx]+\n$")
+        self.assertEqual((len(smallest["cubes"]), len(smallest["links"])), (1, 1))
+        self.assertEqual(smallest["schedule"].split(), ["round", "10"])
 
     def test_the_command(self) -> None:
         """The command reads the case: by its path, or as its input."""

@@ -10,6 +10,7 @@ from tool.fit import checked
 from tool.lines import Entry, Landed, Line, Sent, Unlocked
 from tool.queues import Queues
 from tool.tests.shared import CASES, EXAMPLES, output_of, tool
+from tool.vcd import WINDOW, save_lines
 
 
 def lines_of(name: str) -> list[str]:
@@ -194,10 +195,22 @@ class Wave(unittest.TestCase):
             declared = sum(it.startswith("$var") for it in dump.read_text("utf-8").splitlines())
             self.assertEqual(tool(*words[:-1], str(dump)).returncode, 64)
         self.assertIn(f'[dumpfile] "{dump}"', lines)
-        signals = [it for it in lines if it.startswith("network.")]
+        signals = [it.rpartition("} ")[2] for it in lines if "network." in it]
         self.assertEqual((len(signals), len(set(signals))), (declared, declared))
         self.assertEqual(lines.count("-direction 1: c1.0 to h1"), 2)
+        self.assertTrue(set(WINDOW) <= set(lines))
         self.assertEqual(tool("wave", report_path, case_path, "--save", "x").returncode, 64)
+
+    def test_the_names_of_vaults(self) -> None:
+        """GTKWave shows names without their scopes, so two vaults need theirs in the names."""
+        document = case.read((EXAMPLES / "registers-and-banks.toml").read_bytes())[0]
+        lines = list(save_lines("a.vcd", wave.Wave(document).groups()))
+        begin, end = (place for place, it in enumerate(lines) if it == "-cube0")
+        shown = [it.rpartition("} ")[0] or it for it in lines[begin + 2 : end : 2]]
+        inner = ["queue", "answers", "bank0", "bank1", "bank0_busy", "bank1_busy"]
+        wanted = [f"+{{vault{vault} {name}" for vault in range(2) for name in inner]
+        self.assertEqual(shown[-len(wanted) :], wanted)
+        self.assertEqual(len(set(shown)), len(shown))
 
     def test_the_command(self) -> None:
         case_path = str(EXAMPLES / "full-queue.toml")

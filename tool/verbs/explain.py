@@ -1,8 +1,9 @@
 """Explains flits, a line `bad ..` that names a fault of a case or trace, or each flit of a report.
 
 WORDS are the digits of flits, the first flit of a packet first: they may have 0x in front,
-underscores and blanks. Or they are a line of a report, a line `bad ..` and perhaps its case or
-trace, or the name of a report. With - flits are read from standard input.
+underscores and blanks. Or they are a line of a report that has a flit (`sent`, `landed` or
+`passed`; docs/report.md explains the others), a line `bad ..` and perhaps its case or trace, or the
+name of a report. With - flits are read from standard input.
 """
 
 from __future__ import annotations

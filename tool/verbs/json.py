@@ -29,7 +29,7 @@ def run(words: Namespace) -> int:
         decoder = jsonl.decoder_of(document, words.profile) if words.decode else None
         blocks = jsonl.with_decoded(checked(lines, document), decoder)
     else:
-        blocks = whole(lines, jsonl.opened)
+        blocks = whole(lines, jsonl.object_of)
     with files.written(None) as sink:
         for piece in jsonl.pieces(blocks):
             sink.write(piece)
