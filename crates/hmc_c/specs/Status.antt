@@ -27,6 +27,10 @@ none = 8
 abbrev pub closed : ℕ
 closed = 9
 
+-- there is no such host
+abbrev pub no_host : ℕ
+no_host = 12
+
 -- a step that was taken: whether its landing passed
 abbrev pub taken_status : Went → ℕ
 taken_status Passed = 7
@@ -42,7 +46,7 @@ refused_status Over = 11
 -- why a host wasn't asked
 abbrev pub asked_status : NotAsked → ℕ
 asked_status Memory = memory
-asked_status NoHost = 12
+asked_status NoHost = no_host
 asked_status NoCube = 13
 asked_status Finished = 14
 asked_status Full = 15

@@ -1,12 +1,13 @@
 //! Steps by numbers, and the end of requests.
 
-ghost use Rattle.std.specs.Prelude.{◌≡◌, List, None};
+ghost use Rattle.std.specs.Prelude.{◌≡◌, List, None, option_map};
+ghost use Rattle.std.specs.Option.{MatchOption};
 ghost use Rattle.hmc_entries.specs.declared.entry.Entry.{Entry};
 ghost use Rattle.hmc_journal.specs.Setup.{Setup};
 ghost use Rattle.hmc_session.specs.Numbers.{step_named};
 ghost use Rattle.hmc_session.specs.Session.{StandsIn};
 ghost use Rattle.hmc_c.specs.Handles.{HandleStands, shown};
-ghost use Rattle.hmc_c.specs.Steps.{IsStepped, Stepped};
+ghost use Rattle.hmc_c.specs.Steps.{IsStepped, Stepped, after_finish, finish_status};
 ghost use Rattle.hmc_c.specs.Status.{closed};
 
 use crate::handle::{Handle, put, taken};
@@ -67,7 +68,9 @@ pub extern "C" fn hmc_step(
 
 // Asks a host for nothing more, if it is there.
 fn finish(held: &mut Held, host: u8) -> u8
-    ensures { (setup : Setup) (past : List Entry) → StandsIn (shown held.old) setup past →
+    ensures status { result ≡ finish_status host }
+    ensures left { held.new ≡ after_finish host held.old }
+    ensures stands { (setup : Setup) (past : List Entry) → StandsIn (shown held.old) setup past →
         StandsIn (shown held.new) setup past }
 {
     if host >= MOST_HOSTS {
@@ -83,10 +86,11 @@ fn finish(held: &mut Held, host: u8) -> u8
 /// 0: so it is. 9: the handle is closed. 12: there is no such host; nothing changes.
 #[unsafe(no_mangle)]
 pub extern "C" fn hmc_finish(alloc: Global, handle: &mut Handle, host: u8) -> u8
+    ensures status { MatchOption handle.old.value (result ≡ closed)
+        (λ _. result ≡ finish_status host) }
+    ensures left { handle.new.value ≡ option_map (after_finish host) handle.old.value }
     ensures stands { (setup : Setup) (past : List Entry) →
         HandleStands handle.old.value setup past → HandleStands handle.new.value setup past }
-    ensures closed { handle.old.value ≡ None → result ≡ closed }
-    ensures stays { handle.old.value ≡ None → handle.new.value ≡ None }
 {
     let Some(held) = taken(alloc, handle) else {
         return CLOSED;
