@@ -70,3 +70,11 @@ most_input = 4194304
 
 abbrev pub most_check_input : ℕ
 most_check_input = 67108864
+
+-- requests of a list in memory, which are those that a host is asked for, and steps of a session
+
+abbrev pub most_asked : ℕ
+most_asked = 4294967295
+
+abbrev pub most_taken : ℕ
+most_taken = 4294967295

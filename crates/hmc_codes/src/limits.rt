@@ -57,3 +57,9 @@ pub const MOST_INPUT: usize = 4_194_304;
 
 /// The bytes of an input of `check`: a case and a report.
 pub const MOST_CHECK_INPUT: usize = 67_108_864;
+
+/// The requests that a list in memory has, and that a host is asked for.
+pub const MOST_ASKED: u32 = 4_294_967_295;
+
+/// The steps of a session.
+pub const MOST_TAKEN: u32 = 4_294_967_295;

@@ -34,13 +34,7 @@ impl Model for LinkSetup {
       profile = s.profile;
     } };
 
-    ghost invariant = { λ s. IsLinkSetup (record {
-      line = s.line;
-      tokens = s.tokens;
-      retry = s.retry;
-      output = s.output;
-      profile = s.profile;
-    }) };
+    ghost invariant = { λ s. IsLinkSetup (view s) };
 
     ghost inverse = { λ s. record {
       line = s.line;

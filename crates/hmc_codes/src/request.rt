@@ -31,12 +31,7 @@ impl Model for Request {
       payload = r.payload;
     } };
 
-    ghost invariant = { λ r. IsRequest (record {
-      command = r.command;
-      cube = r.cube;
-      address = r.address;
-      payload = r.payload;
-    }) };
+    ghost invariant = { λ r. IsRequest (view r) };
 
     ghost inverse = { λ r. record {
       command = r.command;

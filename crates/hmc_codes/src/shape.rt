@@ -37,12 +37,7 @@ impl Model for Shape {
       block = s.block;
     } };
 
-    ghost invariant = { λ s. IsShape (record {
-      vault_bits = s.vault_bits;
-      bank_bits = s.bank_bits;
-      rows = s.rows;
-      block = s.block;
-    }) };
+    ghost invariant = { λ s. IsShape (view s) };
 
     ghost inverse = { λ s. record {
       vault_bits = s.vault_bits;
