@@ -63,7 +63,7 @@ payload_fits : (command : Command) (state : ℕ) → IsDrawn command
 payload_fits command state is =
     let draws = payload_draws command in
     let bytes = drawn_bytes draws state in
-    payload_of_another command (Some bytes) is.other
+    payload_of_another (λ (p : List ℕ). p) command (Some bytes) is.other
     (length-drawn bytes draws state refl ∙ is.whole)
     (drawn-are bytes draws state refl)
 

@@ -15,7 +15,8 @@ use Rattle.hmc_codes.specs.declared.family.Family.TheVariants as families
 use Rattle.hmc_text.specs.Number.{below, number_of}
 use Rattle.hmc_text.specs.Reading.{next_word, no_word}
 use Rattle.hmc_script.proofs.CommandLemmas.{command_of_asks}
-use Rattle.hmc_script.proofs.PayloadLemmas.{is_mdwr-only, IsPayload-[], payload_of_another, payload_of_mdwr, payload_of_value}
+use Rattle.hmc_script.proofs.PayloadLemmas as payloads
+use Rattle.hmc_script.proofs.PayloadLemmas.{is_mdwr-only, IsPayload-[], payload_of_another, payload_of_mdwr}
 use Rattle.hmc_script.specs.Commands.{command_of}
 use Rattle.hmc_script.specs.Meaning.{number_word, command_word, request_of}
 use Rattle.hmc_script.specs.Payload.{IsPayload, value_bytes, payload_of, no_payload, some_payload, payload_word}
@@ -25,12 +26,11 @@ use Rattle.hmc_cases.proofs.Digits.{AreBytes, digits_known}
 use Rattle.hmc_cases.proofs.Reading.{IfRead, value, after, after_any, either, some_value, number_small}
 
 -- the payload of a value
-
 value_fits : (number : Option ℕ) → IfSome (option_map value_bytes number) (IsPayload Mdwr)
 value_fits None = tt
 value_fits (Some number) =
     let low = IsBytes-low 0 4 number in
-    payload_of_value number (Some (value_bytes number)) refl
+    payloads.value_fits number (value_bytes number) refl
     (IsBytes-append (to_le_bytes w32 number) (replicate 12 0) low (IsBytes-zeros 12))
 
 -- the payload of digits
@@ -38,7 +38,7 @@ digits_fit : (command : Command) (payload : Option (List ℕ)) → is_mdwr comma
     → IfSome payload (AreBytes (payload_len_of command)) → IfSome payload (IsPayload command)
 digits_fit command None other known = tt
 digits_fit command (Some bytes) other known =
-    payload_of_another command (Some bytes) other known.long known.bytes
+    payload_of_another (λ (p : List ℕ). p) command (Some bytes) other known.long known.bytes
 
 payload_fits : (command : Command) (word : List ℕ)
     → IfSome (payload_of command word) (IsPayload command)
@@ -49,7 +49,7 @@ payload_fits command word =
     let digits = result_ok (decode_sized word (payload_len_of command)) in
     cond_both (is_mdwr command) value digits
     (λ (payload : Option (List ℕ)). IfSome payload (IsPayload command))
-    (λ is. payload_of_mdwr command value (is_mdwr-only command is) (value_fits number))
+    (λ is. payload_of_mdwr (λ (p : List ℕ). p) command value (is_mdwr-only command is) (value_fits number))
     (λ other. digits_fit command digits other (digits_known word (payload_len_of command)))
 
 payload_known : (command : Command) (words : List (List ℕ))

@@ -7,7 +7,7 @@ use Rattle.std.specs.Result.{result_ok}
 use Rattle.std.specs.Str.{bytes_eq}
 use Rattle.hex.specs.Hex.{decode_sized}
 use Rattle.hmc_codes.proofs.BytesLemmas.{zero_is_flit}
-use Rattle.hmc_codes.specs.Flit.{IsFlit, zero_flit}
+use Rattle.hmc_codes.specs.Flit.{IsFlit}
 use Rattle.hmc_codes.specs.Limits.{ports, most_steps}
 use Rattle.hmc_text.specs.Lines.{lines_of}
 use Rattle.hmc_text.specs.Reading.{or_fault, next_word, no_word}

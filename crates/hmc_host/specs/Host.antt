@@ -1,7 +1,7 @@
 -- A host, as the contracts see it.
 use Rattle.std.specs.Prelude.{◌≡◌, ◌≤◌, ◌<◌, ◌+◌, ◌++◌, ◌∷◌, ℕ, Bool, List, [], length}
-use Rattle.hmc_codes.specs.Limits.{most_hosts, tags as all_tags}
-use Rattle.hmc_script.specs.Items.{ItemFields, most_asked, of_host}
+use Rattle.hmc_codes.specs.Limits.{most_asked, most_hosts, tags as all_tags}
+use Rattle.hmc_script.specs.Items.{ItemFields, of_host}
 use Rattle.hmc_host.specs.Tags.{none_out}
 
 -- its number, its own requests that it has not given yet, the number of those given, and its tags

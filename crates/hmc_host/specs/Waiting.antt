@@ -1,6 +1,7 @@
 -- The requests that a host has not given yet, in two lists.
 use Rattle.std.specs.Prelude.{◌≡◌, ◌≤◌, ◌+◌, ◌-◌, ◌++◌, ℕ, List, [], length, drop}
-use Rattle.hmc_script.specs.Items.{ItemFields, most_asked}
+use Rattle.hmc_codes.specs.Limits.{most_asked}
+use Rattle.hmc_script.specs.Items.{ItemFields}
 
 -- those of the front from a place on, and then those of the back
 abbrev pub waiting_in : (front : List ItemFields) → (at : ℕ) → (back : List ItemFields) →

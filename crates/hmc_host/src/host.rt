@@ -2,8 +2,7 @@
 
 ghost use Rattle.std.specs.Prelude.{◌≡◌, ◌≢◌, ◌<◌, ◌≤◌, ◌↔◌, ℕ, IfOk, OnOk, OnErr, true, false, length, []};
 ghost use Rattle.std.specs.Option.{ForSome};
-ghost use Rattle.hmc_codes.specs.Limits.{most_hosts, tags as all_tags};
-ghost use Rattle.hmc_script.specs.Items.{most_asked};
+ghost use Rattle.hmc_codes.specs.Limits.{most_asked, most_hosts, tags as all_tags};
 ghost use Rattle.hmc_host.specs.Tags.{number_out, IsFree, IsOut, IsLowestFree};
 ghost use Rattle.hmc_host.specs.Host.{opening_host, asked, asked_count, IsHost};
 ghost use Rattle.hmc_host.specs.Give.{wants_tag, outline_wants_tag, tag_for, gave_request, is_at_end, give_says, after_give, taken_tag, hindrance_of, hindrance_by, nothing_given};
@@ -103,8 +102,8 @@ impl Host {
         self.left.outline().is_none()
     }
 
-    /// Asks for one request more, which the host gives after its others. It was asked for fewer than
-    /// `MOST_ASKED`. Where it is out of memory nothing changes.
+    /// Asks for one request more, which the host gives after its others. It was asked for fewer
+    /// than `MOST_ASKED`. Where it is out of memory nothing changes.
     pub fn ask(&mut self, fenced: bool, poisoned: bool, request: &Request) -> Result<(), Memory>
         requires { asked_count self.old < most_asked }
         ensures ok { OnOk result (self.new ≡ asked (record {

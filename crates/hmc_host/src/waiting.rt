@@ -1,8 +1,8 @@
 //! The requests that a host has not given yet.
 
 ghost use Rattle.std.specs.Prelude.{◌≡◌, ◌<◌, ◌++◌, ◌∷◌, [], length, drop, slice_get, option_map, Some, OnOk, OnErr};
-ghost use Rattle.hmc_codes.specs.Limits.{most_hosts};
-ghost use Rattle.hmc_script.specs.Items.{outline_of, most_asked};
+ghost use Rattle.hmc_codes.specs.Limits.{most_asked, most_hosts};
+ghost use Rattle.hmc_script.specs.Items.{outline_of};
 
 use hmc_codes::{Memory, Request};
 use hmc_script::{Item, Items, Outline};

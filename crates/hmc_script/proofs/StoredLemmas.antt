@@ -6,10 +6,10 @@ use Rattle.std.proofs.lemmas.List.Elements.{All-nil, All-cons, All-head, All-tai
 use Rattle.std.proofs.lemmas.Option.{slice_get-map, slice_get-get_or, slice_get_within, get_or_from_slice_get}
 use Rattle.std.proofs.Math.Seq.{drop-append_seam}
 use Rattle.hmc_codes.specs.Commands.{payload_len_of}
-use Rattle.hmc_codes.specs.Limits.{most_hosts, most_requests}
+use Rattle.hmc_codes.specs.Limits.{most_asked, most_hosts, most_requests}
 use Rattle.hmc_codes.specs.Request.{RequestFields, IsRequest}
 use Rattle.hmc_script.specs.declared.stored.Short.{Short}
-use Rattle.hmc_script.specs.Items.{ItemFields, IsScript, AreItems, most_asked}
+use Rattle.hmc_script.specs.Items.{ItemFields, IsScript, AreItems}
 use Rattle.hmc_script.specs.Stored.{item_of, items_in, IsInside, IsStored}
 
 -- bytes behind a payload don't change it

@@ -2,6 +2,7 @@
 use Rattle.std.proofs.Common.{◌≡◌, ℕ, List, [], ◌∷◌, ◌++◌, length, Some, None, Ok, Err, true, false, Bool, refl, arith}
 use Rattle.std.specs.Prelude.{codes, map, replicate}
 use Rattle.std.specs.List.{range_with_len}
+use Rattle.std.specs.Borrow.{Bor}
 use Rattle.std.specs.Fmt.{digits}
 use Rattle.hex.specs.Hex.{decode_pairs}
 use Rattle.hmc_codes.specs.Request.{RequestFields}
@@ -15,8 +16,11 @@ use Rattle.hmc_text.specs.Number.{number_after, number_in, number_of}
 use Rattle.hmc_text.specs.Reading.{number_word as number_read}
 use Rattle.hmc_text.specs.Words.{words_of}
 use Rattle.hmc_script.specs.declared.fault.ScriptKind.TheVariants.{Command}
+use Rattle.hmc_script.specs.declared.meaning.Head.TheVariants as heads
+use Rattle.hmc_script.specs.declared.meaning.Meaning.TheVariants.{Ask}
 use Rattle.hmc_script.specs.declared.stored.Short.{Short}
 use Rattle.hmc_script.specs.Commands.{requests, command_of}
+use Rattle.hmc_script.specs.Head.{meaning_from, IsOfHost}
 use Rattle.hmc_script.specs.Items.{ItemFields, IsWithin}
 use Rattle.hmc_script.specs.Meaning.{command_word, request_of, ask_of, fence_of, statement_of, meaning_of}
 use Rattle.hmc_script.specs.Payload.{value_bytes, payload_of, no_payload, some_payload, payload_word}
@@ -60,6 +64,17 @@ script_of-fences = refl
 script_of-fault : script_of 2 2 (codes "0 fence" ++ 10 ∷ codes "0 poison fence" ++ 10 ∷ codes "x" ++ []) ≡ Err (2, Command)
 unfolding script_of after_lines after_line after_meaning lines_of words_of meaning_of statement_of fence_of ask_of request_of command_word command_of requests all_commands table_line number_read number_of number_in number_after
 script_of-fault = refl
+
+-- the words behind a head are those of the request, and a fault before them is the line's
+meaning_from-poisoned : (rest : Bor (List ℕ)) → rest.now ≡ codes "rd16 0 64" → meaning_from 1 (Ok (heads.Ask 0 true rest)) ≡ Ok (Ask 0 true (read_at 0 64))
+unfolding words_of ask_of request_of command_word command_of requests all_commands table_line number_read number_of number_in number_after payload_word no_payload some_payload payload_of
+meaning_from-poisoned rest is = rw is refl
+
+meaning_from-fault : meaning_from 1 (Err Command) ≡ Err Command
+meaning_from-fault = refl
+
+IsOfHost-past : IsOfHost 1 (heads.Fence 1) → ⊥
+IsOfHost-past is = omega (arith, is)
 
 -- a fence is printed just before its request, and a last fence is not printed
 script_text-fences : script_text fenced_items ≡

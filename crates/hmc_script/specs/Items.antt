@@ -1,5 +1,5 @@
 -- What a script is: a list of requests.
-use Rattle.hmc_codes.specs.Limits.{most_hosts, most_requests}
+use Rattle.hmc_codes.specs.Limits.{most_asked, most_hosts, most_requests}
 use Rattle.std.specs.Prelude.{ℕ, ◌<◌, ◌≤◌, ◌==◌, List, length}
 use Rattle.std.specs.List.{All, filter}
 use Rattle.hmc_codes.specs.Request.{IsRequest}
@@ -26,10 +26,6 @@ of_host host items = filter (λ item. item.host == host) items
 pub record IsWithin (hosts cubes : ℕ) (item : ItemFields) : Type 0 where
   pub host : item.host < hosts
   pub cube : item.request.cube < cubes
-
--- the most requests that a list in memory has, and that a host is asked for
-abbrev pub most_asked : ℕ
-most_asked = 4294967295
 
 -- what every list of requests in memory keeps: it has not too many, and each is of a host that
 -- there can be

@@ -2,6 +2,7 @@ pub mod Kind
 pub mod Commands
 pub mod Payload
 pub mod Meaning
+pub mod Head
 pub mod Taken
 pub mod Items
 pub mod Stored

@@ -1,5 +1,5 @@
 -- What a line of a script states, word by word from left to right.
-use Rattle.std.specs.Prelude.{ℕ, ◌<◌, ◌^◌, Bool, true, false, List, codes, Result, Ok, if◌then◌else◌}
+use Rattle.std.specs.Prelude.{ℕ, ◌^◌, Bool, true, false, List, codes, Result, Ok, if◌then◌else◌}
 use Rattle.std.specs.Str.{bytes_eq}
 use Rattle.hmc_codes.specs.Request.{RequestFields}
 use Rattle.hmc_codes.specs.declared.command.Command.{Command}
@@ -58,9 +58,3 @@ statement_of hosts cubes words = do
 unfoldable pub meaning_of : ℕ → ℕ → List (List ℕ) → Result Meaning ScriptKind
 meaning_of hosts cubes words =
     if is_passed_over words then Ok Nothing else statement_of hosts cubes words
-
--- the host and the cube that a line names are among so many
-abbrev pub NamesWithin : ℕ → ℕ → Meaning → Type 0
-NamesWithin hosts cubes Nothing = Unit {0}
-NamesWithin hosts cubes (Fence host) = host < hosts
-NamesWithin hosts cubes (Ask host poisoned request) = (host < hosts) × (request.cube < cubes)

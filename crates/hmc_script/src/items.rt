@@ -1,18 +1,15 @@
 //! Requests in memory.
 
 ghost use Rattle.std.specs.Prelude.{◌≡◌, ◌<◌, ◌≤◌, ◌+◌, [], ◌∷◌, ◌++◌, length, take, slice_get, option_map, Some, IfOk, OnOk, OnErr};
-ghost use Rattle.hmc_codes.specs.Limits.{most_hosts};
+ghost use Rattle.hmc_codes.specs.Limits.{most_asked, most_hosts};
 ghost use Rattle.hmc_codes.specs.Request.{IsRequest};
-ghost use Rattle.hmc_script.specs.Items.{AreItems, most_asked, outline_of, of_host};
+ghost use Rattle.hmc_script.specs.Items.{AreItems, outline_of, of_host};
 
 use crate::stored::{Short, item_of, payload_bytes};
 use crate::{Item, Outline};
 use hmc_codes::{Memory, Request};
 use std::alloc::Global;
 use std::marker::Model;
-
-/// The most requests that a list in memory has, and that a host is asked for.
-pub const MOST_ASKED: u32 = u32::MAX;
 
 /// At most `MOST_ASKED` requests of hosts, in order. Contracts see them as a list. The payload
 /// bytes of all requests are in one vector, in order.
@@ -109,8 +106,8 @@ impl Items {
         Ok(())
     }
 
-    // Appends an item with this payload, wherever the item's payload was.
-    fn push(&mut self, short: &Short, payload: &[u8]) -> Result<(), Memory>
+    /// Appends an item with this payload, wherever the item's payload was.
+    pub(crate) fn push(&mut self, short: &Short, payload: &[u8]) -> Result<(), Memory>
         requires room { length self.old < most_asked }
         requires host { short.now.host < most_hosts }
         requires request { IsRequest (record {

@@ -25,7 +25,7 @@ mod stored;
 
 pub use fault::{ScriptFault, ScriptKind};
 pub use item::{Item, Outline};
-pub use items::{Items, MOST_ASKED};
+pub use items::Items;
 pub use laws::printed_is_read;
 pub use payload::hex_payload;
 pub use request::take_request;

@@ -3,20 +3,23 @@
 ghost use Rattle.std.specs.Prelude.{ℕ, ◌≡◌, ◌≤◌, ◌<◌, ◌^◌, IfOk};
 ghost use Rattle.hmc_codes.specs.Commands.{family_of};
 ghost use Rattle.hmc_codes.specs.Limits.{most_cubes};
+ghost use Rattle.hmc_codes.specs.Request.{IsRequest};
 ghost use Rattle.hmc_codes.specs.declared.family.Family.TheVariants as families;
 ghost use Rattle.hmc_text.specs.Words.{words_of};
 ghost use Rattle.hmc_text.specs.Reading.{Gives};
 ghost use Rattle.hmc_script.specs.Payload.{IsPayload};
-ghost use Rattle.hmc_script.specs.Meaning.{number_word, command_word, request_of, ask_of, fence_of, statement_of, meaning_of, NamesWithin};
+ghost use Rattle.hmc_script.specs.Meaning.{number_word, command_word, request_of, fence_of, statement_of, meaning_of};
+ghost use Rattle.hmc_script.specs.Head.{request_in, meaning_from, IsOfHost};
 
 use crate::ScriptKind;
 use crate::command::command_of;
-use crate::payload::payload_word;
-use hmc_codes::{Command, Payload, Request};
+use crate::payload::{Room, payload_word};
+use hmc_codes::{Command, Request};
 use hmc_text::reading::{self, next_word, no_word};
 use hmc_text::words::is_passed_over;
 
-/// What a line states.
+/// What a line states, as contracts have it. It is never made: a request is read when its host and
+/// its poison are known, by [`read_request`].
 #[derive(Clone, Copy)]
 pub enum Meaning {
     /// Nothing: it has no word, or it is a comment.
@@ -25,6 +28,17 @@ pub enum Meaning {
     Fence(u8),
     /// A request: its host, whether it is poisoned, and the request.
     Ask(u8, bool, Request),
+}
+
+/// What a line states, before the request is read.
+#[derive(Clone, Copy)]
+pub enum Head<'a> {
+    /// Nothing: it has no word, or it is a comment.
+    Nothing,
+    /// A fence of this host.
+    Fence(u8),
+    /// A request: its host, whether it is poisoned, and the rest of the line from the command on.
+    Ask(u8, bool, &'a [u8]),
 }
 
 /// Addresses are below 2^34.
@@ -61,18 +75,33 @@ fn command_word(line: &[u8]) -> Result<(Command, &[u8]), ScriptKind>
     }
 }
 
-// A command, a cube, an address and, where the command has one, a payload.
+/// A request that was read: its payload is where it was read to.
+#[derive(Clone, Copy)]
+pub struct Asked<'a> {
+    /// The command, which is a request's.
+    pub command: Command,
+    /// The cube, which is below the number of cubes.
+    pub cube: u8,
+    /// The address, which is below 2^34.
+    pub address: u64,
+    /// The payload bytes, as many as the command has.
+    pub payload: &'a [u8],
+}
+
+/// A command, a cube, an address and, where the command has one, a payload. The fault is the first
+/// one.
 #[tactic(auto, unfolding(crate::specs::Meaning::request_of))]
-fn request(cubes: u8, line: &[u8]) -> Result<Request, ScriptKind>
+pub fn read_request<'a>(cubes: u8, line: &[u8], room: &'a mut Room) -> Result<Asked<'a>, ScriptKind>
     requires { cubes ≤ most_cubes }
-    ensures value { result ≡ request_of cubes (words_of line.now) }
-    ensures cube { IfOk result (λ request. request.cube < cubes) }
+    ensures value { Gives request_in result (request_of cubes (words_of line.now)) }
+    ensures cube { IfOk result (λ asked. asked.cube < cubes) }
+    ensures request { IfOk result (λ asked. IsRequest (request_in asked)) }
 {
     let (command, rest) = command_word(line)?;
     let (cube, rest) = small_word(ScriptKind::Cube, cubes, rest)?;
     let (address, rest) = number_word(ScriptKind::Address, ADDRESSES, rest)?;
-    let payload = payload_word(command, rest)?;
-    Ok(Request {
+    let payload = payload_word(command, rest, room)?;
+    Ok(Asked {
         command,
         cube,
         address,
@@ -80,31 +109,21 @@ fn request(cubes: u8, line: &[u8]) -> Result<Request, ScriptKind>
     })
 }
 
-#[tactic(auto, unfolding(crate::specs::Meaning::ask_of))]
-fn ask(cubes: u8, host: u8, poisoned: bool, line: &[u8]) -> Result<Meaning, ScriptKind>
-    requires { cubes ≤ most_cubes }
-    ensures value { result ≡ ask_of cubes host poisoned (words_of line.now) }
-    ensures within { (hosts : ℕ) → host < hosts → IfOk result (NamesWithin hosts cubes) }
-{
-    let request = request(cubes, line)?;
-    Ok(Meaning::Ask(host, poisoned, request))
-}
-
 #[tactic(auto, unfolding(crate::specs::Meaning::fence_of))]
-fn fence(host: u8, line: &[u8]) -> Result<Meaning, ScriptKind>
-    ensures value { result ≡ fence_of host (words_of line.now) }
-    ensures within { (hosts : ℕ) → host < hosts → IfOk result (NamesWithin hosts 0) }
+fn fence<'a>(host: u8, line: &[u8]) -> Result<Head<'a>, ScriptKind>
+    ensures value { (cubes : ℕ) → meaning_from cubes result ≡ fence_of host (words_of line.now) }
+    ensures within { (hosts : ℕ) → host < hosts → IfOk result (IsOfHost hosts) }
 {
     no_word(ScriptKind::Words, line)?;
-    Ok(Meaning::Fence(host))
+    Ok(Head::Fence(host))
 }
 
 // A host, and then a fence or a request, which may be poisoned.
 #[tactic(auto, unfolding(crate::specs::Meaning::statement_of))]
-fn statement(hosts: u8, cubes: u8, line: &[u8]) -> Result<Meaning, ScriptKind>
-    requires { cubes ≤ most_cubes }
-    ensures value { result ≡ statement_of hosts cubes (words_of line.now) }
-    ensures within { IfOk result (NamesWithin hosts cubes) }
+fn statement(hosts: u8, line: &[u8]) -> Result<Head<'_>, ScriptKind>
+    ensures value { (cubes : ℕ) → meaning_from cubes result
+        ≡ statement_of hosts cubes (words_of line.now) }
+    ensures within { IfOk result (IsOfHost hosts) }
 {
     let (host, from_second) = small_word(ScriptKind::Host, hosts, line)?;
     let (second, rest) = next_word(ScriptKind::Words, from_second)?;
@@ -112,20 +131,21 @@ fn statement(hosts: u8, cubes: u8, line: &[u8]) -> Result<Meaning, ScriptKind>
         return fence(host, rest);
     }
     if second == b"poison".as_slice() {
-        return ask(cubes, host, true, rest);
+        return Ok(Head::Ask(host, true, rest));
     }
-    ask(cubes, host, false, from_second)
+    Ok(Head::Ask(host, false, from_second))
 }
 
-/// What a line states, word by word from left to right. The fault is the first one.
+/// What a line states, word by word from left to right, up to the command of a request. The fault
+/// is the first one.
 #[tactic(auto, unfolding(crate::specs::Meaning::meaning_of))]
-pub fn meaning_of(hosts: u8, cubes: u8, line: &[u8]) -> Result<Meaning, ScriptKind>
-    requires { cubes ≤ most_cubes }
-    ensures value { result ≡ meaning_of hosts cubes (words_of line.now) }
-    ensures within { IfOk result (NamesWithin hosts cubes) }
+pub fn head_of(hosts: u8, line: &[u8]) -> Result<Head<'_>, ScriptKind>
+    ensures value { (cubes : ℕ) → meaning_from cubes result
+        ≡ meaning_of hosts cubes (words_of line.now) }
+    ensures within { IfOk result (IsOfHost hosts) }
 {
     if is_passed_over(line) {
-        return Ok(Meaning::Nothing);
+        return Ok(Head::Nothing);
     }
-    statement(hosts, cubes, line)
+    statement(hosts, line)
 }

@@ -4,11 +4,15 @@ ghost use Rattle.std.specs.Prelude.{◌≡◌, ◌≤◌, ◌<◌, ℕ, length, 
 ghost use Rattle.std.specs.List.{All};
 ghost use Rattle.hmc_codes.specs.Limits.{most_cubes, most_hosts};
 ghost use Rattle.hmc_script.specs.Items.{IsWithin};
-ghost use Rattle.hmc_script.specs.Meaning.{NamesWithin};
+ghost use Rattle.hmc_script.specs.Head.{request_in};
+ghost use Rattle.hmc_script.specs.declared.meaning.Meaning.TheVariants.{Ask};
+ghost use Rattle.hmc_codes.specs.Request.{IsRequest};
 ghost use Rattle.hmc_script.specs.Script.{Progress, after_meaning, after_line, script_of};
 ghost use Rattle.hmc_text.specs.InTurn.{at_line, Answers};
 
-use crate::meaning::{Meaning, meaning_of};
+use crate::meaning::{Asked, Head, head_of, read_request};
+use crate::payload::{MOST_BYTES, Room};
+use crate::stored::Short;
 use crate::{Script, ScriptFault, ScriptKind};
 use hmc_codes::{MOST_HOSTS, MOST_REQUESTS};
 use hmc_text::lines::Lines;
@@ -17,50 +21,52 @@ use std::alloc::Global;
 /// One flag for each host that there can be.
 const HOSTS: usize = MOST_HOSTS as usize;
 
-// Applies what a line states: a request is appended, and a fence waits for the next request of its
-// host.
+// Appends the request that a line states. A fence waits for it no longer.
 #[tactic(auto, unfolding(crate::specs::Script::after_meaning))]
 fn follow(
     script: &mut Script,
     fences: &mut [bool; HOSTS],
     number: u32,
-    meaning: &Meaning,
+    host: u8,
+    poisoned: bool,
+    asked: &Asked,
 ) -> Result<(), ScriptFault>
-    requires { NamesWithin most_hosts most_cubes meaning.now }
+    requires host { host < most_hosts }
+    requires request { IsRequest (request_in asked.now) }
     ensures value { Answers (λ _. record { items = script.new; fences = fences.new }) result
-        (at_line number
-        (after_meaning (record { items = script.old; fences = fences.old }) meaning.now)) }
-    ensures within { (hosts cubes : ℕ) → NamesWithin hosts cubes meaning.now
+        (at_line number (after_meaning (record { items = script.old; fences = fences.old })
+        (Ask host poisoned (request_in asked.now)))) }
+    ensures within { (hosts cubes : ℕ) → host < hosts → asked.now.cube < cubes
         → All (IsWithin hosts cubes) script.old
         → OnOk result (All (IsWithin hosts cubes) script.new) }
 {
-    match meaning {
-        Meaning::Nothing => Ok(()),
-        Meaning::Fence(host) => {
-            fences[usize::from(*host)] = true;
-            Ok(())
-        }
-        Meaning::Ask(host, poisoned, request) => {
-            if script.len() >= MOST_REQUESTS {
-                return Err(ScriptFault::Fault {
-                    line: number,
-                    kind: ScriptKind::TooMany,
-                });
-            }
-            let host = *host;
-            let fenced = fences[usize::from(host)];
-            fences[usize::from(host)] = false;
-            script.append(host, fenced, *poisoned, request)?;
-            Ok(())
-        }
+    if script.len() >= MOST_REQUESTS {
+        return Err(ScriptFault::Fault {
+            line: number,
+            kind: ScriptKind::TooMany,
+        });
     }
+    let fenced = fences[usize::from(host)];
+    fences[usize::from(host)] = false;
+    let short = Short {
+        host,
+        fenced,
+        poisoned,
+        command: asked.command,
+        cube: asked.cube,
+        address: asked.address,
+        start: 0,
+    };
+    script.push(&short, asked.payload)?;
+    Ok(())
 }
 
-// Reads the next line.
-#[tactic(auto, unfolding(crate::specs::Script::after_line))]
+// Reads the next line. A fence waits for the next request of its host.
+#[tactic(auto, unfolding(crate::specs::Script::after_line, crate::specs::Meaning::ask_of))]
 fn read_line(
     script: &mut Script,
     fences: &mut [bool; HOSTS],
+    room: &mut Room,
     number: u32,
     line: &[u8],
     hosts: u8,
@@ -75,8 +81,16 @@ fn read_line(
     ensures within { All (IsWithin hosts cubes) script.old
         → OnOk result (All (IsWithin hosts cubes) script.new) }
 {
-    match meaning_of(hosts, cubes, line) {
-        Ok(meaning) => follow(script, fences, number, &meaning),
+    match head_of(hosts, line) {
+        Ok(Head::Nothing) => Ok(()),
+        Ok(Head::Fence(host)) => {
+            fences[usize::from(host)] = true;
+            Ok(())
+        }
+        Ok(Head::Ask(host, poisoned, rest)) => match read_request(cubes, rest, room) {
+            Ok(asked) => follow(script, fences, number, host, poisoned, &asked),
+            Err(kind) => Err(ScriptFault::Fault { line: number, kind }),
+        },
         Err(kind) => Err(ScriptFault::Fault { line: number, kind }),
     }
 }
@@ -94,9 +108,18 @@ impl Script {
     {
         let mut script = Script::new(alloc);
         let mut fences = [false; HOSTS];
+        let mut room = [0; MOST_BYTES];
         let mut left = Lines::of(text);
         'lines: while let Some((number, line)) = left.next_line() {
-            if let Err(fault) = read_line(&mut script, &mut fences, number, line, hosts, cubes) {
+            if let Err(fault) = read_line(
+                &mut script,
+                &mut fences,
+                &mut room,
+                number,
+                line,
+                hosts,
+                cubes,
+            ) {
                 return Err(fault);
             }
         }

@@ -2,8 +2,10 @@
 
 ghost use Rattle.std.specs.Prelude.{◌≡◌, ◌<◌, [], ◌∷◌, ◌++◌, length, slice_get, option_map, Some, false, IfOk, OnOk, OnErr};
 ghost use Rattle.hmc_codes.specs.Limits.{most_hosts, most_requests};
+ghost use Rattle.hmc_codes.specs.Request.{IsRequest};
 ghost use Rattle.hmc_script.specs.Items.{IsScript, outline_of, of_host};
 
+use crate::stored::Short;
 use crate::{Item, Items, Outline};
 use hmc_codes::{Memory, Request};
 use std::alloc::Global;
@@ -94,6 +96,32 @@ impl Script {
     {
         request.invariant();
         self.items.append(host, fenced, poisoned, request)
+    }
+
+    /// Appends an item with this payload, as `append` does.
+    pub(crate) fn push(&mut self, short: &Short, payload: &[u8]) -> Result<(), Memory>
+        requires room { length self.old < most_requests }
+        requires host { short.now.host < most_hosts }
+        requires request { IsRequest (record {
+          command = short.now.command;
+          cube = short.now.cube;
+          address = short.now.address;
+          payload = payload.now;
+        }) }
+        ensures ok { OnOk result (self.new ≡ self.old ++ record {
+          host = short.now.host;
+          fenced = short.now.fenced;
+          poisoned = short.now.poisoned;
+          request = record {
+            command = short.now.command;
+            cube = short.now.cube;
+            address = short.now.address;
+            payload = payload.now;
+          };
+        } ∷ []) }
+        ensures err { OnErr result (self.new ≡ self.old) }
+    {
+        self.items.push(short, payload)
     }
 
     /// Appends a request without a fence. Its host is below 8, and the script has fewer than
