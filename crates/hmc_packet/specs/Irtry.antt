@@ -23,6 +23,10 @@ kind_pointer Clear = 2
 abbrev pub irtry_packet : Kind → PacketFields
 irtry_packet kind = record null_packet { command = Irtry; frp = kind_pointer kind }
 
+-- the word of its header, whatever its kind: the code, and the length of one flit
+abbrev pub irtry_header : ℕ
+irtry_header = 0x83
+
 -- its one flit
 unfoldable pub irtry_flit : Profile → Kind → (rrp : ℕ) → List ℕ
 irtry_flit profile kind rrp = slice_index_or (spelling profile (irtry_packet kind) rrp) 0 []
@@ -44,10 +48,3 @@ irtry_seen (Err bad) = None
 -- a flit that reads alone as an IRTRY: its kind and its return pointer
 unfoldable pub irtry_in : Profile → List ℕ → Option (Kind × ℕ)
 irtry_in profile flit = irtry_seen (read_of profile (flit ∷ []))
-
--- The same of a flit with this command that passes the tests, by its tail alone.
-abbrev pub irtry_tail : Profile → Command → List ℕ → Option (Kind × ℕ)
-irtry_tail profile Irtry flit =
-    let tail = tail_of profile layouts.Irtry (tail_in flit) in
-    Some (kind_of tail.frp, tail.rrp)
-irtry_tail profile _ flit = None

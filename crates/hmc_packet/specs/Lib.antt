@@ -9,6 +9,7 @@ pub mod Transactions
 pub mod Head
 pub mod Laws
 pub mod Irtry
+pub mod Pret
 pub mod Copy
 pub mod Draft
 pub mod Landings

@@ -133,7 +133,7 @@ fn carried_check(poisoned: bool, right: u32) -> u32
 }
 
 // Two halves of eight bytes.
-fn bytes_of_halves(first: &[u8; 4], second: &[u8; 4]) -> [u8; 8]
+pub fn bytes_of_halves(first: &[u8; 4], second: &[u8; 4]) -> [u8; 8]
     ensures { result ≡ first.now ++ second.now }
 {
     let mut bytes = [0; 8];
@@ -143,7 +143,7 @@ fn bytes_of_halves(first: &[u8; 4], second: &[u8; 4]) -> [u8; 8]
 }
 
 // Two halves of a flit.
-fn flit_of_halves(first: &[u8; 8], second: &[u8; 8]) -> Flit
+pub fn flit_of_halves(first: &[u8; 8], second: &[u8; 8]) -> Flit
     ensures { result ≡ first.now ++ second.now }
 {
     let mut flit = ZERO_FLIT;

@@ -14,8 +14,9 @@
 //!   [`answer_of`] return `request_in` and `answer_in`.
 //! - [`head_of`] reads a first flit alone: `head_in`. [`header_in`] reads the word of its header,
 //!   and [`Header::unpack`] the fields of that word: `header_of`.
-//! - [`irtry_in`] returns the definition of that name: what a flit alone reads as, if that is an
-//!   IRTRY. It makes no packet.
+//! - [`pret_flit`], [`irtry_flit`] and [`irtry_in`] return the definitions of these names: the flit
+//!   of a PRET and of an IRTRY, and what a flit alone reads as, if that is an IRTRY. They make no
+//!   packet.
 //!
 //! A layer above doesn't look into bytes: it cites these words, and the laws in `laws.rt` and
 //! `link_laws.rt`, each the contract of a function that does nothing.
@@ -46,7 +47,7 @@ mod tail;
 mod view;
 mod what;
 
-pub use alone::irtry_in;
+pub use alone::{irtry_flit, irtry_in, pret_flit};
 pub use answer::{answer_of, reply};
 pub use bad::Bad;
 pub use copy::last_feed_of;

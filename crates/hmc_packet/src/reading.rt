@@ -49,7 +49,7 @@ pub fn tail_in(bytes: &[u8]) -> u32
     half_of(&bytes[start..][..4])
 }
 
-fn check_in(bytes: &[u8]) -> u32
+pub fn check_in(bytes: &[u8]) -> u32
     requires { 16 ≤ length bytes.now }
     ensures { result ≡ check_in bytes.now }
 {

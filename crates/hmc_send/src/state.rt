@@ -13,11 +13,13 @@ ghost use Rattle.hmc_send.specs.Kept.{AreNumbers, CanBeSent};
 ghost use Rattle.hmc_send.specs.Places.{flit_of, numbers_after, tret_packet, pret_packet};
 ghost use Rattle.hmc_send.specs.Sender.{with_irtry, others_after};
 
-use crate::under_way::{UnderWay, first_flit, flit_of};
+use crate::under_way::{UnderWay, first_flit};
 use crate::{Numbers, Sent};
 use hmc_codes::{Command, Flit, Profile, ZERO_FLIT};
 use hmc_irtry::{Burst, irtry};
-use hmc_packet::{Draft, Feed, Kind, Mode, Packet, TRAINING_FLIT, View, What, constant_flits};
+use hmc_packet::{
+    Draft, Feed, Kind, Mode, Packet, TRAINING_FLIT, View, What, constant_flits, pret_flit,
+};
 use hmc_retry::RetryBuffer;
 use hmc_tokens::{Account, Intake};
 
@@ -567,9 +569,10 @@ fn tret() -> Packet
 }
 
 // A return pointer alone, as a flit.
+#[tactic(auto, unfolding(crate::specs::Places::flit_of))]
 fn pret(profile: Profile, rrp: u16) -> Flit
     requires { rrp < modulus_of profile }
     ensures { result ≡ flit_of profile pret_packet rrp 0 }
 {
-    flit_of(profile, &Packet::flow(Command::Pret, 0), rrp, 0)
+    pret_flit(rrp, profile)
 }
