@@ -30,10 +30,10 @@ use Rattle.hmc_send.specs.Copies.{errstat_for, tail_with, copy_of}
 use Rattle.hmc_send.specs.Entries.{Part}
 use Rattle.hmc_send.specs.Places.{Place, numbers_at}
 use Rattle.hmc_send.specs.declared.numbers.Numbers.{Numbers}
-use Rattle.hmc_through.specs.Pipe.{PipeFields, flit_at}
+use Rattle.hmc_through.specs.Pipe.{PipeFields, flit_at, front_flits}
 use Rattle.hmc_wire.proofs.Filled.{AreFit, copy-is, front-of}
 use Rattle.hmc_wire.proofs.OpenPlaces.{HasWholeFlits}
-use Rattle.hmc_copies.specs.Copies.{front_flits, last_flit, last_tail, IsCopy}
+use Rattle.hmc_copies.specs.Copies.{last_flit, last_tail, IsCopy}
 use Rattle.hmc_copies.proofs.Pipes.{IsPipeOf, AreSent}
 
 -- ---- the fields of a copy

@@ -10,11 +10,10 @@ use Rattle.hmc_send.specs.Entries.{SenderEntry, unfinished, last_begun}
 use Rattle.hmc_send.specs.Places.{Place, pointer_of}
 use Rattle.hmc_send.proofs.KeptLemmas.{code-few}
 use Rattle.hmc_send.proofs.Lists.{get-push}
-use Rattle.hmc_through.specs.Pipe.{PipeFields, flit_at, is_accepted}
+use Rattle.hmc_through.specs.Pipe.{PipeFields, flit_at, front_flits, is_accepted}
 use Rattle.hmc_wire.proofs.Filled.{heads}
 use Rattle.hmc_wire.proofs.OpenPlaces.{whole_flits-none}
 use Rattle.hmc_copies.specs.Calls.{Forwarding, CanBeForwarded, Call, pipe_after, sender_after, AreCalls, copy_numbers, copy_place, IsPlaceOfCopy}
-use Rattle.hmc_copies.specs.Copies.{front_flits}
 use Rattle.hmc_copies.proofs.Going.{Fixed, AreFixed, open_place, Goes, Stage, stage-same, ends-stay, stage-sent}
 use Rattle.hmc_copies.proofs.Pipes.{IsPipeOf, pipe-new, pipe-more, pipe-end, AreSent, sent-none, sent-more, sent-end}
 

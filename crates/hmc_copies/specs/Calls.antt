@@ -14,8 +14,8 @@ use Rattle.hmc_send.specs.Choice.{view_after, choice}
 use Rattle.hmc_send.specs.Entries.{SenderEntry, Given, Part, unfinished, places, through_at}
 use Rattle.hmc_send.specs.LinkCalls.{names_flits}
 use Rattle.hmc_send.specs.Places.{Place, pointer_of, number_of, numbers_after}
-use Rattle.hmc_through.specs.Pipe.{PipeFields, is_accepted, is_whole, feed_at}
-use Rattle.hmc_copies.specs.Copies.{front_flits, IsCopy}
+use Rattle.hmc_through.specs.Pipe.{PipeFields, is_accepted, is_whole, front_flits, feed_at}
+use Rattle.hmc_copies.specs.Copies.{IsCopy}
 
 -- A cut-through that is begun: on a link of a profile, with so much retry room, after these entries
 -- of its sender, while so many tokens were due. The packet comes on a link of the profile

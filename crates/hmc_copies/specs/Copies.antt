@@ -1,8 +1,7 @@
 -- The copy of a packet that is forwarded before it has come whole: what it has of the flits that
 -- came. A pipe (hmc_through) has these flits; one that never came is zero.
-use Rattle.std.specs.Prelude.{◌≡◌, ℕ, ◌-◌, ◌%◌, ◌^◌, true, not, List, [], map, take, drop, slice_index_or, Some}
+use Rattle.std.specs.Prelude.{◌≡◌, ℕ, ◌-◌, ◌%◌, ◌^◌, true, not, List, [], take, drop, slice_index_or, Some}
 use Rattle.hmc_codes.specs.Commands.{layout_of}
-use Rattle.hmc_codes.specs.Numbers.{upto}
 use Rattle.hmc_codes.specs.declared.layout.Layout.TheVariants.{Ask, Reply}
 use Rattle.hmc_codes.specs.declared.profile.Profile.{Profile}
 use Rattle.hmc_packet.specs.declared.tail.Tail.{Tail}
@@ -14,11 +13,7 @@ use Rattle.hmc_packet.specs.Spelling.{spelling}
 use Rattle.hmc_packet.specs.Tail.{tail_layout, tail_of}
 use Rattle.hmc_send.specs.Places.{Place, numbers_at, is_token}
 use Rattle.hmc_send.specs.declared.numbers.Numbers.{Numbers}
-use Rattle.hmc_through.specs.Pipe.{PipeFields, flit_at}
-
--- the flits before the last one, in the order in which they came
-abbrev pub front_flits : PipeFields → List (List ℕ)
-front_flits pipe = map (flit_at pipe) (upto (pipe.flits - 1))
+use Rattle.hmc_through.specs.Pipe.{PipeFields, flit_at, front_flits}
 
 -- the last one
 abbrev pub last_flit : PipeFields → List ℕ

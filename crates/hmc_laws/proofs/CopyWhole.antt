@@ -36,8 +36,8 @@ use Rattle.hmc_packet.specs.Parts.{word_of}
 use Rattle.hmc_send.specs.declared.numbers.Numbers.{Numbers}
 use Rattle.hmc_send.specs.Copies.{command_or_null, errstat_for, tail_with, copy_of, awaited_fed}
 use Rattle.hmc_send.specs.Places.{Place}
-use Rattle.hmc_through.specs.Pipe.{PipeFields, flit_at, last_fed, whole_fed, feed_at}
-use Rattle.hmc_journal.specs.Carried.{front_flits, place_with}
+use Rattle.hmc_through.specs.Pipe.{PipeFields, flit_at, front_flits, last_fed, whole_fed, feed_at}
+use Rattle.hmc_journal.specs.Carried.{place_with}
 use Rattle.hmc_journal.specs.Delivered.{unnumbered}
 
 -- ---- what a pipe feeds at its last place

@@ -11,9 +11,9 @@ use Rattle.hmc_send.specs.Copies.{awaited_fed, place_fed}
 use Rattle.hmc_send.specs.Entries.{Part}
 use Rattle.hmc_send.specs.Places.{Place, packet_in, with_last}
 use Rattle.hmc_send.proofs.Lists.{last-push}
-use Rattle.hmc_through.specs.Pipe.{PipeFields, flit_at, last_fed, whole_fed, feed_at}
+use Rattle.hmc_through.specs.Pipe.{PipeFields, flit_at, front_flits, last_fed, whole_fed, feed_at}
 use Rattle.hmc_wire.proofs.OpenPlaces.{AreKnown}
-use Rattle.hmc_journal.specs.Carried.{front_flits, place_with}
+use Rattle.hmc_journal.specs.Carried.{place_with}
 use Rattle.hmc_journal.specs.Piped.{PipeFrom}
 use Rattle.hmc_laws.proofs.Piping.{IsPiped}
 

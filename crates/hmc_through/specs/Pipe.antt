@@ -1,6 +1,7 @@
 -- A pipe: the flits of a packet that is still being gathered, and what they give to a copy of it.
-use Rattle.std.specs.Prelude.{◌≤◌, ℕ, suc, Bool, true, false, ◌==◌, nat_lt, if◌then◌else◌, List, length, slice_index_or, Option, Some, None}
+use Rattle.std.specs.Prelude.{◌≤◌, ℕ, suc, ◌-◌, Bool, true, false, ◌==◌, nat_lt, if◌then◌else◌, List, length, map, slice_index_or, Option, Some, None}
 use Rattle.hmc_codes.specs.Flit.{zero_flit}
+use Rattle.hmc_codes.specs.Numbers.{upto}
 use Rattle.hmc_codes.specs.declared.profile.Profile.{Profile}
 use Rattle.hmc_packet.specs.Copy.{last_feed_of}
 use Rattle.hmc_packet.specs.declared.feed.Feed.{Feed}
@@ -31,6 +32,10 @@ is_whole _ = false
 -- the flit at a place: a zero one where none came
 abbrev pub flit_at : PipeFields → ℕ → List ℕ
 flit_at pipe at = slice_index_or pipe.came at zero_flit
+
+-- the flits of the packet before its last one, in the order in which they came
+abbrev pub front_flits : PipeFields → List (List ℕ)
+front_flits pipe = map (flit_at pipe) (upto (pipe.flits - 1))
 
 -- a flit before the last: it waits while it may still come
 abbrev pub whole_fed : PipeFields → (at : ℕ) → Option Bool → Feed

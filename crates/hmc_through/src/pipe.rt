@@ -31,12 +31,7 @@ impl Model for Pipe {
       good = p.good;
     } };
 
-    ghost invariant = { λ p. IsPipe (record {
-      flits = p.flits;
-      profile = p.profile;
-      came = p.came.items;
-      good = p.good;
-    }) };
+    ghost invariant = { λ p. IsPipe (view p) };
 }
 
 // Whether the packet was accepted.
