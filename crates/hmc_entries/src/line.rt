@@ -180,7 +180,9 @@ fn push_request_end<const N: usize>(into: &mut ArrayString<N>, poisoned: bool, r
     into.push_str("\n");
 }
 
-// `idle` and the words of a step, without a mask.
+// `idle` and the words of a step, without a mask. Out of line: a checker's text is so long that the
+// compiler would spell each case at every place that calls it.
+#[inline(never)]
 fn push_idle<const N: usize>(into: &mut ArrayString<N>, step: &Step)
     requires room { length into.old.bytes + 72 ≤ N }
     ensures text { into.new.bytes ≡
@@ -250,6 +252,24 @@ pub(crate) fn gave_line<const N: usize>(
     push_request_end(into, poisoned, request);
 }
 
+// What a flit was sent as, and the flit, which end the line. Most are NULLs: one piece.
+#[tactic(auto, using(crate::proofs::ZeroDigits::zero_digits))]
+#[inline(always)]
+fn push_sent<const N: usize>(into: &mut ArrayString<N>, what: What, flit: &Flit)
+    requires room { length into.old.bytes + 40 ≤ N }
+    ensures text { into.new.bytes ≡ into.old.bytes ++
+        (32 ∷ (what_text what ++ (32 ∷ (encode_lower flit.now ++ (10 ∷ []))))) }
+    ensures few { length into.new.bytes ≤ length into.old.bytes + 40 }
+{
+    if matches!(what, What::Null) && is_null(flit) {
+        into.push_str(" null 00000000000000000000000000000000\n");
+    } else {
+        push_what(into, what);
+        push_flit(into, flit);
+        into.push_str("\n");
+    }
+}
+
 /// The line of a flit that was sent.
 #[inline(always)]
 pub(crate) fn sent_line<const N: usize>(
@@ -264,9 +284,24 @@ pub(crate) fn sent_line<const N: usize>(
     ensures short { length into.new.bytes < length into.old.bytes + 2048 }
 {
     push_numbered(into, "sent", direction);
-    push_what(into, what);
-    push_flit(into, flit);
-    into.push_str("\n");
+    push_sent(into, what, flit);
+}
+
+// A flit that landed, and the outcome, which end the line. Most are NULLs: one piece.
+#[tactic(auto, using(crate::proofs::ZeroDigits::zero_digits))]
+#[inline(always)]
+fn push_landed<const N: usize>(into: &mut ArrayString<N>, flit: &Flit, outcome: Outcome)
+    requires room { length into.old.bytes + 51 ≤ N }
+    ensures text { into.new.bytes ≡ into.old.bytes ++
+        (32 ∷ (encode_lower flit.now ++ (32 ∷ (outcome_text outcome ++ (10 ∷ []))))) }
+    ensures few { length into.new.bytes ≤ length into.old.bytes + 51 }
+{
+    if matches!(outcome, Outcome::Quiet) && is_null(flit) {
+        into.push_str(" 00000000000000000000000000000000 quiet\n");
+    } else {
+        push_flit(into, flit);
+        push_outcome(into, outcome);
+    }
 }
 
 /// The line of a flit that landed.
@@ -284,8 +319,7 @@ pub(crate) fn landed_line<const N: usize>(
     ensures short { length into.new.bytes < length into.old.bytes + 2048 }
 {
     push_numbered(into, "landed", direction);
-    push_flit(into, flit);
-    push_outcome(into, outcome);
+    push_landed(into, flit, outcome);
 }
 
 /// The line of a packet that moved on.
