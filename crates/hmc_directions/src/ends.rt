@@ -17,7 +17,8 @@ ghost use Rattle.hmc_routes.specs.Directions.{other};
 ghost use Rattle.hmc_send.specs.LinkCalls.{LinkCall, names_flits};
 ghost use Rattle.hmc_send.specs.LinkEntries.{LinkEntry, receiver_entries};
 ghost use Rattle.hmc_send.specs.LinkSenders.{tokens};
-ghost use Rattle.hmc_directions.specs.Ends.{row_at, EndsHold, HoldSome, IsDirection, MayHand, MaySend, MayBegin, HasRoom, IsArrival, IsFrontAt, IsGathered, IsThroughAt, IsTaking};
+ghost use Rattle.hmc_directions.specs.Ends.{row_at, EndsHold, HoldSome, IsDirection};
+ghost use Rattle.hmc_kept.specs.ByDirection.{MayHand, MaySend, MayBegin, HasRoom, IsArrival, IsFrontAt, IsGathered, IsThroughAt, IsTaking};
 ghost use Rattle.hmc_kept.specs.Called.{sizes_by, called};
 
 use hmc_case::LinkRow;
@@ -99,7 +100,7 @@ impl Ends {
     /// Whether the output queue of a direction has room for a packet.
     pub fn has_room(&self, direction: u8) -> bool
         requires { IsDirection self.now direction }
-        ensures { HasRoom self.now direction result }
+        ensures { HasRoom EndsHold self.now direction result }
     {
         self.ends[usize::from(direction)].has_room()
     }
@@ -107,7 +108,7 @@ impl Ends {
     /// Appends a packet to the output queue of a direction, which has room.
     pub fn hand(&mut self, direction: u8, packet: Packet)
         requires there { IsDirection self.old direction }
-        requires may { MayHand self.old direction packet }
+        requires may { MayHand EndsHold self.old direction packet }
         ensures { (rows : List LinkRow) (entries : ℕ → List LinkEntry) →
             EndsHold rows self.old entries → EndsHold rows self.new
             (called rows direction (λ d. LinkCall.hand d packet) entries) }
@@ -120,7 +121,7 @@ impl Ends {
     pub fn has_arrived(&self, direction: u8) -> bool
         requires there { IsDirection self.now direction }
         requires some { HoldSome self.now }
-        ensures { IsArrival self.now direction result }
+        ensures { IsArrival EndsHold self.now direction result }
     {
         self.ends[usize::from(other(direction))].has_arrived()
     }
@@ -129,7 +130,7 @@ impl Ends {
     pub fn front(&self, direction: u8) -> Option<Packet>
         requires there { IsDirection self.now direction }
         requires some { HoldSome self.now }
-        ensures { IsFrontAt self.now direction result }
+        ensures { IsFrontAt EndsHold self.now direction result }
     {
         self.ends[usize::from(other(direction))].front()
     }
@@ -148,7 +149,7 @@ impl Ends {
     /// Sends the next flit of a direction, with what is fed to a packet that is forwarded onto it.
     pub fn send(&mut self, direction: u8, feed: Feed) -> LinkSent
         requires there { IsDirection self.old direction }
-        requires may { MaySend self.old direction feed }
+        requires may { MaySend EndsHold self.old direction feed }
         ensures answer { (rows : List LinkRow) (entries : ℕ → List LinkEntry) →
             EndsHold rows self.old entries → result
             ≡ send_answer (sizes_by rows direction) (toward direction) (entries (direction / 2))
@@ -206,7 +207,7 @@ impl Ends {
     pub fn gathered(&self, direction: u8) -> Option<&[Flit]>
         requires there { IsDirection self.now direction }
         requires some { HoldSome self.now }
-        ensures { IsGathered self.now direction (option_map (λ flits. flits.now) result) }
+        ensures { IsGathered EndsHold self.now direction (option_map (λ flits. flits.now) result) }
     {
         self.ends[usize::from(other(direction))].through_view()
     }
@@ -226,7 +227,7 @@ impl Ends {
     /// unfinished. `None` where there is none.
     pub fn through_at(&self, direction: u8) -> Option<u8>
         requires { IsDirection self.now direction }
-        ensures { IsThroughAt self.now direction result }
+        ensures { IsThroughAt EndsHold self.now direction result }
     {
         self.ends[usize::from(direction)].through_at()
     }
@@ -234,7 +235,7 @@ impl Ends {
     /// Whether a direction can take a packet of so many flits that is forwarded.
     pub fn through_ready(&self, direction: u8, flits: u8) -> bool
         requires { IsDirection self.now direction }
-        ensures { IsTaking self.now direction flits result }
+        ensures { IsTaking EndsHold self.now direction flits result }
     {
         self.ends[usize::from(direction)].through_ready(flits)
     }
@@ -243,7 +244,7 @@ impl Ends {
     /// whole.
     pub fn begin_through(&mut self, direction: u8, head: Flit, flits: u8)
         requires there { IsDirection self.old direction }
-        requires may { MayBegin self.old direction flits }
+        requires may { MayBegin EndsHold self.old direction flits }
         requires named { names_flits flits (head_in head) ≡ true }
         ensures { (rows : List LinkRow) (entries : ℕ → List LinkEntry) →
             EndsHold rows self.old entries → EndsHold rows self.new

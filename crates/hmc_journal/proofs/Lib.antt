@@ -1,5 +1,6 @@
 pub mod EntryRule
 pub mod OneJournal
+pub mod Left
 pub mod Whole
 pub mod Joins
 pub mod LinkKept

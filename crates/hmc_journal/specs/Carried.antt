@@ -9,12 +9,11 @@ use Rattle.hmc_codes.specs.declared.unit.Unit.TheVariants as units
 use Rattle.hmc_packet.specs.Packet.{PacketFields}
 use Rattle.hmc_packet.specs.Transactions.{request_in, answer_in}
 use Rattle.hmc_send.specs.LinkSenders.{places_in}
-use Rattle.hmc_codes.specs.Numbers.{upto}
 use Rattle.hmc_codes.specs.declared.profile.Profile.{Profile}
 use Rattle.hmc_packet.specs.declared.what.What.TheVariants.{New, Tret}
 use Rattle.hmc_send.specs.Copies.{place_fed}
 use Rattle.hmc_send.specs.Places.{Place, packet_in}
-use Rattle.hmc_through.specs.Pipe.{PipeFields, flit_at, feed_at}
+use Rattle.hmc_through.specs.Pipe.{front_flits, feed_at}
 use Rattle.hmc_entries.specs.declared.entry.Entry.{Entry}
 use Rattle.hmc_entries.specs.declared.entry.Entry.TheVariants.{Sent, Lifted, Took, Through}
 use Rattle.hmc_journal.specs.Choice.{append_if}
@@ -84,10 +83,6 @@ answers_taken topology c h (Took host tag answer ∷ past) =
     append_if ((host == h) && ((front_of (contents topology past (Host host))).cube == c))
     (record { tag = tag; answer = answer } ∷ []) (answers_taken topology c h past)
 answers_taken topology c h (_ ∷ past) = answers_taken topology c h past
-
--- the flits of a pipe's packet before its last one
-abbrev pub front_flits : PipeFields → List (List ℕ)
-front_flits pipe = map (flit_at pipe) (upto (pipe.flits - 1))
 
 -- A place that is open is that of the copy of the latest packet that was forwarded. Once the
 -- packet's gathering has ended the copy is known, also while its last flit is still to be sent.

@@ -25,6 +25,8 @@ pub mod ThroughSteps
 pub mod Next
 -- The lawful journals: each entry is the one that its step gives.
 pub mod Lawful
+-- Those of a case, step after step: which are left.
+pub mod Left
 -- What is promised of lawful journals: Guarantees has it all in one record, the other files its
 -- parts, from the requests of each host to the final lines.
 pub mod Filters

@@ -62,15 +62,15 @@ pipe_of topology from came = record {
 }
 
 -- the copy is good only where the packet was accepted
-abbrev pub is_accepted : Outcome → Bool
-is_accepted outcomes.Accepted = true
-is_accepted _ = false
+abbrev pub is_accepted_outcome : Outcome → Bool
+is_accepted_outcome outcomes.Accepted = true
+is_accepted_outcome _ = false
 
 -- a flit comes; any outcome but `gathered` ends the gathering
 abbrev pub with_landing : (flit : List ℕ) → Outcome → PipeFields → PipeFields
 with_landing flit outcomes.Gathered pipe = record pipe { came = pipe.came ++ flit ∷ [] }
 with_landing flit outcome pipe =
-    record pipe { came = pipe.came ++ flit ∷ []; good = Some (is_accepted outcome) }
+    record pipe { came = pipe.came ++ flit ∷ []; good = Some (is_accepted_outcome outcome) }
 
 -- an unlock ends it without a flit
 abbrev pub with_unlock : PipeFields → PipeFields

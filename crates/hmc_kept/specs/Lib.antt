@@ -3,6 +3,7 @@ pub mod Shown
 pub mod After
 pub mod LinkAnswers
 pub mod Called
+pub mod ByDirection
 pub mod Hosts
 pub mod Quiet
 pub mod Ways

@@ -1,8 +1,8 @@
 //! Pipes: the flits of packets that are forwarded while they are gathered.
 
 ghost use Rattle.std.specs.Prelude.{◌≡◌, ◌<◌, ◌≤◌, ◌+◌, ◌*◌, ◌∷◌, List, IfOk, IfSome, Some, None, true, length, option_map};
-ghost use Rattle.hmc_through.specs.Pipe.{is_whole, is_accepted as accepted_whole};
-ghost use Rattle.hmc_journal.specs.Piped.{PipeFrom, is_accepted, while_gathered, with_landing, with_unlock, fed};
+ghost use Rattle.hmc_through.specs.Pipe.{is_accepted, is_whole};
+ghost use Rattle.hmc_journal.specs.Piped.{PipeFrom, is_accepted_outcome, while_gathered, with_landing, with_unlock, fed};
 ghost use Rattle.hmc_kept.specs.Pipes.{PipesHeld, AreCounted, AreUnused, AreGathering, IsLastOf, IsPlace, MayLand, MayLose, is_gathered, is_whole_outcome, forwarded_at, pipe_at, changed_pipe, after_begin, after_flit, after_loss};
 
 use hmc_codes::{Flit, Memory};
@@ -188,7 +188,7 @@ fn is_gathered(outcome: Outcome) -> bool
 
 // What a pipe is told of an outcome: it doesn't look at the packet.
 fn as_landed(outcome: Outcome) -> Landed
-    ensures accepted { accepted_whole result ≡ is_accepted outcome }
+    ensures accepted { is_accepted result ≡ is_accepted_outcome outcome }
     ensures whole { is_whole result ≡ is_whole_outcome outcome }
 {
     match outcome {

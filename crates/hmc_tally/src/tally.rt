@@ -111,9 +111,7 @@ fn add_landing(row: &mut Counters, changed: bool, outcome: Outcome)
 // A flit was sent in a direction.
 fn add_sent(rows: &mut [Counters], direction: u8)
     requires { (most : ℕ) × (most + 1 < 2 ^ 32) × All (CountersWithin most) rows.old }
-    ensures counted { rows.new ≡ with_row no_counters direction one_more_sent rows.old }
-    ensures within { (most : ℕ) → All (CountersWithin most) rows.old →
-        All (CountersWithin (most + 1)) rows.new }
+    ensures { rows.new ≡ with_row no_counters direction one_more_sent rows.old }
 {
     if usize::from(direction) < rows.len() {
         rows[usize::from(direction)].sent += 1;
@@ -123,10 +121,7 @@ fn add_sent(rows: &mut [Counters], direction: u8)
 // A flit landed in a direction.
 fn add_landed(rows: &mut [Counters], direction: u8, changed: bool, outcome: Outcome)
     requires { (most : ℕ) × (most + 1 < 2 ^ 32) × All (CountersWithin most) rows.old }
-    ensures counted { rows.new
-        ≡ with_row no_counters direction (one_landed changed outcome) rows.old }
-    ensures within { (most : ℕ) → All (CountersWithin most) rows.old →
-        All (CountersWithin (most + 1)) rows.new }
+    ensures { rows.new ≡ with_row no_counters direction (one_landed changed outcome) rows.old }
 {
     if usize::from(direction) < rows.len() {
         add_landing(&mut rows[usize::from(direction)], changed, outcome);
@@ -136,9 +131,7 @@ fn add_landed(rows: &mut [Counters], direction: u8, changed: bool, outcome: Outc
 // The receiver of a direction lost its framing.
 fn add_unlocked(rows: &mut [Counters], direction: u8, was_good: bool)
     requires { (most : ℕ) × (most + 1 < 2 ^ 32) × All (CountersWithin most) rows.old }
-    ensures counted { rows.new ≡ with_row no_counters direction (one_unlocked was_good) rows.old }
-    ensures within { (most : ℕ) → All (CountersWithin most) rows.old →
-        All (CountersWithin (most + 1)) rows.new }
+    ensures { rows.new ≡ with_row no_counters direction (one_unlocked was_good) rows.old }
 {
     if usize::from(direction) < rows.len() {
         let row = &mut rows[usize::from(direction)];
@@ -149,9 +142,7 @@ fn add_unlocked(rows: &mut [Counters], direction: u8, was_good: bool)
 // A host gave one more request.
 fn add_given(rows: &mut [HostSteps], host: u8)
     requires { (most : ℕ) × (most + 1 < 2 ^ 32) × All (HostWithin most) rows.old }
-    ensures counted { rows.new ≡ with_row no_host_steps host one_given rows.old }
-    ensures within { (most : ℕ) → All (HostWithin most) rows.old →
-        All (HostWithin (most + 1)) rows.new }
+    ensures { rows.new ≡ with_row no_host_steps host one_given rows.old }
 {
     if usize::from(host) < rows.len() {
         rows[usize::from(host)].given += 1;
@@ -161,9 +152,7 @@ fn add_given(rows: &mut [HostSteps], host: u8)
 // A host took one more answer.
 fn add_taken(rows: &mut [HostSteps], host: u8)
     requires { (most : ℕ) × (most + 1 < 2 ^ 32) × All (HostWithin most) rows.old }
-    ensures counted { rows.new ≡ with_row no_host_steps host one_taken rows.old }
-    ensures within { (most : ℕ) → All (HostWithin most) rows.old →
-        All (HostWithin (most + 1)) rows.new }
+    ensures { rows.new ≡ with_row no_host_steps host one_taken rows.old }
 {
     if usize::from(host) < rows.len() {
         rows[usize::from(host)].taken += 1;
@@ -173,9 +162,7 @@ fn add_taken(rows: &mut [HostSteps], host: u8)
 // A cube executed one more request.
 fn add_executed(rows: &mut [CubeCounts], cube: u8)
     requires { (most : ℕ) × (most + 1 < 2 ^ 32) × All (CubeWithin most) rows.old }
-    ensures counted { rows.new ≡ with_row no_cube_counts cube one_executed rows.old }
-    ensures within { (most : ℕ) → All (CubeWithin most) rows.old →
-        All (CubeWithin (most + 1)) rows.new }
+    ensures { rows.new ≡ with_row no_cube_counts cube one_executed rows.old }
 {
     if usize::from(cube) < rows.len() {
         rows[usize::from(cube)].executed += 1;
@@ -185,9 +172,7 @@ fn add_executed(rows: &mut [CubeCounts], cube: u8)
 // A cube dropped one more packet.
 fn add_dropped(rows: &mut [CubeCounts], cube: u8)
     requires { (most : ℕ) × (most + 1 < 2 ^ 32) × All (CubeWithin most) rows.old }
-    ensures counted { rows.new ≡ with_row no_cube_counts cube one_dropped rows.old }
-    ensures within { (most : ℕ) → All (CubeWithin most) rows.old →
-        All (CubeWithin (most + 1)) rows.new }
+    ensures { rows.new ≡ with_row no_cube_counts cube one_dropped rows.old }
 {
     if usize::from(cube) < rows.len() {
         rows[usize::from(cube)].dropped += 1;
@@ -213,11 +198,7 @@ impl Model for Tally {
       cubes = t.cubes.items;
     } };
 
-    ghost invariant = { λ t. IsTally (record {
-      directions = t.directions.items;
-      hosts = t.hosts.items;
-      cubes = t.cubes.items;
-    }) };
+    ghost invariant = { λ t. IsTally (view t) };
 }
 
 impl Tally {
@@ -237,13 +218,11 @@ impl Tally {
         })
     }
 
-    /// Counts one more step: its event, whether its mask changes, and whether the receiver that it
-    /// unlocks was good.
+    // Counts one more step, as `add` does.
     #[inline(always)]
-    pub fn add(&mut self, event: Event, changed: bool, was_good: bool)
+    fn count(&mut self, event: Event, changed: bool, was_good: bool)
         requires { (most : ℕ) × (most + 1 < 2 ^ 32) × IsWithin most self.old }
-        ensures counted { self.new ≡ tallied changed was_good event self.old }
-        ensures within { (most : ℕ) → IsWithin most self.old → IsWithin (most + 1) self.new }
+        ensures { self.new ≡ tallied changed was_good event self.old }
     {
         match event {
             Event::Sent { direction } => add_sent(&mut self.directions, direction),
@@ -259,6 +238,17 @@ impl Tally {
             Event::Dropped { cube } => add_dropped(&mut self.cubes, cube),
             Event::Other => {}
         }
+    }
+
+    /// Counts one more step: its event, whether its mask changes, and whether the receiver that it
+    /// unlocks was good.
+    #[inline(always)]
+    pub fn add(&mut self, event: Event, changed: bool, was_good: bool)
+        requires { (most : ℕ) × (most + 1 < 2 ^ 32) × IsWithin most self.old }
+        ensures counted { self.new ≡ tallied changed was_good event self.old }
+        ensures within { (most : ℕ) → IsWithin most self.old → IsWithin (most + 1) self.new }
+    {
+        self.count(event, changed, was_good);
     }
 
     /// The number of directions.

@@ -22,7 +22,7 @@ begin_through-requires c =
     let may = c.requires.may in
     let rows = may.rows in
     let entries = may.entries in
-    let hold = may.hold in
+    let hold = may.stand in
     let own = c.args.self.now in
     let d = c.args.direction in
     let s = c.index_mut.result.now in
@@ -42,7 +42,7 @@ returns c = λ rows entries hold.
     let far = any_at own (other d) s (other_there rows own entries d hold c.requires.there) in
     let both = both_at rows own entries d s l hold c.requires.there near far in
     let may = c.requires.may in
-    let then = both_at may.rows own may.entries d s l may.hold c.requires.there near far in
+    let then = both_at may.rows own may.entries d s l may.stand c.requires.there near far in
     let ready = sym (ready_of (sizes_by rows d) (toward d) (entries (d / 2)) s c.args.flits both.sending) ∙ ready_of (sizes_by may.rows d) (toward d) (may.entries (d / 2)) s c.args.flits then.sending ∙ may.ready in
     let stands = begin-both (sizes_by rows d) (toward d) (entries (d / 2)) s l c.begin_through.new.self c.args.head c.args.flits c.flit_is_bytes.ensures c.requires.named c.begin_through.ensures both ready in
     put_is rows c.self.inside.ends.items own c.from.result d c.begin_through.new.self _ c.self.view_is c.from.ensures

@@ -38,7 +38,7 @@ returns-clause-stand c = λ rows entries hold.
     let far = any_at own (other d) s (other_there rows own entries d hold c.requires.there) in
     let both = both_at rows own entries d s l hold c.requires.there near far in
     let may = c.requires.may in
-    let then = both_at may.rows own may.entries d s l may.hold c.requires.there near far in
+    let then = both_at may.rows own may.entries d s l may.stand c.requires.there near far in
     let fed = fed_of (sizes_by may.rows d) (toward d) (may.entries (d / 2)) s c.args.feed then.sending may.fed in
     let stands = (send-steps (toward d) s l c.send.new.self c.args.feed c.send.result fed c.feed_is_bytes.ensures c.send.ensures.answer c.send.ensures.stands).after (sizes_by rows d) (entries (d / 2)) both in
     put_is rows c.self.inside.ends.items own c.from.result d c.send.new.self _ c.self.view_is c.from.ensures
