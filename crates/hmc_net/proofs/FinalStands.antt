@@ -61,7 +61,8 @@ cube_there net setup past cube stands less = let count = stands.sized.cubes ∙ 
 host_there : (net : NetState) (setup : Setup) (past : List Entry) (host : ℕ) → StandsFor net setup past → host < hosts_in setup.topology → host < length net.hosts
 host_there net setup past host stands less = let count = stands.sized.hosts ∙ ap hosts_in stands.topology in omega (arith, less, count)
 
-alike : (net : NetState) (setup : Setup) (past : List Entry) → StandsFor net setup past → has_passed past ≡ false → AreAlike (net_values net) (values_of setup past)
+-- what it shows, value by value
+pub alike : (net : NetState) (setup : Setup) (past : List Entry) → StandsFor net setup past → has_passed past ≡ false → AreAlike (net_values net) (values_of setup past)
 unfolding net_values values_of
 alike net setup past stands on =
     let topology = setup.topology in

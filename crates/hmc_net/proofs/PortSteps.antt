@@ -36,7 +36,7 @@ use Rattle.hmc_kept.specs.After.{entries_after}
 use Rattle.hmc_kept.specs.Called.{sizes_by, called}
 use Rattle.hmc_links.specs.LinkList.{LinksStandFor, IsDirection, IsRoom, IsFrontAt, MayHand}
 use Rattle.hmc_net.specs.NetState.{NetState, cube_in}
-use Rattle.hmc_net.specs.Ports.{IsShifting, IsLeaving, IsWayOut}
+use Rattle.hmc_net.specs.Ports.{IsShifting, IsLeaving, IsLifting, IsWayOut}
 use Rattle.hmc_kept.specs.Ways.{IsInner}
 use Rattle.hmc_wiring.specs.Ready.{IsLiftIn}
 use Rattle.hmc_net.specs.Sees.{Sees, IsSized, IsReady}
@@ -310,6 +310,18 @@ lift_may net cube from front port onward ready some way = record {
   room = way_room net ready.view cube port onward ready.sees way;
   fit = answer_taken (sizes_by net.topology.links onward).profile net.topology front (lift_answer net cube from front ready some);
 }
+
+-- the front that is found again is the same
+pub lifting_again : (net : NetState) (cube : ℕ) (from : Lift) (port onward : ℕ) (found : PacketFields) → IsLifting net cube from port onward → slice_get (answers_at (cube_in net.cubes cube) from) 0 ≡ Some found → port_towards net.topology cube found.slid ≡ Some port
+lifting_again net cube from port onward found lifting some =
+    let is : Some lifting.front ≡ Some found = sym lifting.is_front ∙ some in
+    let same : lifting.front ≡ found = cc in
+    subst (λ (f : PacketFields). port_towards net.topology cube f.slid ≡ Some port) same lifting.towards
+
+pub some_lifting : (net : NetState) (cube : ℕ) (from : Lift) (port onward : ℕ) → IsLifting net cube from port onward → slice_get (answers_at (cube_in net.cubes cube) from) 0 ≡ None → ⊥
+some_lifting net cube from port onward lifting none =
+    let is = sym lifting.is_front ∙ none in
+    cc
 
 lift_kept : (x : CubeFields) (from : Lift) → ((after_lift from x).state.shape ≡ x.state.shape) × ((after_lift from x).size ≡ x.size)
 lift_kept x (lifts.Vault vault) = (refl, refl)

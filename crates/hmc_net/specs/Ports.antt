@@ -1,16 +1,19 @@
 -- What a shift and a lift know of the packet that they move.
-use Rattle.std.specs.Prelude.{◌≡◌, ℕ, is_none, Option, Some}
+use Rattle.std.specs.Prelude.{◌≡◌, ℕ, is_none, Option, Some, slice_get}
+use Rattle.hmc_codes.specs.declared.lift.Lift.{Lift}
 use Rattle.hmc_codes.specs.declared.place.Place.TheVariants as places
 use Rattle.hmc_packet.specs.Packet.{PacketFields}
 use Rattle.hmc_crossbar.specs.To.{where_to}
+use Rattle.hmc_cube.specs.Places.{answers_at}
 use Rattle.hmc_entries.specs.declared.outcome.Goal.{Goal}
 use Rattle.hmc_journal.specs.Links.{direction_to}
 use Rattle.hmc_journal.specs.Next.{goal_at, lacks_room}
 use Rattle.hmc_journal.specs.Queues.{output_from}
+use Rattle.hmc_journal.specs.Routes.{port_towards}
 use Rattle.hmc_journal.specs.Setup.{graph_of, shape_of, direction_from}
 use Rattle.hmc_journal.specs.StepView.{StepView}
 use Rattle.hmc_links.specs.LinkList.{IsFrontAt}
-use Rattle.hmc_net.specs.NetState.{NetState}
+use Rattle.hmc_net.specs.NetState.{NetState, cube_in}
 use Rattle.hmc_net.specs.Sees.{Sees}
 
 -- the front of the buffer of a port, at which this direction ends, goes to this goal
@@ -33,3 +36,11 @@ pub record IsWayOut (net : NetState) (cube port : ℕ) (found : Option ℕ) : Ty
       ≡ is_none found
   pub from : (direction : ℕ) → found ≡ Some direction →
       direction_from net.topology (places.Port cube port) ≡ Some direction
+
+-- the front of the answers of a vault or of the registers leaves through this port towards its host,
+-- from which this direction starts and has room
+pub record IsLifting (net : NetState) (cube : ℕ) (from : Lift) (port onward : ℕ) : Type 0 where
+  pub front : PacketFields
+  pub is_front : slice_get (answers_at (cube_in net.cubes cube) from) 0 ≡ Some front
+  pub towards : port_towards net.topology cube front.slid ≡ Some port
+  pub way : IsWayOut net cube port (Some onward)

@@ -1,7 +1,7 @@
 //! Hosts that are asked for more requests while the network runs.
 
 ghost use Rattle.std.specs.Prelude.{◌≡◌, ◌<◌, List, OnOk, OnErr, length};
-ghost use Rattle.hmc_script.specs.Items.{most_asked};
+ghost use Rattle.hmc_codes.specs.Limits.{most_asked};
 ghost use Rattle.hmc_host.specs.Host.{asked_count};
 ghost use Rattle.hmc_host.specs.Give.{is_at_end};
 ghost use Rattle.hmc_entries.specs.declared.entry.Entry.{Entry};

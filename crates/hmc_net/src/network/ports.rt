@@ -3,7 +3,7 @@
 ghost use Rattle.std.specs.Prelude.{◌≡◌, ◌<◌};
 ghost use Rattle.hmc_journal.specs.Setup.{cubes_in};
 ghost use Rattle.hmc_net.specs.Apply.{DoesStep, to_of};
-ghost use Rattle.hmc_net.specs.Ports.{IsLeaving, IsWayOut};
+ghost use Rattle.hmc_net.specs.Ports.{IsLeaving, IsLifting, IsWayOut};
 ghost use Rattle.hmc_kept.specs.Ways.{IsInner};
 ghost use Rattle.hmc_net.specs.NetState.{net_of};
 ghost use Rattle.hmc_wiring.specs.Ready.{IsPortIn, IsLiftIn};
@@ -117,32 +117,33 @@ impl<B: Workbench> Network<B> {
             (Step.Lift cube from) }
         ensures went { result ≡ went_of self.new.last }
     {
-        if self.cubes[usize::from(cube)].answers_are_empty(from) {
-            return idle(&mut self.last, &Step::Lift(cube, from), Cause::Empty);
-        }
-        self.lift_answer(cube, from)
-    }
-
-    // The same. Where there is no answer, no packet is to be moved.
-    #[inline(never)]
-    fn lift_answer(&mut self, cube: u8, from: Lift) -> Went
-        requires there { IsLiftIn self.old.topology cube from }
-        requires ready { IsReady (net_of B.slots self.old) }
-        ensures does { DoesStep (net_of B.slots self.old) (net_of B.slots self.new)
-            (Step.Lift cube from) }
-        ensures went { result ≡ went_of self.new.last }
-    {
-        let Some(front) = self.cubes[usize::from(cube)].lift_front(from) else {
+        let Some(front) = self.cubes[usize::from(cube)].lift_front_ref(from) else {
             return idle(&mut self.last, &Step::Lift(cube, from), Cause::Empty);
         };
         let port = self.wiring.port_towards(cube, front.slid);
         let Some(onward) = self.room_through(cube, port) else {
             return idle(&mut self.last, &Step::Lift(cube, from), Cause::Full);
         };
+        self.lift_out(cube, from, port, onward)
+    }
+
+    // The front of the answers goes to the output queue of the direction that starts at a port.
+    #[inline(never)]
+    fn lift_out(&mut self, cube: u8, from: Lift, port: u8, onward: u8) -> Went
+        requires there { IsLiftIn self.old.topology cube from }
+        requires ready { IsReady (net_of B.slots self.old) }
+        requires lifting { IsLifting (net_of B.slots self.old) cube from port onward }
+        ensures does { DoesStep (net_of B.slots self.old) (net_of B.slots self.new)
+            (Step.Lift cube from) }
+        ensures went { result ≡ went_of self.new.last }
+    {
+        let Some(front) = self.cubes[usize::from(cube)].lift_front_ref(from) else {
+            unreachable!()
+        };
+        self.links.hand(onward, front);
         let owner = &mut self.cubes[usize::from(cube)];
         owner.invariant();
         owner.drop_lifted(from);
-        self.links.hand(onward, &front);
         self.last.lifted(cube, from, port);
         Went::Done
     }
