@@ -39,7 +39,8 @@ use Rattle.hmc_kept.proofs.PipeLemmas.{begin_counted}
 use Rattle.hmc_kept.proofs.LawsShown.{direction_shown}
 use Rattle.hmc_kept.proofs.Found.{found_by, none_by, short_by, names_lng, flits_first, not_some, head_here}
 use Rattle.hmc_journal.proofs.Packets.{head_lng}
-use Rattle.hmc_directions.specs.Ends.{EndsHold, IsArrival, IsGathered, IsTaking, MayBegin}
+use Rattle.hmc_directions.specs.Ends.{EndsHold}
+use Rattle.hmc_kept.specs.ByDirection.{IsArrival, IsGathered, IsTaking, MayBegin}
 use Rattle.hmc_kept.specs.Called.{sizes_by, called}
 use Rattle.hmc_check.specs.Inside.{inside_of}
 use Rattle.hmc_check.specs.Moving.{IsHeadAt, IsFree, IsComing}
@@ -61,12 +62,12 @@ choice_own setup past p step holds = ap (λ (t : Topology). choice t (view_of se
 
 -- ---- the flits that are gathered
 
-all_found : (setup : Setup) (past : List Entry) (p : PastFields) (from : ℕ) (found : Option (List (List ℕ))) → Holds setup past p → has_passed past ≡ false → from < directions_in p.topology → IsGathered p.ends from found → found ≡ some_flits (gathered (view_of setup past) from)
+all_found : (setup : Setup) (past : List Entry) (p : PastFields) (from : ℕ) (found : Option (List (List ℕ))) → Holds setup past p → has_passed past ≡ false → from < directions_in p.topology → IsGathered EndsHold p.ends from found → found ≡ some_flits (gathered (view_of setup past) from)
 all_found setup past p from found holds on there is =
     all_seen setup.topology (view_of setup past) from found (laws_of setup past p holds) (in_setup setup past p from holds there) (is setup.topology.links (view_of setup past).entries (view_hold setup past p holds on))
 
 -- the head of the first one
-pub head_found : (setup : Setup) (past : List Entry) (p : PastFields) (from : ℕ) (found : Option (List (List ℕ))) → Holds setup past p → has_passed past ≡ false → from < length p.ends → IsGathered p.ends from found
+pub head_found : (setup : Setup) (past : List Entry) (p : PastFields) (from : ℕ) (found : Option (List (List ℕ))) → Holds setup past p → has_passed past ≡ false → from < length p.ends → IsGathered EndsHold p.ends from found
     → option_and_then head_in (option_and_then (λ (l : List (List ℕ)). slice_get l 0) found) ≡ gathered_head (view_of setup past) (Some from)
 head_found setup past p from found holds on there is =
     let inside = in_setup setup past p from holds (omega (arith, there, holds.sized.ends)) in
@@ -74,7 +75,7 @@ head_found setup past p from found holds on there is =
 
 -- ---- whether it can go on
 
-pub free_found : (p : PastFields) (from onto flits : ℕ) (forwarded arrived ready : Bool) → from < length p.ends → forwarded ≡ is_some (forwarded_at p.piped from) → IsArrival p.ends from arrived → IsTaking p.ends onto flits ready → IsFree p from onto flits ((not forwarded && not arrived) && ready)
+pub free_found : (p : PastFields) (from onto flits : ℕ) (forwarded arrived ready : Bool) → from < length p.ends → forwarded ≡ is_some (forwarded_at p.piped from) → IsArrival EndsHold p.ends from arrived → IsTaking EndsHold p.ends onto flits ready → IsFree p from onto flits ((not forwarded && not arrived) && ready)
 free_found p from onto flits forwarded arrived ready there forwarded_is arrived_is ready_is = λ setup past holds on.
     let view = view_of setup past in
     let hold = view_hold setup past p holds on in
@@ -105,7 +106,7 @@ pub record AreGoingOn (p : PastFields) (from onto : ℕ) (flits : List (List ℕ
   pub named : names_flits (lng_of (slice_index_or flits 0 [])) (head_in (slice_index_or flits 0 [])) ≡ true
   pub seen : (setup : Setup) (past : List Entry) → Holds setup past p → has_passed past ≡ false → AreSeen setup past from onto flits
 
-pub going_on : (p : PastFields) (step : Step) (cube port from onto : ℕ) (flits : List (List ℕ)) → IsNextOfSome p step → IsComing p cube port from onto → IsGathered p.ends from (Some flits) → AreGoingOn p from onto flits
+pub going_on : (p : PastFields) (step : Step) (cube port from onto : ℕ) (flits : List (List ℕ)) → IsNextOfSome p step → IsComing p cube port from onto → IsGathered EndsHold p.ends from (Some flits) → AreGoingOn p from onto flits
 going_on p step cube port from onto flits some coming found =
     let setup = some.setup in
     let past = some.past in
@@ -131,7 +132,7 @@ going_on p step cube port from onto flits some coming found =
     }
 
 -- flits are gathered of a packet that goes on
-pub some_going_on : (p : PastFields) (step : Step) (cube port from onto : ℕ) → IsNextOfSome p step → IsComing p cube port from onto → IsGathered p.ends from None → ⊥
+pub some_going_on : (p : PastFields) (step : Step) (cube port from onto : ℕ) → IsNextOfSome p step → IsComing p cube port from onto → IsGathered EndsHold p.ends from None → ⊥
 some_going_on p step cube port from onto some coming found =
     let there = (ends_at p.topology (places.Port cube port) from coming.ends).there in
     let none = none_by (gathered (view_of some.setup some.past) from) (all_found some.setup some.past p from None some.is.holds some.is.goes_on there found) in
@@ -139,13 +140,13 @@ some_going_on p step cube port from onto some coming found =
     cc
 
 -- the direction onward can take it
-pub may_begin : (p : PastFields) (step : Step) (from onto lng : ℕ) (flits : List (List ℕ)) → IsNextOfSome p step → AreGoingOn p from onto flits → lng ≡ lng_of (slice_index_or flits 0 []) → MayBegin p.ends onto lng
+pub may_begin : (p : PastFields) (step : Step) (from onto lng : ℕ) (flits : List (List ℕ)) → IsNextOfSome p step → AreGoingOn p from onto flits → lng ≡ lng_of (slice_index_or flits 0 []) → MayBegin EndsHold p.ends onto lng
 may_begin p step from onto lng flits some is same =
     let setup = some.setup in
     let view = view_of setup some.past in record {
       rows = setup.topology.links;
       entries = view.entries;
-      hold = view_hold setup some.past p some.is.holds some.is.goes_on;
+      stand = view_hold setup some.past p some.is.holds some.is.goes_on;
       ready = ap (may_pass_on (view_in (sizes_by setup.topology.links onto) (toward onto) (view.entries (onto / 2)) Waiting)) same ∙ (is.seen setup some.past some.is.holds some.is.goes_on).takes;
     }
 

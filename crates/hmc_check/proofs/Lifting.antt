@@ -33,7 +33,8 @@ use Rattle.hmc_journal.proofs.Packets.{front_is_first}
 use Rattle.hmc_kept.proofs.Linking.{handed_call}
 use Rattle.hmc_queues.specs.declared.queue_name.QueueName.TheVariants as names
 use Rattle.hmc_queues.specs.Queues.{IsQueue, packets_at, with_packets}
-use Rattle.hmc_directions.specs.Ends.{EndsHold, HasRoom, MayHand}
+use Rattle.hmc_directions.specs.Ends.{EndsHold}
+use Rattle.hmc_kept.specs.ByDirection.{HasRoom, MayHand}
 use Rattle.hmc_kept.specs.Called.{sizes_by, called}
 use Rattle.hmc_check.specs.Inside.{inside_of}
 use Rattle.hmc_kept.specs.InCubes.{IsCubeQueue, without_front}
@@ -51,19 +52,19 @@ use Rattle.hmc_kept.proofs.Seen.{place_has_room}
 -- ---- the way out of a cube
 
 -- whether the direction that starts at a port has room
-pub way_seen : (p : PastFields) (cube port direction : ℕ) (room : Bool) → direction_from p.topology (places.Port cube port) ≡ Some direction → HasRoom p.ends direction room
+pub way_seen : (p : PastFields) (cube port direction : ℕ) (room : Bool) → direction_from p.topology (places.Port cube port) ≡ Some direction → HasRoom EndsHold p.ends direction room
     → Seen p (λ view. lacks_room p.topology view (output_from p.topology (places.Port cube port)) ≡ not room)
 way_seen p cube port direction room from is = λ setup past holds on.
     subst (λ (t : Topology). lacks_room t (view_of setup past) (output_from t (places.Port cube port)) ≡ not room) (sym holds.topology)
     (lacks_by room _ (place_room setup past p (places.Port cube port) direction room holds on (own_from setup past p (places.Port cube port) direction holds from) is))
 
-pub way_some : (p : PastFields) (cube port direction : ℕ) → direction_from p.topology (places.Port cube port) ≡ Some direction → HasRoom p.ends direction true → IsWayOut p cube port (Some direction)
+pub way_some : (p : PastFields) (cube port direction : ℕ) → direction_from p.topology (places.Port cube port) ≡ Some direction → HasRoom EndsHold p.ends direction true → IsWayOut p cube port (Some direction)
 way_some p cube port direction from is = record {
   room = way_seen p cube port direction true from is;
   from = λ other same. from ∙ same;
 }
 
-pub way_none : (p : PastFields) (cube port direction : ℕ) → direction_from p.topology (places.Port cube port) ≡ Some direction → HasRoom p.ends direction false → IsWayOut p cube port None
+pub way_none : (p : PastFields) (cube port direction : ℕ) → direction_from p.topology (places.Port cube port) ≡ Some direction → HasRoom EndsHold p.ends direction false → IsWayOut p cube port None
 way_none p cube port direction from is = record {
   room = way_seen p cube port direction false from is;
   from = λ other same. absurd (cc);
@@ -132,14 +133,14 @@ lift_full old new cube from front port first towards way now =
     (λ setup past is. ap (λ (t : Bool). unless_full (steps.Lift cube from) t (Lifted cube from port)) (sym (way_lacks setup past old cube port None true is.holds way.room is.goes_on))
     ∙ lift_next setup past old cube from front port is.holds first (own_towards setup past old cube front.slid port is.holds towards))
 
-pub lift_may : (p : PastFields) (cube : ℕ) (from : Lift) (front : PacketFields) (port onward : ℕ) → IsNextOfSome p (steps.Lift cube from) → slice_get (packets_at p.queues cube (names.Answers from)) 0 ≡ Some front → IsWayOut p cube port (Some onward) → MayHand p.ends onward front
+pub lift_may : (p : PastFields) (cube : ℕ) (from : Lift) (front : PacketFields) (port onward : ℕ) → IsNextOfSome p (steps.Lift cube from) → slice_get (packets_at p.queues cube (names.Answers from)) 0 ≡ Some front → IsWayOut p cube port (Some onward) → MayHand EndsHold p.ends onward front
 lift_may p cube from front port onward some first way =
     let setup = some.setup in
     let past = some.past in
     record {
       rows = setup.topology.links;
       entries = (view_of setup past).entries;
-      hold = view_hold setup past p some.is.holds some.is.goes_on;
+      stand = view_hold setup past p some.is.holds some.is.goes_on;
       room = way_room setup past p cube port onward some.is.holds some.is.goes_on way;
       fit = answer_taken (sizes_by setup.topology.links onward).profile setup.topology front (lift_answer setup past p cube from front some.is.holds first);
     }

@@ -35,7 +35,8 @@ use Rattle.hmc_journal.proofs.DirectionEnds.{starts_there}
 use Rattle.hmc_kept.proofs.Called.{called_puts}
 use Rattle.hmc_kept.proofs.HostSteps.{asked_taken, IsGivenBy, given_is, hindered_entry}
 use Rattle.hmc_kept.proofs.Linking.{handed_call}
-use Rattle.hmc_directions.specs.Ends.{EndsHold, IsDirection, HasRoom, MayHand}
+use Rattle.hmc_directions.specs.Ends.{EndsHold, IsDirection}
+use Rattle.hmc_kept.specs.ByDirection.{HasRoom, MayHand}
 use Rattle.hmc_kept.specs.Called.{sizes_by, called}
 use Rattle.hmc_check.specs.Inside.{inside_of}
 use Rattle.hmc_check.specs.Past.{PastFields, Holds, IsNextStep, IsNextOfSome, TakesStep}
@@ -53,7 +54,7 @@ pub view_hold : (setup : Setup) (past : List Entry) (p : PastFields) → Holds s
 unfolding view_of
 view_hold setup past p holds on = holds.ends on
 
-pub place_room : (setup : Setup) (past : List Entry) (p : PastFields) (place : Place) (direction : ℕ) (room : Bool) → Holds setup past p → has_passed past ≡ false → direction_from setup.topology place ≡ Some direction → HasRoom p.ends direction room
+pub place_room : (setup : Setup) (past : List Entry) (p : PastFields) (place : Place) (direction : ℕ) (room : Bool) → Holds setup past p → has_passed past ≡ false → direction_from setup.topology place ≡ Some direction → HasRoom EndsHold p.ends direction room
     → room ≡ not (lacks_room setup.topology (view_of setup past) (output_from setup.topology place))
 place_room setup past p place direction room holds on from is =
     room_seen setup.topology (view_of setup past) place direction room (laws_of setup past p holds) from (is setup.topology.links (view_of setup past).entries (view_hold setup past p holds on))
@@ -88,13 +89,13 @@ host_shown setup past host = refl
 
 -- ---- give
 
-give_next : (setup : Setup) (past : List Entry) (p : PastFields) (host direction : ℕ) (room : Bool) → IsNextStep setup past p (steps.Give host) → host < length p.hosts → direction_from setup.topology (places.Host host) ≡ Some direction → HasRoom p.ends direction room
+give_next : (setup : Setup) (past : List Entry) (p : PastFields) (host direction : ℕ) (room : Bool) → IsNextStep setup past p (steps.Give host) → host < length p.hosts → direction_from setup.topology (places.Host host) ≡ Some direction → HasRoom EndsHold p.ends direction room
     → gave_entry host (give_says (host_in p.hosts host) room) ≡ next setup past (steps.Give host)
 unfolding next choice
 give_next setup past p host direction room is there from room_is =
     ap₂ (λ (h : HostFields) (r : Bool). gave_entry host (give_says h r)) (is.holds.hosts host there ∙ sym (host_shown setup past host)) (place_room setup past p (places.Host host) direction room is.holds is.goes_on from room_is)
 
-pub give_hindered : (old new : PastFields) (host direction : ℕ) (room : Bool) (hindrance : Hindrance) (cause : Cause) → host < length old.hosts → direction_from old.topology (places.Host host) ≡ Some direction → HasRoom old.ends direction room
+pub give_hindered : (old new : PastFields) (host direction : ℕ) (room : Bool) (hindrance : Hindrance) (cause : Cause) → host < length old.hosts → direction_from old.topology (places.Host host) ≡ Some direction → HasRoom EndsHold old.ends direction room
     → hindrance_of (give_says (host_in old.hosts host) room) ≡ Some hindrance → cause ≡ cause_by hindrance → new ≡ record old { last = Idle (steps.Give host) cause } → TakesStep old new (steps.Give host)
 give_hindered old new host direction room hindrance cause there from room_is held cause_is now =
     idle_takes old new (steps.Give host) (steps.Give host) cause now
@@ -102,7 +103,7 @@ give_hindered old new host direction room hindrance cause there from room_is hel
     ∙ give_next setup past old host direction room is there (own_from setup past old (places.Host host) direction is.holds from) room_is)
 
 -- the packet of a request may be handed where there is room
-pub give_may : (p : PastFields) (step : Step) (host direction : ℕ) (packet : PacketFields) (request : RequestFields) (tag : Option ℕ) (poisoned : Bool) → IsNextOfSome p step → HasRoom p.ends direction true → IsRequest request → givens.Gave packet request tag poisoned ≡ give_says (host_in p.hosts host) true → MayHand p.ends direction packet
+pub give_may : (p : PastFields) (step : Step) (host direction : ℕ) (packet : PacketFields) (request : RequestFields) (tag : Option ℕ) (poisoned : Bool) → IsNextOfSome p step → HasRoom EndsHold p.ends direction true → IsRequest request → givens.Gave packet request tag poisoned ≡ give_says (host_in p.hosts host) true → MayHand EndsHold p.ends direction packet
 give_may p step host direction packet request tag poisoned some room asks is =
     let setup = some.setup in
     let past = some.past in
@@ -110,12 +111,12 @@ give_may p step host direction packet request tag poisoned some room asks is =
     record {
       rows = setup.topology.links;
       entries = (view_of setup past).entries;
-      hold = hold;
+      stand = hold;
       room = sym (room setup.topology.links (view_of setup past).entries hold);
       fit = asked_taken (sizes_by setup.topology.links direction).profile request packet (tag_number tag) (host_in p.hosts host).number poisoned asks (given_is (host_in p.hosts host) true (givens.Gave packet request tag poisoned) is).1;
     }
 
-pub give_takes : (old new : PastFields) (host direction : ℕ) (packet : PacketFields) (request : RequestFields) (tag : Option ℕ) (poisoned : Bool) (ends : List EndFields) → host < length old.hosts → direction_from old.topology (places.Host host) ≡ Some direction → HasRoom old.ends direction true
+pub give_takes : (old new : PastFields) (host direction : ℕ) (packet : PacketFields) (request : RequestFields) (tag : Option ℕ) (poisoned : Bool) (ends : List EndFields) → host < length old.hosts → direction_from old.topology (places.Host host) ≡ Some direction → HasRoom EndsHold old.ends direction true
     → IsRequest request → givens.Gave packet request tag poisoned ≡ give_says (host_in old.hosts host) true
     → ((rows : List LinkRow) (entries : ℕ → List LinkEntry) → EndsHold rows old.ends entries → EndsHold rows ends (called rows direction (λ d. LinkCall.hand d packet) entries))
     → new ≡ record old { hosts = with_host host (after_give (givens.Gave packet request tag poisoned)) old.hosts; ends = ends; last = Gave host tag poisoned request } → TakesStep old new (steps.Give host)

@@ -27,7 +27,8 @@ use Rattle.hmc_through.specs.Pipe.{PipeFields}
 use Rattle.hmc_journal.specs.Piped.{fed}
 use Rattle.hmc_kept.specs.Pipes.{PipesHeld, AreCounted, AreGathering, forwarded_at, pipe_at, after_change, after_loss, IsPlace}
 use Rattle.hmc_kept.proofs.Linking.{unlocked_call}
-use Rattle.hmc_directions.specs.Ends.{EndsHold, HoldSome, IsThroughAt, MaySend}
+use Rattle.hmc_directions.specs.Ends.{EndsHold, HoldSome}
+use Rattle.hmc_kept.specs.ByDirection.{IsThroughAt, MaySend}
 use Rattle.hmc_kept.specs.Called.{sizes_by, called}
 use Rattle.hmc_check.specs.Inside.{inside_of}
 use Rattle.hmc_kept.specs.InCubes.{IsCubeQueue}
@@ -108,12 +109,12 @@ unlock_takes old new direction ends hold now =
 pub inside_is : (p : PastFields) (step : Step) (direction : ℕ) (setup : Setup) (past : List Entry) → IsNextStep setup past p step → direction < directions_in p.topology → direction < directions_in setup.topology
 inside_is p step direction setup past is there = subst (λ (t : Topology). direction < directions_in t) is.holds.topology there
 
-fed_seen : (setup : Setup) (past : List Entry) (p : PastFields) (step : Step) (direction : ℕ) (place : Option ℕ) (feed : Feed) → IsNextStep setup past p step → direction < directions_in setup.topology → IsThroughAt p.ends direction place → feed ≡ fed place (pipe_at p.piped direction) → IsFedBy setup.topology (view_of setup past) direction feed
+fed_seen : (setup : Setup) (past : List Entry) (p : PastFields) (step : Step) (direction : ℕ) (place : Option ℕ) (feed : Feed) → IsNextStep setup past p step → direction < directions_in setup.topology → IsThroughAt EndsHold p.ends direction place → feed ≡ fed place (pipe_at p.piped direction) → IsFedBy setup.topology (view_of setup past) direction feed
 fed_seen setup past p step direction place feed is there at fed_is =
     let pipe = (pipes_of setup past p is.holds).pipes direction there in
     feed_seen setup.topology (view_of setup past) p.piped direction place feed pipe (at setup.topology.links (view_of setup past).entries (ends_stay setup past p step is)) fed_is
 
-pub place_there : (p : PastFields) (step : Step) (direction : ℕ) (place : Option ℕ) → IsNextOfSome p step → direction < directions_in p.topology → IsThroughAt p.ends direction place → IsPlace (pipe_at p.piped direction) place
+pub place_there : (p : PastFields) (step : Step) (direction : ℕ) (place : Option ℕ) → IsNextOfSome p step → direction < directions_in p.topology → IsThroughAt EndsHold p.ends direction place → IsPlace (pipe_at p.piped direction) place
 place_there p step direction place some there at =
     let setup = some.setup in
     let past = some.past in
@@ -122,7 +123,7 @@ place_there p step direction place some there at =
     let pipe = (pipes_of setup past p holds).pipes direction inside in
     place_seen setup.topology (view_of setup past) p.piped direction place (laws_of setup past p holds) inside pipe (at setup.topology.links (view_of setup past).entries (ends_stay setup past p step some.is))
 
-pub may_send : (p : PastFields) (step : Step) (direction : ℕ) (place : Option ℕ) (feed : Feed) → IsNextOfSome p step → direction < directions_in p.topology → IsThroughAt p.ends direction place → feed ≡ fed place (pipe_at p.piped direction) → MaySend p.ends direction feed
+pub may_send : (p : PastFields) (step : Step) (direction : ℕ) (place : Option ℕ) (feed : Feed) → IsNextOfSome p step → direction < directions_in p.topology → IsThroughAt EndsHold p.ends direction place → feed ≡ fed place (pipe_at p.piped direction) → MaySend EndsHold p.ends direction feed
 may_send p step direction place feed some there at fed_is =
     let setup = some.setup in
     let past = some.past in
@@ -130,7 +131,7 @@ may_send p step direction place feed some there at fed_is =
     record {
       rows = setup.topology.links;
       entries = (view_of setup past).entries;
-      hold = ends_stay setup past p step some.is;
+      stand = ends_stay setup past p step some.is;
       fed = feed_fits setup.topology (view_of setup past) direction feed (laws_of setup past p some.is.holds) inside (fed_seen setup past p step direction place feed some.is inside at fed_is);
     }
 
@@ -156,7 +157,7 @@ send_next setup past direction feed sent fed_is answer =
     ∙ ap (λ (f : Feed). sent_by direction (link_sent (is_full sizes (toward direction) (view.entries (direction / 2))) (send_choice sizes.profile (view_in sizes (toward direction) (view.entries (direction / 2)) f)))) fed_is
     ∙ sent_same direction (is_full sizes (toward direction) (view.entries (direction / 2))) _
 
-pub send_takes : (old new : PastFields) (direction : ℕ) (place : Option ℕ) (feed : Feed) (sent : LinkSent) (ends : List EndFields) → direction < directions_in old.topology → IsThroughAt old.ends direction place → feed ≡ fed place (pipe_at old.piped direction)
+pub send_takes : (old new : PastFields) (direction : ℕ) (place : Option ℕ) (feed : Feed) (sent : LinkSent) (ends : List EndFields) → direction < directions_in old.topology → IsThroughAt EndsHold old.ends direction place → feed ≡ fed place (pipe_at old.piped direction)
     → ((rows : List LinkRow) (entries : ℕ → List LinkEntry) → EndsHold rows old.ends entries → sent ≡ link_sent (is_full (sizes_by rows direction) (toward direction) (entries (direction / 2))) (send_choice (sizes_by rows direction).profile (view_in (sizes_by rows direction) (toward direction) (entries (direction / 2)) feed)))
     → ((rows : List LinkRow) (entries : ℕ → List LinkEntry) → EndsHold rows old.ends entries → EndsHold rows ends (called rows direction (λ d. LinkCall.send d feed) entries))
     → new ≡ record old { ends = ends; last = sent_by direction sent } → TakesStep old new (steps.Send direction)

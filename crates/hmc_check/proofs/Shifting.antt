@@ -38,7 +38,8 @@ use Rattle.hmc_journal.proofs.DirectionEnds.{ends_at, starts_there}
 use Rattle.hmc_kept.proofs.Linking.{handed_call}
 use Rattle.hmc_queues.specs.declared.queue_name.QueueName.{QueueName}
 use Rattle.hmc_queues.specs.Queues.{IsQueue, packets_at, size_at, with_packets}
-use Rattle.hmc_directions.specs.Ends.{EndsHold, IsDirection, IsFrontAt, MayHand}
+use Rattle.hmc_directions.specs.Ends.{EndsHold, IsDirection}
+use Rattle.hmc_kept.specs.ByDirection.{IsFrontAt, MayHand}
 use Rattle.hmc_kept.specs.Called.{sizes_by, called}
 use Rattle.hmc_check.specs.Inside.{inside_of, queue_at}
 use Rattle.hmc_kept.specs.InCubes.{IsCubeQueue, without_front}
@@ -68,7 +69,7 @@ ends_in p step cube port direction some to =
     let at = ends_at p.topology (places.Port cube port) direction to in
     let there = at.there in omega (arith, there, some.is.holds.sized.ends)
 
-port_front : (setup : Setup) (past : List Entry) (p : PastFields) (cube port direction : ℕ) (found : Option PacketFields) → IsNextStep setup past p (steps.Shift cube port) → direction_to p.topology (places.Port cube port) ≡ Some direction → IsFrontAt p.ends direction found
+port_front : (setup : Setup) (past : List Entry) (p : PastFields) (cube port direction : ℕ) (found : Option PacketFields) → IsNextStep setup past p (steps.Shift cube port) → direction_to p.topology (places.Port cube port) ≡ Some direction → IsFrontAt EndsHold p.ends direction found
     → slice_get ((view_of setup past).inside (ids.Port cube port)) 0 ≡ found
 port_front setup past p cube port direction found is to front_is = front_at setup past p (steps.Shift cube port) (places.Port cube port) direction found is (own_to setup past p cube port direction is.holds to) front_is
 
@@ -80,7 +81,7 @@ on_way : (setup : Setup) (past : List Entry) (p : PastFields) (cube port : ℕ) 
 on_way setup past p cube port front holds first =
     front_all (IsOnItsWay setup.topology) (contents setup.topology past (ids.Port cube port)) front (port_first setup past cube port (Some front) first) ((law_of setup past p holds).queues.ports cube port)
 
-pub front_way : (p : PastFields) (cube port direction : ℕ) (front : PacketFields) → IsNextOfSome p (steps.Shift cube port) → direction_to p.topology (places.Port cube port) ≡ Some direction → IsFrontAt p.ends direction (Some front) → HasWay (graph_of p.topology) front front.poisoned
+pub front_way : (p : PastFields) (cube port direction : ℕ) (front : PacketFields) → IsNextOfSome p (steps.Shift cube port) → direction_to p.topology (places.Port cube port) ≡ Some direction → IsFrontAt EndsHold p.ends direction (Some front) → HasWay (graph_of p.topology) front front.poisoned
 front_way p cube port direction front some to is =
     subst (λ (t : Topology). HasWay (graph_of t) front front.poisoned) (sym some.is.holds.topology)
     (has_way (graph_of some.setup.topology) front front.poisoned
@@ -106,7 +107,7 @@ shift_next setup past p cube port direction front goal is shifts =
     sym (ap (shifted_entry setup.topology (view_of setup past) cube port) (own_goes setup past p cube front (Some goal) is.holds shifts.goes))
     ∙ shift_found setup past cube port front (port_front setup past p cube port direction (Some front) is shifts.ends shifts.is_front)
 
-pub shift_none : (old new : PastFields) (cube port direction : ℕ) → direction_to old.topology (places.Port cube port) ≡ Some direction → IsFrontAt old.ends direction None → new ≡ record old { last = Idle (steps.Shift cube port) causes.Empty } → TakesStep old new (steps.Shift cube port)
+pub shift_none : (old new : PastFields) (cube port direction : ℕ) → direction_to old.topology (places.Port cube port) ≡ Some direction → IsFrontAt EndsHold old.ends direction None → new ≡ record old { last = Idle (steps.Shift cube port) causes.Empty } → TakesStep old new (steps.Shift cube port)
 shift_none old new cube port direction to none now =
     idle_takes old new (steps.Shift cube port) (steps.Shift cube port) causes.Empty now
     (λ setup past is. shift_idle setup past cube port (port_front setup past old cube port direction None is to none))
@@ -114,12 +115,12 @@ shift_none old new cube port direction to none now =
 -- ---- a packet is dropped
 
 -- the entries of the links after a take
-taken_entries : (setup : Setup) (past : List Entry) (p : PastFields) (cube port direction link : ℕ) (front : PacketFields) → IsNextStep setup past p (steps.Shift cube port) → direction_to p.topology (places.Port cube port) ≡ Some direction → IsFrontAt p.ends direction (Some front)
+taken_entries : (setup : Setup) (past : List Entry) (p : PastFields) (cube port direction link : ℕ) (front : PacketFields) → IsNextStep setup past p (steps.Shift cube port) → direction_to p.topology (places.Port cube port) ≡ Some direction → IsFrontAt EndsHold p.ends direction (Some front)
     → called setup.topology.links direction LinkCall.take (view_of setup past).entries link ≡ put_on link (direction_to setup.topology (places.Port cube port)) LinkEntry.taken ((view_of setup past).entries link)
 taken_entries setup past p cube port direction link front is to front_is =
     entries_taken setup.topology (view_of setup past) (places.Port cube port) direction link front (own_to setup past p cube port direction is.holds to) (front_is setup.topology.links (view_of setup past).entries (view_hold setup past p is.holds is.goes_on))
 
-pub dropped_takes : (old new : PastFields) (cube port direction : ℕ) (front : PacketFields) (to : To) (ends : List EndFields) → direction_to old.topology (places.Port cube port) ≡ Some direction → IsFrontAt old.ends direction (Some front)
+pub dropped_takes : (old new : PastFields) (cube port direction : ℕ) (front : PacketFields) (to : To) (ends : List EndFields) → direction_to old.topology (places.Port cube port) ≡ Some direction → IsFrontAt EndsHold old.ends direction (Some front)
     → to ≡ where_to (graph_of old.topology) (shape_of old.topology cube) cube front → to ≡ tos.Nowhere
     → ((rows : List LinkRow) (entries : ℕ → List LinkEntry) → EndsHold rows old.ends entries → EndsHold rows ends (called rows direction LinkCall.take entries))
     → new ≡ record old { ends = ends; last = Dropped cube port } → TakesStep old new (steps.Shift cube port)
@@ -230,7 +231,7 @@ shift_in_takes old new cube port direction front goal room ends there shifts inn
 -- ---- on through another port
 
 -- a direction has room after a take at a port where it had room before
-room_after : (setup : Setup) (past : List Entry) (p : PastFields) (cube port direction out onward : ℕ) (front : PacketFields) → IsNextStep setup past p (steps.Shift cube port) → direction_to p.topology (places.Port cube port) ≡ Some direction → IsFrontAt p.ends direction (Some front) → IsWayOut p cube out (Some onward)
+room_after : (setup : Setup) (past : List Entry) (p : PastFields) (cube port direction out onward : ℕ) (front : PacketFields) → IsNextStep setup past p (steps.Shift cube port) → direction_to p.topology (places.Port cube port) ≡ Some direction → IsFrontAt EndsHold p.ends direction (Some front) → IsWayOut p cube out (Some onward)
     → has_room (sizes_by setup.topology.links onward) (toward onward) (called setup.topology.links direction LinkCall.take (view_of setup past).entries (onward / 2)) ≡ true
 room_after setup past p cube port direction out onward front is to front_is way =
     room_stays setup.topology (view_of setup past) direction onward front (front_is setup.topology.links (view_of setup past).entries (view_hold setup past p is.holds is.goes_on))
@@ -243,14 +244,14 @@ out_taken setup past p cube port direction out onward front is shifts =
     (goes_good setup.topology cube front (goals.Port out) (own_goes setup past p cube front (Some (goals.Port out)) is.holds shifts.goes))
 
 pub shift_out_may : (p : PastFields) (cube port direction out onward : ℕ) (front : PacketFields) (ends : List EndFields) → IsNextOfSome p (steps.Shift cube port) → IsShifting p cube port direction front (goals.Port out) → IsWayOut p cube out (Some onward)
-    → ((rows : List LinkRow) (entries : ℕ → List LinkEntry) → EndsHold rows p.ends entries → EndsHold rows ends (called rows direction LinkCall.take entries)) → MayHand ends onward front
+    → ((rows : List LinkRow) (entries : ℕ → List LinkEntry) → EndsHold rows p.ends entries → EndsHold rows ends (called rows direction LinkCall.take entries)) → MayHand EndsHold ends onward front
 shift_out_may p cube port direction out onward front ends some shifts way take =
     let setup = some.setup in
     let past = some.past in
     record {
       rows = setup.topology.links;
       entries = called setup.topology.links direction LinkCall.take (view_of setup past).entries;
-      hold = take setup.topology.links (view_of setup past).entries (view_hold setup past p some.is.holds some.is.goes_on);
+      stand = take setup.topology.links (view_of setup past).entries (view_hold setup past p some.is.holds some.is.goes_on);
       room = room_after setup past p cube port direction out onward front some.is shifts.ends shifts.is_front way;
       fit = out_taken setup past p cube port direction out onward front some.is shifts;
     }

@@ -37,7 +37,8 @@ use Rattle.hmc_kept.proofs.Fronts.{front_some, front_none, front_all, no_packet}
 use Rattle.hmc_kept.proofs.Elements.{default_same}
 use Rattle.hmc_kept.proofs.Linking.{taken_call}
 use Rattle.hmc_kept.proofs.LawsShown.{direction_shown}
-use Rattle.hmc_directions.specs.Ends.{EndsHold, IsFrontAt, IsArrival}
+use Rattle.hmc_directions.specs.Ends.{EndsHold}
+use Rattle.hmc_kept.specs.ByDirection.{IsFrontAt, IsArrival}
 use Rattle.hmc_kept.specs.Called.{sizes_by, called}
 use Rattle.hmc_check.specs.Inside.{inside_of}
 use Rattle.hmc_kept.specs.InCubes.{IsCubeQueue}
@@ -49,7 +50,7 @@ use Rattle.hmc_kept.proofs.HostSteps.{took_hosts, took_entries}
 
 -- ---- the front where a direction lands
 
-pub front_at : (setup : Setup) (past : List Entry) (p : PastFields) (step : Step) (place : Place) (direction : ℕ) (found : Option PacketFields) → IsNextStep setup past p step → direction_to setup.topology place ≡ Some direction → IsFrontAt p.ends direction found → slice_get ((view_of setup past).inside (buffer_at place)) 0 ≡ found
+pub front_at : (setup : Setup) (past : List Entry) (p : PastFields) (step : Step) (place : Place) (direction : ℕ) (found : Option PacketFields) → IsNextStep setup past p step → direction_to setup.topology place ≡ Some direction → IsFrontAt EndsHold p.ends direction found → slice_get ((view_of setup past).inside (buffer_at place)) 0 ≡ found
 front_at setup past p step place direction found is to front_is =
     let at = ends_at setup.topology place direction to in
     let law = law_of setup past p is.holds in
@@ -57,7 +58,7 @@ front_at setup past p step place direction found is to front_is =
     ∙ ap (λ (l : List PacketFields). slice_get l 0) (direction_shown setup past direction (law.queues.links direction at.there) (law.fed direction at.there)).buffer
     ∙ sym (front_is setup.topology.links (view_of setup past).entries (ends_stay setup past p step is))
 
-pub none_arrived : (ends : List EndFields) (direction : ℕ) (arrived : Bool) → arrived ≡ false → IsArrival ends direction arrived → IsFrontAt ends direction None
+pub none_arrived : (ends : List EndFields) (direction : ℕ) (arrived : Bool) → arrived ≡ false → IsArrival EndsHold ends direction arrived → IsFrontAt EndsHold ends direction None
 none_arrived ends direction arrived none is = λ rows entries hold. no_packet arrived _ none (is rows entries hold)
 
 own_to : (setup : Setup) (past : List Entry) (p : PastFields) (step : Step) (place : Place) (direction : ℕ) → IsNextStep setup past p step → direction_to p.topology place ≡ Some direction → direction_to setup.topology place ≡ Some direction
@@ -75,7 +76,7 @@ view_awaited setup past p step host front is there first good =
     subst (λ (h : HostFields). IsAwaited h front) (sym (is.holds.hosts host there))
     (front_all (IsAnswerFor (host_of setup past host)) _ front first ((law_of setup past p is.holds).awaited.hosts host) good)
 
-pub awaited : (p : PastFields) (host direction : ℕ) (front : PacketFields) → IsNextOfSome p (steps.Take host) → host < length p.hosts → direction_to p.topology (places.Host host) ≡ Some direction → IsFrontAt p.ends direction (Some front) → front.poisoned ≡ false → IsAwaited (host_in p.hosts host) front
+pub awaited : (p : PastFields) (host direction : ℕ) (front : PacketFields) → IsNextOfSome p (steps.Take host) → host < length p.hosts → direction_to p.topology (places.Host host) ≡ Some direction → IsFrontAt EndsHold p.ends direction (Some front) → front.poisoned ≡ false → IsAwaited (host_in p.hosts host) front
 awaited p host direction front some there to is good =
     view_awaited some.setup some.past p (steps.Take host) host front some.is there
     (front_at some.setup some.past p (steps.Take host) (places.Host host) direction (Some front) some.is (own_to some.setup some.past p (steps.Take host) (places.Host host) direction some.is to) is) good
@@ -90,7 +91,7 @@ take_next : (setup : Setup) (past : List Entry) (host : ℕ) (front : PacketFiel
 unfolding next choice
 take_next setup past host front first = sym (front_some (steps.Take host) ((view_of setup past).inside (Host host)) front (λ f. took_entry host (settle_says f)) first)
 
-pub nothing_taken : (old new : PastFields) (host direction : ℕ) → direction_to old.topology (places.Host host) ≡ Some direction → IsFrontAt old.ends direction None → new ≡ record old { last = Idle (steps.Take host) causes.Empty } → TakesStep old new (steps.Take host)
+pub nothing_taken : (old new : PastFields) (host direction : ℕ) → direction_to old.topology (places.Host host) ≡ Some direction → IsFrontAt EndsHold old.ends direction None → new ≡ record old { last = Idle (steps.Take host) causes.Empty } → TakesStep old new (steps.Take host)
 nothing_taken old new host direction to none now =
     idle_takes old new (steps.Take host) (steps.Take host) causes.Empty now
     (λ setup past is. take_empty setup past host (front_at setup past old (steps.Take host) (places.Host host) direction None is (own_to setup past old (steps.Take host) (places.Host host) direction is to) none))
@@ -103,7 +104,7 @@ took_queues : (setup : Setup) (past : List Entry) (host : ℕ) (settled : Settle
 took_queues setup past host settles.Discarded inside q inner = outer_queues setup.topology past (Discarded host) inside q tt inner
 took_queues setup past host (settles.Took tag answer) inside q inner = outer_queues setup.topology past (Took host tag answer) inside q tt inner
 
-pub take_takes : (old new : PastFields) (host direction : ℕ) (front : PacketFields) (settled : Settled) (ends : List EndFields) → host < length old.hosts → direction_to old.topology (places.Host host) ≡ Some direction → IsFrontAt old.ends direction (Some front) → settled ≡ settle_says front
+pub take_takes : (old new : PastFields) (host direction : ℕ) (front : PacketFields) (settled : Settled) (ends : List EndFields) → host < length old.hosts → direction_to old.topology (places.Host host) ≡ Some direction → IsFrontAt EndsHold old.ends direction (Some front) → settled ≡ settle_says front
     → ((rows : List LinkRow) (entries : ℕ → List LinkEntry) → EndsHold rows old.ends entries → EndsHold rows ends (called rows direction LinkCall.take entries))
     → new ≡ record old { hosts = with_host host (after_settle settled) old.hosts; ends = ends; last = took_entry host settled } → TakesStep old new (steps.Take host)
 take_takes old new host direction front settled ends there to front_is says hold now =

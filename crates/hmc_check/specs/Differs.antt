@@ -60,3 +60,8 @@ pub record HasCome (text report rest left : List ℕ) : Type 0 where
 abbrev pub FollowsLine : (text report later : List ℕ) → Result (Bor (List ℕ)) ℕ → Type 0
 FollowsLine text report later (Ok more) = HasCome text report more.now later
 FollowsLine text report later (Err line) = Compares text report (Some line)
+
+-- some bytes of a text come next: after them this is left of the report, or it differs there
+abbrev pub FollowsText : (text report rest later : List ℕ) → Result (Unit {0}) ℕ → Type 0
+FollowsText text report rest later (Ok done) = HasCome text report rest later
+FollowsText text report rest later (Err line) = Compares text report (Some line)

@@ -9,5 +9,6 @@ pub mod Opening
 pub mod Finished
 pub mod Units
 pub mod Following
+pub mod Until
 pub mod Due
 pub mod Moving

@@ -13,7 +13,8 @@ use Rattle.hmc_journal.specs.Queues.{output_from}
 use Rattle.hmc_journal.specs.Setup.{Setup, graph_of, shape_of, direction_from}
 use Rattle.hmc_journal.specs.StepView.{StepView, view_of}
 use Rattle.hmc_journal.specs.ThroughSteps.{gathered_head}
-use Rattle.hmc_directions.specs.Ends.{IsFrontAt}
+use Rattle.hmc_directions.specs.Ends.{EndsHold}
+use Rattle.hmc_kept.specs.ByDirection.{IsFrontAt}
 use Rattle.hmc_queues.specs.declared.queue_name.QueueName.{QueueName}
 use Rattle.hmc_queues.specs.declared.queue_name.QueueName.TheVariants as names
 use Rattle.hmc_entries.specs.declared.outcome.Goal.TheVariants as goals
@@ -36,7 +37,7 @@ pub record IsWayOut (p : PastFields) (cube port : ℕ) (found : Option ℕ) : Ty
 pub record IsShifting (p : PastFields) (cube port direction : ℕ) (front : PacketFields)
     (goal : Goal) : Type 0 where
   pub ends : direction_to p.topology (places.Port cube port) ≡ Some direction
-  pub is_front : IsFrontAt p.ends direction (Some front)
+  pub is_front : IsFrontAt EndsHold p.ends direction (Some front)
   pub goes : goal_at (where_to (graph_of p.topology) (shape_of p.topology cube) cube front)
       ≡ Some goal
 

@@ -73,8 +73,8 @@ fn differs_line(report: &[u8], place: usize) -> u32
     capped(feeds.saturating_add(1))
 }
 
-/// This line of a text is due next: what is left of the report after it, or the line of the report
-/// in which they differ.
+/// These bytes of a text are due next: what is left of the report after them, or the line of the
+/// report in which they differ.
 pub fn after_line<'a>(report: &[u8], rest: &'a [u8], due: &[u8]) -> Result<&'a [u8], u32>
     requires { length rest.now ≤ length report.now }
     ensures follows { (text later : List ℕ) →

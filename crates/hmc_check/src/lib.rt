@@ -2,9 +2,9 @@
 //!
 //! [`check`] says of a report whether it is the text of a whole lawful journal of a case
 //! (`specs/Verdict.antt`), and if not, which is its first line that no such text has. It takes the
-//! steps of the case with a state of its own ([`past`](past)), makes the line that is due, and
-//! compares the report's bytes with it: nothing is parsed and no line is remembered. [`due_line`]
-//! gives one of the lines that are due.
+//! steps of the case with a state of its own ([`past`](past)), makes the lines that are due in a
+//! text of 8 KiB, and compares many of them with the report's bytes at once: nothing is parsed and
+//! no line is remembered. [`due_line`] gives one of the lines that are due.
 #![tactic(auto)]
 
 mod checker;

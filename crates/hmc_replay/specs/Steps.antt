@@ -1,9 +1,10 @@
 -- Taking the steps of a case, one after another.
-use Rattle.std.specs.Prelude.{◌≡◌, ◌⊎◌, ◌≤◌, ℕ, Bool, true, false, List, [], ◌∷◌, length, drop, Result, Ok, Err}
+use Rattle.std.specs.Prelude.{◌≡◌, ◌⊎◌, Bool, true, false, List, [], ◌∷◌, Result, Ok, Err}
 use Rattle.hmc_schedule.specs.declared.step.Step.{Step}
 use Rattle.hmc_entries.specs.declared.entry.Entry.{Entry}
 use Rattle.hmc_entries.specs.Event.{is_passed}
-use Rattle.hmc_journal.specs.Lawful.{has_passed, journal_of}
+use Rattle.hmc_journal.specs.Lawful.{journal_of}
+use Rattle.hmc_journal.specs.Left.{LeavesSteps}
 use Rattle.hmc_journal.specs.Setup.{Setup}
 use Rattle.hmc_entries.specs.Text.{lines_of}
 use Rattle.hmc_net.specs.NetState.{NetState}
@@ -17,20 +18,11 @@ use Rattle.hmc_replay.specs.Report.{passes}
 use Rattle.hmc_replay.specs.declared.extent.Extent.{Extent}
 use Rattle.hmc_replay.specs.declared.extent.Extent.TheVariants.{Whole, Short, Bound}
 
--- so many of these steps, which are those of the setup, were taken, and no landing passed
-pub record IsAt (net : NetState) (setup : Setup) (steps : List Step) (past : List Entry)
-    (at : ℕ) : Type 0 where
+-- the network stands for these entries, and these steps are left
+pub record IsBefore (net : NetState) (setup : Setup) (past : List Entry) (left : List Step)
+    : Type 0 where
   pub stands : StandsFor net setup past
-  pub schedule : setup.schedule ≡ steps
-  pub done : length past ≡ at
-  pub goes_on : has_passed past ≡ false
-
--- the same, where these steps are left
-pub record IsBefore (net : NetState) (setup : Setup) (steps : List Step) (past : List Entry)
-    (left : List Step) : Type 0 where
-  pub at : IsAt net setup steps past (length past)
-  pub left_is : drop (length past) steps ≡ left
-  pub few : length past ≤ length steps
+  pub leaves : LeavesSteps setup past left
 
 -- a step is a landing that passed
 abbrev pub step_passed : Went → Bool
@@ -51,9 +43,9 @@ pub record TookAll (net : NetState) (setup : Setup) (passed : Bool) : Type 0 whe
   pub last : passed ≡ true → (before : List Entry) × (journal_of setup ≡ net.last ∷ before)
 
 -- the steps of a round were taken, up to a landing that passed; where none did, these are left
-abbrev pub TookRound : (passed : Bool) → NetState → Setup → List Step → (left : List Step) → Type 0
-TookRound true net setup steps left = TookAll net setup true
-TookRound false net setup steps left = (past : List Entry) × IsBefore net setup steps past left
+abbrev pub TookRound : (passed : Bool) → NetState → Setup → (left : List Step) → Type 0
+TookRound true net setup left = TookAll net setup true
+TookRound false net setup left = (past : List Entry) × IsBefore net setup past left
 
 -- Steps and writes go by turns: the network stands for the journal of the steps so far, and their
 -- lines were written, of which the last one broke off.
@@ -70,12 +62,12 @@ WroteAll (Ok passed) net setup old new =
 WroteAll (Err failed) net setup old new = BreaksAt net setup old new
 
 -- the same of a round, where the lines of all steps so far were written
-abbrev pub WroteRound : Result Bool Failed → NetState → Setup → List Step → (left : List Step) →
+abbrev pub WroteRound : Result Bool Failed → NetState → Setup → (left : List Step) →
     (old new : SinkView) → Type 0
-WroteRound (Ok true) net setup steps left old new = WroteAll (Ok true) net setup old new
-WroteRound (Ok false) net setup steps left old new =
-    (past : List Entry) × IsBefore net setup steps past left × WritesLines old new (lines_of past)
-WroteRound (Err failed) net setup steps left old new = BreaksAt net setup old new
+WroteRound (Ok true) net setup left old new = WroteAll (Ok true) net setup old new
+WroteRound (Ok false) net setup left old new =
+    (past : List Entry) × IsBefore net setup past left × WritesLines old new (lines_of past)
+WroteRound (Err failed) net setup left old new = BreaksAt net setup old new
 
 -- How far the network came, by the result: it stands for the whole journal, or a line of a step
 -- broke off. Only a whole report has lines of steps, beside that of a

@@ -12,7 +12,7 @@ ghost use Rattle.hmc_report.specs.Final.{lines_from};
 ghost use Rattle.hmc_replay.specs.Output.{Writes, WritesReport, DeliversReport};
 ghost use Rattle.hmc_replay.specs.Report.{passes, report_of, ending_of, end_of, lines_in};
 ghost use Rattle.hmc_replay.specs.declared.extent.Extent.TheVariants.{Whole, Short};
-ghost use Rattle.hmc_replay.specs.Steps.{IsAt, Stepped};
+ghost use Rattle.hmc_replay.specs.Steps.{IsBefore, Stepped};
 
 use crate::bound_lines::write_bound;
 use crate::extent::Extent;
@@ -66,10 +66,10 @@ fn write_whole<O: Sink, B: Workbench>(
     network: &mut Network<B>,
     schedule: &Schedule,
 ) -> Result<bool, Failed>
-    requires { (setup : Setup) × IsAt (net_of B.slots network.old) setup schedule.now [] 0 }
-    ensures written { (setup : Setup) → IsAt (net_of B.slots network.old) setup schedule.now [] 0 →
+    requires { (setup : Setup) × IsBefore (net_of B.slots network.old) setup [] schedule.now }
+    ensures written { (setup : Setup) → IsBefore (net_of B.slots network.old) setup [] schedule.now →
         WritesReport result (report_of setup) (passes setup) (O.shows sink.old) (O.shows sink.new) }
-    ensures stepped { (setup : Setup) → IsAt (net_of B.slots network.old) setup schedule.now [] 0 →
+    ensures stepped { (setup : Setup) → IsBefore (net_of B.slots network.old) setup [] schedule.now →
         Stepped result Whole (net_of B.slots network.new) setup
         (O.shows sink.old) (O.shows sink.new) }
 {
@@ -87,11 +87,11 @@ fn write_end<O: Sink, B: Workbench>(
     network: &mut Network<B>,
     schedule: &Schedule,
 ) -> Result<bool, Failed>
-    requires { (setup : Setup) × IsAt (net_of B.slots network.old) setup schedule.now [] 0 }
-    ensures written { (setup : Setup) → IsAt (net_of B.slots network.old) setup schedule.now [] 0 →
+    requires { (setup : Setup) × IsBefore (net_of B.slots network.old) setup [] schedule.now }
+    ensures written { (setup : Setup) → IsBefore (net_of B.slots network.old) setup [] schedule.now →
         WritesReport result (end_of extent setup) (passes setup)
         (O.shows sink.old) (O.shows sink.new) }
-    ensures stepped { (setup : Setup) → IsAt (net_of B.slots network.old) setup schedule.now [] 0 →
+    ensures stepped { (setup : Setup) → IsBefore (net_of B.slots network.old) setup [] schedule.now →
         StandsFor (net_of B.slots network.new) setup (journal_of setup) }
 {
     let passed = take_steps(network, schedule);
@@ -110,11 +110,11 @@ fn write_lines<O: Sink, B: Workbench>(
     network: &mut Network<B>,
     schedule: &Schedule,
 ) -> Result<bool, Failed>
-    requires { (setup : Setup) × IsAt (net_of B.slots network.old) setup schedule.now [] 0 }
-    ensures written { (setup : Setup) → IsAt (net_of B.slots network.old) setup schedule.now [] 0 →
+    requires { (setup : Setup) × IsBefore (net_of B.slots network.old) setup [] schedule.now }
+    ensures written { (setup : Setup) → IsBefore (net_of B.slots network.old) setup [] schedule.now →
         WritesReport result (lines_in extent setup) (passes setup)
         (O.shows sink.old) (O.shows sink.new) }
-    ensures stepped { (setup : Setup) → IsAt (net_of B.slots network.old) setup schedule.now [] 0 →
+    ensures stepped { (setup : Setup) → IsBefore (net_of B.slots network.old) setup [] schedule.now →
         Stepped result extent (net_of B.slots network.new) setup
         (O.shows sink.old) (O.shows sink.new) }
 {
@@ -133,16 +133,16 @@ pub fn write_report<O: Sink, B: Workbench>(
     network: &mut Network<B>,
     schedule: &Schedule,
 ) -> Result<bool, Failed>
-    requires { (setup : Setup) × IsAt (net_of B.slots network.old) setup schedule.now [] 0 }
-    ensures written { (setup : Setup) → IsAt (net_of B.slots network.old) setup schedule.now [] 0 →
+    requires { (setup : Setup) × IsBefore (net_of B.slots network.old) setup [] schedule.now }
+    ensures written { (setup : Setup) → IsBefore (net_of B.slots network.old) setup [] schedule.now →
         DeliversReport result (lines_in extent setup) (passes setup)
         (O.shows sink.old) (O.shows sink.new) }
     ensures guarantees { (setup : Setup) →
-        IsAt (net_of B.slots network.old) setup schedule.now [] 0 →
+        IsBefore (net_of B.slots network.old) setup [] schedule.now →
         Guarantees setup (journal_of setup) }
     ensures drained { (setup : Setup) →
-        IsAt (net_of B.slots network.old) setup schedule.now [] 0 → EndsDrained setup }
-    ensures stepped { (setup : Setup) → IsAt (net_of B.slots network.old) setup schedule.now [] 0 →
+        IsBefore (net_of B.slots network.old) setup [] schedule.now → EndsDrained setup }
+    ensures stepped { (setup : Setup) → IsBefore (net_of B.slots network.old) setup [] schedule.now →
         Stepped result extent (net_of B.slots network.new) setup
         (O.shows sink.old) (O.shows sink.new) }
 {

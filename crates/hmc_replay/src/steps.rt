@@ -13,7 +13,7 @@ ghost use Rattle.hmc_net.specs.Stands.{IsNext};
 ghost use Rattle.hmc_outside.specs.Lines.{WritesLines};
 ghost use Rattle.hmc_outside.specs.Views.{SinkView};
 ghost use Rattle.hmc_replay.specs.Output.{Writes};
-ghost use Rattle.hmc_replay.specs.Steps.{step_passed, IsAt, IsBefore, IsAfter, TookAll, TookRound, WroteAll, WroteRound};
+ghost use Rattle.hmc_replay.specs.Steps.{step_passed, IsBefore, IsAfter, TookAll, TookRound, WroteAll, WroteRound};
 ghost use Rattle.hmc_schedule.specs.RoundsLeft.{steps_left};
 ghost use Rattle.hmc_schedule.specs.declared.step.Step.{Step};
 
@@ -49,11 +49,11 @@ fn take_round<B: Workbench>(
     rounds: &mut RoundsLeft<'_>,
     round: &[Step],
 ) -> bool
-    requires { (setup : Setup) × (steps : List Step) × (past : List Entry) ×
-        IsBefore (net_of B.slots network.old) setup steps past (steps_left rounds.old round.now) }
-    ensures taken { (setup : Setup) (steps : List Step) (past : List Entry) →
-        IsBefore (net_of B.slots network.old) setup steps past (steps_left rounds.old round.now) →
-        TookRound result (net_of B.slots network.new) setup steps (steps_left rounds.new []) }
+    requires { (setup : Setup) × (past : List Entry) ×
+        IsBefore (net_of B.slots network.old) setup past (steps_left rounds.old round.now) }
+    ensures taken { (setup : Setup) (past : List Entry) →
+        IsBefore (net_of B.slots network.old) setup past (steps_left rounds.old round.now) →
+        TookRound result (net_of B.slots network.new) setup (steps_left rounds.new []) }
     ensures rounds { rounds.new.rounds ≡ rounds.old.rounds }
 {
     'steps: for step in round {
@@ -67,8 +67,8 @@ fn take_round<B: Workbench>(
 
 /// Takes all steps. Returns whether a landing passed.
 pub fn take_steps<B: Workbench>(network: &mut Network<B>, schedule: &Schedule) -> bool
-    requires { (setup : Setup) × IsAt (net_of B.slots network.old) setup schedule.now [] 0 }
-    ensures { (setup : Setup) → IsAt (net_of B.slots network.old) setup schedule.now [] 0 →
+    requires { (setup : Setup) × IsBefore (net_of B.slots network.old) setup [] schedule.now }
+    ensures { (setup : Setup) → IsBefore (net_of B.slots network.old) setup [] schedule.now →
         TookAll (net_of B.slots network.new) setup result }
 {
     let mut rounds = schedule.in_rounds();
@@ -96,12 +96,12 @@ fn write_round<O: Sink, B: Workbench>(
     rounds: &mut RoundsLeft<'_>,
     round: &[Step],
 ) -> Result<bool, Failed>
-    requires { (setup : Setup) × (steps : List Step) × (past : List Entry) ×
-        IsBefore (net_of B.slots network.old) setup steps past (steps_left rounds.old round.now) }
-    ensures wrote { (setup : Setup) (steps : List Step) (past : List Entry) (before : SinkView) →
-        IsBefore (net_of B.slots network.old) setup steps past (steps_left rounds.old round.now) →
+    requires { (setup : Setup) × (past : List Entry) ×
+        IsBefore (net_of B.slots network.old) setup past (steps_left rounds.old round.now) }
+    ensures wrote { (setup : Setup) (past : List Entry) (before : SinkView) →
+        IsBefore (net_of B.slots network.old) setup past (steps_left rounds.old round.now) →
         WritesLines before (O.shows sink.old) (lines_of past) →
-        WroteRound result (net_of B.slots network.new) setup steps (steps_left rounds.new [])
+        WroteRound result (net_of B.slots network.new) setup (steps_left rounds.new [])
         before (O.shows sink.new) }
     ensures rounds { rounds.new.rounds ≡ rounds.old.rounds }
 {
@@ -126,8 +126,8 @@ pub fn write_steps<O: Sink, B: Workbench>(
     network: &mut Network<B>,
     schedule: &Schedule,
 ) -> Result<bool, Failed>
-    requires { (setup : Setup) × IsAt (net_of B.slots network.old) setup schedule.now [] 0 }
-    ensures { (setup : Setup) → IsAt (net_of B.slots network.old) setup schedule.now [] 0 →
+    requires { (setup : Setup) × IsBefore (net_of B.slots network.old) setup [] schedule.now }
+    ensures { (setup : Setup) → IsBefore (net_of B.slots network.old) setup [] schedule.now →
         WroteAll result (net_of B.slots network.new) setup
         (O.shows sink.old) (O.shows sink.new) }
 {

@@ -80,7 +80,7 @@ fn replay_with<S: Source, O: Sink, U: LogicUnit>(
 ///
 /// | Status | Meaning | Written |
 /// |---|---|---|
-/// | 0 | the answer is whole | the report, `lawful` and its entries, the bound's lines, the script |
+/// | 0 | the answer is whole | the report, `lawful` and its entries, the bound, the script |
 /// | 1 | out of memory | nothing |
 /// | 2 | the words are no defined form | nothing, and nothing is read |
 /// | 3 | the source failed | nothing |

@@ -8,7 +8,8 @@ ghost use Rattle.hmc_journal.specs.Answers.{took_entry};
 ghost use Rattle.hmc_journal.specs.Links.{direction_to};
 ghost use Rattle.hmc_journal.specs.Setup.{direction_from};
 ghost use Rattle.hmc_kept.specs.Hosts.{cause_by, host_in};
-ghost use Rattle.hmc_directions.specs.Ends.{HasRoom};
+ghost use Rattle.hmc_directions.specs.Ends.{EndsHold};
+ghost use Rattle.hmc_kept.specs.ByDirection.{HasRoom};
 ghost use Rattle.hmc_check.specs.Past.{past_of, TakesStep, IsNextOfSome};
 
 use crate::past::Past;
@@ -35,7 +36,7 @@ impl<B: Workbench> Past<B> {
     fn give_next(&mut self, host: u8, direction: u8)
         requires next { IsNextOfSome (past_of B.slots self.old) (Step.Give host) }
         requires from { direction_from self.old.topology (places.Host host) ≡ Some direction }
-        requires room { HasRoom self.old.ends direction true }
+        requires room { HasRoom EndsHold self.old.ends direction true }
         requires none { hindrance_of (give_says (host_in self.old.hosts host) true) ≡ None }
         ensures { TakesStep (past_of B.slots self.old) (past_of B.slots self.new) (Step.Give host) }
     {

@@ -5,7 +5,7 @@ use Rattle.hmc_check.proofs.Following.{verdict_of, rest_few}
 use Rattle.hmc_check.proofs.checker.check_in.Goals as goal
 
 pub finish-requires : goal.finish-requires
-finish-requires g c = let all = c.in-Ok.ensures c.requires.0 c.requires.1 in rest_few _ _ _ all.lines
+finish-requires g c = let all = c.in-Ok.ensures c.requires.0 c.requires.1 in rest_few _ _ _ _ all.lines
 
 pub returns-in-Err : goal.returns-in-Err
 returns-in-Err g c = λ setup is. verdict_is setup _ (Some c.in-Err.line) (c.in-Err.ensures setup is)

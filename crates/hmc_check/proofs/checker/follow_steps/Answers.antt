@@ -1,38 +1,25 @@
--- One round more, and its lines; or no further one is taken; or the report differs.
-use Rattle.std.proofs.Common.{[], ◌∙◌, Ok, ap, arith}
-use Rattle.hmc_check.proofs.Rounds.{follows_first, left_same, round_told, all_followed}
+-- All steps, and then what is still gathered.
+use Rattle.hmc_check.proofs.Following.{gathered_come, compared_all, rest_few}
+use Rattle.hmc_check.proofs.Rounds.{follows_first, followed_by}
 use Rattle.hmc_check.proofs.checker.follow_steps.Goals as goal
 
-pub rounds-init : goal.rounds-init
-rounds-init g c = λ setup is. ([], follows_first _ setup _ _ _ is c.in_rounds-rounds.ensures)
-
-pub follow_round-requires : goal.follow_round-requires
-follow_round-requires g c =
-    let now = c.rounds.invariant c.requires.0 c.requires.1 in
-    (c.requires.0, _, now.0, left_same _ c.requires.0 _ now.0 _ _ _ _ _ now.1 c.in-Some.ensures.some)
-
-pub returns-in-Ok-true : goal.returns-in-Ok-true
-returns-in-Ok-true g c = λ setup is.
-    let now = c.rounds.invariant setup is in
-    let here = left_same _ setup _ now.0 _ _ _ _ _ now.1 c.in-Some.ensures.some in
-    round_told _ setup _ _ _ _ _ _ _ (c.in-Ok-true.is ∙ ap Ok c.in-Ok-true.field-0-test) (c.follow_round.ensures.followed setup _ now.0 here)
-
-pub rounds-smaller : goal.rounds-smaller
-rounds-smaller g c = omega (arith, c.follow_round.ensures.rounds, c.in-Some.ensures.fewer)
-
-pub rounds-preserved : goal.rounds-preserved
-rounds-preserved g c = λ setup is.
-    let now = c.rounds.invariant setup is in
-    let here = left_same _ setup _ now.0 _ _ _ _ _ now.1 c.in-Some.ensures.some in
-    round_told _ setup _ _ _ _ _ _ _ (c.in-Ok-false.is ∙ ap Ok c.in-Ok-false.field-0-test) (c.follow_round.ensures.followed setup _ now.0 here)
+pub follow_rounds-requires : goal.follow_rounds-requires
+follow_rounds-requires g c = (c.requires.0, follows_first _ c.requires.0 _ _ _ c.new.ensures c.requires.1)
 
 pub returns-in-Err : goal.returns-in-Err
-returns-in-Err g c = λ setup is.
-    let now = c.rounds.invariant setup is in
-    let here = left_same _ setup _ now.0 _ _ _ _ _ now.1 c.in-Some.ensures.some in
-    round_told _ setup _ _ _ _ _ _ _ c.in-Err.is (c.follow_round.ensures.followed setup _ now.0 here)
+returns-in-Err g c = λ setup is. c.in-Err.ensures setup (follows_first _ setup _ _ _ c.new.ensures is)
 
-pub returns : goal.returns
-returns g c = λ setup is.
-    let now = c.rounds.invariant setup is in
-    all_followed _ setup _ _ now.0 _ _ _ now.1 c.in_default.ensures.none
+pub compare_text-requires : goal.compare_text-requires
+compare_text-requires g c =
+    let all = followed_by _ c.requires.0 c.in-Ok.passed _ _ _ _ (c.in-Ok.ensures c.requires.0 (follows_first _ c.requires.0 _ _ _ c.new.ensures c.requires.1)) in
+    rest_few _ _ _ _ all.lines
+
+pub returns-in-Ok-compare_text : goal.returns-in-Ok-compare_text
+returns-in-Ok-compare_text g c = λ setup is.
+    let all = followed_by _ setup c.in-Ok.passed _ _ _ _ (c.in-Ok.ensures setup (follows_first _ setup _ _ _ c.new.ensures is)) in
+    compared_all _ setup _ _ _ _ _ _ _ all (c.in-Ok-compare_text.ensures.follows _ _ (gathered_come _ setup _ _ _ _ _ all)) c.compare_text.ensures.entries
+
+pub returns-in-Err-compare_text : goal.returns-in-Err-compare_text
+returns-in-Err-compare_text g c = λ setup is.
+    let all = followed_by _ setup c.in-Ok.passed _ _ _ _ (c.in-Ok.ensures setup (follows_first _ setup _ _ _ c.new.ensures is)) in
+    c.in-Err-compare_text.ensures.follows _ _ (gathered_come _ setup _ _ _ _ _ all)

@@ -5,7 +5,8 @@ use Rattle.hmc_host.specs.Give.{give_says, hindrance_of}
 use Rattle.hmc_entries.specs.declared.entry.Entry.{Entry}
 use Rattle.hmc_kept.specs.Hosts.{host_in}
 use Rattle.hmc_schedule.specs.declared.step.Step.TheVariants as steps
-use Rattle.hmc_directions.specs.Ends.{HasRoom}
+use Rattle.hmc_directions.specs.Ends.{EndsHold}
+use Rattle.hmc_kept.specs.ByDirection.{HasRoom}
 use Rattle.hmc_check.specs.Past.{PastFields, PastParts}
 use Rattle.hmc_check.proofs.Holding.{of_parts, some_of}
 use Rattle.hmc_check.proofs.Outgoing.{has_given_room, give_hindered}
@@ -33,7 +34,7 @@ give_next-requires-clause-room g c =
     let read : c.index.result.now ≡ host_in i.hosts.items c.args.host = host_read i.hosts.items c.from.result c.args.host c.index.result.now c.from.ensures there c.index.ensures in
     let none : hindrance_of (give_says (host_in i.hosts.items c.args.host) c.has_room-room.result) ≡ None = ap (λ (h : HostFields). hindrance_of (give_says h c.has_room-room.result)) (sym read) ∙ sym c.hindrance.ensures ∙ c.in_default.is in
     let room : c.has_room-room.result ≡ true = has_given_room (host_in i.hosts.items c.args.host) c.has_room-room.result none in
-    subst (λ (v : PastParts _). HasRoom v.ends c.from_host-direction.result true) c.self.view_is (subst (HasRoom i.ends c.from_host-direction.result) room c.has_room-room.ensures)
+    subst (λ (v : PastParts _). HasRoom EndsHold v.ends c.from_host-direction.result true) c.self.view_is (subst (HasRoom EndsHold i.ends c.from_host-direction.result) room c.has_room-room.ensures)
 
 pub give_next-requires-clause-none : goal.give_next-requires-clause-none
 give_next-requires-clause-none g c =

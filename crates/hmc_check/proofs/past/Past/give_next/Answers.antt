@@ -10,7 +10,8 @@ use Rattle.hmc_entries.specs.declared.entry.Entry.{Entry}
 use Rattle.hmc_journal.specs.Setup.{direction_from}
 use Rattle.hmc_kept.specs.Hosts.{with_host, host_in}
 use Rattle.hmc_schedule.specs.declared.step.Step.TheVariants as steps
-use Rattle.hmc_directions.specs.Ends.{HasRoom}
+use Rattle.hmc_directions.specs.Ends.{EndsHold}
+use Rattle.hmc_kept.specs.ByDirection.{HasRoom}
 use Rattle.hmc_check.specs.Past.{PastFields, PastParts}
 use Rattle.hmc_check.proofs.Holding.{of_parts, some_of}
 use Rattle.hmc_check.proofs.Outgoing.{starts_in, give_may, give_takes, never_given}
@@ -26,7 +27,7 @@ hand-requires-clause-there g c =
     let there : c.args.host < length i.hosts.items = omega (arith, some_there old (steps.Give c.args.host) some, some.is.holds.sized.hosts) in
     let read : c.index_mut.result.now ≡ host_in i.hosts.items c.args.host = host_read i.hosts.items c.from.result c.args.host c.index_mut.result.now c.from.ensures there c.index_mut.ensures.value in
     let from : direction_from i.wiring (places.Host c.args.host) ≡ Some c.args.direction = subst (λ (v : PastParts _). direction_from v.topology (places.Host c.args.host) ≡ Some c.args.direction) (sym c.self.view_is) c.requires.from in
-    let room : HasRoom i.ends c.args.direction true = subst (λ (v : PastParts _). HasRoom v.ends c.args.direction true) (sym c.self.view_is) c.requires.room in
+    let room : HasRoom EndsHold i.ends c.args.direction true = subst (λ (v : PastParts _). HasRoom EndsHold v.ends c.args.direction true) (sym c.self.view_is) c.requires.room in
     starts_in old (steps.Give c.args.host) (places.Host c.args.host) c.args.direction some from
 
 pub hand-requires-clause-may : goal.hand-requires-clause-may
@@ -37,7 +38,7 @@ hand-requires-clause-may g c =
     let there : c.args.host < length i.hosts.items = omega (arith, some_there old (steps.Give c.args.host) some, some.is.holds.sized.hosts) in
     let read : c.index_mut.result.now ≡ host_in i.hosts.items c.args.host = host_read i.hosts.items c.from.result c.args.host c.index_mut.result.now c.from.ensures there c.index_mut.ensures.value in
     let from : direction_from i.wiring (places.Host c.args.host) ≡ Some c.args.direction = subst (λ (v : PastParts _). direction_from v.topology (places.Host c.args.host) ≡ Some c.args.direction) (sym c.self.view_is) c.requires.from in
-    let room : HasRoom i.ends c.args.direction true = subst (λ (v : PastParts _). HasRoom v.ends c.args.direction true) (sym c.self.view_is) c.requires.room in
+    let room : HasRoom EndsHold i.ends c.args.direction true = subst (λ (v : PastParts _). HasRoom EndsHold v.ends c.args.direction true) (sym c.self.view_is) c.requires.room in
     let given : givens.Gave c.in-Gave.packet c.in-Gave.request c.in-Gave.tag c.in-Gave.poisoned ≡ give_says (host_in i.hosts.items c.args.host) true = sym c.in-Gave.is ∙ c.give.ensures.answer ∙ ap (λ (h : HostFields). give_says h true) read in
     give_may old (steps.Give c.args.host) c.args.host c.args.direction c.in-Gave.packet c.in-Gave.request c.in-Gave.tag c.in-Gave.poisoned some room c.invariant.ensures given
 
@@ -60,7 +61,7 @@ returns g c =
     let there : c.args.host < length i.hosts.items = omega (arith, some_there old (steps.Give c.args.host) some, some.is.holds.sized.hosts) in
     let read : c.index_mut.result.now ≡ host_in i.hosts.items c.args.host = host_read i.hosts.items c.from.result c.args.host c.index_mut.result.now c.from.ensures there c.index_mut.ensures.value in
     let from : direction_from i.wiring (places.Host c.args.host) ≡ Some c.args.direction = subst (λ (v : PastParts _). direction_from v.topology (places.Host c.args.host) ≡ Some c.args.direction) (sym c.self.view_is) c.requires.from in
-    let room : HasRoom i.ends c.args.direction true = subst (λ (v : PastParts _). HasRoom v.ends c.args.direction true) (sym c.self.view_is) c.requires.room in
+    let room : HasRoom EndsHold i.ends c.args.direction true = subst (λ (v : PastParts _). HasRoom EndsHold v.ends c.args.direction true) (sym c.self.view_is) c.requires.room in
     let given : givens.Gave c.in-Gave.packet c.in-Gave.request c.in-Gave.tag c.in-Gave.poisoned ≡ give_says (host_in i.hosts.items c.args.host) true = sym c.in-Gave.is ∙ c.give.ensures.answer ∙ ap (λ (h : HostFields). give_says h true) read in
     let hosts : slice_set i.hosts.items c.from.result c.give.new.self ≡ with_host c.args.host (after_give (givens.Gave c.in-Gave.packet c.in-Gave.request c.in-Gave.tag c.in-Gave.poisoned)) i.hosts.items =
     ap₂ (λ (n : ℕ) (h : HostFields). slice_set i.hosts.items n h) c.from.ensures (c.give.ensures.leaves ∙ ap₂ (λ (x : Given) (h : HostFields). after_give x h) c.in-Gave.is read) in

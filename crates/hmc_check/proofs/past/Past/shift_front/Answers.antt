@@ -4,7 +4,8 @@ use Rattle.hmc_codes.specs.declared.place.Place.TheVariants as places
 use Rattle.hmc_entries.specs.declared.entry.Entry.{Entry}
 use Rattle.hmc_journal.specs.Links.{direction_to}
 use Rattle.hmc_schedule.specs.declared.step.Step.TheVariants as steps
-use Rattle.hmc_directions.specs.Ends.{IsFrontAt}
+use Rattle.hmc_directions.specs.Ends.{EndsHold}
+use Rattle.hmc_kept.specs.ByDirection.{IsFrontAt}
 use Rattle.hmc_check.specs.Past.{PastFields, PastParts}
 use Rattle.hmc_check.proofs.Holding.{of_parts, some_of}
 use Rattle.hmc_check.proofs.Shifting.{ends_in, front_way, shift_none, dropped_takes}
@@ -26,7 +27,7 @@ returns-in_default g c =
     let some = some_of g.B.Workbench.slots _ c.args.self.now (steps.Shift c.args.cube c.args.port) c.self.view_is c.requires.next in
     let to : direction_to i.wiring (places.Port c.args.cube c.args.port) ≡ Some c.args.direction = subst (λ (v : PastParts _). direction_to v.topology (places.Port c.args.cube c.args.port) ≡ Some c.args.direction) (sym c.self.view_is) c.requires.to in
     of_parts g.B.Workbench.slots _ c.args.self.now _ (steps.Shift c.args.cube c.args.port) c.self.view_is
-    (shift_none old _ c.args.cube c.args.port c.args.direction to (subst (IsFrontAt i.ends c.args.direction) c.in_default.is c.front.ensures) (ap (λ (e : Entry). record old { last = e }) c.idle.ensures))
+    (shift_none old _ c.args.cube c.args.port c.args.direction to (subst (IsFrontAt EndsHold i.ends c.args.direction) c.in_default.is c.front.ensures) (ap (λ (e : Entry). record old { last = e }) c.idle.ensures))
 
 pub goal-requires-clause-cube : goal.goal-requires-clause-cube
 goal-requires-clause-cube g c =
@@ -41,7 +42,7 @@ goal-requires-clause-way g c =
     let old : PastFields = record { topology = i.wiring; queues = i.queues; cubes = i.plain; slots = g.B.Workbench.slots i.bench; hosts = i.hosts.items; ends = i.ends; piped = i.piped; tally = i.tally; last = i.last } in
     let some = some_of g.B.Workbench.slots _ c.args.self.now (steps.Shift c.args.cube c.args.port) c.self.view_is c.requires.next in
     let to : direction_to i.wiring (places.Port c.args.cube c.args.port) ≡ Some c.args.direction = subst (λ (v : PastParts _). direction_to v.topology (places.Port c.args.cube c.args.port) ≡ Some c.args.direction) (sym c.self.view_is) c.requires.to in
-    let front : IsFrontAt i.ends c.args.direction (Some c.in-Some.front) = subst (IsFrontAt i.ends c.args.direction) c.in-Some.is c.front.ensures in
+    let front : IsFrontAt EndsHold i.ends c.args.direction (Some c.in-Some.front) = subst (IsFrontAt EndsHold i.ends c.args.direction) c.in-Some.is c.front.ensures in
     front_way old c.args.cube c.args.port c.args.direction c.in-Some.front some to front
 
 pub take-requires-clause-there : goal.take-requires-clause-there
@@ -58,7 +59,7 @@ returns-in-Nowhere g c =
     let old : PastFields = record { topology = i.wiring; queues = i.queues; cubes = i.plain; slots = g.B.Workbench.slots i.bench; hosts = i.hosts.items; ends = i.ends; piped = i.piped; tally = i.tally; last = i.last } in
     let some = some_of g.B.Workbench.slots _ c.args.self.now (steps.Shift c.args.cube c.args.port) c.self.view_is c.requires.next in
     let to : direction_to i.wiring (places.Port c.args.cube c.args.port) ≡ Some c.args.direction = subst (λ (v : PastParts _). direction_to v.topology (places.Port c.args.cube c.args.port) ≡ Some c.args.direction) (sym c.self.view_is) c.requires.to in
-    let front : IsFrontAt i.ends c.args.direction (Some c.in-Some.front) = subst (IsFrontAt i.ends c.args.direction) c.in-Some.is c.front.ensures in
+    let front : IsFrontAt EndsHold i.ends c.args.direction (Some c.in-Some.front) = subst (IsFrontAt EndsHold i.ends c.args.direction) c.in-Some.is c.front.ensures in
     of_parts g.B.Workbench.slots _ c.args.self.now _ (steps.Shift c.args.cube c.args.port) c.self.view_is
     (dropped_takes old _ c.args.cube c.args.port c.args.direction c.in-Some.front c.goal.result c.take.new.self to front c.goal.ensures c.in-Nowhere.is c.take.ensures
     (ap (λ (e : Entry). record old { ends = c.take.new.self; last = e }) c.dropped.ensures))

@@ -10,7 +10,8 @@ use Rattle.hmc_journal.specs.Links.{direction_to}
 use Rattle.hmc_kept.specs.Hosts.{with_host, host_in}
 use Rattle.hmc_journal.proofs.DirectionEnds.{ends_at}
 use Rattle.hmc_schedule.specs.declared.step.Step.TheVariants as steps
-use Rattle.hmc_directions.specs.Ends.{IsFrontAt}
+use Rattle.hmc_directions.specs.Ends.{EndsHold}
+use Rattle.hmc_kept.specs.ByDirection.{IsFrontAt}
 use Rattle.hmc_check.specs.Past.{PastFields, PastParts}
 use Rattle.hmc_check.proofs.Holding.{of_parts, some_of}
 use Rattle.hmc_check.proofs.Sending.{hold_some}

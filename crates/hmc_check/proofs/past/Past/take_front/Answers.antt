@@ -10,7 +10,8 @@ use Rattle.hmc_journal.specs.Links.{direction_to}
 use Rattle.hmc_kept.specs.Hosts.{with_host, host_in}
 use Rattle.hmc_journal.proofs.DirectionEnds.{ends_at}
 use Rattle.hmc_schedule.specs.declared.step.Step.TheVariants as steps
-use Rattle.hmc_directions.specs.Ends.{IsFrontAt}
+use Rattle.hmc_directions.specs.Ends.{EndsHold}
+use Rattle.hmc_kept.specs.ByDirection.{IsFrontAt}
 use Rattle.hmc_check.specs.Past.{PastFields, PastParts}
 use Rattle.hmc_check.proofs.Holding.{of_parts, some_of}
 use Rattle.hmc_check.proofs.Sending.{hold_some}
@@ -53,7 +54,7 @@ returns-in_default g c =
     let to : direction_to i.wiring (places.Host c.args.host) ≡ Some d = subst (λ (v : PastParts _). direction_to v.topology (places.Host c.args.host) ≡ Some d) (sym c.self.view_is) c.requires.to in
     let inside = (ends_at i.wiring (places.Host c.args.host) d to).there in
     of_parts g.B.Workbench.slots _ c.args.self.now _ (steps.Take c.args.host) c.self.view_is
-    (nothing_taken old _ c.args.host d to (subst (IsFrontAt i.ends d) c.in_default.is c.front.ensures) (ap (λ (e : Entry). record old { last = e }) c.idle.ensures))
+    (nothing_taken old _ c.args.host d to (subst (IsFrontAt EndsHold i.ends d) c.in_default.is c.front.ensures) (ap (λ (e : Entry). record old { last = e }) c.idle.ensures))
 
 pub take-requires-clause-there : goal.take-requires-clause-there
 take-requires-clause-there g c =
@@ -90,7 +91,7 @@ settle-settled-requires g c = λ unpoisoned.
     let to : direction_to i.wiring (places.Host c.args.host) ≡ Some d = subst (λ (v : PastParts _). direction_to v.topology (places.Host c.args.host) ≡ Some d) (sym c.self.view_is) c.requires.to in
     let inside = (ends_at i.wiring (places.Host c.args.host) d to).there in
     subst (λ (h : HostFields). IsAwaited h c.in-Some.front) (sym (host_read i.hosts.items c.from.result c.args.host c.index_mut.result.now c.from.ensures there c.index_mut.ensures.value))
-    (awaited old c.args.host d c.in-Some.front some there to (subst (IsFrontAt i.ends d) c.in-Some.is c.front.ensures) unpoisoned)
+    (awaited old c.args.host d c.in-Some.front some there to (subst (IsFrontAt EndsHold i.ends d) c.in-Some.is c.front.ensures) unpoisoned)
 
 pub returns : goal.returns
 returns g c =
@@ -106,5 +107,5 @@ returns g c =
     let hosts : slice_set i.hosts.items c.from.result c.settle-settled.new.self ≡ with_host c.args.host (after_settle c.settle-settled.result) i.hosts.items =
     ap₂ (λ (n : ℕ) (h : HostFields). slice_set i.hosts.items n h) c.from.ensures (c.settle-settled.ensures.leaves ∙ ap (after_settle c.settle-settled.result) read) in
     of_parts g.B.Workbench.slots _ c.args.self.now _ (steps.Take c.args.host) c.self.view_is
-    (take_takes old _ c.args.host d c.in-Some.front c.settle-settled.result c.take.new.self there to (subst (IsFrontAt i.ends d) c.in-Some.is c.front.ensures) c.settle-settled.ensures.answer c.take.ensures
+    (take_takes old _ c.args.host d c.in-Some.front c.settle-settled.result c.take.new.self there to (subst (IsFrontAt EndsHold i.ends d) c.in-Some.is c.front.ensures) c.settle-settled.ensures.answer c.take.ensures
     (ap₂ (λ (l : List HostFields) (e : Entry). record old { hosts = l; ends = c.take.new.self; last = e }) hosts c.note_settled.ensures))
