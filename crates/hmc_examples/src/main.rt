@@ -1,15 +1,17 @@
 //! Replays each example case, runs the cases of some numbers, asks for the bounds of some cases,
 //! and compares each report with the one beside it. Those reports came from a model in another
 //! language, or were found by hand (docs/DECISIONS.md says which). Each report is checked, too, as
-//! it stands and changed.
+//! it stands and changed, and each example runs as a session (`sessions`).
 #![tactic(auto)]
 
 mod checks;
+mod sessions;
 
 use checks::print_checks;
 use hmc_outside::{MemorySink, MemorySource};
 use hmc_replay::replay;
 use hmc_units::{LogicUnit, Reverse, Stamp};
+use sessions::print_session;
 use std::alloc::Global;
 use std::rt::Files;
 use std::{fs, io};
@@ -334,6 +336,17 @@ fn print_each_check(
     Ok(())
 }
 
+// Prints whether the session of each of these examples has the lines of the report beside it.
+fn print_sessions(
+    rt: &(impl Files + AllocGlobal + Print),
+    names: &[&str],
+) -> Result<(), io::Error> {
+    for name in names {
+        print_session(rt, name)?;
+    }
+    Ok(())
+}
+
 // Prints whether the case of two requests is drained after as many rounds as its bound says.
 fn print_rounds(rt: &(impl Files + AllocGlobal + Print)) -> Result<(), io::Error> {
     let word = if rounds_drain(rt)? {
@@ -351,5 +364,7 @@ fn main(rt: HostRuntime) -> Result<(), io::Error> {
     print_bounds(&rt)?;
     print_each_check(&rt, &NAMES)?;
     print_each_check(&rt, &PASSED)?;
+    print_sessions(&rt, &NAMES)?;
+    print_sessions(&rt, &PASSED)?;
     print_rounds(&rt)
 }

@@ -4,3 +4,4 @@ pub mod Running
 pub mod Laying
 pub mod Runs
 pub mod Shown
+mod Worked

@@ -1,14 +1,16 @@
 -- What a session stands for after a step, after a request, and after a host is finished.
-use Rattle.std.proofs.Common.{◌≡◌, ◌∙◌, ◌<◌, ◌+◌, ◌^◌, ◌==◌, ◌&&◌, ◌||◌, if◌then◌else◌, ℕ, suc, Bool, true, false, not, List, [], ◌∷◌, length, length-append, length-set, None, Some, refl, sym, ap, ap₂, subst, arith}
+use Rattle.std.proofs.Common.{◌≡◌, ◌∙◌, ◌<◌, ◌+◌, ◌^◌, ◌==◌, ◌&&◌, ◌||◌, if◌then◌else◌, ℕ, suc, Bool, true, false, not, List, [], ◌∷◌, length, length-append, length-set, Option, None, Some, refl, sym, ap, ap₂, subst, arith}
 use Rattle.std.specs.Prelude.{slice_index_or, slice_set, is_none, nat_le}
-use Rattle.std.proofs.lemmas.Bool.{leb-false}
+use Rattle.std.proofs.lemmas.Bool.{and_parts, leb-false, ltb-true, not-true}
+use Rattle.hmc_codes.specs.Limits.{most_taken}
 use Rattle.hmc_script.specs.Items.{ItemFields}
 use Rattle.hmc_schedule.specs.declared.step.Step.{Step}
 use Rattle.hmc_schedule.specs.declared.step.Step.TheVariants as steps
 use Rattle.hmc_schedule.specs.Plan.{PlanFields, IsStepOf, HasFlit}
-use Rattle.hmc_host.specs.Give.{is_at_end}
+use Rattle.hmc_host.specs.Give.{is_at_end, next_item}
 use Rattle.hmc_entries.specs.declared.entry.Entry.{Entry}
 use Rattle.hmc_entries.specs.Event.{is_passed}
+use Rattle.hmc_journal.specs.Hosts.{host_of}
 use Rattle.hmc_journal.specs.Next.{next}
 use Rattle.hmc_journal.specs.Setup.{Setup, Topology, hosts_in, cubes_in}
 use Rattle.hmc_growing.specs.Growing.{with_step, with_item, is_end_of, IsOpen}
@@ -21,7 +23,7 @@ use Rattle.hmc_net.specs.Stands.{StandsFor, IsNext}
 use Rattle.hmc_net.proofs.Growing.{next_with_step}
 use Rattle.hmc_session.specs.declared.refusal.NotTaken.TheVariants.{Unknown, Over, Waits}
 use Rattle.hmc_session.specs.Refusals.{has_step, step_refusal}
-use Rattle.hmc_session.specs.Session.{SessionFields, StandsIn, IsSession, IsLast, MayAsk, is_finished, most_taken, waits}
+use Rattle.hmc_session.specs.Session.{SessionFields, StandsIn, IsSession, IsLast, IsWaiting, MayAsk, is_finished, waits}
 
 -- ---- a step
 
@@ -53,6 +55,55 @@ may_take s step within mask free =
 
 step_for : (s : SessionFields) (setup : Setup) (past : List Entry) (step : Step) → IsSession s → StandsIn s setup past → IsStepOf s.plan step → HasFlit step → IsStepFor setup.topology step
 step_for s setup past step keeps is within mask = subst (λ (t : Topology). IsStepFor t step) is.stands.topology (keeps.parts step within mask)
+
+-- ---- a step that waits
+
+by_wait : (known over wait : Bool) → (if not known then Some Unknown else if over then Some Over else if wait then Some Waits else None) ≡ Some Waits → (known ≡ true) × (wait ≡ true)
+by_wait false over wait is = absurd cc
+by_wait true true wait is = absurd cc
+by_wait true false true is = (refl, refl)
+by_wait true false false is = absurd cc
+
+none_left : (item : Option ItemFields) → is_none item ≡ true → item ≡ None
+none_left None is = refl
+none_left (Some item) is = absurd cc
+
+-- a give of a host that isn't finished, and has no request left
+waiting_give : (s : SessionFields) (setup : Setup) (past : List Entry) (host : ℕ) → IsSession s → StandsIn s setup past → host < s.plan.hosts → (not (is_finished s host) && is_at_end (host_in s.net.hosts host)) ≡ true → IsWaiting s.finished setup past (steps.Give host)
+waiting_give s setup past host keeps is there waiting =
+    let both = and_parts (not (is_finished s host)) (is_at_end (host_in s.net.hosts host)) waiting in
+    let in_net : host < hosts_in s.net.topology = keeps.parts (steps.Give host) there tt in
+    let inside : host < length s.net.hosts = subst (λ (n : ℕ). host < n) (sym is.stands.sized.hosts) in_net in
+    record {
+      host = host;
+      free = not-true (is_finished s host) both.0;
+      ends = record {
+        gives = refl;
+        none_left = none_left (next_item (host_of setup past host)) (sym (ap is_at_end (is.stands.hosts host inside)) ∙ both.1);
+      };
+    }
+
+-- a step that is refused since it waits is one
+waiting_step : (s : SessionFields) (setup : Setup) (past : List Entry) (step : Step) → IsSession s → StandsIn s setup past → has_step s.plan step ≡ true → waits s step ≡ true → IsWaiting s.finished setup past step
+waiting_step s setup past (steps.Give host) keeps is known waiting = waiting_give s setup past host keeps is (ltb-true host s.plan.hosts known) waiting
+waiting_step s setup past (steps.Send d) keeps is known waiting = absurd cc
+waiting_step s setup past (steps.Land d m) keeps is known waiting = absurd cc
+waiting_step s setup past (steps.Shift c p) keeps is known waiting = absurd cc
+waiting_step s setup past (steps.Spread c v) keeps is known waiting = absurd cc
+waiting_step s setup past (steps.Bank c v b) keeps is known waiting = absurd cc
+waiting_step s setup past (steps.Registers c) keeps is known waiting = absurd cc
+waiting_step s setup past (steps.Lift c f) keeps is known waiting = absurd cc
+waiting_step s setup past (steps.Take h) keeps is known waiting = absurd cc
+waiting_step s setup past (steps.Through c p) keeps is known waiting = absurd cc
+waiting_step s setup past (steps.Unlock d) keeps is known waiting = absurd cc
+waiting_step s setup past (steps.Retire n) keeps is known waiting = absurd cc
+
+pub is_waiting : (s : SessionFields) (setup : Setup) (past : List Entry) (step : Step) → IsSession s → StandsIn s setup past → step_refusal s step ≡ Some Waits → IsWaiting s.finished setup past step
+is_waiting s setup past step keeps is refused =
+    let by = by_wait (has_step s.plan step) (s.passed || nat_le most_taken s.taken) (waits s step) refused in
+    waiting_step s setup past step keeps is by.0 by.1
+
+-- ---- what a step leaves
 
 -- any step of its plan may come next
 pub next_is : (s : SessionFields) (setup : Setup) (past : List Entry) (step : Step) → IsSession s → MayTake s step → StandsIn s setup past → IsNext s.net (with_step setup step) past step

@@ -1,7 +1,6 @@
 -- Why a session doesn't take a step, and why it doesn't ask a host.
 use Rattle.std.specs.Prelude.{ℕ, ◌||◌, ◌&&◌, not, if◌then◌else◌, nat_lt, nat_le, Bool, length, Option, Some, None}
-use Rattle.hmc_codes.specs.Limits.{ports}
-use Rattle.hmc_script.specs.Items.{most_asked}
+use Rattle.hmc_codes.specs.Limits.{most_asked, most_taken, ports}
 use Rattle.hmc_host.specs.Host.{asked_count}
 use Rattle.hmc_codes.specs.declared.lift.Lift.{Lift}
 use Rattle.hmc_codes.specs.declared.lift.Lift.TheVariants as lifts
@@ -13,7 +12,7 @@ use Rattle.hmc_session.specs.declared.refusal.NotTaken.{NotTaken}
 use Rattle.hmc_session.specs.declared.refusal.NotTaken.TheVariants.{Unknown, Over, Waits}
 use Rattle.hmc_session.specs.declared.refusal.NotAsked.{NotAsked}
 use Rattle.hmc_session.specs.declared.refusal.NotAsked.TheVariants.{NoHost, NoCube, Finished, Full}
-use Rattle.hmc_session.specs.Session.{SessionFields, is_finished, most_taken, waits}
+use Rattle.hmc_session.specs.Session.{SessionFields, is_finished, waits}
 
 -- a plan has the cube
 abbrev pub has_cube : PlanFields → (cube : ℕ) → Bool

@@ -2,11 +2,12 @@
 use Rattle.std.specs.Prelude.{◌≡◌, ◌≤◌, ◌<◌, ◌⊎◌, ℕ, Bool, true, false, List, [], ◌∷◌, ◌++◌, length, Option, Some, None, if◌then◌else◌}
 use Rattle.std.specs.List.{All}
 use Rattle.hmc_schedule.specs.declared.step.Step.{Step}
-use Rattle.hmc_schedule.specs.declared.step.Step.TheVariants as steps
 use Rattle.hmc_entries.specs.declared.entry.Entry.{Entry}
+use Rattle.hmc_journal.specs.Next.{next}
 use Rattle.hmc_journal.specs.Setup.{Setup}
+use Rattle.hmc_growing.specs.Growing.{with_step}
 use Rattle.hmc_session.specs.Refusals.{step_refusal}
-use Rattle.hmc_session.specs.Session.{SessionFields, StandsIn}
+use Rattle.hmc_session.specs.Session.{SessionFields, StandsIn, IsWaiting}
 use Rattle.hmc_session.specs.Stops.{is_stop}
 use Rattle.hmc_session.specs.declared.refusal.NotTaken.{NotTaken}
 use Rattle.hmc_session.specs.declared.refusal.NotTaken.TheVariants as refusals
@@ -23,19 +24,19 @@ with_steps setup more = record {
   schedule = setup.schedule ++ more;
 }
 
--- the step is a give
-abbrev pub is_give : Step → Bool
-is_give (steps.Give host) = true
-is_give _ = false
-
--- the steps that were taken are those that were tried, in their order, except some gives
-unfoldable pub IsWithoutGives : (taken tried : List Step) → Type 0
-IsWithoutGives [] [] = Unit {0}
-IsWithoutGives (step ∷ taken) [] = ⊥
-IsWithoutGives [] (other ∷ tried) = (is_give other ≡ true) × IsWithoutGives [] tried
-IsWithoutGives (step ∷ taken) (other ∷ tried) =
-    ((step ≡ other) × IsWithoutGives taken tried)
-    ⊎ ((is_give other ≡ true) × IsWithoutGives (step ∷ taken) tried)
+-- Each of the steps that were tried was taken, in their order, or it waited when its turn came. The
+-- journal has an entry more for each that was taken.
+unfoldable pub TakenOrWaiting : (finished : List Bool) → Setup → (past : List Entry) →
+    (tried taken : List Step) → (journal : List Entry) → Type 0
+TakenOrWaiting finished setup past [] [] journal = journal ≡ past
+TakenOrWaiting finished setup past [] (first ∷ taken) journal = ⊥
+TakenOrWaiting finished setup past (step ∷ tried) [] journal =
+    IsWaiting finished setup past step × TakenOrWaiting finished setup past tried [] journal
+TakenOrWaiting finished setup past (step ∷ tried) (first ∷ taken) journal =
+    ((step ≡ first) × TakenOrWaiting finished (with_step setup step)
+    (next setup past step ∷ past) tried taken journal)
+    ⊎ (IsWaiting finished setup past step
+    × TakenOrWaiting finished setup past tried (first ∷ taken) journal)
 
 -- none of the entries is of a chosen kind, or the latest alone
 unfoldable pub StopsOnce : (stopped : Bool) → Stops → List Entry → Type 0
@@ -44,54 +45,67 @@ StopsOnce true stops [] = ⊥
 StopsOnce true stops (entry ∷ entries) =
     (is_stop stops entry ≡ true) × All (λ entry. is_stop stops entry ≡ false) entries
 
--- So many of the laid steps were tried, and these are left. The session stands for the case with
--- the steps that were taken, and for the journal with their entries, the latest one first.
-pub record RunsOn (now : SessionFields) (setup : Setup) (past : List Entry) (laid left : List Step)
-    (stops : Stops) (count : ℕ) (stopped : Bool) : Type 0 where
+-- So many of the laid steps were tried, and these are left. What runs stands for the case with the
+-- steps that were taken, and for the journal with their entries, the latest one first. What that
+-- means is a parameter, since a session may have more beside it that stands for them.
+pub record RunsOn (stands_for : Setup → List Entry → Type 0) (finished : List Bool) (setup : Setup)
+    (past : List Entry) (laid left : List Step) (stops : Stops) (count : ℕ) (stopped : Bool)
+    : Type 0 where
   pub tried : List Step
   pub taken : List Step
   pub entries : List Entry
   pub laid_is : laid ≡ tried ++ left
   pub count_is : length tried ≡ count
-  pub passed_over : IsWithoutGives taken tried
-  pub stands : StandsIn now (with_steps setup taken) (entries ++ past)
+  pub each : TakenOrWaiting finished setup past tried taken (entries ++ past)
+  pub stands : stands_for (with_steps setup taken) (entries ++ past)
   pub once : StopsOnce stopped stops entries
 
 -- the same, and the next step is refused: it is off the list, and not among those that were tried
-pub record RefusedAfter (refusal : NotTaken) (now : SessionFields) (setup : Setup)
-    (past : List Entry) (laid left : List Step) (stops : Stops) (most : ℕ) : Type 0 where
+pub record RefusedAfter (stands_for : Setup → List Entry → Type 0) (refusal : NotTaken)
+    (now : SessionFields) (setup : Setup) (past : List Entry) (laid left : List Step)
+    (stops : Stops) (most : ℕ) : Type 0 where
   pub count : ℕ
   pub few : count < most
   pub step : Step
-  pub runs : RunsOn now setup past laid (step ∷ left) stops count false
+  pub runs : RunsOn stands_for now.finished setup past laid (step ∷ left) stops count false
   pub refused : step_refusal now step ≡ Some refusal
 
 -- a run that tries at most so many steps ended so
+abbrev pub RunsBy : (stands_for : Setup → List Entry → Type 0) → Ran → SessionFields → Setup →
+    List Entry → (laid left : List Step) → Stops → (most : ℕ) → Type 0
+RunsBy stands_for Stopped now setup past laid left stops most =
+    (count : ℕ) × (count ≤ most)
+    × RunsOn stands_for now.finished setup past laid left stops count true
+RunsBy stands_for Tried now setup past laid left stops most =
+    RunsOn stands_for now.finished setup past laid left stops most false
+RunsBy stands_for Ended now setup past laid left stops most =
+    (count : ℕ) × (count ≤ most) × (left ≡ [])
+    × RunsOn stands_for now.finished setup past laid left stops count false
+RunsBy stands_for Unknown now setup past laid left stops most =
+    RefusedAfter stands_for refusals.Unknown now setup past laid left stops most
+RunsBy stands_for Over now setup past laid left stops most =
+    RefusedAfter stands_for refusals.Over now setup past laid left stops most
+
+-- a run of a session
 abbrev pub RunsTo : Ran → SessionFields → Setup → List Entry → (laid left : List Step) → Stops →
     (most : ℕ) → Type 0
-RunsTo Stopped now setup past laid left stops most =
-    (count : ℕ) × (count ≤ most) × RunsOn now setup past laid left stops count true
-RunsTo Tried now setup past laid left stops most =
-    RunsOn now setup past laid left stops most false
-RunsTo Ended now setup past laid left stops most =
-    (count : ℕ) × (count ≤ most) × (left ≡ []) × RunsOn now setup past laid left stops count false
-RunsTo Unknown now setup past laid left stops most =
-    RefusedAfter refusals.Unknown now setup past laid left stops most
-RunsTo Over now setup past laid left stops most =
-    RefusedAfter refusals.Over now setup past laid left stops most
+RunsTo ran now setup past laid left stops most =
+    RunsBy (StandsIn now) ran now setup past laid left stops most
 
 -- one step was tried, and the run goes on or ends with it
-abbrev pub Tries : Option Ran → SessionFields → Setup → List Entry → (laid left : List Step) →
-    Stops → Type 0
-Tries None now setup past laid left stops = RunsOn now setup past laid left stops 1 false
-Tries (Some Stopped) now setup past laid left stops = RunsOn now setup past laid left stops 1 true
-Tries (Some Tried) now setup past laid left stops = ⊥
-Tries (Some Ended) now setup past laid left stops =
-    (left ≡ []) × RunsOn now setup past laid left stops 0 false
-Tries (Some Unknown) now setup past laid left stops =
-    RefusedAfter refusals.Unknown now setup past laid left stops 1
-Tries (Some Over) now setup past laid left stops =
-    RefusedAfter refusals.Over now setup past laid left stops 1
+abbrev pub TriesBy : (stands_for : Setup → List Entry → Type 0) → Option Ran → SessionFields →
+    Setup → List Entry → (laid left : List Step) → Stops → Type 0
+TriesBy stands_for None now setup past laid left stops =
+    RunsOn stands_for now.finished setup past laid left stops 1 false
+TriesBy stands_for (Some Stopped) now setup past laid left stops =
+    RunsOn stands_for now.finished setup past laid left stops 1 true
+TriesBy stands_for (Some Tried) now setup past laid left stops = ⊥
+TriesBy stands_for (Some Ended) now setup past laid left stops =
+    (left ≡ []) × RunsOn stands_for now.finished setup past laid left stops 0 false
+TriesBy stands_for (Some Unknown) now setup past laid left stops =
+    RefusedAfter stands_for refusals.Unknown now setup past laid left stops 1
+TriesBy stands_for (Some Over) now setup past laid left stops =
+    RefusedAfter stands_for refusals.Over now setup past laid left stops 1
 
 -- a run ends with an entry of a chosen kind
 abbrev pub stopped_at : Stops → Entry → Option Ran

@@ -1,7 +1,6 @@
 -- What a session keeps, and which case and which journal it stands for.
 use Rattle.std.specs.Prelude.{◌≡◌, ◌<◌, ℕ, Bool, true, false, not, ◌&&◌, List, [], ◌∷◌, length, slice_index_or, Option}
-use Rattle.hmc_codes.specs.Limits.{most_hosts}
-use Rattle.hmc_script.specs.Items.{most_asked}
+use Rattle.hmc_codes.specs.Limits.{most_asked, most_hosts}
 use Rattle.hmc_units.specs.Unit.{UnitFields}
 use Rattle.hmc_schedule.specs.declared.step.Step.{Step}
 use Rattle.hmc_schedule.specs.declared.step.Step.TheVariants as steps
@@ -12,7 +11,7 @@ use Rattle.hmc_case.specs.Case.{CaseFields}
 use Rattle.hmc_entries.specs.declared.entry.Entry.{Entry}
 use Rattle.hmc_journal.specs.Lawful.{has_passed}
 use Rattle.hmc_journal.specs.Setup.{Setup}
-use Rattle.hmc_growing.specs.Growing.{IsOpen}
+use Rattle.hmc_growing.specs.Growing.{IsEndGive, IsOpen}
 use Rattle.hmc_kept.specs.Hosts.{host_in}
 use Rattle.hmc_wiring.specs.Ready.{IsStepFor}
 use Rattle.hmc_net.specs.NetState.{NetState, NetParts, net_of}
@@ -45,10 +44,6 @@ session_of slots parts = record {
   taken = parts.taken;
   passed = parts.passed;
 }
-
--- the most steps of a session
-abbrev pub most_taken : ℕ
-most_taken = 4294967295
 
 -- a host of which nothing more is asked; one that isn't there is finished
 abbrev pub is_finished : SessionFields → (host : ℕ) → Bool
@@ -85,6 +80,13 @@ abbrev pub waits : SessionFields → Step → Bool
 waits session (steps.Give host) =
     not (is_finished session host) && is_at_end (host_in session.net.hosts host)
 waits session _ = false
+
+-- a step waits: it is a give of a host that isn't finished, and no request of the host is left
+pub record IsWaiting (finished : List Bool) (setup : Setup) (past : List Entry) (step : Step)
+    : Type 0 where
+  pub host : ℕ
+  pub free : slice_index_or finished host true ≡ false
+  pub ends : IsEndGive setup past step host
 
 -- a host may be asked for a request to a cube: both are there, the host isn't finished, and it was
 -- asked for fewer requests than it may be

@@ -1,8 +1,8 @@
 //! Steps that are laid down ahead.
 
-ghost use Rattle.std.specs.Prelude.{◌≡◌, ◌∷◌, [], List, length, IfOk, IfSome};
+ghost use Rattle.std.specs.Prelude.{◌≡◌, ◌∷◌, [], List, length, slice_get, IfOk};
 ghost use Rattle.std.specs.List.{All};
-ghost use Rattle.hmc_schedule.specs.Plan.{HasFlit, IsStepOf};
+ghost use Rattle.hmc_schedule.specs.Plan.{IsStepOf};
 ghost use Rattle.hmc_schedule.specs.Schedule.{schedule_of};
 ghost use Rattle.hmc_schedule.specs.declared.step.Step.{Step};
 ghost use Rattle.hmc_session.specs.Ahead.{TakesFirst, StepsBy, IsWithoutStep};
@@ -25,21 +25,16 @@ pub struct Laid {
 
 impl Model for Laid {
     ghost use Rattle.std.specs.Prelude.{List, drop};
-    ghost use Rattle.std.specs.List.{All};
-    ghost use Rattle.hmc_schedule.specs.Plan.{HasFlit};
     ghost use Rattle.hmc_schedule.specs.declared.step.Step.{Step};
 
     ghost Value = { List Step };
 
     ghost view = { λ l. drop l.at l.steps };
-
-    ghost invariant = { λ l. All HasFlit l.steps };
 }
 
 impl Laid {
-    /// The steps of a schedule. Each mask of a landing is as long as a flit.
+    /// The steps of a schedule.
     pub fn new(steps: Schedule) -> Self
-        requires { All HasFlit steps }
         ensures { result ≡ steps }
     {
         Laid { steps, at: 0 }
@@ -52,10 +47,19 @@ impl Laid {
         self.steps.len().saturating_sub(self.at)
     }
 
+    /// The next step, if one is left. It stays on the list.
+    pub fn first(&self) -> Option<Step>
+        ensures { result ≡ slice_get self.now 0 }
+    {
+        if self.at >= self.steps.len() {
+            return None;
+        }
+        Some(self.steps.step(self.at))
+    }
+
     /// Takes the next step off the list, if one is left.
     pub fn take(&mut self) -> Option<Step>
-        ensures taken { TakesFirst self.old result self.new }
-        ensures mask { IfSome result HasFlit }
+        ensures { TakesFirst self.old result self.new }
     {
         if self.at >= self.steps.len() {
             return None;
@@ -99,7 +103,6 @@ impl<B: Workbench> Session<B> {
 
     // Takes a step, if nothing refuses it.
     fn step_on(&mut self, step: &Step) -> Result<Option<Went>, NotTaken>
-        requires { HasFlit step.now }
         ensures steps { StepsBy
             (session_of B.slots self.old) (session_of B.slots self.new) step.now result }
         ensures finished { self.new.finished ≡ self.old.finished }

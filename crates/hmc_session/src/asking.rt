@@ -5,7 +5,7 @@ ghost use Rattle.hmc_codes.specs.Limits.{most_cubes, most_hosts};
 ghost use Rattle.hmc_entries.specs.declared.entry.Entry.{Entry};
 ghost use Rattle.hmc_journal.specs.Setup.{Setup};
 ghost use Rattle.hmc_script.specs.Script.{script_of};
-ghost use Rattle.hmc_session.specs.Asking.{told_of, item_read, line_refusal, AskedFor, GivesItem};
+ghost use Rattle.hmc_session.specs.Asking.{told_of, item_in, item_read, line_refusal, AskedFor, GivesItem};
 ghost use Rattle.hmc_session.specs.Session.{session_of, StandsIn};
 
 use crate::parts::{cube_count, host_count};
@@ -38,6 +38,17 @@ fn text_item(alloc: Global, text: &str, hosts: u8, cubes: u8) -> Result<Item, Li
 }
 
 impl<B: Workbench> Session<B> {
+    /// The one request that a text states, in the words of a script for the hosts and cubes of the
+    /// session, or why it states none. A fence of its host may be on a line before it; a fence that
+    /// no request of its host follows does nothing. Nothing is asked.
+    pub fn item_of(&self, alloc: Global, text: &str) -> Result<Item, LineNotAsked>
+        ensures { GivesItem result (item_in self.now.plan text.now) }
+    {
+        let hosts = host_count(self.plan());
+        let cubes = cube_count(self.plan());
+        text_item(alloc, text, hosts, cubes)
+    }
+
     /// Asks for the one request that a text states, in the words of a script for the hosts and
     /// cubes of the session. A fence of its host may be on a line before it; a fence that no
     /// request of its host follows does nothing. An error says why no host is asked; then nothing
@@ -59,9 +70,7 @@ impl<B: Workbench> Session<B> {
         ensures finished { self.new.finished ≡ self.old.finished }
         ensures plan { self.new.plan ≡ self.old.plan }
     {
-        let hosts = host_count(self.plan());
-        let cubes = cube_count(self.plan());
-        let item = match text_item(alloc, text, hosts, cubes) {
+        let item = match self.item_of(alloc, text) {
             Ok(item) => item,
             Err(refusal) => return Err(refusal),
         };

@@ -24,5 +24,5 @@ pub use laws::a_session_is_a_run;
 pub use numbers::step_named;
 pub use refusal::{LineNotAsked, NotAsked, NotTaken};
 pub use run::Ran;
-pub use session::{MOST_TAKEN, Session};
+pub use session::Session;
 pub use stops::{NO_STOPS, Stops};

@@ -1,11 +1,12 @@
-//! Which steps name parts of a plan.
+//! Which steps name parts of a plan, and what each step has.
 
 ghost use Rattle.std.specs.Prelude.{◌≡◌, ◌<◌, ◌≤◌, ◌&&◌, nat_lt, length, IsTrue};
 ghost use Rattle.hmc_codes.specs.Limits.{most_cubes, most_hosts};
-ghost use Rattle.hmc_schedule.specs.Plan.{IsStepOf, IsPortOf, IsVaultOf, IsBankOf, IsLiftOf, banks_at};
+ghost use Rattle.hmc_schedule.specs.Plan.{IsStepOf, IsPortOf, IsVaultOf, IsBankOf, IsLiftOf, HasFlit, banks_at};
 ghost use Rattle.hmc_session.specs.Refusals.{has_cube, has_port, has_vault, has_lift, has_step};
 
 use hmc_codes::{Lift, PORTS};
+use hmc_ends::flit_is_bytes;
 use hmc_schedule::{Plan, Step};
 
 /// The number of hosts of a plan.
@@ -95,5 +96,14 @@ pub fn has_step(plan: &Plan, step: &Step) -> bool
         Step::Through(cube, port) => has_port(plan, *cube, *port),
         Step::Unlock(direction) => has_direction(plan, *direction),
         Step::Retire(slot) => *slot < 8,
+    }
+}
+
+/// Does nothing. Its contract is that the mask of a landing is 16 bytes.
+pub fn has_flit(step: &Step)
+    ensures { HasFlit step.now }
+{
+    if let Step::Land(_, mask) = step {
+        flit_is_bytes(mask);
     }
 }

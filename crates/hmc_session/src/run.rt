@@ -3,7 +3,7 @@
 ghost use Rattle.std.specs.Prelude.{◌≡◌, List};
 ghost use Rattle.hmc_entries.specs.declared.entry.Entry.{Entry};
 ghost use Rattle.hmc_journal.specs.Setup.{Setup};
-ghost use Rattle.hmc_session.specs.Running.{RunsTo, Tries, stopped_at};
+ghost use Rattle.hmc_session.specs.Running.{RunsTo, TriesBy, stopped_at};
 ghost use Rattle.hmc_session.specs.Session.{session_of, StandsIn};
 
 use crate::stops::stops_at;
@@ -31,7 +31,8 @@ impl<B: Workbench> Session<B> {
     /// waits is passed over; one that is refused for another cause ends the run.
     pub fn run(&mut self, laid: &mut Laid, most: u32, stops: &Stops) -> Ran
         // The session stands for the case with the steps that were taken, and for the journal with
-        // their entries. No earlier entry than the latest is of a chosen kind.
+        // their entries. Each step that was tried was taken, or it waited when its turn came. No
+        // earlier entry than the latest is of a chosen kind.
         ensures stands { (setup : Setup) (past : List Entry) →
             StandsIn (session_of B.slots self.old) setup past →
             RunsTo result (session_of B.slots self.new) setup past laid.old laid.new
@@ -51,7 +52,8 @@ impl<B: Workbench> Session<B> {
     fn try_next(&mut self, laid: &mut Laid, stops: &Stops) -> Option<Ran>
         ensures tries { (setup : Setup) (past : List Entry) →
             StandsIn (session_of B.slots self.old) setup past →
-            Tries result (session_of B.slots self.new) setup past laid.old laid.new stops.now }
+            TriesBy (StandsIn (session_of B.slots self.new)) result (session_of B.slots self.new)
+            setup past laid.old laid.new stops.now }
         ensures finished { self.new.finished ≡ self.old.finished }
         ensures plan { self.new.plan ≡ self.old.plan }
     {
@@ -64,8 +66,9 @@ impl<B: Workbench> Session<B> {
         }
     }
 
-    // `Some` where the latest entry is of a chosen kind.
-    fn stopped(&self, stops: &Stops) -> Option<Ran>
+    /// `Some` where the latest entry is of a chosen kind: a run ends there. It is of use after a
+    /// step alone.
+    pub fn stopped(&self, stops: &Stops) -> Option<Ran>
         ensures { result ≡ stopped_at stops.now (session_of B.slots self.now).net.last }
     {
         if stops_at(stops, self.network().last()) {

@@ -1,31 +1,28 @@
 //! Sessions.
 
-ghost use Rattle.std.specs.Prelude.{◌≡◌, ◌<◌, [], ◌∷◌, List, Some, None, true, false, replicate, slice_set, IfOk, IfErr, OnOk, OnErr};
+ghost use Rattle.std.specs.Prelude.{◌≡◌, ◌<◌, [], ◌∷◌, List, Some, None, Err, true, false, replicate, slice_set, IfOk, IfErr, OnOk, OnErr};
 ghost use Rattle.std.specs.Option.{unwrap_or};
 ghost use Rattle.hmc_codes.specs.Limits.{most_hosts};
-ghost use Rattle.hmc_schedule.specs.Plan.{IsStepOf, HasFlit};
+ghost use Rattle.hmc_schedule.specs.Plan.{IsStepOf};
+ghost use Rattle.hmc_case.specs.Plan.{plan_of};
 ghost use Rattle.hmc_entries.specs.declared.entry.Entry.{Entry};
 ghost use Rattle.hmc_journal.specs.Next.{next};
 ghost use Rattle.hmc_journal.specs.Setup.{Setup};
 ghost use Rattle.hmc_growing.specs.Growing.{with_step, with_item};
 ghost use Rattle.hmc_net.specs.Asked.{item_with};
 ghost use Rattle.hmc_net.specs.Went.{went_of};
-ghost use Rattle.hmc_session.specs.Session.{session_of, StandsIn, MayAsk, begun, waits, is_finished};
+ghost use Rattle.hmc_session.specs.Session.{session_of, StandsIn, IsWaiting, MayAsk, begun, waits, is_finished};
 ghost use Rattle.hmc_session.specs.Refusals.{step_refusal, ask_refusal};
 
-use crate::parts::{has_step, host_count};
+use crate::parts::{has_flit, has_step, host_count};
 use crate::{NotAsked, NotTaken};
 use hmc_case::Case;
-use hmc_codes::{MOST_HOSTS, Memory, Request};
+use hmc_codes::{MOST_ASKED, MOST_HOSTS, MOST_TAKEN, Memory, Request};
 use hmc_net::{Network, Went};
 use hmc_schedule::{Plan, Step};
-use hmc_script::MOST_ASKED;
 use hmc_units::Workbench;
 use std::alloc::Global;
 use std::marker::Model;
-
-/// The most steps of a session.
-pub const MOST_TAKEN: u32 = 4_294_967_295;
 
 /// A network that is asked for requests and stepped while it runs, with the logic units of its
 /// bench. A host is open until it is finished.
@@ -70,6 +67,7 @@ impl<B: Workbench> Session<B> {
         ensures stands { IfOk result (λ session. StandsIn (session_of B.slots session)
             (begun case.now (B.slots bench)) []) }
         ensures open { IfOk result (λ session. session.finished ≡ replicate most_hosts false) }
+        ensures plan { IfOk result (λ session. session.plan ≡ plan_of case.now.net) }
     {
         case.invariant();
         let plan = case.plan(alloc)?;
@@ -114,8 +112,6 @@ impl<B: Workbench> Session<B> {
 
     /// Takes a step. An error says why it isn't taken; then nothing changes.
     pub fn step(&mut self, step: &Step) -> Result<Went, NotTaken>
-        requires { HasFlit step.now }
-
         // It is taken exactly where nothing refuses it.
         ensures refused { IfErr result (λ refusal.
             step_refusal (session_of B.slots self.old) step.now ≡ Some refusal) }
@@ -132,6 +128,11 @@ impl<B: Workbench> Session<B> {
         ensures went { (setup : Setup) (past : List Entry) →
             StandsIn (session_of B.slots self.old) setup past →
             IfOk result (λ went. went ≡ went_of (next setup past step.now)) }
+
+        // Only a give waits, of a host that isn't finished and has no request left.
+        ensures waits { (setup : Setup) (past : List Entry) →
+            StandsIn (session_of B.slots self.old) setup past → result ≡ Err NotTaken.Waits →
+            IsWaiting self.old.finished setup past step.now }
         ensures finished { self.new.finished ≡ self.old.finished }
         ensures plan { self.new.plan ≡ self.old.plan }
     {
@@ -191,6 +192,9 @@ impl<B: Workbench> Session<B> {
     pub fn step_refusal(&self, step: &Step) -> Option<NotTaken>
         ensures value { result ≡ step_refusal (session_of B.slots self.now) step.now }
         ensures within { result ≡ None → IsStepOf self.now.plan step.now }
+        ensures waits { (setup : Setup) (past : List Entry) →
+            StandsIn (session_of B.slots self.now) setup past → result ≡ Some NotTaken.Waits →
+            IsWaiting self.now.finished setup past step.now }
     {
         if !has_step(&self.plan, step) {
             return Some(NotTaken::Unknown);
@@ -246,10 +250,9 @@ impl<B: Workbench> Session<B> {
         }
     }
 
-    // Takes a step that nothing refuses.
-    fn take(&mut self, step: &Step) -> Went
+    /// Takes a step that nothing refuses, which `step_refusal` says.
+    pub fn take(&mut self, step: &Step) -> Went
         requires within { IsStepOf self.old.plan step.now }
-        requires mask { HasFlit step.now }
         requires free { step_refusal (session_of B.slots self.old) step.now ≡ None }
         ensures stands { (setup : Setup) (past : List Entry) →
             StandsIn (session_of B.slots self.old) setup past →
@@ -261,6 +264,7 @@ impl<B: Workbench> Session<B> {
         ensures finished { self.new.finished ≡ self.old.finished }
         ensures plan { self.new.plan ≡ self.old.plan }
     {
+        has_flit(step);
         let went = self.network.step(step);
         self.passed = self.network.last().has_passed();
         self.taken += 1;

@@ -8,7 +8,7 @@ use Rattle.hmc_session.proofs.session.Session.run.Given as goal
 
 abbrev pub invariant-steps : goal.invariant-steps
 invariant-steps g l = record {
-  runs : (setup : Setup) (past : List Entry) → StandsIn (session_of g.B.Workbench.slots l.initial.self) setup past → RunsOn (session_of g.B.Workbench.slots l.self) setup past l.initial.laid l.laid l.stops l.at false;
+  runs : (setup : Setup) (past : List Entry) → StandsIn (session_of g.B.Workbench.slots l.initial.self) setup past → RunsOn (StandsIn (session_of g.B.Workbench.slots l.self)) l.self.finished setup past l.initial.laid l.laid l.stops l.at false;
   finished : l.self.finished ≡ l.initial.self.finished;
   plan : l.self.plan ≡ l.initial.self.plan;
 }

@@ -16,7 +16,7 @@ step-went-requires g c =
     let slots = g.B.Workbench.slots in
     let s : SessionFields = session_of slots (record { network = i.network; plan = i.plan; finished = i.finished; taken = i.taken; passed = i.passed }) in
     let same : s ≡ session_of slots c.args.self.now = ap (session_of slots) c.self.view_is in
-    let may : MayTake s c.args.step.now = may_take s c.args.step.now (subst (λ (x : SessionFields). IsStepOf x.plan c.args.step.now) (sym same) c.requires.within) c.requires.mask (subst (λ (x : SessionFields). step_refusal x c.args.step.now ≡ None) (sym same) c.requires.free) in
+    let may : MayTake s c.args.step.now = may_take s c.args.step.now (subst (λ (x : SessionFields). IsStepOf x.plan c.args.step.now) (sym same) c.requires.within) c.has_flit.ensures (subst (λ (x : SessionFields). step_refusal x c.args.step.now ≡ None) (sym same) c.requires.free) in
     some_next s c.args.step.now c.self.invariant may
 
 pub invariant_of-self : goal.invariant_of-self
@@ -25,7 +25,7 @@ invariant_of-self g c =
     let slots = g.B.Workbench.slots in
     let s : SessionFields = session_of slots (record { network = i.network; plan = i.plan; finished = i.finished; taken = i.taken; passed = i.passed }) in
     let same : s ≡ session_of slots c.args.self.now = ap (session_of slots) c.self.view_is in
-    let may : MayTake s c.args.step.now = may_take s c.args.step.now (subst (λ (x : SessionFields). IsStepOf x.plan c.args.step.now) (sym same) c.requires.within) c.requires.mask (subst (λ (x : SessionFields). step_refusal x c.args.step.now ≡ None) (sym same) c.requires.free) in
+    let may : MayTake s c.args.step.now = may_take s c.args.step.now (subst (λ (x : SessionFields). IsStepOf x.plan c.args.step.now) (sym same) c.requires.within) c.has_flit.ensures (subst (λ (x : SessionFields). step_refusal x c.args.step.now ≡ None) (sym same) c.requires.free) in
     let keeps = c.self.invariant in
     let setup = keeps.case in
     let past = keeps.journal in
@@ -40,7 +40,7 @@ returns-clause-stands g c = λ setup past is.
     let slots = g.B.Workbench.slots in
     let s : SessionFields = session_of slots (record { network = i.network; plan = i.plan; finished = i.finished; taken = i.taken; passed = i.passed }) in
     let same : s ≡ session_of slots c.args.self.now = ap (session_of slots) c.self.view_is in
-    let may : MayTake s c.args.step.now = may_take s c.args.step.now (subst (λ (x : SessionFields). IsStepOf x.plan c.args.step.now) (sym same) c.requires.within) c.requires.mask (subst (λ (x : SessionFields). step_refusal x c.args.step.now ≡ None) (sym same) c.requires.free) in
+    let may : MayTake s c.args.step.now = may_take s c.args.step.now (subst (λ (x : SessionFields). IsStepOf x.plan c.args.step.now) (sym same) c.requires.within) c.has_flit.ensures (subst (λ (x : SessionFields). step_refusal x c.args.step.now ≡ None) (sym same) c.requires.free) in
     let before : StandsIn s setup past = subst (λ (x : SessionFields). StandsIn x setup past) (sym same) is in
     let due = next_is s setup past c.args.step.now c.self.invariant may before in
     stands_next s _ setup past c.args.step.now c.self.invariant may before (c.step-went.ensures.stands (with_step setup c.args.step.now) past due) refl
@@ -52,6 +52,6 @@ returns-clause-went g c = λ setup past is.
     let slots = g.B.Workbench.slots in
     let s : SessionFields = session_of slots (record { network = i.network; plan = i.plan; finished = i.finished; taken = i.taken; passed = i.passed }) in
     let same : s ≡ session_of slots c.args.self.now = ap (session_of slots) c.self.view_is in
-    let may : MayTake s c.args.step.now = may_take s c.args.step.now (subst (λ (x : SessionFields). IsStepOf x.plan c.args.step.now) (sym same) c.requires.within) c.requires.mask (subst (λ (x : SessionFields). step_refusal x c.args.step.now ≡ None) (sym same) c.requires.free) in
+    let may : MayTake s c.args.step.now = may_take s c.args.step.now (subst (λ (x : SessionFields). IsStepOf x.plan c.args.step.now) (sym same) c.requires.within) c.has_flit.ensures (subst (λ (x : SessionFields). step_refusal x c.args.step.now ≡ None) (sym same) c.requires.free) in
     let before : StandsIn s setup past = subst (λ (x : SessionFields). StandsIn x setup past) (sym same) is in
     c.step-went.ensures.went (with_step setup c.args.step.now) past (next_is s setup past c.args.step.now c.self.invariant may before) ∙ ap went_of (same_entry setup past c.args.step.now c.args.step.now)
