@@ -1,0 +1,4 @@
+pub mod Taping
+pub mod Tries
+pub mod TapeLaw
+mod Worked

@@ -1,0 +1,4 @@
+pub mod Tape
+pub mod Calls
+pub mod Tries
+pub mod Laws
