@@ -3,10 +3,23 @@
  * A handle begins as zeros, and is closed: hmc_session s = {0}; hmc_open opens it on a case. Only
  * these calls write a handle, one at a time, and a copy of one is no second handle. Handles share
  * nothing. No call keeps a pointer, ends the program, or writes a global variable. Memory comes
- * from malloc, realloc and free; after hmc_open only hmc_request takes any.
+ * from malloc, realloc and free; after hmc_open only calls whose comment has HMC_MEMORY take any.
  *
- * What a call returns is its status. With one that says why it did nothing, nothing changed.
- * docs/c-library.md says more.
+ * What a call returns is its status; its comment has those that it can return. With one that says
+ * why it did nothing, nothing changed, and what it would write through a pointer isn't written,
+ * except that `written` and `steps` are 0. No pointer may be null, also where a length is 0.
+ * Numbers of hosts, cubes, ports, vaults, banks and directions begin with 0. docs/c-library.md says
+ * more.
+ *
+ *     hmc_session s = {0};
+ *     hmc_entry_t entry;
+ *     uint32_t steps;
+ *     hmc_open(text, length, &s);                             a case without requests
+ *     hmc_ask(&s, (const uint8_t *)"0 rd16 0 0x40", 13);      host 0 reads 16 bytes of cube 0
+ *     hmc_lay(&s, (const uint8_t *)"round 1000", 10);
+ *     hmc_run(&s, 1000000, 1u << HMC_TOOK, &steps);           on to the answer
+ *     hmc_entry(&s, &entry);                                  entry.returned has the bytes
+ *     hmc_close(&s);
  */
 #ifndef HMC_H
 #define HMC_H
@@ -27,10 +40,12 @@ typedef struct {
 enum {
     HMC_OK = 0,
     HMC_MEMORY = 1,    /* out of memory */
-    HMC_BAD = 6,       /* the text is no case, or the numbers are no request */
+    HMC_BAD = 6,       /* the text is no case, no request or no schedule, or the numbers are no
+                          request */
     HMC_PASSED = 7,    /* the step was taken, and a check succeeded over flits that masks changed:
                           no step may follow */
-    HMC_NONE = 8,      /* there is no such step, or no entry, or no room for a line */
+    HMC_NONE = 8,      /* there is no such step or part, no step is left, there is no entry, or no
+                          room for a line */
     HMC_CLOSED = 9,    /* the handle is closed */
     HMC_WAITS = 10,    /* a give of a host that gave all of its requests and may be asked for more:
                           it isn't taken */
@@ -40,6 +55,15 @@ enum {
     HMC_FINISHED = 14, /* the host is finished */
     HMC_FULL = 15      /* the host was asked for 4,294,967,295 requests */
 };
+
+/* The name of a status. */
+static inline const char *hmc_status_name(uint8_t status) {
+    static const char *const names[16] = {
+        "ok",     "memory", "?",     "?",    "?",       "?",       "bad",      "passed",
+        "none",   "closed", "waits", "over", "no host", "no cube", "finished", "full",
+    };
+    return status < 16 ? names[status] : "?";
+}
 
 /* Kinds of steps, each with the numbers of its words: a, b, c in this order. */
 enum {
@@ -109,25 +133,126 @@ typedef struct {
     uint8_t returned[256]; /* the bytes of an answer */
 } hmc_entry_t;
 
-/* Opens a handle on a session of a case (docs/case.md), with the requests of its script and no step
- * of its schedule taken. HMC_OK, HMC_MEMORY, HMC_BAD. */
+/* The first fault of a text. */
+typedef struct {
+    uint32_t line;    /* of a cube or a link its number, from 0; of a script or a schedule its line,
+                         from 1; else 0 */
+    uint8_t section;  /* 0 toml, 1 top, 2 cube, 3 net, 4 link, 5 script, 6 schedule */
+    uint8_t word[16]; /* what is wrong, as docs/case.md has it: at most 8 letters, then zeros */
+} hmc_fault_t;
+
+/* The tokens of a direction; their sum is what its receiving end advertises. */
+typedef struct {
+    uint32_t held;      /* that its sender may still spend */
+    uint32_t transit;   /* flits of packets that were begun and are not accepted yet */
+    uint32_t used;      /* flits of packets in the receiving buffer */
+    uint32_t due;       /* that the receiving end has to return */
+    uint32_t returning; /* in packets of the other direction that are not accepted yet */
+} hmc_tokens_t;
+
+/* The counts of a direction. */
+typedef struct {
+    uint32_t sent;     /* flits sent */
+    uint32_t landed;   /* flits landed */
+    uint32_t changed;  /* of these, flits that a mask changed */
+    uint32_t accepted; /* packets accepted, poisoned ones and returns of tokens included */
+    uint32_t repeats;  /* packets that had been accepted before */
+    uint32_t aborts;   /* landings after which the receiver waited to be cleared, and unlocks of a
+                          receiver that took packets */
+} hmc_counters_t;
+
+/* The counts of a host. */
+typedef struct {
+    uint32_t given; /* requests given */
+    uint32_t taken; /* answers taken */
+    uint32_t out;   /* tags out */
+} hmc_host_t;
+
+/* The counts of a cube. */
+typedef struct {
+    uint32_t executed; /* requests executed */
+    uint32_t dropped;  /* poisoned packets dropped */
+} hmc_cube_t;
+
+/* ---- A handle ---- */
+
+/* Opens a handle on a session of a case (docs/case.md) with no logic units: with the requests of
+ * its script asked, the steps of its schedule laid down, and none of them taken. What the handle
+ * had is dropped. HMC_OK, HMC_MEMORY, HMC_BAD. */
 uint8_t hmc_open(const uint8_t *text, size_t length, hmc_session *s);
 /* Closes a handle; a closed one stays closed. */
 void hmc_close(hmc_session *s);
-/* Asks a host for one request more: the code of its command (docs/commands.md), its cube, an
- * address below 2^34, and as many bytes as the command has. HMC_OK, HMC_MEMORY, HMC_BAD, HMC_CLOSED,
+/* The first fault of a text that is no case. HMC_OK, HMC_MEMORY, HMC_NONE (it is a case). */
+uint8_t hmc_fault(const uint8_t *text, size_t length, hmc_fault_t *out);
+
+/* ---- Requests ---- */
+
+/* Asks a host for one request more, in the words of a script (docs/script.md), as "0 rd16 0 0x40";
+ * a fence of its host may be on a line before it. HMC_OK, HMC_MEMORY, HMC_BAD, HMC_CLOSED,
  * HMC_NO_HOST to HMC_FULL. */
+uint8_t hmc_ask(hmc_session *s, const uint8_t *text, size_t length);
+/* Asks a host for one request more: the code of its command (docs/packets.md), its cube, an
+ * address below 2^34, and as many bytes as the command has. HMC_OK, HMC_MEMORY, HMC_BAD,
+ * HMC_CLOSED, HMC_NO_HOST to HMC_FULL. */
 uint8_t hmc_request(hmc_session *s, uint8_t host, bool fenced, bool poisoned, uint8_t code,
                     uint8_t cube, uint64_t address, const uint8_t *payload, size_t length);
 /* Asks a host for nothing more from now on. HMC_OK, HMC_CLOSED, HMC_NO_HOST. */
 uint8_t hmc_finish(hmc_session *s, uint8_t host);
+/* The first fault of a text that hmc_ask finds bad: of section script; where it states no request,
+ * or more than one, its line is 0 and its word "one". HMC_OK, HMC_MEMORY, HMC_CLOSED, HMC_NONE (it
+ * states one request). */
+uint8_t hmc_ask_fault(hmc_session *s, const uint8_t *text, size_t length, hmc_fault_t *out);
+
+/* ---- Steps ---- */
+
 /* Takes a step. HMC_OK, HMC_PASSED, HMC_NONE, HMC_CLOSED, HMC_WAITS, HMC_OVER. */
 uint8_t hmc_step(hmc_session *s, uint8_t kind, uint8_t a, uint8_t b, uint8_t c,
                  const uint8_t mask[16]);
+/* Lays down steps, in the words of a schedule (docs/schedule.md), as "round 100", in place of those
+ * that are left. HMC_OK, HMC_MEMORY, HMC_BAD, HMC_CLOSED. */
+uint8_t hmc_lay(hmc_session *s, const uint8_t *text, size_t length);
+/* Takes the next of the steps that are laid down, as hmc_step does; one that is refused is off the
+ * list too. HMC_OK, HMC_PASSED, HMC_NONE (none is left), HMC_CLOSED, HMC_WAITS, HMC_OVER. */
+uint8_t hmc_next(hmc_session *s);
+/* Takes steps that are laid down, and tries at most so many, up to an entry whose kind k has the
+ * bit k set in `stops`, as 1u << HMC_TOOK; one that waits is passed over. `steps` is how many were
+ * taken. HMC_OK (the latest entry is of such a kind, or so many were tried), HMC_NONE (none is
+ * left), HMC_CLOSED, HMC_OVER (a step is left that may not be taken). */
+uint8_t hmc_run(hmc_session *s, uint32_t most, uint32_t stops, uint32_t *steps);
+/* The first fault of a text that hmc_lay finds bad: of section schedule. HMC_OK, HMC_MEMORY,
+ * HMC_CLOSED, HMC_NONE (it is a schedule). */
+uint8_t hmc_lay_fault(hmc_session *s, const uint8_t *text, size_t length, hmc_fault_t *out);
+
+/* ---- What it shows ---- */
+
 /* Shows the latest entry. HMC_OK, HMC_NONE, HMC_CLOSED. */
 uint8_t hmc_entry(hmc_session *s, hmc_entry_t *out);
 /* The line of the latest entry; 2,048 bytes hold each. HMC_OK, HMC_NONE, HMC_CLOSED. */
 uint8_t hmc_line(hmc_session *s, uint8_t *out, size_t room, size_t *written);
+
+/* What the steps so far leave. After a landing that passed each of these is HMC_OVER. */
+
+/* The 16 bytes of a cube at an address, a multiple of 16 below the size of its memory. HMC_OK,
+ * HMC_NONE, HMC_CLOSED, HMC_OVER. */
+uint8_t hmc_block(hmc_session *s, uint8_t cube, uint64_t address, uint8_t out[16]);
+/* A register of a cube, 0 to 15. HMC_OK, HMC_NONE, HMC_CLOSED, HMC_OVER. */
+uint8_t hmc_register(hmc_session *s, uint8_t cube, uint8_t number, uint32_t *out);
+/* The tokens and the counts of a direction. HMC_OK, HMC_NONE, HMC_CLOSED, HMC_OVER. */
+uint8_t hmc_tokens(hmc_session *s, uint8_t direction, hmc_tokens_t *out);
+uint8_t hmc_counters(hmc_session *s, uint8_t direction, hmc_counters_t *out);
+/* The counts of a host, and of a cube. HMC_OK, HMC_NONE, HMC_CLOSED, HMC_OVER. */
+uint8_t hmc_host(hmc_session *s, uint8_t host, hmc_host_t *out);
+uint8_t hmc_cube(hmc_session *s, uint8_t cube, hmc_cube_t *out);
+/* Whether nothing is on its way. HMC_OK, HMC_CLOSED, HMC_OVER. */
+uint8_t hmc_drained(hmc_session *s, bool *out);
+/* How many requests and responses are under way. HMC_OK, HMC_CLOSED, HMC_OVER. */
+uint8_t hmc_under_way(hmc_session *s, uint32_t *out);
+/* So many rounds without noise drain a network of one cube and one link. HMC_OK, HMC_CLOSED,
+ * HMC_OVER. */
+uint8_t hmc_drain_bound(hmc_session *s, uint64_t *out);
+
+/* ---- Without a session ---- */
+
 /* The check of a packet: the CRC of its bytes (docs/crc.md). */
 uint32_t hmc_crc(const uint8_t *bytes, size_t length);
 /* The version of these calls: 1. */

@@ -1,4 +1,6 @@
 pub mod Values
 pub mod HandleSteps
 pub mod Payloads
+pub mod NextStep
+pub mod LeftAlike
 mod Worked

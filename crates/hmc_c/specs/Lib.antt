@@ -1,7 +1,12 @@
 pub mod Owned
 pub mod Status
 pub mod Handles
+pub mod Lines
+pub mod Values
 pub mod Steps
 pub mod Requests
 pub mod Asks
+pub mod Words
+pub mod Laying
+pub mod Faults
 pub mod Entries

@@ -27,6 +27,10 @@ none = 8
 abbrev pub closed : ℕ
 closed = 9
 
+-- none may follow
+abbrev pub over : ℕ
+over = 11
+
 -- there is no such host
 abbrev pub no_host : ℕ
 no_host = 12
@@ -41,7 +45,7 @@ taken_status (Idle cause) = ok
 abbrev pub refused_status : NotTaken → ℕ
 refused_status Unknown = none
 refused_status Waits = 10
-refused_status Over = 11
+refused_status Over = over
 
 -- why a host wasn't asked
 abbrev pub asked_status : NotAsked → ℕ

@@ -5,10 +5,16 @@
 //! error changes nothing. No call keeps a pointer of the caller's, and nothing is global.
 #![tactic(auto)]
 
+mod asking;
+mod away;
 mod codec;
+mod counts;
 mod entry;
+mod faults;
 mod handle;
 mod held;
+mod laying;
+mod left;
 mod lines;
 mod loose;
 mod opening;
@@ -16,9 +22,15 @@ mod requests;
 mod status;
 mod steps;
 
+pub use asking::hmc_ask;
+pub use away::{hmc_drain_bound, hmc_drained, hmc_under_way};
 pub use codec::{hmc_crc, hmc_version};
+pub use counts::{CountersOut, CubeOut, HostOut, TokensOut};
 pub use entry::{EntryOut, hmc_entry};
+pub use faults::{FaultOut, hmc_ask_fault, hmc_fault, hmc_lay_fault};
 pub use handle::Handle;
+pub use laying::{hmc_lay, hmc_next, hmc_run};
+pub use left::{hmc_block, hmc_counters, hmc_cube, hmc_host, hmc_register, hmc_tokens};
 pub use lines::hmc_line;
 pub use opening::{hmc_close, hmc_open};
 pub use requests::hmc_request;

@@ -1,12 +1,14 @@
 //! The line of the latest entry.
 
-ghost use Rattle.std.specs.Prelude.{◌≡◌, ◌≤◌, ◌∷◌, List, None, length, take};
+ghost use Rattle.std.specs.Prelude.{◌≡◌, List, None, option_map};
 ghost use Rattle.hmc_entries.specs.Lines.{line_of};
 ghost use Rattle.hmc_entries.specs.declared.entry.Entry.{Entry};
 ghost use Rattle.hmc_journal.specs.Setup.{Setup};
 ghost use Rattle.hmc_session.specs.Session.{StandsIn};
+ghost use Rattle.hmc_session.specs.Showing.{latest};
 ghost use Rattle.hmc_c.specs.Handles.{HandleStands, shown};
-ghost use Rattle.hmc_c.specs.Status.{closed, ok};
+ghost use Rattle.hmc_c.specs.Lines.{LineShown, LineWritten};
+ghost use Rattle.hmc_c.specs.Status.{closed};
 
 use crate::handle::{Handle, put, taken};
 use crate::held::Held;
@@ -14,36 +16,40 @@ use crate::status::{CLOSED, NONE, OK};
 use hmc_codes::LineText;
 use std::alloc::Global;
 
-// Copies a line to the front of a room for it. The number of its bytes, or 0 where there is no line
-// or too little room.
-fn copied(line: &[u8], out: &mut [u8]) -> usize
-    ensures { length line.now ≤ length out.old →
-        (result ≡ length line.now) × (take result out.new ≡ line.now) }
+/// Writes a line to the front of a room for it, if it is long enough.
+pub(crate) fn write_line(line: &[u8], out: &mut [u8], written: &mut usize) -> u8
+    ensures { LineWritten result written.new line.now out.old out.new }
 {
+    *written = 0;
     if line.len() > out.len() {
-        return 0;
+        return NONE;
     }
     out[..line.len()].copy_from_slice(line);
-    line.len()
+    *written = line.len();
+    OK
 }
 
-// Copies the line of the latest entry of a session.
-fn line_into(held: &Held, out: &mut [u8]) -> usize
-    ensures { (setup : Setup) (past : List Entry) (entry : Entry) →
-        StandsIn (shown held.now) setup (entry ∷ past) →
-        length (line_of entry) ≤ length out.old →
-        (result ≡ length (line_of entry)) × (take result out.new ≡ line_of entry) }
+// Writes the line of the latest entry of a session, if it has one.
+fn write_last(held: &Held, out: &mut [u8], written: &mut usize) -> u8
+    ensures { (setup : Setup) (past : List Entry) → StandsIn (shown held.now) setup past →
+        LineShown result written.new (option_map line_of (latest past)) out.old out.new }
 {
-    let mut text = LineText::new();
-    held.session.line(&mut text);
-    copied(text.as_str().as_bytes(), out)
+    *written = 0;
+    match held.session.last() {
+        Some(last) => {
+            let mut text = LineText::new();
+            last.line(&mut text);
+            write_line(text.as_str().as_bytes(), out, written)
+        }
+        None => NONE,
+    }
 }
 
 /// Writes the line of the latest entry to the front of `out`, with a line feed at its end, and its
 /// number of bytes to `written`. A room of 2,048 bytes holds each line.
 ///
-/// 0: it is written. 8: no step was taken, or the room is too small; then `written` is 0. 9: the
-/// handle is closed.
+/// 0: it is written. 8: no step was taken, or the room is too small. 9: the handle is closed. With
+/// 8 and 9 `written` is 0 and `out` as it was.
 #[unsafe(no_mangle)]
 pub extern "C" fn hmc_line(
     alloc: Global,
@@ -51,18 +57,18 @@ pub extern "C" fn hmc_line(
     out: &mut [u8],
     written: &mut usize,
 ) -> u8
-    ensures line { (setup : Setup) (past : List Entry) (entry : Entry) →
-        HandleStands handle.old.value setup (entry ∷ past) →
-        length (line_of entry) ≤ length out.old →
-        (written.new ≡ length (line_of entry)) × (take written.new out.new ≡ line_of entry) }
-    ensures closed { handle.old.value ≡ None → result ≡ closed }
+    ensures line { (setup : Setup) (past : List Entry) →
+        HandleStands handle.old.value setup past →
+        LineShown result written.new (option_map line_of (latest past)) out.old out.new }
+    ensures closed { handle.old.value ≡ None →
+        (result ≡ closed) × (written.new ≡ 0) × (out.new ≡ out.old) }
     ensures stays { handle.new.value ≡ handle.old.value }
 {
     *written = 0;
     let Some(held) = taken(alloc, handle) else {
         return CLOSED;
     };
-    *written = line_into(&held, out);
+    let status = write_last(&held, out, written);
     put(handle, held);
-    if *written == 0 { NONE } else { OK }
+    status
 }

@@ -8,7 +8,7 @@ ghost use Rattle.hmc_journal.specs.Setup.{Setup};
 ghost use Rattle.hmc_script.specs.Payload.{IsPayload};
 ghost use Rattle.hmc_session.specs.Session.{StandsIn};
 ghost use Rattle.hmc_c.specs.Asks.{Asked, IsAsked};
-ghost use Rattle.hmc_c.specs.Handles.{HandleStands, shown};
+ghost use Rattle.hmc_c.specs.Handles.{HandleStands, laid_in, shown};
 ghost use Rattle.hmc_c.specs.Requests.{payload_by, request_named, request_with};
 ghost use Rattle.hmc_c.specs.Status.{closed};
 
@@ -82,8 +82,9 @@ fn request_named(code: u8, cube: u8, address: u64, bytes: &[u8]) -> Option<Reque
 
 // Asks a host for this request, if there is one.
 fn ask(held: &mut Held, host: u8, fenced: bool, poisoned: bool, request: Option<Request>) -> u8
-    ensures { (setup : Setup) (past : List Entry) → StandsIn (shown held.old) setup past →
+    ensures stands { (setup : Setup) (past : List Entry) → StandsIn (shown held.old) setup past →
         Asked result held.old held.new setup past host fenced poisoned request }
+    ensures laid { held.new.laid ≡ held.old.laid }
 {
     let Some(request) = request else {
         return BAD;
@@ -118,6 +119,7 @@ pub extern "C" fn hmc_request(
         HandleStands handle.old.value setup past →
         IsAsked result handle.old.value handle.new.value setup past host fenced poisoned
         (request_named code cube address payload.now) }
+    ensures laid { laid_in handle.new.value ≡ laid_in handle.old.value }
     ensures closed { handle.old.value ≡ None → result ≡ closed }
     ensures stays { handle.old.value ≡ None → handle.new.value ≡ None }
 {

@@ -6,7 +6,7 @@ ghost use Rattle.hmc_entries.specs.declared.entry.Entry.{Entry};
 ghost use Rattle.hmc_journal.specs.Setup.{Setup};
 ghost use Rattle.hmc_session.specs.Numbers.{step_named};
 ghost use Rattle.hmc_session.specs.Session.{StandsIn};
-ghost use Rattle.hmc_c.specs.Handles.{HandleStands, shown};
+ghost use Rattle.hmc_c.specs.Handles.{HandleStands, laid_in, shown};
 ghost use Rattle.hmc_c.specs.Steps.{IsStepped, Stepped, after_finish, finish_status};
 ghost use Rattle.hmc_c.specs.Status.{closed};
 
@@ -19,8 +19,9 @@ use std::alloc::Global;
 
 // Takes the step of these numbers, if it is one that is taken.
 fn step_by(held: &mut Held, kind: u8, a: u8, b: u8, c: u8, mask: &Flit) -> u8
-    ensures { (setup : Setup) (past : List Entry) → StandsIn (shown held.old) setup past →
+    ensures stands { (setup : Setup) (past : List Entry) → StandsIn (shown held.old) setup past →
         Stepped result held.old held.new setup past (step_named kind a b c mask.now) }
+    ensures laid { held.new.laid ≡ held.old.laid }
 {
     let Some(step) = step_named(kind, a, b, c, mask) else {
         return NONE;
@@ -54,6 +55,7 @@ pub extern "C" fn hmc_step(
         HandleStands handle.old.value setup past →
         IsStepped result handle.old.value handle.new.value setup past
         (step_named kind a b c mask.now) }
+    ensures laid { laid_in handle.new.value ≡ laid_in handle.old.value }
     ensures closed { handle.old.value ≡ None → result ≡ closed }
     ensures stays { handle.old.value ≡ None → handle.new.value ≡ None }
 {

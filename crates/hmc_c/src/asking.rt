@@ -1,0 +1,73 @@
+//! Requests in the words of a script.
+
+ghost use Rattle.std.specs.Prelude.{◌≡◌, List, None};
+ghost use Rattle.hmc_entries.specs.declared.entry.Entry.{Entry};
+ghost use Rattle.hmc_journal.specs.Setup.{Setup};
+ghost use Rattle.hmc_session.specs.Session.{StandsIn};
+ghost use Rattle.hmc_c.specs.Handles.{HandleStands, laid_in, shown};
+ghost use Rattle.hmc_c.specs.Status.{closed};
+ghost use Rattle.hmc_c.specs.Words.{BytesAsked, IsLineAsked, TextAsked, line_status};
+
+use crate::handle::{Handle, put, taken};
+use crate::held::Held;
+use crate::status::{BAD, CLOSED, OK, asked_status};
+use hmc_session::LineNotAsked;
+use std::alloc::Global;
+
+// The status of a text that is refused.
+fn line_status(refusal: LineNotAsked) -> u8
+    ensures { result ≡ line_status refusal }
+{
+    match refusal {
+        LineNotAsked::Fault { .. } | LineNotAsked::NotOne => BAD,
+        LineNotAsked::Refused(refusal) => asked_status(refusal),
+    }
+}
+
+// Asks for the one request that a text states.
+fn ask_text(held: &mut Held, alloc: Global, text: &str) -> u8
+    ensures stands { (setup : Setup) (past : List Entry) → StandsIn (shown held.old) setup past →
+        TextAsked result (shown held.old) (shown held.new) setup past text.now }
+    ensures laid { held.new.laid ≡ held.old.laid }
+{
+    match held.session.ask_line(alloc, text) {
+        Ok(()) => OK,
+        Err(refusal) => line_status(refusal),
+    }
+}
+
+// The same of bytes, which may be no text.
+fn ask_bytes(held: &mut Held, alloc: Global, bytes: &[u8]) -> u8
+    ensures stands { (setup : Setup) (past : List Entry) → StandsIn (shown held.old) setup past →
+        BytesAsked result (shown held.old) (shown held.new) setup past bytes.now }
+    ensures laid { held.new.laid ≡ held.old.laid }
+{
+    match str::from_utf8(bytes) {
+        Ok(text) => ask_text(held, alloc, text),
+        Err(_) => BAD,
+    }
+}
+
+/// Asks a host for the one request that a text states, in the words of a script (docs/script.md).
+/// A fence of its host may be on a line before it.
+///
+/// 0: it is asked. 1: out of memory. 6: the text states no request for the hosts and cubes of the
+/// session, or more than one. 9: the handle is closed. 14: the host is finished. 15: it was asked
+/// for as many requests as it may be. Where it isn't asked nothing changes.
+#[unsafe(no_mangle)]
+pub extern "C" fn hmc_ask(alloc: Global, handle: &mut Handle, text: &[u8]) -> u8
+    ensures stands { (setup : Setup) (past : List Entry) →
+        HandleStands handle.old.value setup past →
+        IsLineAsked result handle.old.value handle.new.value setup past text.now }
+    ensures laid { laid_in handle.new.value ≡ laid_in handle.old.value }
+    ensures closed { handle.old.value ≡ None → result ≡ closed }
+    ensures stays { handle.old.value ≡ None → handle.new.value ≡ None }
+{
+    let Some(held) = taken(alloc, handle) else {
+        return CLOSED;
+    };
+    let mut held = held;
+    let status = ask_bytes(&mut held, alloc, text);
+    put(handle, held);
+    status
+}
