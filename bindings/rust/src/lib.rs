@@ -1,0 +1,379 @@
+//! A proved model of a network of Hybrid Memory Cubes, for benches in Rust.
+//!
+//! A [`Session`] is asked and stepped call by call, as bindings/c/hmc.h has it. A [`Memory`] is
+//! stepped in rounds, and tells which requests are done. Both can be moved to another thread, and
+//! are for one thread at a time. What can't be done is an [`Error`], and changes nothing.
+//!
+//! ```no_run
+//! let case = std::fs::read_to_string("case.toml").unwrap();
+//! let mut memory = hmc::Memory::open(&case)?;
+//! memory.request(0, hmc::RD16, 0, 0x40, &[], 7)?;
+//! let done = loop {
+//!     if let Some(done) = memory.go()? {
+//!         break done;
+//!     }
+//! };
+//! assert_eq!((done.id, done.entry.returned().len()), (7, 16));
+//! # Ok::<(), hmc::Error>(())
+//! ```
+
+mod raw;
+
+pub use raw::Entry;
+
+use std::fmt;
+use std::ptr::null_mut;
+
+/// In place of a tag: none.
+pub const NO_TAG: u16 = 65535;
+/// In place of the number of a vault: the registers of the cube.
+pub const REGISTERS_OF: u8 = 255;
+/// The codes of reads and writes of 16 bytes; those of 32 to 128 follow them.
+pub const RD16: u8 = 48;
+pub const WR16: u8 = 8;
+/// The codes of reads and writes of 256 bytes.
+pub const RD256: u8 = 119;
+pub const WR256: u8 = 79;
+
+const OK: u8 = 0;
+const PASSED: u8 = 7;
+const NONE: u8 = 8;
+const WAITS: u8 = 10;
+const LINE_BYTES: usize = 2048;
+
+/// Kinds of steps, each with the numbers that name its part.
+#[derive(Clone, Copy, Debug, PartialEq, Eq)]
+#[repr(u8)]
+pub enum Step {
+    /// host
+    Give = 0,
+    /// direction
+    Send = 1,
+    /// direction
+    Land = 2,
+    /// cube, port
+    Shift = 3,
+    /// cube, vault
+    Spread = 4,
+    /// cube, vault, bank
+    Bank = 5,
+    /// cube
+    Registers = 6,
+    /// cube, vault, or [`REGISTERS_OF`]
+    Lift = 7,
+    /// host
+    Take = 8,
+    /// cube, port
+    Through = 9,
+    /// direction
+    Unlock = 10,
+    /// slot
+    Retire = 11,
+}
+
+/// The kinds of entries, as [`Entry`]'s `kind` has them.
+pub mod kind {
+    pub const GAVE: u8 = 1;
+    pub const SENT: u8 = 2;
+    pub const LANDED: u8 = 3;
+    pub const SHIFTED: u8 = 4;
+    pub const DROPPED: u8 = 5;
+    pub const SPREAD_TO: u8 = 6;
+    pub const EXECUTED: u8 = 7;
+    pub const LIFTED: u8 = 8;
+    pub const TOOK: u8 = 9;
+    pub const DISCARDED: u8 = 10;
+    pub const WENT_THROUGH: u8 = 11;
+    pub const UNLOCKED: u8 = 12;
+    pub const RETIRED: u8 = 13;
+    pub const LANDING_PASSED: u8 = 14;
+    pub const IDLE: u8 = 15;
+}
+
+/// Why a call did nothing.
+#[derive(Clone, Copy, Debug, PartialEq, Eq)]
+pub enum Error {
+    /// Out of memory.
+    Memory,
+    /// The text is no case, or the numbers are no request.
+    Bad,
+    /// There is no such step, or no entry.
+    None,
+    /// A check succeeded over flits that masks changed: no step may follow.
+    Passed,
+    /// No step may be taken any more.
+    Over,
+    NoHost,
+    NoCube,
+    /// The host is finished.
+    Finished,
+    /// The host was asked for as many requests as it may be.
+    Full,
+    /// A status that this version doesn't know.
+    Unknown(u8),
+}
+
+impl Error {
+    fn of(status: u8) -> Error {
+        match status {
+            1 => Error::Memory,
+            6 => Error::Bad,
+            PASSED => Error::Passed,
+            NONE => Error::None,
+            11 => Error::Over,
+            12 => Error::NoHost,
+            13 => Error::NoCube,
+            14 => Error::Finished,
+            15 => Error::Full,
+            other => Error::Unknown(other),
+        }
+    }
+}
+
+impl fmt::Display for Error {
+    fn fmt(&self, f: &mut fmt::Formatter<'_>) -> fmt::Result {
+        match self {
+            Error::Memory => f.write_str("out of memory"),
+            Error::Bad => f.write_str("no case, or no request"),
+            Error::None => f.write_str("no such step, or no entry"),
+            Error::Passed => f.write_str("a changed flit passed"),
+            Error::Over => f.write_str("no step may be taken any more"),
+            Error::NoHost => f.write_str("no such host"),
+            Error::NoCube => f.write_str("no such cube"),
+            Error::Finished => f.write_str("the host is finished"),
+            Error::Full => f.write_str("the host was asked too often"),
+            Error::Unknown(status) => write!(f, "status {status}"),
+        }
+    }
+}
+
+impl std::error::Error for Error {}
+
+fn checked(status: u8) -> Result<(), Error> {
+    if status == OK {
+        Ok(())
+    } else {
+        Err(Error::of(status))
+    }
+}
+
+/// What became of a step that may be taken.
+#[derive(Clone, Copy, Debug, PartialEq, Eq)]
+pub enum Went {
+    /// It was taken.
+    Taken,
+    /// It was taken, and a check succeeded over flits that masks changed: no step may follow.
+    Passed,
+    /// It is a give of a host that has nothing to give and may be asked: it wasn't taken.
+    Waits,
+}
+
+/// How a request is asked (docs/script.md); the default is neither.
+#[derive(Clone, Copy, Debug, Default, PartialEq, Eq)]
+pub struct Manner {
+    /// Its host gives it when no answer is awaited.
+    pub is_fenced: bool,
+    /// Links carry it whole, and it has no effect at its cube.
+    pub is_poisoned: bool,
+}
+
+/// A session of a case (docs/case.md), closed when it is dropped.
+pub struct Session(raw::Handle);
+
+// A session shares nothing with another one, and has no thread of its own.
+unsafe impl Send for Session {}
+
+impl Session {
+    /// Opens a session of the case that the text is.
+    pub fn open(case: &str) -> Result<Session, Error> {
+        let mut session = Session(raw::Handle { at: null_mut() });
+        // SAFETY: the text has so many bytes, and the handle is closed.
+        checked(unsafe { raw::hmc_open(case.as_ptr(), case.len(), &mut session.0) })?;
+        Ok(session)
+    }
+
+    /// Asks a host for one request more: the code of its command (docs/packets.md), its cube, an
+    /// address below 2^34, and as many bytes as the command has.
+    pub fn request(
+        &mut self,
+        host: u8,
+        code: u8,
+        cube: u8,
+        address: u64,
+        payload: &[u8],
+    ) -> Result<(), Error> {
+        self.request_as(Manner::default(), host, code, cube, address, payload)
+    }
+
+    /// The same, fenced or poisoned.
+    pub fn request_as(
+        &mut self,
+        manner: Manner,
+        host: u8,
+        code: u8,
+        cube: u8,
+        address: u64,
+        payload: &[u8],
+    ) -> Result<(), Error> {
+        // SAFETY: the payload has so many bytes.
+        checked(unsafe {
+            raw::hmc_request(
+                &mut self.0,
+                host,
+                manner.is_fenced,
+                manner.is_poisoned,
+                code,
+                cube,
+                address,
+                payload.as_ptr(),
+                payload.len(),
+            )
+        })
+    }
+
+    /// Asks a host for nothing more from now on.
+    pub fn finish(&mut self, host: u8) -> Result<(), Error> {
+        // SAFETY: the handle is open.
+        checked(unsafe { raw::hmc_finish(&mut self.0, host) })
+    }
+
+    /// Takes a step. The mask of a landing has the bits that are inverted in its flit.
+    pub fn step(
+        &mut self,
+        kind: Step,
+        a: u8,
+        b: u8,
+        c: u8,
+        mask: &[u8; 16],
+    ) -> Result<Went, Error> {
+        // SAFETY: the handle is open.
+        match unsafe { raw::hmc_step(&mut self.0, kind as u8, a, b, c, mask) } {
+            OK => Ok(Went::Taken),
+            PASSED => Ok(Went::Passed),
+            WAITS => Ok(Went::Waits),
+            status => Err(Error::of(status)),
+        }
+    }
+
+    /// The latest entry, if there is one.
+    pub fn entry(&mut self) -> Option<Entry> {
+        let mut entry = Entry::EMPTY;
+        // SAFETY: the handle is open, and the entry has its layout.
+        let status = unsafe { raw::hmc_entry(&mut self.0, &mut entry) };
+        (status == OK).then_some(entry)
+    }
+
+    /// The line of the latest entry, with its line feed, if there is one.
+    pub fn line(&mut self) -> Option<String> {
+        let mut text = vec![0; LINE_BYTES];
+        let mut length = 0;
+        // SAFETY: the text has room for so many bytes.
+        let status =
+            unsafe { raw::hmc_line(&mut self.0, text.as_mut_ptr(), text.len(), &mut length) };
+        text.truncate(length);
+        (status == OK).then(|| String::from_utf8_lossy(&text).into_owned())
+    }
+}
+
+impl Drop for Session {
+    fn drop(&mut self) {
+        // SAFETY: the handle is this one's own.
+        unsafe { raw::hmc_close(&mut self.0) }
+    }
+}
+
+/// A request that is done: its number, and its answer, or for a posted request what was given.
+#[derive(Clone, Debug)]
+pub struct Done {
+    pub id: u64,
+    pub entry: Entry,
+}
+
+/// A network that is stepped in rounds and tells which requests are done.
+pub struct Memory(*mut raw::Driver);
+
+// A memory shares nothing with another one, and has no thread of its own.
+unsafe impl Send for Memory {}
+
+impl Memory {
+    /// Opens a network of a case whose script has no requests.
+    pub fn open(case: &str) -> Result<Memory, Error> {
+        let mut status = OK;
+        // SAFETY: the text has so many bytes.
+        let driver = unsafe { raw::hmc_driver_open(case.as_ptr(), case.len(), &mut status) };
+        if driver.is_null() {
+            return Err(Error::of(status));
+        }
+        Ok(Memory(driver))
+    }
+
+    /// Asks a host for a request, as [`Session::request`] does; `id` comes back when it is done.
+    pub fn request(
+        &mut self,
+        host: u8,
+        code: u8,
+        cube: u8,
+        address: u64,
+        payload: &[u8],
+        id: u64,
+    ) -> Result<(), Error> {
+        // SAFETY: the driver is open, and the payload has so many bytes.
+        checked(unsafe {
+            raw::hmc_driver_request(
+                self.0,
+                host,
+                code,
+                cube,
+                address,
+                payload.as_ptr(),
+                payload.len(),
+                id,
+            )
+        })
+    }
+
+    /// Takes the round on, up to a request that is done, or to its end, which is `None`.
+    pub fn go(&mut self) -> Result<Option<Done>, Error> {
+        let mut done = Done {
+            id: 0,
+            entry: Entry::EMPTY,
+        };
+        // SAFETY: the driver is open, and the entry has its layout.
+        match unsafe { raw::hmc_driver_go(self.0, &mut done.id, &mut done.entry) } {
+            OK => Ok(Some(done)),
+            NONE => Ok(None),
+            status => Err(Error::of(status)),
+        }
+    }
+
+    /// The requests that aren't done.
+    pub fn waiting(&self) -> u64 {
+        // SAFETY: the driver is open.
+        unsafe { raw::hmc_driver_waiting(self.0) }
+    }
+
+    /// The hosts of the network.
+    pub fn hosts(&self) -> u8 {
+        // SAFETY: the driver is open.
+        unsafe { raw::hmc_driver_hosts(self.0) }
+    }
+
+    /// The steps of a round.
+    pub fn steps_of_round(&self) -> u32 {
+        // SAFETY: the driver is open.
+        unsafe { raw::hmc_driver_steps_of_round(self.0) }
+    }
+}
+
+impl Drop for Memory {
+    fn drop(&mut self) {
+        // SAFETY: the driver is this one's own.
+        unsafe { raw::hmc_driver_close(self.0) }
+    }
+}
+
+/// The check of a packet: the CRC of its bytes (docs/crc.md).
+pub fn crc(bytes: &[u8]) -> u32 {
+    // SAFETY: there are so many bytes.
+    unsafe { raw::hmc_crc(bytes.as_ptr(), bytes.len()) }
+}

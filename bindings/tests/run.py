@@ -1,0 +1,323 @@
+"""Runs the tests of the bindings. Usage: run.py [NAME..], where each NAME is of a test; none: all.
+
+A test that needs a package which isn't installed is skipped by name. The last line counts what
+passed, failed and was skipped; the status is 0 where nothing failed. With HMC_BINDINGS=all what is
+skipped has failed.
+"""
+
+from __future__ import annotations
+
+import os
+import re
+import shutil
+import subprocess
+import sys
+import tempfile
+import time
+from collections.abc import Callable
+from pathlib import Path
+
+HERE = Path(__file__).resolve().parent
+BINDINGS = HERE.parent
+TOP = BINDINGS.parent
+BUILD = BINDINGS / "build"
+ARCHIVE = BUILD / "libhmc.a"
+sys.path.insert(0, str(TOP))
+
+# pylint: disable=wrong-import-position,import-error
+import archive  # noqa: E402
+from tool import build  # noqa: E402
+
+CHAIN = HERE / "chain.toml"
+SECONDS = 600
+CHOICES = 200000
+SEED = 1
+INCLUDES = ["-I", str(BINDINGS / "c"), "-I", str(BINDINGS / "cpp"), "-I", str(BINDINGS / "systemc")]
+SANITIZED = ["-g", "-O1", "-fsanitize=address,undefined", "-fno-sanitize-recover=all"]
+STRICT = ["-Wall", "-Wextra", "-Wpedantic"]
+WRAPPED = [f"-Wl,--wrap={name}" for name in ("malloc", "calloc", "realloc", "free")]
+SVDPI = Path("/usr/share/verilator/include/vltstd")
+# A block of a page: its language, and what it has.
+BLOCK = re.compile(r"^```(\w*)\n(.*?)^```$", re.MULTILINE | re.DOTALL)
+
+
+class Failed(Exception):
+    """A test that failed, with why."""
+
+
+class Skipped(Exception):
+    """A test that wasn't run, with why."""
+
+
+def run(*words: object, at: Path | None = None, env: dict[str, str] | None = None) -> str:
+    """Runs a command, and returns what it wrote; it has to end with 0."""
+    command = [str(word) for word in words]
+    how = {**os.environ, **(env or {})}
+    try:
+        ran = subprocess.run(
+            command,
+            cwd=at,
+            env=how,
+            stdin=subprocess.DEVNULL,
+            stdout=subprocess.PIPE,
+            stderr=subprocess.STDOUT,
+            timeout=SECONDS,
+            check=False,
+        )
+    except FileNotFoundError as error:
+        raise Failed(f"{command[0]} is not there") from error
+    except subprocess.TimeoutExpired as error:
+        raise Failed(f"{command[0]} took over {SECONDS} seconds") from error
+    written = ran.stdout.decode(errors="replace")
+    if ran.returncode != 0:
+        raise Failed(f"{' '.join(command)}: status {ran.returncode}\n{written[-3000:]}")
+    return written
+
+
+def last_line(written: str) -> str:
+    """The last line that isn't empty."""
+    lines = [line for line in written.splitlines() if line.strip()]
+    return lines[-1] if lines else ""
+
+
+def require(tool: str, package: str) -> None:
+    """Skips where a tool isn't there."""
+    if shutil.which(tool) is None:
+        raise Skipped(f"{package} is not installed")
+
+
+def compiled(room: Path, name: str, sources: list[Path], words: list[str]) -> Path:
+    """A program of C with the sanitizers, over the library."""
+    program = room / name
+    command = ["cc", "-std=c99", *STRICT, *SANITIZED, *INCLUDES, *words, "-o", program]
+    run(*command, *sources, ARCHIVE)
+    return program
+
+
+def benches(page: str) -> list[tuple[str, str]]:
+    """The benches of a page: each program that a block with what it prints follows."""
+    blocks = BLOCK.findall((TOP / "docs" / page).read_text(encoding="utf-8"))
+    pairs = zip(blocks, blocks[1:])
+    return [(code, printed) for (word, code), (after, printed) in pairs if word and not after]
+
+
+def run_bench(
+    page: str, suffix: str, room: Path, words: Callable[[Path, Path], list[object]]
+) -> None:
+    """Builds the first bench of a page and compares what it prints. `words` are the command, for
+    the source and the program."""
+    code, printed = benches(page)[0]
+    source, program = room / f"first{suffix}", room / "first"
+    source.write_text(code, encoding="utf-8")
+    run(*words(source, program))
+    said = run(program, at=TOP).replace("\0", "")
+    if printed not in said:
+        raise Failed(f"the first bench of docs/{page} prints\n{said}")
+
+
+def test_c(room: Path) -> str:
+    """Misuse of each call, the page's bench, and an example whose lines are those of its report."""
+    cc = ["cc", "-std=c99", *STRICT, *SANITIZED, *INCLUDES, "-o"]
+    # By -lhmc, as pkg-config has it: that has to find the archive.
+    library = [f"-L{BUILD}", "-lhmc"]
+    run_bench("co-simulation.md", ".c", room, lambda at, to: [*cc, to, at, *library])
+    example = TOP / "examples" / "write-then-read.toml"
+    text = example.read_text(encoding="utf-8").splitlines(keepends=True)
+    case = room / "case.toml"
+    case.write_text("".join("\n" if line.startswith("0 ") else line for line in text))
+    program = compiled(room, "test", [BINDINGS / "c" / "test.c"], [])
+    lines = run(program, case)
+    report = example.with_suffix(".report").read_text(encoding="utf-8")
+    if not lines or not report.startswith(lines):
+        raise Failed("the lines of the example are not those of its report")
+    return f"{lines.count(chr(10))} lines as stored"
+
+
+def test_drive(room: Path) -> str:
+    """Random requests and steps, and the tape of them replayed by the program."""
+    program = compiled(room, "drive", [HERE / "drive.c"], [])
+    net = HERE / "net.toml"
+    script, schedule, lines = room / "script", room / "schedule", room / "lines"
+    said = run(program, net, script, schedule, lines, CHOICES, SEED)
+    tape = net.read_text(encoding="utf-8")
+    for key, path in (("script", script), ("schedule", schedule)):
+        tape = tape.replace(f"{key} = ''", f"{key} = '''\n{path.read_text(encoding='utf-8')}'''")
+    return f"{said.strip()}; {replay(tape.encode(), lines.read_bytes())}"
+
+
+def replay(tape: bytes, lines: bytes) -> str:
+    """Replays a tape by the program, whose report begins with the lines of the session."""
+    if not build.is_current():
+        raise Skipped("the proved program is not built, so the tape is not replayed")
+    ran = subprocess.run(
+        [build.PROGRAM, "run"], input=tape, stdout=subprocess.PIPE, timeout=SECONDS, check=False
+    )
+    if ran.returncode not in (0, 7):
+        raise Failed(f"the tape is no case: status {ran.returncode}, {ran.stdout[:200]!r}")
+    if not lines or not ran.stdout.startswith(lines):
+        raise Failed("the report of the tape has other lines than the session")
+    return "the same lines by the program"
+
+
+def test_refuse(room: Path) -> str:
+    """Each allocation refused in turn."""
+    sources = [HERE / "refuse.c", BINDINGS / "c" / "driver.c"]
+    return run(compiled(room, "refuse", sources, WRAPPED), CHAIN).strip()
+
+
+def test_threads(room: Path) -> str:
+    """Two threads with a session each."""
+    sources = [HERE / "threads.c", BINDINGS / "c" / "driver.c"]
+    return run(compiled(room, "threads", sources, ["-pthread"]), CHAIN).strip()
+
+
+def test_cpp(room: Path) -> str:
+    """The header for C++, with and without std::span."""
+    require("g++", "g++")
+    source, program = BINDINGS / "cpp" / "test.cpp", room / "cpp"
+    run("g++", "-std=c++17", *STRICT, *INCLUDES, "-fsyntax-only", source)
+    words = ["g++", "-std=c++20", *STRICT, *SANITIZED, *INCLUDES, "-o", program]
+    run(*words, source, ARCHIVE)
+    return run(program, CHAIN).strip()
+
+
+def test_systemc(room: Path) -> str:
+    """A TLM-2.0 target with two initiators, and the page's bench."""
+    require("g++", "g++")
+    if not Path("/usr/include/systemc").exists():
+        raise Skipped("libsystemc-dev is not installed")
+    program = room / "systemc"
+    gxx = ["g++", "-std=c++17", *STRICT[:2], *INCLUDES]
+    run(*gxx, "-O1", "-o", program, BINDINGS / "systemc" / "test.cpp", ARCHIVE, "-lsystemc")
+    link = [ARCHIVE, "-lsystemc"]
+    run_bench("systemc.md", ".cpp", room, lambda at, to: [*gxx, "-o", to, at, *link])
+    return last_line(run(program, CHAIN, 1000))
+
+
+def test_verilator(room: Path) -> str:
+    """A clocked bench over DPI."""
+    require("verilator", "verilator")
+    folder = BINDINGS / "verilator"
+    shim = room / "hmc_dpi.o"
+    run("cc", "-std=c99", "-O2", *STRICT, *INCLUDES, "-I", SVDPI, "-c", folder / "hmc_dpi.c",
+        "-o", shim)
+    sources = [folder / name for name in ("hmc_pkg.sv", "hmc_port.sv")]
+    words = ["verilator", "--binary", "-O3", "-CFLAGS", "-O1", "--Mdir", room / "obj"]
+    top = ["-Wall", "--top-module", "test", f'-GCASE="{CHAIN}"']
+    run(*words, *top, *sources, folder / "test.sv", shim, ARCHIVE)
+    said = run(room / "obj" / "Vtest", "+verilator+seed+1")
+    words += ["--top-module", "first", *sources, shim, ARCHIVE]
+    run_bench("verilator.md", ".sv", room, lambda at, to: [*words, at, "-o", to])
+    counted = [line for line in said.splitlines() if line.startswith("verilator: ")]
+    if not counted:
+        raise Failed(said[-1000:])
+    return counted[-1]
+
+
+def test_examples(_: Path) -> str:
+    """The stored examples step by step."""
+    return last_line(run(sys.executable, HERE / "steps.py", TOP / "examples"))
+
+
+def test_python(room: Path) -> str:
+    """The package as it is installed, without a network."""
+    pip = [sys.executable, "-m", "pip"]
+    try:
+        run(*pip, "--version")
+    except Failed as failed:
+        raise Skipped("python3-pip is not installed") from failed
+    words = ["install", "--no-index", "--quiet", "--target", room / "packages"]
+    run(*pip, *words, BINDINGS / "python", at=room)
+    # The test stands away from the sources, so that it finds the package that was installed.
+    test = shutil.copy(BINDINGS / "python" / "test.py", room)
+    packages = {"PYTHONPATH": str(room / "packages")}
+    said = run(sys.executable, test, CHAIN, at=room, env=packages)
+    for code, printed in benches("python.md"):
+        if run(sys.executable, "-c", code, at=TOP, env=packages) != printed:
+            raise Failed(f"a bench of docs/python.md doesn't print\n{printed}")
+    return last_line(said.replace("\nOK", "")).strip()
+
+
+def test_rust(room: Path) -> str:
+    """The crate, with two threads."""
+    require("rustc", "rustc")
+    crate = BINDINGS / "rust"
+    rustc = ["rustc", "--edition", "2021", "-O", "-D", "warnings", "-L", f"native={BUILD}"]
+    words = ["--crate-type", "rlib", "--crate-name", "hmc", "-o", room / "libhmc.rlib"]
+    run(*rustc, *words, crate / "src" / "lib.rs")
+    words = ["--test", "--extern", f"hmc={room / 'libhmc.rlib'}", "-o", room / "rust"]
+    run(*rustc, *words, crate / "tests" / "threads.rs")
+    words = ["--extern", f"hmc={room / 'libhmc.rlib'}", "-o"]
+    run_bench("rust.md", ".rs", room, lambda at, to: [*rustc, *words, to, at])
+    return last_line(run(room / "rust", env={"HMC_TEST_CASE": str(CHAIN)}))
+
+
+def test_types(_: Path) -> str:
+    """The types of the package and of the tests in Python."""
+    require("mypy", "mypy")
+    mypy = ["mypy", "--strict", f"--cache-dir={os.devnull}"]
+    env = {"MYPYPATH": f"{BINDINGS / 'python'}:{TOP}"}
+    sources = [BINDINGS / "python" / name for name in ("hmc", "backend.py", "test.py")]
+    sources += [HERE / name for name in ("run.py", "steps.py", "packages.py", "archive.py")]
+    return last_line(run(*mypy, *sources, at=HERE, env=env))
+
+
+TESTS: dict[str, Callable[[Path], str]] = {
+    "c": test_c,
+    "drive": test_drive,
+    "refuse": test_refuse,
+    "threads": test_threads,
+    "cpp": test_cpp,
+    "examples": test_examples,
+    "python": test_python,
+    "rust": test_rust,
+    "systemc": test_systemc,
+    "types": test_types,
+    "verilator": test_verilator,
+}
+
+
+def outcome(name: str) -> str:
+    """Runs a test, says what became of it, and returns that in a word."""
+    start = time.monotonic()
+    with tempfile.TemporaryDirectory(prefix=f"hmc-{name}-") as room:
+        try:
+            said = TESTS[name](Path(room))
+        except Skipped as skipped:
+            print(f"SKIPPED {name}: {skipped}", flush=True)
+            return "failed" if os.environ.get("HMC_BINDINGS") == "all" else "skipped"
+        except Failed as failed:
+            print(f"FAILED {name}: {failed}", flush=True)
+            return "failed"
+    print(f"passed {name} ({time.monotonic() - start:.1f} s): {said}", flush=True)
+    return "passed"
+
+
+def is_built() -> bool:
+    """Whether make needs to build no archive of the crate."""
+    words = ["make", "-q", "-C", str(BINDINGS), "../crates/hmc_c/out/libhmc_c.a"]
+    return subprocess.run(words, capture_output=True, check=False).returncode == 0
+
+
+def main(names: list[str]) -> int:
+    """Builds the library, runs the tests, and counts them."""
+    unknown = [name for name in names if name not in TESTS]
+    if unknown:
+        print(f"no test of the bindings: {' '.join(unknown)}")
+        return 2
+    try:
+        why = archive.make() if archive.is_after_gate() and not is_built() else ""
+        if why:
+            raise Failed(why)
+        run("make", "-C", BINDINGS)
+        outcomes = [outcome(name) for name in names or TESTS]
+    except Failed as failed:
+        print(f"FAILED build: {failed}")
+        outcomes = ["failed"]
+    counts = [f"{outcomes.count(it)} {it}" for it in ("passed", "failed", "skipped")]
+    print(f"bindings: {', '.join(counts)}")
+    return 1 if "failed" in outcomes else 0
+
+
+if __name__ == "__main__":
+    sys.exit(main(sys.argv[1:]))
