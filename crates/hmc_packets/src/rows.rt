@@ -1,5 +1,10 @@
 //! A row: a profile, a packet or a fault, and flits.
 
+ghost use Rattle.std.specs.Cmp.Lexicographic.{pointwise};
+ghost use Rattle.std.specs.Prelude.{◌≡◌};
+ghost use Rattle.std.specs.Str.{bytes_eq};
+ghost use Rattle.hmc_packet.specs.Spelling.{FitsProfile, spelling};
+
 use arrayvec::ArrayVec;
 use hmc_codes::{Flit, Profile};
 use hmc_packet::{Bad, Packet, Seen, read, spell};
@@ -82,6 +87,15 @@ fn is_refused(line: &str, profile: Profile) -> bool {
     }
 }
 
+// Whether the packet that was read is spelled by these flits, byte by byte.
+fn is_spelled_by(seen: &Seen, profile: Profile, flits: &[Flit]) -> bool
+    requires { FitsProfile profile seen.now.packet seen.now.rrp }
+    ensures { result
+        ≡ pointwise bytes_eq (spelling profile seen.now.packet seen.now.rrp) flits.now }
+{
+    spell(&seen.packet, seen.rrp, profile).as_slice() == flits
+}
+
 // Whether the packet that the line says is what its flits are read as, and is spelled by them.
 fn is_packet(alloc: Global, line: &str, profile: Profile) -> Result<bool, AllocError> {
     let Some(flits) = flits_in(line, PACKET_WORDS) else {
@@ -92,7 +106,7 @@ fn is_packet(alloc: Global, line: &str, profile: Profile) -> Result<bool, AllocE
         return Ok(false);
     };
     let is_same = line.starts_with(words_of(alloc, &seen)?.as_str());
-    Ok(is_same && spell(&seen.packet, seen.rrp, profile).as_slice() == flits)
+    Ok(is_same && is_spelled_by(&seen, profile, flits))
 }
 
 /// Whether a row's flits are what it says.

@@ -4,10 +4,10 @@ ghost use Rattle.hmc_codes.specs.declared.family.Family.TheVariants as families;
 ghost use Rattle.hmc_host.specs.Tags.{IsOut};
 ghost use Rattle.hmc_host.specs.Give.{taken_tag};
 
-use hmc_codes::{Answer, Command, MOST_REQUESTS, Memory, Payload, Request, TAGS};
+use hmc_codes::{Answer, Command, MOST_ASKED, MOST_REQUESTS, Memory, Payload, Request, TAGS};
 use hmc_host::{Given, Host, HostBuffer, Settled};
 use hmc_packet::{Packet, ask, reply};
-use hmc_script::{MOST_ASKED, Script};
+use hmc_script::Script;
 use hmc_tokens::Intake;
 use std::alloc::Global;
 use std::process::Abort;

@@ -1,5 +1,8 @@
 //! The rows of the table, and what they are compared with.
 
+ghost use Rattle.std.specs.Prelude.{◌≡◌, IfOk, option_map, string_bytes};
+ghost use Rattle.hmc_traces.specs.Values.{value_text};
+
 use hmc_entries::Entry;
 use hmc_trace::{Compiled, compile, value, values};
 use std::alloc::{AllocError, Global};
@@ -46,7 +49,10 @@ fn append<T: Copy>(items: &mut Vec<T>, item: T) -> Result<(), AllocError> {
 }
 
 // The digits of a value, or `unknown`.
-fn value_text(alloc: Global, found: &Option<Vec<u8>>) -> Result<String, AllocError> {
+fn value_text(alloc: Global, found: &Option<Vec<u8>>) -> Result<String, AllocError>
+    ensures { IfOk result (λ text.
+        string_bytes text ≡ value_text (option_map (λ bytes. bytes.items) found.now)) }
+{
     match found {
         Some(bytes) => hex::encode(alloc, bytes.as_slice()),
         None => String::from_str(alloc, "unknown"),
