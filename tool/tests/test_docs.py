@@ -102,7 +102,7 @@ class Docs(unittest.TestCase):
     def test_the_example_of_the_readme(self) -> None:
         """The lines of each block are those of a case or a report of examples/, in their order."""
         text = (TOP / "README.md").read_text(encoding="utf-8")
-        text = text[text.index("## An example") : text.index("## Documents")]
+        text = text[text.index("## An example") : text.index("## From C")]
         blocks = re.findall(r"(?:^ {4}.*\n|^\n(?= {4}))+", text, re.MULTILINE)
         path = EXAMPLES / "write-then-read.toml"
         stored = path.read_text(encoding="utf-8").splitlines()
