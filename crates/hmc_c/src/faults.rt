@@ -70,7 +70,7 @@ fn fault_with(section: Section, line: u32, word: &str) -> FaultOut
     }
 }
 
-/// Shows the first fault of a text that is no case.
+/// Shows the first fault of a text that is not a valid case.
 ///
 /// 0: it is shown. 1: out of memory. 8: the text is a case. With 1 and 8 nothing is written.
 #[unsafe(no_mangle)]

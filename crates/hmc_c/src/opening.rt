@@ -59,7 +59,8 @@ fn no_units(alloc: Global) -> Result<Slots<Shipped>, Memory>
 /// logic units. Its hosts are asked for the requests of its script, and open; the steps of its
 /// schedule are laid down, and none is taken. What the handle had is dropped.
 ///
-/// 0: it is open. 1: out of memory. 6: the bytes are no case. With 1 and 6 nothing changes.
+/// 0: it is open. 1: out of memory. 6: the bytes are not a valid case. With 1 and 6 nothing
+/// changes.
 #[unsafe(no_mangle)]
 pub extern "C" fn hmc_open(alloc: Global, text: &[u8], handle: &mut Handle) -> u8
     ensures { OpenedBy result (case_of text.now) [] handle.old.value handle.new.value }

@@ -79,7 +79,7 @@ line_end : (past : List Entry) (entry : Entry) → concat (lines_of past) ++ lin
 unfolding lines_of
 line_end past entry = ap (λ (t : List ℕ). concat (lines_of past) ++ t) (sym (append-nil (line_of entry))) ∙ sym (concat-append (lines_of past) (line_of entry ∷ []))
 
--- where it is gathered, the lines of all entries have come, but for what is
+-- where it is gathered, the lines of all entries have come, except what is
 pub line_has : (setup : Setup) (past : List Entry) (entry : Entry) (report rest text all : List ℕ) → (lawful : Lawful setup (entry ∷ past)) → HasCome (report_text setup (journal_of setup)) report rest (text ++ (line_of entry ++ (text_goes setup past entry lawful).0)) → all ≡ text ++ line_of entry
     → HasLines (entry ∷ past) report rest all
 line_has setup past entry report rest text all lawful come is =

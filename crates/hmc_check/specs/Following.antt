@@ -31,21 +31,21 @@ pub record IsAfter (p : PastFields) (setup : Setup) (past : List Entry) (passed 
   pub stands : Keeps setup (p.last ∷ past) p
   pub passed_is : passed ≡ is_passed p.last
 
--- A report begins with the lines of these entries, but for this text, which ends them and wasn't
+-- A report begins with the lines of these entries, except this text, which ends them and wasn't
 -- compared yet: this is left of the report.
 pub record HasLines (past : List Entry) (report rest text : List ℕ) : Type 0 where
   pub came : List ℕ
   pub report_is : report ≡ came ++ rest
   pub lines_are : concat (lines_of past) ≡ came ++ text
 
--- these steps are left, and the report has the line of each that was taken, so many, but for a text
+-- these steps are left, and the report has the line of each that was taken, so many, except a text
 pub record IsFollowing (p : PastFields) (setup : Setup) (past : List Entry) (left : List Step)
     (report rest text : List ℕ) (entries : ℕ) : Type 0 where
   pub before : IsBefore p setup past left
   pub lines : HasLines past report rest text
   pub entries_are : entries ≡ length past
 
--- all steps were taken, up to one that passed, and the report has the line of each, but for a text
+-- all steps were taken, up to one that passed, and the report has the line of each, except a text
 pub record FollowedAll (p : PastFields) (setup : Setup) (report rest text : List ℕ)
     (passed : Bool) (entries : ℕ) : Type 0 where
   pub stands : Keeps setup (journal_of setup) p
@@ -54,7 +54,7 @@ pub record FollowedAll (p : PastFields) (setup : Setup) (report rest text : List
   pub lines : HasLines (journal_of setup) report rest text
 
 -- The steps of a round were taken, up to a landing that passed, and the report has the line of
--- each, but for a text; where none passed, these are left. Or the report differs.
+-- each, except a text; where none passed, these are left. Or the report differs.
 abbrev pub FollowsRound : Result Bool ℕ → PastFields → Setup → (left : List Step) →
     (report rest text : List ℕ) → (entries : ℕ) → Type 0
 FollowsRound (Ok true) p setup left report rest text entries =

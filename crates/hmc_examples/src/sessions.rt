@@ -67,8 +67,8 @@ fn go_on(alloc: Global, session: &mut WithUnits, script: &Script, at: u32) -> bo
     ask(alloc, session, &script.item(at))
 }
 
-// Takes a step. While it waits, the next request is asked for. Returns how many of the requests were
-// asked by then, or `None` where the step isn't taken.
+// Takes a step. While it waits, the next request is asked for. Returns how many of the requests
+// were asked by then, or `None` where the step isn't taken.
 fn take(
     alloc: Global,
     session: &mut WithUnits,

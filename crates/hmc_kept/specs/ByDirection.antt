@@ -1,6 +1,6 @@
 -- What calls of links by the numbers of directions need, and what they answer. The links, or their
--- ends, are of any type X: `stands rows links entries` says that they stand for these entries of
--- links of these sizes. A need is met by some entries for which they stand; an answer is that of all
+-- ends, are of any type X: `stands rows links entries` says that they represent these entries of
+-- links of these sizes. A need is met by some entries that they represent; an answer is that of all
 -- of these.
 use Rattle.std.specs.Prelude.{◌≡◌, ◌/◌, ℕ, Bool, true, List, Option, is_some}
 use Rattle.hmc_packet.specs.Packet.{PacketFields}

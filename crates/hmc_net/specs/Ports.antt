@@ -37,8 +37,8 @@ pub record IsWayOut (net : NetState) (cube port : ℕ) (found : Option ℕ) : Ty
   pub from : (direction : ℕ) → found ≡ Some direction →
       direction_from net.topology (places.Port cube port) ≡ Some direction
 
--- the front of the answers of a vault or of the registers leaves through this port towards its host,
--- from which this direction starts and has room
+-- the front of the answers of a vault or of the registers leaves through this port towards its
+-- host, from which this direction starts and has room
 pub record IsLifting (net : NetState) (cube : ℕ) (from : Lift) (port onward : ℕ) : Type 0 where
   pub front : PacketFields
   pub is_front : slice_get (answers_at (cube_in net.cubes cube) from) 0 ≡ Some front

@@ -67,9 +67,11 @@ fn write_whole<O: Sink, B: Workbench>(
     schedule: &Schedule,
 ) -> Result<bool, Failed>
     requires { (setup : Setup) × IsBefore (net_of B.slots network.old) setup [] schedule.now }
-    ensures written { (setup : Setup) → IsBefore (net_of B.slots network.old) setup [] schedule.now →
+    ensures written { (setup : Setup) →
+        IsBefore (net_of B.slots network.old) setup [] schedule.now →
         WritesReport result (report_of setup) (passes setup) (O.shows sink.old) (O.shows sink.new) }
-    ensures stepped { (setup : Setup) → IsBefore (net_of B.slots network.old) setup [] schedule.now →
+    ensures stepped { (setup : Setup) →
+        IsBefore (net_of B.slots network.old) setup [] schedule.now →
         Stepped result Whole (net_of B.slots network.new) setup
         (O.shows sink.old) (O.shows sink.new) }
 {
@@ -88,10 +90,12 @@ fn write_end<O: Sink, B: Workbench>(
     schedule: &Schedule,
 ) -> Result<bool, Failed>
     requires { (setup : Setup) × IsBefore (net_of B.slots network.old) setup [] schedule.now }
-    ensures written { (setup : Setup) → IsBefore (net_of B.slots network.old) setup [] schedule.now →
+    ensures written { (setup : Setup) →
+        IsBefore (net_of B.slots network.old) setup [] schedule.now →
         WritesReport result (end_of extent setup) (passes setup)
         (O.shows sink.old) (O.shows sink.new) }
-    ensures stepped { (setup : Setup) → IsBefore (net_of B.slots network.old) setup [] schedule.now →
+    ensures stepped { (setup : Setup) →
+        IsBefore (net_of B.slots network.old) setup [] schedule.now →
         StandsFor (net_of B.slots network.new) setup (journal_of setup) }
 {
     let passed = take_steps(network, schedule);
@@ -111,10 +115,12 @@ fn write_lines<O: Sink, B: Workbench>(
     schedule: &Schedule,
 ) -> Result<bool, Failed>
     requires { (setup : Setup) × IsBefore (net_of B.slots network.old) setup [] schedule.now }
-    ensures written { (setup : Setup) → IsBefore (net_of B.slots network.old) setup [] schedule.now →
+    ensures written { (setup : Setup) →
+        IsBefore (net_of B.slots network.old) setup [] schedule.now →
         WritesReport result (lines_in extent setup) (passes setup)
         (O.shows sink.old) (O.shows sink.new) }
-    ensures stepped { (setup : Setup) → IsBefore (net_of B.slots network.old) setup [] schedule.now →
+    ensures stepped { (setup : Setup) →
+        IsBefore (net_of B.slots network.old) setup [] schedule.now →
         Stepped result extent (net_of B.slots network.new) setup
         (O.shows sink.old) (O.shows sink.new) }
 {
@@ -134,7 +140,8 @@ pub fn write_report<O: Sink, B: Workbench>(
     schedule: &Schedule,
 ) -> Result<bool, Failed>
     requires { (setup : Setup) × IsBefore (net_of B.slots network.old) setup [] schedule.now }
-    ensures written { (setup : Setup) → IsBefore (net_of B.slots network.old) setup [] schedule.now →
+    ensures written { (setup : Setup) →
+        IsBefore (net_of B.slots network.old) setup [] schedule.now →
         DeliversReport result (lines_in extent setup) (passes setup)
         (O.shows sink.old) (O.shows sink.new) }
     ensures guarantees { (setup : Setup) →
@@ -142,7 +149,8 @@ pub fn write_report<O: Sink, B: Workbench>(
         Guarantees setup (journal_of setup) }
     ensures drained { (setup : Setup) →
         IsBefore (net_of B.slots network.old) setup [] schedule.now → EndsDrained setup }
-    ensures stepped { (setup : Setup) → IsBefore (net_of B.slots network.old) setup [] schedule.now →
+    ensures stepped { (setup : Setup) →
+        IsBefore (net_of B.slots network.old) setup [] schedule.now →
         Stepped result extent (net_of B.slots network.new) setup
         (O.shows sink.old) (O.shows sink.new) }
 {
