@@ -187,8 +187,11 @@ fn encode(bytes: &[u8], digits: &mut [u8])
 {
     'bytes: for at in 0..bytes.len() {
         let byte = bytes[at];
-        digits[2 * at] = high_digit(byte);
-        digits[2 * at + 1] = low_digit(byte);
+        // Both are read before one is written, so that two bytes move at once.
+        let high = high_digit(byte);
+        let low = low_digit(byte);
+        digits[2 * at] = high;
+        digits[2 * at + 1] = low;
     }
 }
 
