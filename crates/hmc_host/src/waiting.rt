@@ -2,7 +2,7 @@
 
 ghost use Rattle.std.specs.Prelude.{◌≡◌, ◌<◌, ◌++◌, ◌∷◌, [], length, drop, slice_get, option_map, Some, OnOk, OnErr};
 ghost use Rattle.hmc_codes.specs.Limits.{most_asked, most_hosts};
-ghost use Rattle.hmc_script.specs.Items.{outline_of};
+ghost use Rattle.hmc_script.specs.Items.{asked_item, outline_of};
 
 use hmc_codes::{Memory, Request};
 use hmc_script::{Item, Items, Outline};
@@ -94,12 +94,8 @@ impl Waiting {
     ) -> Result<(), Memory>
         requires room { length self.old < most_asked }
         requires host { host < most_hosts }
-        ensures ok { OnOk result (self.new ≡ self.old ++ record {
-          host = host;
-          fenced = fenced;
-          poisoned = poisoned;
-          request = request.now;
-        } ∷ []) }
+        ensures ok { OnOk result
+            (self.new ≡ self.old ++ asked_item host fenced poisoned request.now ∷ []) }
         ensures err { OnErr result (self.new ≡ self.old) }
     {
         self.back.append(host, fenced, poisoned, request)?;

@@ -1,14 +1,19 @@
 -- What a script is: a list of requests.
 use Rattle.hmc_codes.specs.Limits.{most_asked, most_hosts, most_requests}
-use Rattle.std.specs.Prelude.{ℕ, ◌<◌, ◌≤◌, ◌==◌, List, length}
+use Rattle.std.specs.Prelude.{ℕ, ◌<◌, ◌≤◌, ◌==◌, Bool, List, length}
 use Rattle.std.specs.List.{All, filter}
-use Rattle.hmc_codes.specs.Request.{IsRequest}
+use Rattle.hmc_codes.specs.Request.{RequestFields, IsRequest}
 use Rattle.hmc_script.specs.declared.item.Item.{Item}
 use Rattle.hmc_script.specs.declared.item.Outline.{Outline}
 
 -- a request of a script, as contracts see it
 abbrev pub ItemFields : Type 0
 ItemFields = Item
+
+-- this host's request, with a fence before it or without, poisoned or not
+abbrev pub asked_item : (host : ℕ) (fenced poisoned : Bool) → RequestFields → ItemFields
+asked_item host fenced poisoned request =
+    record { host = host; fenced = fenced; poisoned = poisoned; request = request }
 
 -- what of it decides when it may be given
 abbrev pub outline_of : ItemFields → Outline

@@ -2,22 +2,28 @@
 use Rattle.std.specs.Prelude.{◌≤◌, ℕ, ◌+◌, List, length, map, take, drop}
 use Rattle.std.specs.List.{All}
 use Rattle.hmc_codes.specs.Commands.{payload_len_of}
+use Rattle.hmc_codes.specs.Request.{RequestFields}
 use Rattle.hmc_script.specs.declared.stored.Short.{Short}
-use Rattle.hmc_script.specs.Items.{ItemFields, AreItems}
+use Rattle.hmc_script.specs.Items.{ItemFields, AreItems, asked_item}
+
+-- the request of a short item with this payload
+abbrev pub request_with : Short → (payload : List ℕ) → RequestFields
+request_with short payload = record {
+  command = short.command;
+  cube = short.cube;
+  address = short.address;
+  payload = payload;
+}
+
+-- the item of a short item with this payload
+abbrev pub item_with : Short → (payload : List ℕ) → ItemFields
+item_with short payload =
+    asked_item short.host short.fenced short.poisoned (request_with short payload)
 
 -- the item, whose payload begins at its place among the bytes
 abbrev pub item_of : List ℕ → Short → ItemFields
-item_of bytes short = record {
-  host = short.host;
-  fenced = short.fenced;
-  poisoned = short.poisoned;
-  request = record {
-    command = short.command;
-    cube = short.cube;
-    address = short.address;
-    payload = take (payload_len_of short.command) (drop short.start bytes);
-  };
-}
+item_of bytes short =
+    item_with short (take (payload_len_of short.command) (drop short.start bytes))
 
 -- all items
 abbrev pub items_in : List ℕ → List Short → List ItemFields

@@ -3,7 +3,8 @@
 ghost use Rattle.std.specs.Prelude.{◌≡◌, ◌<◌, ◌≤◌, ◌+◌, [], ◌∷◌, ◌++◌, length, take, slice_get, option_map, Some, IfOk, OnOk, OnErr};
 ghost use Rattle.hmc_codes.specs.Limits.{most_asked, most_hosts};
 ghost use Rattle.hmc_codes.specs.Request.{IsRequest};
-ghost use Rattle.hmc_script.specs.Items.{AreItems, outline_of, of_host};
+ghost use Rattle.hmc_script.specs.Items.{AreItems, asked_item, outline_of, of_host};
+ghost use Rattle.hmc_script.specs.Stored.{request_with, item_with};
 
 use crate::stored::{Short, item_of, payload_bytes};
 use crate::{Item, Outline};
@@ -110,23 +111,9 @@ impl Items {
     pub(crate) fn push(&mut self, short: &Short, payload: &[u8]) -> Result<(), Memory>
         requires room { length self.old < most_asked }
         requires host { short.now.host < most_hosts }
-        requires request { IsRequest (record {
-          command = short.now.command;
-          cube = short.now.cube;
-          address = short.now.address;
-          payload = payload.now;
-        }) }
-        ensures ok { OnOk result (self.new ≡ self.old ++ record {
-          host = short.now.host;
-          fenced = short.now.fenced;
-          poisoned = short.now.poisoned;
-          request = record {
-            command = short.now.command;
-            cube = short.now.cube;
-            address = short.now.address;
-            payload = payload.now;
-          };
-        } ∷ []) }
+        requires request { IsRequest (request_with short.now payload.now) }
+        ensures ok { OnOk result
+            (self.new ≡ self.old ++ item_with short.now payload.now ∷ []) }
         ensures err { OnErr result (self.new ≡ self.old) }
     {
         let start = self.bytes.len();
@@ -154,12 +141,8 @@ impl Items {
     ) -> Result<(), Memory>
         requires room { length self.old < most_asked }
         requires host { host < most_hosts }
-        ensures ok { OnOk result (self.new ≡ self.old ++ record {
-          host = host;
-          fenced = fenced;
-          poisoned = poisoned;
-          request = request.now;
-        } ∷ []) }
+        ensures ok { OnOk result
+            (self.new ≡ self.old ++ asked_item host fenced poisoned request.now ∷ []) }
         ensures err { OnErr result (self.new ≡ self.old) }
     {
         request.invariant();

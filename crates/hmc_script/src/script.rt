@@ -3,7 +3,8 @@
 ghost use Rattle.std.specs.Prelude.{◌≡◌, ◌<◌, [], ◌∷◌, ◌++◌, length, slice_get, option_map, Some, false, IfOk, OnOk, OnErr};
 ghost use Rattle.hmc_codes.specs.Limits.{most_hosts, most_requests};
 ghost use Rattle.hmc_codes.specs.Request.{IsRequest};
-ghost use Rattle.hmc_script.specs.Items.{IsScript, outline_of, of_host};
+ghost use Rattle.hmc_script.specs.Items.{IsScript, asked_item, outline_of, of_host};
+ghost use Rattle.hmc_script.specs.Stored.{request_with, item_with};
 
 use crate::stored::Short;
 use crate::{Item, Items, Outline};
@@ -75,50 +76,26 @@ impl Script {
         self.items.of_host(alloc, host)
     }
 
-    /// Appends a request, with a fence before it or without. Its host is below 8, and the script
-    /// has fewer than `MOST_REQUESTS` requests. Where it is out of memory nothing changes.
-    pub fn append(
-        &mut self,
-        host: u8,
-        fenced: bool,
-        poisoned: bool,
-        request: &Request,
-    ) -> Result<(), Memory>
+    /// Appends an item. Its host is below 8, and the script has fewer than `MOST_REQUESTS`
+    /// requests. Where it is out of memory nothing changes.
+    pub fn append(&mut self, item: &Item) -> Result<(), Memory>
+        requires host { item.now.host < most_hosts }
         requires room { length self.old < most_requests }
-        requires host { host < most_hosts }
-        ensures ok { OnOk result (self.new ≡ self.old ++ record {
-          host = host;
-          fenced = fenced;
-          poisoned = poisoned;
-          request = request.now;
-        } ∷ []) }
+        ensures ok { OnOk result (self.new ≡ self.old ++ item.now ∷ []) }
         ensures err { OnErr result (self.new ≡ self.old) }
     {
-        request.invariant();
-        self.items.append(host, fenced, poisoned, request)
+        item.request.invariant();
+        self.items
+            .append(item.host, item.fenced, item.poisoned, &item.request)
     }
 
     /// Appends an item with this payload, as `append` does.
     pub(crate) fn push(&mut self, short: &Short, payload: &[u8]) -> Result<(), Memory>
         requires room { length self.old < most_requests }
         requires host { short.now.host < most_hosts }
-        requires request { IsRequest (record {
-          command = short.now.command;
-          cube = short.now.cube;
-          address = short.now.address;
-          payload = payload.now;
-        }) }
-        ensures ok { OnOk result (self.new ≡ self.old ++ record {
-          host = short.now.host;
-          fenced = short.now.fenced;
-          poisoned = short.now.poisoned;
-          request = record {
-            command = short.now.command;
-            cube = short.now.cube;
-            address = short.now.address;
-            payload = payload.now;
-          };
-        } ∷ []) }
+        requires request { IsRequest (request_with short.now payload.now) }
+        ensures ok { OnOk result
+            (self.new ≡ self.old ++ item_with short.now payload.now ∷ []) }
         ensures err { OnErr result (self.new ≡ self.old) }
     {
         self.items.push(short, payload)
@@ -129,14 +106,11 @@ impl Script {
     pub fn add(&mut self, host: u8, poisoned: bool, request: Request) -> Result<(), Memory>
         requires host { host < most_hosts }
         requires room { length self.old < most_requests }
-        ensures ok { OnOk result (self.new ≡ self.old ++ record {
-          host = host;
-          fenced = false;
-          poisoned = poisoned;
-          request = request;
-        } ∷ []) }
+        ensures ok { OnOk result
+            (self.new ≡ self.old ++ asked_item host false poisoned request ∷ []) }
         ensures err { OnErr result (self.new ≡ self.old) }
     {
-        self.append(host, false, poisoned, &request)
+        request.invariant();
+        self.items.append(host, false, poisoned, &request)
     }
 }
