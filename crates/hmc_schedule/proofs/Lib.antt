@@ -5,3 +5,4 @@ pub mod ParseLemmas
 pub mod WrittenLemmas
 mod Worked
 mod CountdownLemmas
+mod RepeatLemmas

@@ -1,5 +1,5 @@
 -- Definitions computed at a plan of two cubes: the second has one vault, four banks, and a link at port 1 alone.
-use Rattle.std.proofs.Common.{◌≡◌, ◌+◌, ℕ, List, length, nat_le, [], ◌∷◌, ◌++◌, Some, None, Result, Ok, Err, filter, replicate, true, false, refl, arith}
+use Rattle.std.proofs.Common.{◌≡◌, ◌∙◌, ◌<◌, ◌+◌, ◌%◌, ℕ, zero, suc, List, length, nat_le, [], ◌∷◌, ◌++◌, Some, None, Result, Ok, Err, filter, replicate, slice_get, true, false, refl, ap, arith}
 use Rattle.std.proofs.lemmas.Bool.Decides.{nat_tests}
 use Rattle.std.specs.Prelude.{codes, map}
 use Rattle.std.proofs.lemmas.List.Elements.{All-nil, All-cons}
@@ -29,7 +29,8 @@ use Rattle.hmc_schedule.specs.Round.{shifts_of, spreads_of, banks_of, lifts_of, 
 use Rattle.hmc_schedule.specs.Noise.{is_land, noisy, IsNoise}
 use Rattle.hmc_schedule.specs.Schedule.{add_steps, add_rounds, add_one, after_line, schedule_of, IsSchedule}
 use Rattle.hmc_schedule.specs.Verb.{verbs as all_verbs, verb_of}
-use Rattle.hmc_schedule.specs.Written.{Kept, kept_of, held_of, steps_in, IsKept, IsWritten}
+use Rattle.hmc_schedule.specs.StepsLeft.{AreRepeated, TakesFirst}
+use Rattle.hmc_schedule.specs.Written.{WrittenFields, Kept, kept_of, held_of, steps_in, IsKept, IsWritten}
 
 abbrev two_cubes : PlanFields
 two_cubes = record {
@@ -240,3 +241,47 @@ IsSchedule-short_mask : IsSchedule (steps.Land 0 (0 ∷ []) ∷ []) → ⊥
 IsSchedule-short_mask is =
     let mask : HasFlit (steps.Land 0 (0 ∷ [])) = is.masks 0 (steps.Give 0) (omega arith) in
     omega (arith, mask.long)
+
+-- ---- steps taken off one after another
+
+TakesFirst-first : TakesFirst (steps.Give 0 ∷ steps.Take 1 ∷ []) (Some (steps.Give 0)) (steps.Take 1 ∷ [])
+TakesFirst-first = refl
+
+-- not the second one, and none only where none is left
+TakesFirst-second : TakesFirst (steps.Give 0 ∷ steps.Take 1 ∷ []) (Some (steps.Take 1)) (steps.Give 0 ∷ []) → ⊥
+TakesFirst-second is = absurd cc
+
+TakesFirst-none : TakesFirst (steps.Give 0 ∷ []) None [] → ⊥
+TakesFirst-none is = absurd (cc (is.0))
+
+-- two rounds of two steps, from the second step on: the round's second step comes next
+abbrev same_round_twice : WrittenFields
+same_round_twice = record {
+  kept = steps.Give 0 ∷ steps.Take 0 ∷ [];
+  steps = steps.Give 0 ∷ steps.Take 0 ∷ steps.Give 0 ∷ steps.Take 0 ∷ steps.Send 0 ∷ [];
+}
+
+AreRepeated-same_round_twice : AreRepeated same_round_twice 1 (record { from = 0; next = 1; end = 2; until = 4 })
+AreRepeated-same_round_twice = record {
+  len = 2;
+  place = 1;
+  next_is = refl;
+  end_is = refl;
+  small = omega arith;
+  inside = omega arith;
+  few = omega arith;
+  each = each;
+} where
+  each : (k : ℕ) → 1 + k < 4 → slice_get same_round_twice.steps (1 + k) ≡ slice_get same_round_twice.kept (0 + (1 + k) % 2)
+  each zero below = refl
+  each (suc zero) below = refl
+  each (suc (suc zero)) below = refl
+  each (suc (suc (suc k))) below = absurd (omega (arith, below))
+
+-- the step after them is none of the round, and from the second step on the first one doesn't come next
+AreRepeated-until : AreRepeated same_round_twice 4 (record { from = 0; next = 0; end = 2; until = 5 }) → ⊥
+AreRepeated-until is =
+    let len : is.len ≡ 2 = omega (arith, is.end_is) in
+    let place : is.place ≡ 0 = omega (arith, is.next_is) in
+    let first : Some (steps.Send 0) ≡ slice_get same_round_twice.kept (0 + (0 + 0) % 2) = is.each 0 (omega arith) ∙ ap (λ p. slice_get same_round_twice.kept (0 + (p + 0) % is.len)) place ∙ ap (λ n. slice_get same_round_twice.kept (0 + (0 + 0) % n)) len in
+    absurd cc

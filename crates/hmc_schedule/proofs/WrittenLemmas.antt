@@ -53,6 +53,11 @@ before-le : (kept : Kept) (segments : List Segment) (i j : ℕ) → i ≤ j → 
 unfolding steps_in
 before-le kept segments i j le = length-flat-take (λ s. held_steps kept s.held) segments i j le
 
+-- a segment begins among the steps
+pub start_few : (kept : Kept) (segments : List Segment) (len n : ℕ) (d : Segment) → IsWritten kept segments len → n < length segments → (get_or segments n d).start ≤ length (steps_in kept segments)
+start_few kept segments len n d is small =
+    rw (is.starts n d small) (subst (λ (l : List Segment). length (steps_in kept (take n segments)) ≤ length (steps_in kept l)) (take-length segments) (before-le kept segments n (length segments) (omega (arith, small))))
+
 -- segments begin in order
 pub in_order : (kept : Kept) (segments : List Segment) (len : ℕ) → IsWritten kept segments len → IsNonDecreasingBy (λ s. s.start) segments
 in_order kept segments len is i j d le small =

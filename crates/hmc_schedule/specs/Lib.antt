@@ -8,3 +8,4 @@ pub mod Round
 pub mod Written
 pub mod RoundsLeft
 pub mod Schedule
+pub mod StepsLeft

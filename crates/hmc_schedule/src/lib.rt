@@ -23,6 +23,7 @@ mod round;
 mod rounds_left;
 mod schedule;
 mod step;
+mod steps_left;
 mod verb;
 mod written;
 
@@ -31,3 +32,4 @@ pub use plan::{CubePlan, Plan};
 pub use rounds_left::RoundsLeft;
 pub use schedule::Schedule;
 pub use step::Step;
+pub use steps_left::StepsLeft;

@@ -14,6 +14,7 @@ ghost use Rattle.hmc_schedule.specs.Schedule.{IsSchedule};
 use crate::noise::Noise;
 use crate::round::round;
 use crate::rounds_left::RoundsLeft;
+use crate::steps_left::StepsLeft;
 use crate::written::{Rounds, Stretch, Written};
 use crate::{Plan, Step};
 use hmc_codes::{Flit, Memory};
@@ -96,6 +97,14 @@ impl Schedule {
         ensures { steps_left result [] ≡ self.now }
     {
         self.written.in_rounds()
+    }
+
+    /// All steps in their order, to be taken off one after another.
+    pub fn into_steps(self) -> StepsLeft
+        ensures { result ≡ self }
+    {
+        let Schedule { alloc: _, written } = self;
+        StepsLeft::of(written)
     }
 
     /// The step at this place, counted from 0 and below the length. It is found in as many tests as

@@ -1,11 +1,13 @@
 //! A schedule as it is written: a segment for each line that has steps.
 
 ghost use Rattle.std.specs.Prelude.{◌≡◌, ◌<◌, ◌≤◌, ◌^◌, ◌+◌, ◌-◌, ◌*◌, ◌/◌, ◌%◌, ◌++◌, [], length, filter, slice_get, Some, IfOk, OnOk, OnErr};
+ghost use Rattle.std.specs.Option.{option_map_or};
 ghost use Rattle.std.specs.List.Sorted.{IsNonDecreasingBy, IsPartitionPoint};
 ghost use Rattle.hmc_codes.specs.Limits.{most_steps};
 ghost use Rattle.hmc_schedule.specs.Noise.{is_land, lands_of, mask_at};
 ghost use Rattle.hmc_schedule.specs.declared.written.Stretch.TheVariants as stretch;
 ghost use Rattle.hmc_schedule.specs.RoundsLeft.{steps_left};
+ghost use Rattle.hmc_schedule.specs.StepsLeft.{HoldRepeats, IsRepeatsAt};
 ghost use Rattle.hmc_schedule.specs.Written.{round_at, stretch_of, noisy_at, kept_of, held_of, rounds_of_line, held_steps, IsKept, IsRounds, IsStretch, IsHeld};
 
 use crate::Step;
@@ -67,6 +69,36 @@ pub struct Segment {
 // A line with one step takes no more memory than that step and two numbers. Rounds take more, so
 // they are kept apart.
 const _: () = prove!(size_of::<Segment>() == 24);
+
+/// Steps that are those of a kept round without noise, over and over.
+#[derive(Clone, Copy)]
+pub struct Repeats {
+    /// The place of the first step of the round among those that are kept.
+    pub from: usize,
+    /// The place of the step that comes next.
+    pub next: usize,
+    /// The place after the last step of the round.
+    pub end: usize,
+    /// The place in the schedule that is after the last of them.
+    pub until: u32,
+}
+
+/// None.
+pub const NO_REPEATS: Repeats = Repeats {
+    from: 0,
+    next: 0,
+    end: 0,
+    until: 0,
+};
+
+/// A step of a schedule, and the steps from it on, if they are those of a round.
+#[derive(Clone, Copy)]
+pub struct Found {
+    /// The step.
+    pub step: Step,
+    /// It and those that follow it, or none where its line has noise or no round.
+    pub repeats: Repeats,
+}
 
 /// At most `MOST_STEPS` steps, in memory for the lines that state them and for each kept round.
 /// Contracts see the steps of the kept rounds, and the list of all steps.
@@ -160,6 +192,81 @@ fn step_of(kept: &[Step], many: &[Rounds], segment: Segment, at: u32) -> Step
     }
 }
 
+// Where the segment with this number begins, and after the last one the number of all steps.
+fn start_at(segments: &[Segment], number: usize, len: u32) -> u32
+    ensures { result ≡ option_map_or (λ (segment : Segment). segment.start)
+        (slice_get segments.now number) len }
+{
+    match segments.get(number) {
+        Some(segment) => segment.start,
+        None => len,
+    }
+}
+
+// The steps of these rounds from the place `at` of them on, which in the schedule end before
+// `until`.
+fn repeats_of_rounds(kept: &[Step], rounds: Rounds, at: u32, until: u32) -> Repeats
+    requires rounds { IsRounds kept.now rounds }
+    requires inside { at < length (stretch_of kept.now (stretch.Many rounds)) }
+    ensures until { 0 < result.until → result.until ≡ until }
+    ensures hold { 0 < result.until →
+        HoldRepeats (stretch_of kept.now (stretch.Many rounds)) kept.now at result }
+{
+    match rounds.noise {
+        Some(_) => NO_REPEATS,
+        None => {
+            let round = rounds.round;
+            let from = round.start;
+            let next = from + at as usize % round.len;
+            let end = from + round.len;
+            Repeats {
+                from,
+                next,
+                end,
+                until,
+            }
+        }
+    }
+}
+
+// The steps of a segment from the place `at` of the schedule on, which end before `until`.
+fn repeats_of(kept: &[Step], many: &[Rounds], segment: Segment, at: u32, until: u32) -> Repeats
+    requires held { IsHeld (kept_of kept.now many.now) segment.held }
+    requires begun { segment.start ≤ at }
+    requires inside { at - segment.start
+        < length (held_steps (kept_of kept.now many.now) segment.held) }
+    ensures until { 0 < result.until → result.until ≡ until }
+    ensures hold { 0 < result.until →
+        HoldRepeats (held_steps (kept_of kept.now many.now) segment.held) kept.now
+        (at - segment.start) result }
+{
+    match segment.held {
+        Held::One(_) => NO_REPEATS,
+        Held::Many(place) => {
+            repeats_of_rounds(kept, many[place as usize], at - segment.start, until)
+        }
+    }
+}
+
+// The step at this place, which the segment has, and those from it on.
+fn find_in(kept: &[Step], many: &[Rounds], segment: Segment, at: u32, until: u32) -> Found
+    requires held { IsHeld (kept_of kept.now many.now) segment.held }
+    requires begun { segment.start ≤ at }
+    requires inside { at - segment.start
+        < length (held_steps (kept_of kept.now many.now) segment.held) }
+    ensures step { slice_get (held_steps (kept_of kept.now many.now) segment.held)
+        (at - segment.start) ≡ Some result.step }
+    ensures until { 0 < result.repeats.until → result.repeats.until ≡ until }
+    ensures hold { 0 < result.repeats.until →
+        HoldRepeats (held_steps (kept_of kept.now many.now) segment.held) kept.now
+        (at - segment.start) result.repeats }
+{
+    Found {
+        step: step_of(kept, many, segment, at),
+        repeats: repeats_of(kept, many, segment, at, until),
+    }
+}
+
 // Keeps the rounds of a stretch if it has rounds, and returns how a segment holds it.
 fn hold(many: &mut Vec<Rounds>, stretch: Stretch) -> Result<Held, AllocError>
     requires few { length many.old.items < 2 ^ 32 }
@@ -205,8 +312,28 @@ impl Written {
         requires { at < length self.now.steps }
         ensures { slice_get self.now.steps at ≡ Some result }
     {
-        let segment = self.segments[begun_count(&self.segments, at) - 1];
-        step_of(&self.kept, &self.many, segment, at)
+        self.find(at).step
+    }
+
+    /// The step at this place, counted from 0 and below the length, and those from it on.
+    pub fn find(&self, at: u32) -> Found
+        requires { at < length self.now.steps }
+        ensures step { slice_get self.now.steps at ≡ Some result.step }
+        ensures repeats { IsRepeatsAt self.now at result.repeats }
+    {
+        let begun = begun_count(&self.segments, at);
+        let segment = self.segments[begun - 1];
+        let until = start_at(&self.segments, begun, self.len);
+        find_in(&self.kept, &self.many, segment, at, until)
+    }
+
+    /// The kept step at this place, counted from 0.
+    #[inline(always)]
+    pub fn kept_step(&self, at: usize) -> Step
+        requires { at < length self.now.kept }
+        ensures { slice_get self.now.kept at ≡ Some result }
+    {
+        self.kept[at]
     }
 
     /// All rounds, in their order.

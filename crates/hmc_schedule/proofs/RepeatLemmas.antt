@@ -1,0 +1,171 @@
+-- Steps of a round, over and over.
+use Rattle.std.proofs.Common.{◌≡◌, ◌∙◌, ◌<◌, ◌≤◌, ◌+◌, ◌-◌, ◌*◌, ◌/◌, ◌%◌, ℕ, zero, suc, List, [], ◌∷◌, length, drop, slice_get, get_or, Option, Some, None, inl, inr, refl, sym, ap, subst, arith}
+use Rattle.std.specs.Option.{option_map_or, unwrap_or}
+use Rattle.std.specs.List.Sorted.{IsNonDecreasingBy, IsPartitionPoint}
+use Rattle.std.proofs.lemmas.Bool.{cases_lt}
+use Rattle.std.proofs.lemmas.Option.{slice_get-get_or}
+use Rattle.std.proofs.Math.Nat.{add-mod_left, mod-eq_of_lt, mod-lt, mul-add-mod_self_right}
+use Rattle.std.proofs.lemmas.Nat.{div-add-mod'}
+use Rattle.hmc_schedule.specs.declared.step.Step.{Step}
+use Rattle.hmc_schedule.specs.declared.step.Step.TheVariants.{Give}
+use Rattle.hmc_schedule.specs.declared.written.Held.TheVariants as holds
+use Rattle.hmc_schedule.specs.declared.written.Repeats.{Repeats}
+use Rattle.hmc_schedule.specs.declared.written.Rounds.{Rounds}
+use Rattle.hmc_schedule.specs.declared.written.Segment.{Segment}
+use Rattle.hmc_schedule.specs.declared.written.Stretch.TheVariants.{Many}
+use Rattle.hmc_schedule.specs.StepsLeft.{AreRepeated, HoldRepeats}
+use Rattle.hmc_schedule.specs.Written.{WrittenFields, Kept, IsRounds, IsWritten, held_steps, steps_in, stretch_of}
+use Rattle.hmc_schedule.proofs.WrittenLemmas.{in_order, in_round, place_at, quiet_place, start_few}
+
+-- after the last step of a round its first one comes next
+pub pass-last : (w : WrittenFields) (at : ℕ) (r : Repeats) → r.next + 1 ≡ r.end → AreRepeated w at r → AreRepeated w (at + 1) (record r { next = r.from })
+pass-last w at r last is =
+    let full : is.place + 1 ≡ is.len = omega (arith, last, is.next_is, is.end_is) in
+    record {
+      len = is.len;
+      place = 0;
+      next_is = omega arith;
+      end_is = is.end_is;
+      small = omega (arith, is.small);
+      inside = is.inside;
+      few = is.few;
+      each = λ k below.
+          let step : (at + 1) + k ≡ at + (k + 1) = omega arith in
+          let turn : is.place + (k + 1) ≡ is.len + k = omega (arith, full) in
+          let first : k ≡ 0 + k = omega arith in
+          ap (slice_get w.steps) step
+          ∙ is.each (k + 1) (omega (arith, below))
+          ∙ ap (λ i. slice_get w.kept (r.from + i % is.len)) turn
+          ∙ ap (λ i. slice_get w.kept (r.from + i)) (add-mod_left is.len k)
+          ∙ ap (λ i. slice_get w.kept (r.from + i % is.len)) first;
+    }
+
+-- before that, the next one
+pub pass-next : (w : WrittenFields) (at : ℕ) (r : Repeats) → (r.next + 1 ≡ r.end → ⊥) → AreRepeated w at r → AreRepeated w (at + 1) (record r { next = r.next + 1 })
+pass-next w at r more is = record {
+  len = is.len;
+  place = is.place + 1;
+  next_is = omega (arith, is.next_is);
+  end_is = is.end_is;
+  small = omega (arith, more, is.next_is, is.end_is, is.small);
+  inside = is.inside;
+  few = is.few;
+  each = λ k below.
+      let step : (at + 1) + k ≡ at + (k + 1) = omega arith in
+      let turn : is.place + (k + 1) ≡ (is.place + 1) + k = omega arith in
+      ap (slice_get w.steps) step
+      ∙ is.each (k + 1) (omega (arith, below))
+      ∙ ap (λ i. slice_get w.kept (r.from + i % is.len)) turn;
+}
+
+-- a remainder and more have the same remainder as the whole
+mod-more : (at k len : ℕ) → (at % len + k) % len ≡ (at + k) % len
+mod-more at k len =
+    let all : (at / len * len + (at % len + k)) ≡ at + k = omega (arith, div-add-mod' at len) in
+    sym (mul-add-mod_self_right (at / len) len (at % len + k)) ∙ ap (λ i. i % len) all
+
+-- rounds without noise
+pub hold-rounds : (kept : List Step) (rounds : Rounds) (at until : ℕ) → IsRounds kept rounds → at < length (stretch_of kept (Many rounds)) → rounds.noise ≡ None
+    → HoldRepeats (stretch_of kept (Many rounds)) kept at (record { from = rounds.round.start; next = rounds.round.start + at % rounds.round.len; end = rounds.round.start + rounds.round.len; until = until })
+hold-rounds kept rounds at until is small quiet = record {
+  len = rounds.round.len;
+  place = at % rounds.round.len;
+  next_is = refl;
+  end_is = refl;
+  small = (in_round kept rounds at is small).small;
+  inside = is.round.inside;
+  each = λ k below.
+      let place = in_round kept rounds (at + k) is below in
+      quiet_place kept rounds (at + k) (Give 0) is below quiet
+      ∙ sym (slice_get-get_or kept (rounds.round.start + (at + k) % rounds.round.len) (Give 0) place.inside)
+      ∙ ap (λ i. slice_get kept (rounds.round.start + i)) (sym (mod-more at k rounds.round.len));
+}
+
+-- past the end of a list there is nothing
+slice_get_none : {X : Type 0} (xs : List X) (n : ℕ) → length xs ≤ n → slice_get xs n ≡ None
+slice_get_none [] n over = refl
+slice_get_none (x ∷ xs) zero over = absurd (omega (arith, over))
+slice_get_none (x ∷ xs) (suc n) over = slice_get_none xs n (omega (arith, over))
+
+-- so many segments begin at or before a later place too, up to where the next one begins
+later_point : (segments : List Segment) (at j until len n : ℕ) → IsNonDecreasingBy (λ s. s.start) segments → until ≡ option_map_or (λ (s : Segment). s.start) (slice_get segments n) len → at ≤ j → j < until
+    → IsPartitionPoint (λ s. s.start ≤ at) (λ s. at < s.start) segments n → IsPartitionPoint (λ s. s.start ≤ j) (λ s. j < s.start) segments n
+later_point segments at j until len n ordered ends later below point = (
+  λ i d low high. let begun = point.0 i d low high in omega (arith, begun, later),
+  λ i d low high.
+      let inside : n < length segments = omega (arith, low, high) in
+      let is : until ≡ (get_or segments n d).start = ends ∙ ap (λ (o : Option Segment). option_map_or (λ (s : Segment). s.start) o len) (slice_get-get_or segments n d inside) in
+      let rises = ordered n i d low high in
+      omega (arith, below, is, rises),
+)
+
+-- where the next segment begins, or the end
+until_few : (kept : Kept) (segments : List Segment) (until len n : ℕ) → IsWritten kept segments len → until ≡ option_map_or (λ (s : Segment). s.start) (slice_get segments n) len → until ≤ length (steps_in kept segments)
+until_few kept segments until len n is ends = elim (cases_lt n (length segments)) [
+  | inl under ↦
+      let d : Segment = record { start = 0; held = holds.One (Give 0) } in
+      let at : until ≡ (get_or segments n d).start = ends ∙ ap (λ (o : Option Segment). option_map_or (λ (s : Segment). s.start) o len) (slice_get-get_or segments n d under) in
+      let few = start_few kept segments len n d is under in
+      omega (arith, at, few)
+  | inr over ↦
+      let at : until ≡ len = ends ∙ ap (λ (o : Option Segment). option_map_or (λ (s : Segment). s.start) o len) (slice_get_none segments n over) in
+      omega (arith, at, is.total)
+]
+
+-- the steps from a place on, as the segment that has it holds them
+pub repeated_at : (kept again : Kept) (segments looked : List Segment) (len at n until : ℕ) (w : WrittenFields) (s : Segment) (r : Repeats) → IsWritten kept segments len → record { kept = kept.steps; steps = steps_in kept segments } ≡ w → at < length w.steps → looked ≡ segments → n ≤ length looked → IsPartitionPoint (λ s. s.start ≤ at) (λ s. at < s.start) looked n
+    → s ≡ get_or segments (n - 1) s → again ≡ kept → until ≡ option_map_or (λ (s : Segment). s.start) (slice_get looked n) len → r.until ≡ until → s.start ≤ at → HoldRepeats (held_steps again s.held) again.steps (at - s.start) r → AreRepeated w at r
+repeated_at kept again segments looked len at n until w s r is view within same few point found again_is ends ends_at begun hold =
+    let ordered : IsNonDecreasingBy (λ s. s.start) looked = subst (λ (l : List Segment). IsNonDecreasingBy (λ s. s.start) l) (sym same) (in_order kept segments len is) in
+    let steps : steps_in kept segments ≡ w.steps = ap (λ (v : WrittenFields). v.steps) view in
+    let kept_is : again.steps ≡ w.kept = ap (λ (k : Kept). k.steps) again_is ∙ ap (λ (v : WrittenFields). v.kept) view in
+    let last : until ≤ length w.steps = subst (λ (l : List Step). until ≤ length l) steps (until_few kept segments until len n is (subst (λ (l : List Segment). until ≡ option_map_or (λ (s : Segment). s.start) (slice_get l n) len) same ends)) in
+    record {
+      len = hold.len;
+      place = hold.place;
+      next_is = hold.next_is;
+      end_is = hold.end_is;
+      small = hold.small;
+      inside = subst (λ (l : List Step). r.end ≤ length l) kept_is hold.inside;
+      few = omega (arith, ends_at, last);
+      each = λ k below.
+          let j = at + k in
+          let short : j < until = omega (arith, below, ends_at) in
+          let place = place_at kept again segments looked len j n w s is view (omega (arith, short, last)) same few (later_point looked at j until len n ordered ends (omega arith) short point) found again_is in
+          let index : j - s.start ≡ (at - s.start) + k = omega (arith, begun) in
+          let i = r.from + (hold.place + k) % hold.len in
+          let some : 0 < hold.len = omega (arith, hold.small) in
+          let less : i < length again.steps = omega (arith, mod-lt (hold.place + k) some, hold.end_is, hold.inside) in
+          let x = get_or again.steps i (Give 0) in
+          let value : slice_get again.steps i ≡ Some x = slice_get-get_or again.steps i (Give 0) less in
+          let held : slice_get (held_steps again s.held) (j - s.start) ≡ Some x = ap (slice_get (held_steps again s.held)) index ∙ hold.each k (subst (λ m. m < length (held_steps again s.held)) index place.inside) ∙ value in
+          place.is x held ∙ sym value ∙ ap (λ (l : List Step). slice_get l i) kept_is;
+    }
+
+-- the step at a place is the one that comes next
+pub first_repeated : (w : WrittenFields) (at : ℕ) (r : Repeats) (step : Step) → at < r.until → AreRepeated w at r → slice_get w.kept r.next ≡ Some step → slice_get w.steps at ≡ Some step
+first_repeated w at r step more is found =
+    let here : at ≡ at + 0 = omega arith in
+    let turn : is.place + 0 ≡ is.place = omega arith in
+    ap (slice_get w.steps) here
+    ∙ is.each 0 (omega (arith, more))
+    ∙ ap (λ i. slice_get w.kept (r.from + i % is.len)) turn
+    ∙ ap (λ i. slice_get w.kept (r.from + i)) (mod-eq_of_lt is.small)
+    ∙ ap (slice_get w.kept) (sym is.next_is)
+    ∙ found
+
+-- it is kept, in the round at hand
+pub next_kept : (w : WrittenFields) (at : ℕ) (r : Repeats) → AreRepeated w at r → r.next < length w.kept
+next_kept w at r is = omega (arith, is.next_is, is.end_is, is.small, is.inside)
+
+pub next_in_round : (w : WrittenFields) (at : ℕ) (r : Repeats) → AreRepeated w at r → r.next < r.end
+next_in_round w at r is = omega (arith, is.next_is, is.end_is, is.small)
+
+one_further : (k : ℕ) → suc k + 1 ≡ suc (k + 1)
+one_further k = omega arith
+
+-- the first step is taken off a list
+pub drop_first : (steps : List Step) (at : ℕ) (step : Step) → slice_get steps at ≡ Some step → drop at steps ≡ step ∷ drop (at + 1) steps
+drop_first [] at step is = absurd cc
+drop_first (x ∷ steps) zero step is = ap (λ (o : Option Step). unwrap_or o x ∷ steps) is
+drop_first (x ∷ steps) (suc k) step is = drop_first steps k step is ∙ ap (λ (n : ℕ). step ∷ drop n (x ∷ steps)) (sym (one_further k))
