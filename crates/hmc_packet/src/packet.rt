@@ -56,20 +56,7 @@ impl Model for Packet {
       payload = p.payload;
     } };
 
-    ghost invariant = { λ p. IsPacket (record {
-      command = p.command;
-      tag = p.tag;
-      address = p.address;
-      cube = p.cube;
-      slid = p.slid;
-      flag = p.flag;
-      errstat = p.errstat;
-      rtc = p.rtc;
-      seq = p.seq;
-      frp = p.frp;
-      poisoned = p.poisoned;
-      payload = p.payload;
-    }) };
+    ghost invariant = { λ p. IsPacket (view p) };
 
     ghost inverse = { λ p. record {
       command = p.command;

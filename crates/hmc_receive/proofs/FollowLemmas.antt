@@ -1,5 +1,5 @@
 -- What each kind of landing leaves is what its entry changes.
-use Rattle.std.proofs.Common.{◌≡◌, ◌≢◌, ◌∙◌, ◌+◌, ◌%◌, ℕ, Bool, true, false, List, [], ◌∷◌, ◌++◌, Option, Some, None, Ok, refl, sym, ap, subst, arith}
+use Rattle.std.proofs.Common.{◌≡◌, ◌≢◌, ◌∙◌, ◌+◌, ◌%◌, ℕ, Bool, true, false, List, [], ◌∷◌, ◌++◌, Option, Some, None, Result, Ok, Err, refl, sym, ap, subst, arith}
 use Rattle.std.specs.Prelude.{◌==◌, nat_lt, if◌then◌else◌}
 use Rattle.std.proofs.lemmas.Bool.{eqb-true, and_parts}
 use Rattle.std.proofs.lemmas.Grind.{common_steps}
@@ -21,12 +21,12 @@ use Rattle.hmc_packet.specs.declared.reception.Reception.{Reception}
 use Rattle.hmc_packet.specs.declared.seen.Seen.{Seen}
 use Rattle.hmc_packet.specs.declared.view.Mode.{Mode}
 use Rattle.hmc_packet.specs.declared.view.Mode.TheVariants.{Train, Abort, Good}
-use Rattle.hmc_packet.specs.Irtry.{kind_of, irtry_by, irtry_in}
+use Rattle.hmc_packet.specs.Irtry.{kind_of, irtry_by, irtry_seen, irtry_in}
 use Rattle.hmc_packet.specs.Landings.{ReceiverEntry, mode_after}
 use Rattle.hmc_packet.specs.Landings.ReceiverEntry.{Land, Unlock}
 use Rattle.hmc_packet.specs.Packet.{flits_of}
 use Rattle.hmc_packet.specs.Reading.{IsSpelled, is_null, is_null_alone, read_of}
-use Rattle.hmc_packet.specs.Receptions.{is_next, is_repeat, irtry_reception, sequenced_outcome, packet_reception, abort_reception}
+use Rattle.hmc_packet.specs.Receptions.{is_next, is_repeat, irtry_reception, sequenced_outcome, packet_reception, read_reception, abort_reception, LandingView}
 use Rattle.hmc_packet.proofs.LinkLemmas.{flow-alone}
 use Rattle.hmc_receive.specs.Receiver.{ReceiverFields, view_of, mode_ran, mode_counted, after_other, after_abort, after_gathered, after_irtry, after_accepted, after_sequenced, after_packet, after_alone, after_unlock, Follows}
 
@@ -236,6 +236,31 @@ irtry_by-layout : (c : Command) (frp rrp : ℕ) → irtry_by c frp rrp ≡ irtry
 unfolding irtry_of_layout table_line
 irtry_by-layout Irtry frp rrp = refl
 irtry_by-layout _ frp rrp = refl
+
+-- what reads as an IRTRY is received as one
+seen-reception : (q : Profile) (view : LandingView) (read : Result Seen Bad) (kind : Kind) (rrp : ℕ) → irtry_seen read ≡ Some (kind, rrp) → irtry_reception (view.run kind) kind rrp ≡ read_reception q view read
+unfolding irtry_of_layout
+seen-reception q view (Err bad) kind rrp is = absurd (let clash : None ≡ Some (kind, rrp) = is in cc)
+seen-reception q view (Ok seen) kind rrp is = by_layout (layout_of seen.packet.command) (sym (irtry_by-layout seen.packet.command seen.packet.frp seen.rrp) ∙ is)
+  where
+    by_pair : (found wanted : Kind × ℕ) → Some found ≡ Some wanted → found ≡ wanted
+    by_pair found wanted is = cc
+
+    by_layout : (layout : Layout) → irtry_of_layout layout seen.packet.frp seen.rrp ≡ Some (kind, rrp) → irtry_reception (view.run kind) kind rrp ≡ packet_reception q view layout seen
+    by_layout layouts.Irtry is = let pair = by_pair (kind_of seen.packet.frp, seen.rrp) (kind, rrp) is in ap (λ (p : Kind × ℕ). irtry_reception (view.run p.0) p.0 p.1) (sym pair)
+    by_layout layouts.Null is = absurd (let clash : None ≡ Some (kind, rrp) = is in cc)
+    by_layout layouts.Pret is = absurd (let clash : None ≡ Some (kind, rrp) = is in cc)
+    by_layout layouts.Tret is = absurd (let clash : None ≡ Some (kind, rrp) = is in cc)
+    by_layout layouts.Ask is = absurd (let clash : None ≡ Some (kind, rrp) = is in cc)
+    by_layout layouts.Reply is = absurd (let clash : None ≡ Some (kind, rrp) = is in cc)
+
+-- where nothing is gathered, a flit is read alone
+pub last-reception : (r : ReceiverFields) (flit : List ℕ) (kind : Kind) (rrp : ℕ) → r.gathered ≡ [] → irtry_in r.profile flit ≡ Some (kind, rrp) →
+    irtry_reception (run_of kind r.runs) kind rrp ≡ read_reception r.profile (view_of r) (read_of r.profile (r.gathered ++ flit ∷ []))
+unfolding irtry_in
+last-reception r flit kind rrp empty irtry =
+    seen-reception r.profile (view_of r) (read_of r.profile (flit ∷ [])) kind rrp irtry
+    ∙ ap (λ (g : List (List ℕ)). read_reception r.profile (view_of r) (read_of r.profile (g ++ flit ∷ []))) (sym empty)
 
 last_of_one : (xs : List (List ℕ)) (x y : List ℕ) → xs ++ x ∷ [] ≡ y ∷ [] → x ≡ y
 last_of_one [] x y is = cc

@@ -249,9 +249,25 @@ impl Receiver {
         }
     }
 
-    // The last flit of a packet came. All of them are read where they are gathered.
+    // The last flit of a packet came. Alone it may be an IRTRY, of which no packet is made.
     #[inline(never)]
     fn land_last(&mut self, flit: &Flit) -> Reception
+        requires good { self.old.mode ≡ Good }
+        requires few { length self.old.gathered < 17 }
+        ensures value { result ≡ read_reception self.old.profile (view_of self.old)
+            (read_of self.old.profile (self.old.gathered ++ flit.now ∷ [])) }
+        ensures follows { Follows self.old self.new (Land flit.now result.outcome) }
+    {
+        if self.gathered.is_empty() {
+            if let Some((kind, rrp)) = irtry_of(flit, self.profile) {
+                return self.see_irtry(kind, rrp);
+            }
+        }
+        self.read_last(flit)
+    }
+
+    // The same of each flit. All of them are read where they are gathered.
+    fn read_last(&mut self, flit: &Flit) -> Reception
         requires good { self.old.mode ≡ Good }
         requires few { length self.old.gathered < 17 }
         ensures value { result ≡ read_reception self.old.profile (view_of self.old)

@@ -85,16 +85,25 @@ impl RetryBuffer {
         self.flits - self.used
     }
 
-    /// Keeps a packet. Where all others were sent, this one counts as sent too.
+    /// Keeps a copy of a packet. Where all others were sent, this one counts as sent too.
+    pub fn keep(&mut self, packet: &Packet)
+        requires room { flits_of packet.now ≤ room_of self.old }
+        requires pointer { packet.now.frp ≡ next_pointer self.old (flits_of packet.now) }
+        ensures { self.new ≡ after_put packet.now self.old }
+    {
+        let flits = u16::from(packet.flits());
+        self.position = position_after_put(self.position, self.kept.len());
+        self.used += flits;
+        append(&mut self.kept, *packet);
+    }
+
+    /// The same, with the packet by value.
     pub fn put(&mut self, packet: Packet)
         requires room { flits_of packet ≤ room_of self.old }
         requires pointer { packet.frp ≡ next_pointer self.old (flits_of packet) }
         ensures { self.new ≡ after_put packet self.old }
     {
-        let flits = u16::from(packet.flits());
-        self.position = position_after_put(self.position, self.kept.len());
-        self.used += flits;
-        append(&mut self.kept, packet);
+        self.keep(&packet);
     }
 
     /// Drops the packets up to the one with this pointer, and gives their number: none where it is

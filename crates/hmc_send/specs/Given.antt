@@ -1,5 +1,5 @@
 -- What a send is given, and what it leaves of it.
-use Rattle.std.specs.Prelude.{◌≡◌, ◌<◌, ◌^◌, ℕ, ◌-◌, Bool, false, List, slice_get, Option, Some, None, IfSome}
+use Rattle.std.specs.Prelude.{◌≡◌, ◌<◌, ◌^◌, ℕ, ◌-◌, false, List, slice_get, Option, Some, None, IfSome}
 use Rattle.hmc_codes.specs.Commands.{is_flow, layout_of}
 use Rattle.hmc_codes.specs.declared.profile.Profile.{Profile}
 use Rattle.hmc_codes.specs.declared.profile.Profile.TheVariants.{Two}

@@ -16,7 +16,7 @@ ghost use Rattle.hmc_send.specs.StandsFor.{StandsFor};
 ghost use Rattle.std.specs.Prelude.{nat_le, ◌&&◌};
 
 use crate::state::{ENOUGH, State, is_train};
-use crate::under_way::UnderWay;
+use crate::unfinished::Unfinished;
 use hmc_codes::{Flit, Profile};
 use hmc_irtry::Burst;
 use hmc_packet::{Mode, View};
@@ -36,7 +36,7 @@ pub fn opening(retry: RetryBuffer, profile: Profile) -> State
         profile,
         pointer: 0,
         number: 0,
-        under_way: None,
+        under_way: Unfinished::none(),
         burst: Burst::empty(),
         go_back: false,
         is_open: false,
@@ -87,7 +87,7 @@ impl State {
     fn open_flits(&self) -> u8
         ensures { result ≡ open_flits self.now.under_way }
     {
-        match &self.under_way {
+        match self.under_way.get() {
             Some(begun) => begun.open_flits(),
             None => 0,
         }
@@ -122,6 +122,6 @@ impl State {
         let numbers = self.next_numbers(flits, rtc);
         self.pointer = numbers.frp;
         self.number = numbers.seq;
-        self.under_way = Some(UnderWay::through(head, flits, numbers));
+        self.under_way.begin_through(head, flits, numbers);
     }
 }

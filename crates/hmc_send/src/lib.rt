@@ -23,6 +23,7 @@ mod sent;
 mod state;
 mod toward;
 mod under_way;
+mod unfinished;
 
 pub use hmc_packet::{Kind, Mode, View, What};
 pub use laws::sends_are_by_rows;

@@ -13,7 +13,8 @@ ghost use Rattle.hmc_send.specs.Kept.{AreNumbers, CanBeSent};
 ghost use Rattle.hmc_send.specs.Places.{flit_of, numbers_after, tret_packet, pret_packet};
 ghost use Rattle.hmc_send.specs.Sender.{with_irtry, others_after};
 
-use crate::under_way::{UnderWay, first_flit};
+use crate::under_way::first_flit;
+use crate::unfinished::Unfinished;
 use crate::{Numbers, Sent};
 use hmc_codes::{Command, Flit, Profile, ZERO_FLIT};
 use hmc_irtry::{Burst, irtry};
@@ -38,7 +39,7 @@ pub struct State {
     /// SEQ of that packet.
     pub number: u8,
     /// The packet that is begun and has flits left.
-    pub under_way: Option<UnderWay>,
+    pub under_way: Unfinished,
     /// The IRTRYs that a burst lacks.
     pub burst: Burst,
     /// Whether a go-back is due.
@@ -170,7 +171,7 @@ impl State {
             self.shown = rrp;
             return;
         }
-        self.under_way = UnderWay::begin(packet, draft, again, flit);
+        self.under_way.begin(packet, draft, again, flit);
     }
 
     /// Begins the packet at the position again; `None` where all were sent.
@@ -262,26 +263,11 @@ impl State {
         };
         self.pointer = packet.frp;
         self.number = packet.seq;
-        self.retry.put(packet);
+        self.retry.keep(&packet);
         let draft = Draft::of(&packet);
         let flit = first_flit(self.profile, &packet, &draft, rrp);
         self.begin(&packet, draft, false, flit, rrp);
         flit
-    }
-
-    // A flit of the packet under way was sent, which wasn't its last.
-    fn push(&mut self, flit: Flit)
-        requires more { IfSome self.old.under_way (λ begun.
-            (suc (length begun.part.sent) == begun.part.flits) ≡ false) }
-        requires head { IfSome self.old.under_way (λ begun.
-            IsHeadFirst begun.part begun.place flit) }
-        ensures { self.new ≡ record self.old {
-          under_way = longer flit self.old.under_way;
-        } }
-    {
-        if let Some(begun) = &mut self.under_way {
-            begun.push(flit);
-        }
     }
 
     // The last flit of the packet under way was sent: a copy is complete, and kept.
@@ -294,13 +280,13 @@ impl State {
           shown = rrp;
         } }
     {
-        if let Some(begun) = &self.under_way {
+        if let Some(begun) = self.under_way.get() {
             begun.invariant();
             if let Some(copy) = begun.copy(self.profile, feed) {
-                self.retry.put(copy);
+                self.retry.keep(&copy);
             }
         }
-        self.under_way = None;
+        self.under_way.end();
         self.shown = rrp;
     }
 
@@ -317,7 +303,7 @@ impl State {
         ensures left { IfSome self.old.under_way (λ begun. self.new
             ≡ after_part self.old.profile rrp feed.now result begun self.old) }
     {
-        let Some(begun) = &self.under_way else {
+        let Some(begun) = self.under_way.get() else {
             unreachable!()
         };
         let Some(flit) = begun.next_flit(self.profile, rrp, feed) else {
@@ -327,7 +313,7 @@ impl State {
         if begun.is_at_last() {
             self.end(rrp, feed);
         } else {
-            self.push(flit);
+            self.under_way.push(flit);
         }
         self.count_other();
         Sent::Out { flit, what }
@@ -426,7 +412,7 @@ impl State {
             FitsPlace profile begun.part begun.place feed.now) }
         ensures part { IfSome self.now.under_way (λ begun. IsPartFit begun.part begun.place) }
     {
-        if let Some(begun) = &self.under_way {
+        if let Some(begun) = self.under_way.get() {
             begun.invariant();
             begun.fits(feed);
         }
@@ -436,10 +422,7 @@ impl State {
     pub fn has_part(&self) -> bool
         ensures { result ≡ is_some self.now.under_way }
     {
-        match &self.under_way {
-            Some(_) => true,
-            None => false,
-        }
+        self.under_way.is_begun()
     }
 
     // The first of ten cases that applies.
@@ -544,7 +527,7 @@ impl State {
         ensures by_list { (past : List SenderEntry) → StandsFor self.now past →
             result ≡ through_at self.now.retry.profile past }
     {
-        match &self.under_way {
+        match self.under_way.get() {
             Some(begun) => begun.through_at(),
             None => None,
         }

@@ -3,7 +3,7 @@
 ghost use Rattle.std.specs.Prelude.{◌≡◌, ◌≢◌, ◌<◌, ◌≤◌, ◌+◌, suc, true, false, [], ◌∷◌, ◌++◌, Some, None, length};
 ghost use Rattle.hmc_codes.specs.Profile.{modulus_of};
 ghost use Rattle.hmc_packet.specs.Draft.{draft_of};
-ghost use Rattle.hmc_packet.specs.Packet.{flits_of};
+ghost use Rattle.hmc_packet.specs.Packet.{flits_of, null_packet};
 ghost use Rattle.hmc_packet.specs.Parts.{lng_of};
 ghost use Rattle.hmc_send.specs.Choice.{next_flit, part_what};
 ghost use Rattle.hmc_send.specs.Entries.{part_after, part_with, with_place, through_place};
@@ -95,27 +95,38 @@ impl UnderWay {
     ghost use Rattle.hmc_send.specs.Copies.{fed_flit, copy_of};
     ghost use Rattle.hmc_send.specs.Kept.{copy_fed};
 
-    /// A packet whose first flit was sent; `None` where it has no other.
-    pub fn begin(packet: &Packet, draft: Draft, again: bool, flit: Flit) -> Option<Self>
+    /// A packet that has ended.
+    pub fn ended() -> Self
+        ensures { result ≡ record {
+          part = record { again = false; flits = 1; sent = [] };
+          place = Place.known null_packet;
+        } }
+    {
+        let packet = Packet::null();
+        let draft = Draft::of(&packet);
+        UnderWay {
+            again: false,
+            flits: 1,
+            sent: ArrayVec::new(),
+            content: Content::Known { packet, draft },
+        }
+    }
+
+    /// It becomes a packet of two flits or more, whose first flit was sent.
+    pub fn begin(&mut self, packet: &Packet, draft: Draft, again: bool, flit: Flit)
         requires draft { draft ≡ draft_of packet.now }
         requires lng { lng_of flit ≡ flits_of packet.now }
-        ensures { result ≡ with_place (Place.known packet.now) (part_after again flit None) }
+        requires more { 2 ≤ flits_of packet.now }
+        ensures { Some self.new ≡ with_place (Place.known packet.now) (part_after again flit None) }
     {
-        let flits = packet.flits();
-        if flits == 1 {
-            return None;
-        }
-        let mut sent = ArrayVec::new();
-        sent.push(flit);
-        Some(UnderWay {
-            again,
-            flits,
-            sent,
-            content: Content::Known {
-                packet: *packet,
-                draft,
-            },
-        })
+        self.again = again;
+        self.flits = packet.flits();
+        self.sent.clear();
+        self.sent.push(flit);
+        self.content = Content::Known {
+            packet: *packet,
+            draft,
+        };
     }
 
     /// A packet that is passed on, of which nothing was sent.

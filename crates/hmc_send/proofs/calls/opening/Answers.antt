@@ -1,4 +1,4 @@
-use Rattle.std.proofs.Common.{false, [], None, sym, subst}
+use Rattle.std.proofs.Common.{false, [], sym, subst}
 use Rattle.hmc_send.specs.declared.state.State.{State}
 use Rattle.hmc_send.specs.StandsFor.{StandsFor}
 use Rattle.hmc_send.proofs.CallLemmas.{stands-opening}
@@ -11,7 +11,7 @@ returns-clause-stands c = subst (λ (held : State). StandsFor held [])
       profile = c.args.profile;
       pointer = 0;
       number = 0;
-      under_way = None;
+      under_way = sym c.none.ensures i;
       burst = sym c.empty.ensures i;
       go_back = false;
       is_open = false;

@@ -15,23 +15,23 @@ use Rattle.hmc_send.proofs.state.State.begin_through.Goals as goal
 pub next_numbers-numbers-requires-clause-rtc : goal.next_numbers-numbers-requires-clause-rtc
 next_numbers-numbers-requires-clause-rtc c = subst (λ (n : ℕ). n < 8) (sym c.pay-rtc.ensures.code) (code-few c.spend.new.self.due)
 
-pub through-requires-clause-few : goal.through-requires-clause-few
-through-requires-clause-few c = head-few c.args.head c.args.flits c.requires.head
+pub begin_through-requires-clause-few : goal.begin_through-requires-clause-few
+begin_through-requires-clause-few c = head-few c.args.head c.args.flits c.requires.head
 
 -- what it leaves
-left : (c : goal.After-self-3-1) → after_through c.args.head c.args.flits c.args.account.now.due c.args.self.now ≡ record c.args.self.now {
+left : (c : goal.After-begin_through) → after_through c.args.head c.args.flits c.args.account.now.due c.args.self.now ≡ record c.args.self.now {
   pointer = c.next_numbers-numbers.result.frp;
   number = c.next_numbers-numbers.result.seq;
-  under_way = Some c.through.result;
+  under_way = c.begin_through.new.self;
 }
 left c =
     let held = c.args.self.now in
     let due : code_for c.args.account.now.due ≡ c.pay-rtc.result = sym (c.pay-rtc.ensures.code ∙ ap (λ (a : Account). code_for a.due) c.spend.ensures) in
     let numbers : through_numbers held c.args.flits c.args.account.now.due ≡ c.next_numbers-numbers.result =
     ap (numbers_after held.retry.profile held.pointer held.number c.args.flits) due ∙ (λ i. numbers_after (sym c.requires.sender.profile i) held.pointer held.number c.args.flits c.pay-rtc.result) ∙ sym c.next_numbers-numbers.ensures.value in
-    let begun : record { part = record { again = false; flits = c.args.flits; sent = [] }; place = Place.awaited c.args.head c.args.flits (through_numbers held c.args.flits c.args.account.now.due) } ≡ c.through.result =
-    (λ i. record { part = record { again = false; flits = c.args.flits; sent = [] }; place = Place.awaited c.args.head c.args.flits (numbers i) }) ∙ sym c.through.ensures in
-    λ i. record held { pointer = (numbers i).frp; number = (numbers i).seq; under_way = Some (begun i) }
+    let begun : Some (record { part = record { again = false; flits = c.args.flits; sent = [] }; place = Place.awaited c.args.head c.args.flits (through_numbers held c.args.flits c.args.account.now.due) }) ≡ c.begin_through.new.self =
+    (λ i. Some (record { part = record { again = false; flits = c.args.flits; sent = [] }; place = Place.awaited c.args.head c.args.flits (numbers i) })) ∙ sym c.begin_through.ensures in
+    λ i. record held { pointer = (numbers i).frp; number = (numbers i).seq; under_way = begun i }
 
 pub returns-clause-keeps : goal.returns-clause-keeps
 returns-clause-keeps c =

@@ -3,17 +3,17 @@ use Rattle.std.proofs.Common.{◌≡◌, ◌≤◌, ◌==◌, ◌∙◌, ℕ, su
 use Rattle.hmc_packet.specs.Packet.{flits_of}
 use Rattle.hmc_retry.specs.RetryBuffer.{RetryFields, room_of, next_pointer}
 use Rattle.hmc_retry.proofs.Kept.{room_for_packet, kept_with}
-use Rattle.hmc_retry.proofs.buffer.RetryBuffer.put.Goals as goal
+use Rattle.hmc_retry.proofs.buffer.RetryBuffer.keep.Goals as goal
 
 pub append-requires : goal.append-requires
 append-requires c =
-    room_for_packet _ c.args.packet c.self.inside.used c.self.inside.kept.capacity c.self.invariant (subst (λ (b : RetryFields). flits_of c.args.packet ≤ room_of b) (sym c.self.view_is) c.requires.room)
+    room_for_packet _ c.args.packet.now c.self.inside.used c.self.inside.kept.capacity c.self.invariant (subst (λ (b : RetryFields). flits_of c.args.packet.now ≤ room_of b) (sym c.self.view_is) c.requires.room)
 
 pub invariant_of-self : goal.invariant_of-self
 invariant_of-self c =
-    kept_with c.args.packet _ c.self.inside.used c.self.inside.kept.capacity c.append.new.ring.items c.position_after_put-self-inside.result c.from-flits.result c.append.new.ring.capacity c.self.invariant
-    (subst (λ (b : RetryFields). flits_of c.args.packet ≤ room_of b) (sym c.self.view_is) c.requires.room)
-    (subst (λ (b : RetryFields). c.args.packet.frp ≡ next_pointer b (flits_of c.args.packet)) (sym c.self.view_is) c.requires.pointer)
+    kept_with c.args.packet.now _ c.self.inside.used c.self.inside.kept.capacity c.append.new.ring.items c.position_after_put-self-inside.result c.from-flits.result c.append.new.ring.capacity c.self.invariant
+    (subst (λ (b : RetryFields). flits_of c.args.packet.now ≤ room_of b) (sym c.self.view_is) c.requires.room)
+    (subst (λ (b : RetryFields). c.args.packet.now.frp ≡ next_pointer b (flits_of c.args.packet.now)) (sym c.self.view_is) c.requires.pointer)
     c.append.ensures.items
     (c.position_after_put-self-inside.ensures ∙ ap (λ (n : ℕ). if c.self.inside.position == n then suc c.self.inside.position else c.self.inside.position) c.len.ensures.len)
     (c.from-flits.ensures ∙ c.flits.ensures.value)
