@@ -23,6 +23,7 @@ ghost use Rattle.hmc_link_laws.specs.Lists.{list_after_send};
 ghost use Rattle.hmc_link_laws.specs.Pointers.{pointer_landed, Acknowledges};
 ghost use Rattle.hmc_link_laws.specs.Tokens.{TokensBalance};
 ghost use Rattle.hmc_link_laws.specs.Wire.{IsWire};
+ghost use Rattle.hmc_link.specs.Calls.{MakesCall, KeepsList};
 ghost use Rattle.hmc_link.specs.StandsFor.{LinkStandsFor};
 ghost use Rattle.hmc_link_end.specs.Answers.{land_answer, send_answer};
 
@@ -120,17 +121,12 @@ impl<A: Intake, B: Intake> Link<A, B> {
         requires room { length (sending_end toward self.old).queue
             < (sending_end toward self.old).setup.output }
         requires fit { IsTaken (sending_end toward self.old).setup.profile packet.now }
-        ensures stands { (link : LinkFields) (past : List LinkEntry) →
-            LinkStandsFor link self.old past →
-            LinkStandsFor link self.new (after_call link past (LinkCall.hand toward packet.now)) }
+        ensures stands { MakesCall self.old self.new (LinkCall.hand toward packet.now) }
         ensures list { (link : LinkFields) (past : List LinkEntry) →
             LinkStandsFor link self.old past →
             handed_list link toward (after_call link past (LinkCall.hand toward packet.now))
             ≡ handed_list link toward past ++ listed_packet packet.now ∷ [] }
-        ensures other { (link : LinkFields) (past : List LinkEntry) →
-            LinkStandsFor link self.old past →
-            handed_list link (other toward) (after_call link past (LinkCall.hand toward packet.now))
-            ≡ handed_list link (other toward) past }
+        ensures other { KeepsList self.old (other toward) (LinkCall.hand toward packet.now) }
         ensures going { self.new.going ≡ true }
     {
         packet.invariant();
@@ -152,17 +148,12 @@ impl<A: Intake, B: Intake> Link<A, B> {
         requires room { length (sending_end toward self.old).queue
             < (sending_end toward self.old).setup.output }
         requires fit { IsTaken (sending_end toward self.old).setup.profile packet }
-        ensures stands { (link : LinkFields) (past : List LinkEntry) →
-            LinkStandsFor link self.old past →
-            LinkStandsFor link self.new (after_call link past (LinkCall.hand toward packet)) }
+        ensures stands { MakesCall self.old self.new (LinkCall.hand toward packet) }
         ensures list { (link : LinkFields) (past : List LinkEntry) →
             LinkStandsFor link self.old past →
             handed_list link toward (after_call link past (LinkCall.hand toward packet))
             ≡ handed_list link toward past ++ listed_packet packet ∷ [] }
-        ensures other { (link : LinkFields) (past : List LinkEntry) →
-            LinkStandsFor link self.old past →
-            handed_list link (other toward) (after_call link past (LinkCall.hand toward packet))
-            ≡ handed_list link (other toward) past }
+        ensures other { KeepsList self.old (other toward) (LinkCall.hand toward packet) }
         ensures going { self.new.going ≡ true }
     {
         self.put(toward, &packet);
@@ -195,17 +186,9 @@ impl<A: Intake, B: Intake> Link<A, B> {
     /// then due there.
     pub fn drop_front(&mut self, toward: Toward)
         requires { self.old.going ≡ true }
-        ensures stands { (link : LinkFields) (past : List LinkEntry) →
-            LinkStandsFor link self.old past →
-            LinkStandsFor link self.new (after_call link past (LinkCall.take toward)) }
-        ensures list { (link : LinkFields) (past : List LinkEntry) →
-            LinkStandsFor link self.old past →
-            handed_list link toward (after_call link past (LinkCall.take toward))
-            ≡ handed_list link toward past }
-        ensures other { (link : LinkFields) (past : List LinkEntry) →
-            LinkStandsFor link self.old past →
-            handed_list link (other toward) (after_call link past (LinkCall.take toward))
-            ≡ handed_list link (other toward) past }
+        ensures stands { MakesCall self.old self.new (LinkCall.take toward) }
+        ensures list { KeepsList self.old toward (LinkCall.take toward) }
+        ensures other { KeepsList self.old (other toward) (LinkCall.take toward) }
         ensures going { self.new.going ≡ true }
     {
         match toward {
@@ -220,17 +203,9 @@ impl<A: Intake, B: Intake> Link<A, B> {
         ensures value { result ≡ slice_get (landing_end toward self.old).buffer 0 }
         ensures by_list { (link : LinkFields) (past : List LinkEntry) →
             LinkStandsFor link self.old past → result ≡ front_in link toward past }
-        ensures stands { (link : LinkFields) (past : List LinkEntry) →
-            LinkStandsFor link self.old past →
-            LinkStandsFor link self.new (after_call link past (LinkCall.take toward)) }
-        ensures list { (link : LinkFields) (past : List LinkEntry) →
-            LinkStandsFor link self.old past →
-            handed_list link toward (after_call link past (LinkCall.take toward))
-            ≡ handed_list link toward past }
-        ensures other { (link : LinkFields) (past : List LinkEntry) →
-            LinkStandsFor link self.old past →
-            handed_list link (other toward) (after_call link past (LinkCall.take toward))
-            ≡ handed_list link (other toward) past }
+        ensures stands { MakesCall self.old self.new (LinkCall.take toward) }
+        ensures list { KeepsList self.old toward (LinkCall.take toward) }
+        ensures other { KeepsList self.old (other toward) (LinkCall.take toward) }
         ensures going { self.new.going ≡ true }
     {
         let front = self.front(toward);
@@ -266,17 +241,9 @@ impl<A: Intake, B: Intake> Link<A, B> {
     /// The framing of a direction was lost: the flits of a packet that isn't whole are dropped.
     pub fn unlock(&mut self, toward: Toward)
         requires { self.old.going ≡ true }
-        ensures stands { (link : LinkFields) (past : List LinkEntry) →
-            LinkStandsFor link self.old past →
-            LinkStandsFor link self.new (after_call link past (LinkCall.unlock toward)) }
-        ensures list { (link : LinkFields) (past : List LinkEntry) →
-            LinkStandsFor link self.old past →
-            handed_list link toward (after_call link past (LinkCall.unlock toward))
-            ≡ handed_list link toward past }
-        ensures other { (link : LinkFields) (past : List LinkEntry) →
-            LinkStandsFor link self.old past →
-            handed_list link (other toward) (after_call link past (LinkCall.unlock toward))
-            ≡ handed_list link (other toward) past }
+        ensures stands { MakesCall self.old self.new (LinkCall.unlock toward) }
+        ensures list { KeepsList self.old toward (LinkCall.unlock toward) }
+        ensures other { KeepsList self.old (other toward) (LinkCall.unlock toward) }
         ensures going { self.new.going ≡ true }
     {
         match toward {
@@ -295,17 +262,12 @@ impl<A: Intake, B: Intake> Link<A, B> {
         requires feed { IsFed (sending_end toward self.old).sender.under_way feed }
         ensures answer { (link : LinkFields) (past : List LinkEntry) →
             LinkStandsFor link self.old past → result ≡ send_answer link toward past feed }
-        ensures stands { (link : LinkFields) (past : List LinkEntry) →
-            LinkStandsFor link self.old past →
-            LinkStandsFor link self.new (after_call link past (LinkCall.send toward feed)) }
+        ensures stands { MakesCall self.old self.new (LinkCall.send toward feed) }
         ensures list { (link : LinkFields) (past : List LinkEntry) →
             LinkStandsFor link self.old past →
             handed_list link toward (after_call link past (LinkCall.send toward feed))
             ≡ list_after_send link toward past feed result }
-        ensures other { (link : LinkFields) (past : List LinkEntry) →
-            LinkStandsFor link self.old past →
-            handed_list link (other toward) (after_call link past (LinkCall.send toward feed))
-            ≡ handed_list link (other toward) past }
+        ensures other { KeepsList self.old (other toward) (LinkCall.send toward feed) }
         ensures whole { (link : LinkFields) (past : List LinkEntry) →
             LinkStandsFor link self.old past →
             IsWire link toward (after_call link past (LinkCall.send toward feed)) }
@@ -349,10 +311,7 @@ impl<A: Intake, B: Intake> Link<A, B> {
             handed_list link toward past ≡ map listed_packet (removed
             (link_landed_with result (landing_end toward self.new).receiver.packet))
             ++ handed_list link toward (after_call link past (LinkCall.land toward mask.now)) }
-        ensures other { (link : LinkFields) (past : List LinkEntry) →
-            LinkStandsFor link self.old past →
-            handed_list link (other toward) (after_call link past (LinkCall.land toward mask.now))
-            ≡ handed_list link (other toward) past }
+        ensures other { KeepsList self.old (other toward) (LinkCall.land toward mask.now) }
         ensures counted { (link : LinkFields) (past : List LinkEntry) (rrp : ℕ) →
             LinkStandsFor link self.old past → outcome_passed result ≡ false →
             pointer_landed link toward past
@@ -397,10 +356,7 @@ impl<A: Intake, B: Intake> Link<A, B> {
             LinkStandsFor link self.old past → landing_passed result ≡ false →
             handed_list link toward past ≡ map listed_packet (removed result)
             ++ handed_list link toward (after_call link past (LinkCall.land toward mask)) }
-        ensures other { (link : LinkFields) (past : List LinkEntry) →
-            LinkStandsFor link self.old past →
-            handed_list link (other toward) (after_call link past (LinkCall.land toward mask))
-            ≡ handed_list link (other toward) past }
+        ensures other { KeepsList self.old (other toward) (LinkCall.land toward mask) }
         ensures counted { (link : LinkFields) (past : List LinkEntry) (rrp : ℕ) →
             LinkStandsFor link self.old past → landing_passed result ≡ false →
             pointer_landed link toward past result ≡ Some rrp →
