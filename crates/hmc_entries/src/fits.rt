@@ -7,6 +7,7 @@ ghost use Rattle.hmc_codes.specs.Bytes.{IsBytes};
 ghost use Rattle.hmc_codes.specs.Request.{IsRequest};
 ghost use Rattle.hmc_codes.specs.Flit.{IsFlit};
 ghost use Rattle.hmc_entries.specs.Parse.{IsTag, IsUnit, IsLift, IsGoal, IsStep, FitsTypes};
+ghost use Rattle.hmc_schedule.specs.Plan.{HasFlit};
 
 use crate::{Entry, Goal};
 use hmc_codes::{Answer, Flit, Lift, Request, Unit};
@@ -102,17 +103,20 @@ fn answer_fits(answer: &Answer)
     }
 }
 
-fn step_fits(step: &Step)
-    ensures { IsStep step.now }
+/// Does nothing. Its contract is what every step keeps: its numbers are bytes, and its mask, if it
+/// has one, is 16 of them.
+pub fn step_fits(step: &Step)
+    ensures bytes { IsStep step.now }
+    ensures mask { HasFlit step.now }
 {
     match step {
         Step::Give(number)
         | Step::Send(number)
-        | Step::Land(number, _)
         | Step::Registers(number)
         | Step::Take(number)
         | Step::Unlock(number)
         | Step::Retire(number) => byte_fits(*number),
+        Step::Land(direction, mask) => flit_fits(*direction, mask),
         Step::Shift(cube, other) | Step::Spread(cube, other) | Step::Through(cube, other) => {
             bytes_fit(*cube, *other, 0)
         }

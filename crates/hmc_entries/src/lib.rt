@@ -20,6 +20,7 @@ mod parse_words;
 
 pub use entry::Entry;
 pub use event::Event;
+pub use fits::step_fits;
 pub use hmc_packet::Outcome;
 pub use journal::Journal;
 pub use last_entry::LastEntry;

@@ -1,8 +1,8 @@
 //! The line of each entry, appended to a text of fixed size that has room for it. No line takes
 //! memory.
 
-ghost use Rattle.std.specs.Prelude.{◌≡◌, ◌<◌, ◌≤◌, ◌+◌, ◌∷◌, [], ◌++◌, length, codes, OnOk, OnErr, string_bytes};
-ghost use Rattle.std.specs.Fmt.{decimal};
+ghost use Rattle.std.specs.Prelude.{◌≡◌, ◌<◌, ◌≤◌, ◌+◌, ◌∷◌, [], ◌++◌, false, length, codes, OnOk, OnErr, string_bytes};
+ghost use Rattle.std.specs.Fmt.{decimal, digit_glyph};
 ghost use Rattle.hex.specs.Hex.{encode_lower};
 ghost use Rattle.hmc_codes.specs.Text.{line, spaced_words, request_text, answer_text};
 ghost use Rattle.hmc_entries.specs.Lines.{line_of, tag_text, request_words, unit_text, what_text, outcome_text, bad_text, goal_text, lift_text, cause_text, step_words};
@@ -180,35 +180,201 @@ fn push_request_end<const N: usize>(into: &mut ArrayString<N>, poisoned: bool, r
     into.push_str("\n");
 }
 
-// `idle` and the words of a step, without a mask. Out of line: a checker's text is so long that the
-// compiler would spell each case at every place that calls it.
-#[inline(never)]
-fn push_idle<const N: usize>(into: &mut ArrayString<N>, step: &Step)
-    requires room { length into.old.bytes + 72 ≤ N }
-    ensures text { into.new.bytes ≡
-        into.old.bytes ++ codes "idle" ++ (32 ∷ spaced_words (step_words step.now)) }
-    ensures few { length into.new.bytes ≤ length into.old.bytes + 72 }
+// The ends of most idle lines: a digit and a cause, in one piece.
+
+#[inline(always)]
+fn empty_end(digit: u8) -> &'static str
+    requires { digit < 10 }
+    ensures { result.now ≡ 32 ∷ digit_glyph false digit ∷ codes " empty\n" }
 {
-    match step {
-        Step::Give(host) => push_numbered(into, "idle give", *host),
-        Step::Send(direction) => push_numbered(into, "idle send", *direction),
-        Step::Land(direction, _) => push_numbered(into, "idle land", *direction),
-        Step::Shift(cube, port) => push_twice_numbered(into, "idle shift", *cube, *port),
-        Step::Spread(cube, vault) => push_twice_numbered(into, "idle spread", *cube, *vault),
-        Step::Bank(cube, vault, bank) => {
-            push_twice_numbered(into, "idle bank", *cube, *vault);
-            append_spaced(into, u64::from(*bank));
-        }
-        Step::Registers(cube) => push_numbered(into, "idle registers", *cube),
-        Step::Lift(cube, from) => {
-            push_numbered(into, "idle lift", *cube);
-            push_lift(into, *from);
-        }
-        Step::Take(host) => push_numbered(into, "idle take", *host),
-        Step::Through(cube, port) => push_twice_numbered(into, "idle through", *cube, *port),
-        Step::Unlock(direction) => push_numbered(into, "idle unlock", *direction),
-        Step::Retire(slot) => push_numbered(into, "idle retire", *slot),
+    match digit {
+        0 => " 0 empty\n",
+        1 => " 1 empty\n",
+        2 => " 2 empty\n",
+        3 => " 3 empty\n",
+        4 => " 4 empty\n",
+        5 => " 5 empty\n",
+        6 => " 6 empty\n",
+        7 => " 7 empty\n",
+        8 => " 8 empty\n",
+        _ => " 9 empty\n",
     }
+}
+
+#[inline(always)]
+fn full_end(digit: u8) -> &'static str
+    requires { digit < 10 }
+    ensures { result.now ≡ 32 ∷ digit_glyph false digit ∷ codes " full\n" }
+{
+    match digit {
+        0 => " 0 full\n",
+        1 => " 1 full\n",
+        2 => " 2 full\n",
+        3 => " 3 full\n",
+        4 => " 4 full\n",
+        5 => " 5 full\n",
+        6 => " 6 full\n",
+        7 => " 7 full\n",
+        8 => " 8 full\n",
+        _ => " 9 full\n",
+    }
+}
+
+#[inline(always)]
+fn ended_end(digit: u8) -> &'static str
+    requires { digit < 10 }
+    ensures { result.now ≡ 32 ∷ digit_glyph false digit ∷ codes " ended\n" }
+{
+    match digit {
+        0 => " 0 ended\n",
+        1 => " 1 ended\n",
+        2 => " 2 ended\n",
+        3 => " 3 ended\n",
+        4 => " 4 ended\n",
+        5 => " 5 ended\n",
+        6 => " 6 ended\n",
+        7 => " 7 ended\n",
+        8 => " 8 ended\n",
+        _ => " 9 ended\n",
+    }
+}
+
+// Any number and any cause.
+#[inline(never)]
+fn push_any_end<const N: usize>(into: &mut ArrayString<N>, number: u8, cause: Cause)
+    requires room { length into.old.bytes + 31 ≤ N }
+    ensures text { into.new.bytes ≡ into.old.bytes ++
+        (32 ∷ (decimal number ++ (32 ∷ (cause_text cause ++ (10 ∷ []))))) }
+    ensures few { length into.new.bytes ≤ length into.old.bytes + 31 }
+{
+    append_spaced(into, u64::from(number));
+    push_cause(into, cause);
+}
+
+// The last number of a step and the cause, which end the line.
+#[tactic(auto, using(hmc_codes::proofs::Digits::decimal_last))]
+#[inline(always)]
+fn push_idle_end<const N: usize>(into: &mut ArrayString<N>, number: u8, cause: Cause)
+    requires room { length into.old.bytes + 31 ≤ N }
+    ensures text { into.new.bytes ≡ into.old.bytes ++
+        (32 ∷ (decimal number ++ (32 ∷ (cause_text cause ++ (10 ∷ []))))) }
+    ensures few { length into.new.bytes ≤ length into.old.bytes + 31 }
+{
+    if number >= 10 {
+        push_any_end(into, number, cause);
+        return;
+    }
+    match cause {
+        Cause::Empty => into.push_str(empty_end(number)),
+        Cause::Full => into.push_str(full_end(number)),
+        Cause::Ended => into.push_str(ended_end(number)),
+        _ => push_any_end(into, number, cause),
+    }
+}
+
+// The same of a lift: a vault, or the registers.
+#[inline(always)]
+fn push_lift_end<const N: usize>(into: &mut ArrayString<N>, from: Lift, cause: Cause)
+    requires room { length into.old.bytes + 31 ≤ N }
+    ensures text { into.new.bytes ≡ into.old.bytes ++
+        (32 ∷ (lift_text from ++ (32 ∷ (cause_text cause ++ (10 ∷ []))))) }
+    ensures few { length into.new.bytes ≤ length into.old.bytes + 31 }
+{
+    match from {
+        Lift::Vault(vault) => push_idle_end(into, vault, cause),
+        Lift::Registers => push_registers_end(into, cause),
+    }
+}
+
+// The registers and the cause, which end the line.
+#[inline(always)]
+fn push_registers_end<const N: usize>(into: &mut ArrayString<N>, cause: Cause)
+    requires room { length into.old.bytes + 31 ≤ N }
+    ensures text { into.new.bytes ≡ into.old.bytes ++
+        (32 ∷ (codes "r" ++ (32 ∷ (cause_text cause ++ (10 ∷ []))))) }
+    ensures few { length into.new.bytes ≤ length into.old.bytes + 31 }
+{
+    match cause {
+        Cause::Empty => into.push_str(" r empty\n"),
+        _ => {
+            into.push_str(" r");
+            push_cause(into, cause);
+        }
+    }
+}
+
+// The line of a step with one number.
+#[inline(always)]
+fn push_idle<const N: usize>(into: &mut ArrayString<N>, word: &str, number: u8, cause: Cause)
+    requires room { length into.old.bytes + length word.now + 31 ≤ N }
+    ensures text { into.new.bytes ≡ into.old.bytes ++
+        (word.now ++ (32 ∷ (decimal number ++ (32 ∷ (cause_text cause ++ (10 ∷ [])))))) }
+    ensures few { length into.new.bytes ≤ length into.old.bytes + length word.now + 31 }
+{
+    into.push_str(word);
+    push_idle_end(into, number, cause);
+}
+
+// The line of a step with two numbers.
+#[inline(always)]
+fn push_idle_pair<const N: usize>(
+    into: &mut ArrayString<N>,
+    word: &str,
+    first: u8,
+    second: u8,
+    cause: Cause,
+)
+    requires room { length into.old.bytes + length word.now + 52 ≤ N }
+    ensures text { into.new.bytes ≡ into.old.bytes ++ (word.now ++ (32 ∷ (decimal first ++
+        (32 ∷ (decimal second ++ (32 ∷ (cause_text cause ++ (10 ∷ [])))))))) }
+    ensures few { length into.new.bytes ≤ length into.old.bytes + length word.now + 52 }
+{
+    push_numbered(into, word, first);
+    push_idle_end(into, second, cause);
+}
+
+// A space and a digit.
+#[inline(always)]
+fn digit_word(digit: u8) -> &'static str
+    requires { digit < 10 }
+    ensures { result.now ≡ 32 ∷ digit_glyph false digit ∷ [] }
+{
+    match digit {
+        0 => " 0",
+        1 => " 1",
+        2 => " 2",
+        3 => " 3",
+        4 => " 4",
+        5 => " 5",
+        6 => " 6",
+        7 => " 7",
+        8 => " 8",
+        _ => " 9",
+    }
+}
+
+// A space and a number. Most numbers have one digit: others stand out of line.
+#[tactic(auto, using(hmc_codes::proofs::Digits::decimal_last))]
+#[inline(always)]
+fn push_number<const N: usize>(into: &mut ArrayString<N>, number: u8)
+    requires room { length into.old.bytes + 21 ≤ N }
+    ensures text { into.new.bytes ≡ into.old.bytes ++ (32 ∷ decimal number) }
+    ensures few { length into.new.bytes ≤ length into.old.bytes + 21 }
+{
+    if number < 10 {
+        into.push_str(digit_word(number));
+    } else {
+        push_long_number(into, number);
+    }
+}
+
+#[inline(never)]
+fn push_long_number<const N: usize>(into: &mut ArrayString<N>, number: u8)
+    requires room { length into.old.bytes + 21 ≤ N }
+    ensures text { into.new.bytes ≡ into.old.bytes ++ (32 ∷ decimal number) }
+    ensures few { length into.new.bytes ≤ length into.old.bytes + 21 }
+{
+    append_spaced(into, u64::from(number));
 }
 
 // A word and a number.
@@ -219,7 +385,7 @@ fn push_numbered<const N: usize>(into: &mut ArrayString<N>, word: &str, number: 
     ensures few { length into.new.bytes ≤ length into.old.bytes + length word.now + 21 }
 {
     into.push_str(word);
-    append_spaced(into, u64::from(number));
+    push_number(into, number);
 }
 
 // A word and two numbers.
@@ -231,7 +397,7 @@ fn push_twice_numbered<const N: usize>(into: &mut ArrayString<N>, word: &str, fi
     ensures few { length into.new.bytes ≤ length into.old.bytes + length word.now + 42 }
 {
     push_numbered(into, word, first);
-    append_spaced(into, u64::from(second));
+    push_number(into, second);
 }
 
 /// The line of a request that a host gave.
@@ -250,6 +416,77 @@ pub(crate) fn gave_line<const N: usize>(
     push_numbered(into, "gave", host);
     push_tag(into, tag);
     push_request_end(into, poisoned, request);
+}
+
+// The beginnings of most lines of flits: a word and a digit, in one piece.
+
+#[inline(always)]
+fn sent_word(digit: u8) -> &'static str
+    requires { digit < 10 }
+    ensures { result.now ≡ codes "sent " ++ (digit_glyph false digit ∷ []) }
+{
+    match digit {
+        0 => "sent 0",
+        1 => "sent 1",
+        2 => "sent 2",
+        3 => "sent 3",
+        4 => "sent 4",
+        5 => "sent 5",
+        6 => "sent 6",
+        7 => "sent 7",
+        8 => "sent 8",
+        _ => "sent 9",
+    }
+}
+
+#[inline(always)]
+fn landed_word(digit: u8) -> &'static str
+    requires { digit < 10 }
+    ensures { result.now ≡ codes "landed " ++ (digit_glyph false digit ∷ []) }
+{
+    match digit {
+        0 => "landed 0",
+        1 => "landed 1",
+        2 => "landed 2",
+        3 => "landed 3",
+        4 => "landed 4",
+        5 => "landed 5",
+        6 => "landed 6",
+        7 => "landed 7",
+        8 => "landed 8",
+        _ => "landed 9",
+    }
+}
+
+// `sent` and the direction.
+#[tactic(auto, using(hmc_codes::proofs::Digits::decimal_last))]
+#[inline(always)]
+fn push_sent_word<const N: usize>(into: &mut ArrayString<N>, direction: u8)
+    requires room { length into.old.bytes + 25 ≤ N }
+    ensures text { into.new.bytes ≡ into.old.bytes ++ (codes "sent" ++ (32 ∷ decimal direction)) }
+    ensures few { length into.new.bytes ≤ length into.old.bytes + 25 }
+{
+    if direction < 10 {
+        into.push_str(sent_word(direction));
+    } else {
+        push_numbered(into, "sent", direction);
+    }
+}
+
+// `landed` and the direction.
+#[tactic(auto, using(hmc_codes::proofs::Digits::decimal_last))]
+#[inline(always)]
+fn push_landed_word<const N: usize>(into: &mut ArrayString<N>, direction: u8)
+    requires room { length into.old.bytes + 27 ≤ N }
+    ensures text { into.new.bytes ≡ into.old.bytes ++
+        (codes "landed" ++ (32 ∷ decimal direction)) }
+    ensures few { length into.new.bytes ≤ length into.old.bytes + 27 }
+{
+    if direction < 10 {
+        into.push_str(landed_word(direction));
+    } else {
+        push_numbered(into, "landed", direction);
+    }
 }
 
 // What a flit was sent as, and the flit, which end the line. Most are NULLs: one piece.
@@ -283,7 +520,7 @@ pub(crate) fn sent_line<const N: usize>(
         line (codes "sent" ∷ decimal direction ∷ what_text what ∷ encode_lower flit.now ∷ []) }
     ensures short { length into.new.bytes < length into.old.bytes + 2048 }
 {
-    push_numbered(into, "sent", direction);
+    push_sent_word(into, direction);
     push_sent(into, what, flit);
 }
 
@@ -318,7 +555,7 @@ pub(crate) fn landed_line<const N: usize>(
         []) }
     ensures short { length into.new.bytes < length into.old.bytes + 2048 }
 {
-    push_numbered(into, "landed", direction);
+    push_landed_word(into, direction);
     push_landed(into, flit, outcome);
 }
 
@@ -497,8 +734,26 @@ pub(crate) fn idle_line<const N: usize>(into: &mut ArrayString<N>, step: &Step, 
         line (codes "idle" ∷ spaced_words (step_words step.now) ∷ cause_text cause ∷ []) }
     ensures short { length into.new.bytes < length into.old.bytes + 2048 }
 {
-    push_idle(into, step);
-    push_cause(into, cause);
+    match step {
+        Step::Give(host) => push_idle(into, "idle give", *host, cause),
+        Step::Send(direction) => push_idle(into, "idle send", *direction, cause),
+        Step::Land(direction, _) => push_idle(into, "idle land", *direction, cause),
+        Step::Shift(cube, port) => push_idle_pair(into, "idle shift", *cube, *port, cause),
+        Step::Spread(cube, vault) => push_idle_pair(into, "idle spread", *cube, *vault, cause),
+        Step::Bank(cube, vault, bank) => {
+            push_twice_numbered(into, "idle bank", *cube, *vault);
+            push_idle_end(into, *bank, cause);
+        }
+        Step::Registers(cube) => push_idle(into, "idle registers", *cube, cause),
+        Step::Lift(cube, from) => {
+            push_numbered(into, "idle lift", *cube);
+            push_lift_end(into, *from, cause);
+        }
+        Step::Take(host) => push_idle(into, "idle take", *host, cause),
+        Step::Through(cube, port) => push_idle_pair(into, "idle through", *cube, *port, cause),
+        Step::Unlock(direction) => push_idle(into, "idle unlock", *direction, cause),
+        Step::Retire(slot) => push_idle(into, "idle retire", *slot, cause),
+    }
 }
 
 impl Entry {

@@ -4,10 +4,8 @@
 //! again as the same steps (`printed_steps_are_read`).
 #![tactic(auto)]
 
-mod fits;
 mod laws;
 mod line;
 
-pub use fits::step_fits;
 pub use laws::printed_steps_are_read;
 pub use line::{StepText, step_line};
