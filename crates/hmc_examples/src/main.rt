@@ -264,14 +264,18 @@ fn count_lines(text: &[u8]) -> usize {
     text.iter().filter(|byte| **byte == b'\n').count()
 }
 
+// The words for an answer that is, or isn't, as its file says.
+fn verdict(same: bool) -> &'static str {
+    if same { "as reported" } else { "differs" }
+}
+
 // Prints whether an example ends with this status and the report beside it.
 fn print_example(
     rt: &(impl Files + AllocGlobal + Print),
     name: &str,
     status: u8,
 ) -> Result<(), io::Error> {
-    let same = example_is_reported(rt, name, status)?;
-    let word = if same { "as reported" } else { "differs" };
+    let word = verdict(example_is_reported(rt, name, status)?);
     println!(rt; "{name}: {word}")
 }
 
@@ -281,8 +285,7 @@ fn print_made(
     number: &str,
     name: &str,
 ) -> Result<(), io::Error> {
-    let same = made_is_reported(rt, number, name)?;
-    let word = if same { "as reported" } else { "differs" };
+    let word = verdict(made_is_reported(rt, number, name)?);
     println!(rt; "make {number}: {word}")
 }
 
@@ -292,8 +295,7 @@ fn print_bound(
     name: &str,
     status: u8,
 ) -> Result<(), io::Error> {
-    let same = bound_is_reported(rt, name, status)?;
-    let word = if same { "as reported" } else { "differs" };
+    let word = verdict(bound_is_reported(rt, name, status)?);
     println!(rt; "bound of {name}: {word}")
 }
 

@@ -5,7 +5,7 @@
 ghost use Rattle.std.specs.Prelude.{◌<◌};
 ghost use Rattle.hmc_codes.specs.Limits.{most_hosts};
 
-use crate::file;
+use crate::{file, verdict};
 use hmc_case::Case;
 use hmc_codes::{LineText, MOST_HOSTS, MOST_REQUESTS};
 use hmc_report::Part;
@@ -48,7 +48,7 @@ fn ask(alloc: Global, session: &mut WithUnits, item: &Item) -> bool
     requires { item.now.host < most_hosts }
 {
     let mut one = Script::new(alloc);
-    if let Err(_) = one.append(item.host, item.fenced, item.poisoned, &item.request) {
+    if let Err(_) = one.append(item) {
         return false;
     }
     match one.print(alloc) {
@@ -156,7 +156,6 @@ pub fn print_session(rt: &(impl Files + AllocGlobal + Print), name: &str) -> Res
     let alloc = rt.alloc();
     let case = file(rt, format!(in alloc; "{name}.toml")?.as_str())?;
     let report = file(rt, format!(in alloc; "{name}.report")?.as_str())?;
-    let same = has_lines(alloc, case.as_str(), report.as_str())?;
-    let word = if same { "as reported" } else { "differs" };
+    let word = verdict(has_lines(alloc, case.as_str(), report.as_str())?);
     println!(rt; "session of {name}: {word}")
 }

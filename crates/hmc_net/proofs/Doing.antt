@@ -1,5 +1,5 @@
 -- What a step does of a network, part by part.
-use Rattle.std.proofs.Common.{◌≡◌, ℕ, Bool, false, Option, Some, None, List, refl, sym, ap, subst, arith}
+use Rattle.std.proofs.Common.{◌≡◌, ℕ, false, Option, Some, List, refl, sym, ap, subst, arith}
 use Rattle.hmc_codes.specs.declared.place.Place.{Place}
 use Rattle.hmc_units.specs.Unit.{UnitFields}
 use Rattle.hmc_serial.specs.Machine.{State}
@@ -19,11 +19,10 @@ use Rattle.hmc_net.specs.Apply.{cubes_after, DoesStep, IsEntryIn}
 use Rattle.hmc_kept.specs.Hosts.{hosts_after, IsHostIn}
 use Rattle.hmc_kept.specs.After.{slots_after, pipes_after, entries_after}
 use Rattle.hmc_kept.specs.Pipes.{PipesHeld, AreCounted}
-use Rattle.hmc_links.specs.LinkList.{LinksStandFor, IsDirection, IsArrival, IsFrontAt}
+use Rattle.hmc_links.specs.LinkList.{LinksStandFor, IsDirection}
 use Rattle.hmc_net.specs.NetState.{NetState}
 use Rattle.hmc_net.specs.Sees.{Sees, IsSized, IsReady}
 use Rattle.hmc_journal.proofs.DirectionEnds.{starts_there, ends_at}
-use Rattle.hmc_kept.proofs.Fronts.{no_packet}
 
 -- a network with other parts and another last entry
 abbrev pub with_all : NetState → List CubeFields → List HostFields → List (Option UnitFields) → List LinkHeld → Entry → NetState
@@ -116,8 +115,3 @@ starts_in net place d ready is = omega (arith, starts_there net.topology place d
 
 pub ends_in : (net : NetState) (place : Place) (d : ℕ) → IsReady net → direction_to net.topology place ≡ Some d → IsDirection net.links d
 ends_in net place d ready is = omega (arith, (ends_at net.topology place d is).there, ready.sees.shows.links.count)
-
--- ---- what is seen of a direction
-
-pub none_arrived : (links : List LinkHeld) (direction : ℕ) (arrived : Bool) → arrived ≡ false → IsArrival links direction arrived → IsFrontAt links direction None
-none_arrived links direction arrived none is = λ rows entries stand. no_packet arrived _ none (is rows entries stand)

@@ -1,5 +1,5 @@
 -- Taking the steps of a case, one after another.
-use Rattle.std.specs.Prelude.{◌≡◌, ◌⊎◌, Bool, true, false, List, [], ◌∷◌, Result, Ok, Err}
+use Rattle.std.specs.Prelude.{◌≡◌, ◌⊎◌, ℕ, Bool, true, false, List, [], ◌∷◌, Result, Ok, Err}
 use Rattle.hmc_schedule.specs.declared.step.Step.{Step}
 use Rattle.hmc_entries.specs.declared.entry.Entry.{Entry}
 use Rattle.hmc_entries.specs.Event.{is_passed}
@@ -14,6 +14,7 @@ use Rattle.hmc_net.specs.declared.went.Went.TheVariants.{Passed}
 use Rattle.hmc_outside.specs.Lines.{WritesLines, BreaksOff}
 use Rattle.hmc_outside.specs.Views.{SinkView}
 use Rattle.hmc_outside.specs.declared.counts.Failed.{Failed}
+use Rattle.hmc_replay.specs.Output.{WritesReport}
 use Rattle.hmc_replay.specs.Report.{passes}
 use Rattle.hmc_replay.specs.declared.extent.Extent.{Extent}
 use Rattle.hmc_replay.specs.declared.extent.Extent.TheVariants.{Whole, Short, Bound}
@@ -23,6 +24,10 @@ pub record IsBefore (net : NetState) (setup : Setup) (past : List Entry) (left :
     : Type 0 where
   pub stands : StandsFor net setup past
   pub leaves : LeavesSteps setup past left
+
+-- in the network nothing happened yet, and these are its steps
+abbrev pub IsUnstarted : NetState → List Step → Type 0
+IsUnstarted net steps = (setup : Setup) × IsBefore net setup [] steps
 
 -- a step is a landing that passed
 abbrev pub step_passed : Went → Bool
@@ -78,3 +83,16 @@ Stepped (Err failed) Whole net setup old new =
     StandsFor net setup (journal_of setup) ⊎ BreaksAt net setup old new
 Stepped (Err failed) Short net setup old new = StandsFor net setup (journal_of setup)
 Stepped (Err failed) Bound net setup old new = StandsFor net setup (journal_of setup)
+
+-- from such a network a report of these lines was written, or broke off
+abbrev pub WritesFromStart : (lines : Setup → List (List ℕ)) → NetState → List Step →
+    Result Bool Failed → (old new : SinkView) → Type 0
+WritesFromStart lines net steps result old new =
+    (setup : Setup) → IsBefore net setup [] steps →
+    WritesReport result (lines setup) (passes setup) old new
+
+-- and so far the network came
+abbrev pub StepsFromStart : Extent → (net later : NetState) → List Step →
+    Result Bool Failed → (old new : SinkView) → Type 0
+StepsFromStart extent net later steps result old new =
+    (setup : Setup) → IsBefore net setup [] steps → Stepped result extent later setup old new

@@ -9,10 +9,10 @@ ghost use Rattle.hmc_journal.specs.Setup.{Setup};
 ghost use Rattle.hmc_net.specs.NetState.{net_of};
 ghost use Rattle.hmc_net.specs.Stands.{StandsFor};
 ghost use Rattle.hmc_report.specs.Final.{lines_from};
-ghost use Rattle.hmc_replay.specs.Output.{Writes, WritesReport, DeliversReport};
+ghost use Rattle.hmc_replay.specs.Output.{Writes, DeliversReport};
 ghost use Rattle.hmc_replay.specs.Report.{passes, report_of, ending_of, end_of, lines_in};
 ghost use Rattle.hmc_replay.specs.declared.extent.Extent.TheVariants.{Whole, Short};
-ghost use Rattle.hmc_replay.specs.Steps.{IsBefore, Stepped};
+ghost use Rattle.hmc_replay.specs.Steps.{IsBefore, IsUnstarted, WritesFromStart, StepsFromStart};
 
 use crate::bound_lines::write_bound;
 use crate::extent::Extent;
@@ -66,14 +66,11 @@ fn write_whole<O: Sink, B: Workbench>(
     network: &mut Network<B>,
     schedule: &Schedule,
 ) -> Result<bool, Failed>
-    requires { (setup : Setup) × IsBefore (net_of B.slots network.old) setup [] schedule.now }
-    ensures written { (setup : Setup) →
-        IsBefore (net_of B.slots network.old) setup [] schedule.now →
-        WritesReport result (report_of setup) (passes setup) (O.shows sink.old) (O.shows sink.new) }
-    ensures stepped { (setup : Setup) →
-        IsBefore (net_of B.slots network.old) setup [] schedule.now →
-        Stepped result Whole (net_of B.slots network.new) setup
-        (O.shows sink.old) (O.shows sink.new) }
+    requires { IsUnstarted (net_of B.slots network.old) schedule.now }
+    ensures written { WritesFromStart report_of (net_of B.slots network.old) schedule.now
+        result (O.shows sink.old) (O.shows sink.new) }
+    ensures stepped { StepsFromStart Whole (net_of B.slots network.old)
+        (net_of B.slots network.new) schedule.now result (O.shows sink.old) (O.shows sink.new) }
 {
     let passed = write_steps(sink, network, schedule)?;
     if !passed {
@@ -89,11 +86,9 @@ fn write_end<O: Sink, B: Workbench>(
     network: &mut Network<B>,
     schedule: &Schedule,
 ) -> Result<bool, Failed>
-    requires { (setup : Setup) × IsBefore (net_of B.slots network.old) setup [] schedule.now }
-    ensures written { (setup : Setup) →
-        IsBefore (net_of B.slots network.old) setup [] schedule.now →
-        WritesReport result (end_of extent setup) (passes setup)
-        (O.shows sink.old) (O.shows sink.new) }
+    requires { IsUnstarted (net_of B.slots network.old) schedule.now }
+    ensures written { WritesFromStart (end_of extent) (net_of B.slots network.old) schedule.now
+        result (O.shows sink.old) (O.shows sink.new) }
     ensures stepped { (setup : Setup) →
         IsBefore (net_of B.slots network.old) setup [] schedule.now →
         StandsFor (net_of B.slots network.new) setup (journal_of setup) }
@@ -114,15 +109,11 @@ fn write_lines<O: Sink, B: Workbench>(
     network: &mut Network<B>,
     schedule: &Schedule,
 ) -> Result<bool, Failed>
-    requires { (setup : Setup) × IsBefore (net_of B.slots network.old) setup [] schedule.now }
-    ensures written { (setup : Setup) →
-        IsBefore (net_of B.slots network.old) setup [] schedule.now →
-        WritesReport result (lines_in extent setup) (passes setup)
-        (O.shows sink.old) (O.shows sink.new) }
-    ensures stepped { (setup : Setup) →
-        IsBefore (net_of B.slots network.old) setup [] schedule.now →
-        Stepped result extent (net_of B.slots network.new) setup
-        (O.shows sink.old) (O.shows sink.new) }
+    requires { IsUnstarted (net_of B.slots network.old) schedule.now }
+    ensures written { WritesFromStart (lines_in extent) (net_of B.slots network.old) schedule.now
+        result (O.shows sink.old) (O.shows sink.new) }
+    ensures stepped { StepsFromStart extent (net_of B.slots network.old)
+        (net_of B.slots network.new) schedule.now result (O.shows sink.old) (O.shows sink.new) }
 {
     match extent {
         Extent::Whole => write_whole(sink, network, schedule),
@@ -139,7 +130,7 @@ pub fn write_report<O: Sink, B: Workbench>(
     network: &mut Network<B>,
     schedule: &Schedule,
 ) -> Result<bool, Failed>
-    requires { (setup : Setup) × IsBefore (net_of B.slots network.old) setup [] schedule.now }
+    requires { IsUnstarted (net_of B.slots network.old) schedule.now }
     ensures written { (setup : Setup) →
         IsBefore (net_of B.slots network.old) setup [] schedule.now →
         DeliversReport result (lines_in extent setup) (passes setup)
@@ -149,10 +140,8 @@ pub fn write_report<O: Sink, B: Workbench>(
         Guarantees setup (journal_of setup) }
     ensures drained { (setup : Setup) →
         IsBefore (net_of B.slots network.old) setup [] schedule.now → EndsDrained setup }
-    ensures stepped { (setup : Setup) →
-        IsBefore (net_of B.slots network.old) setup [] schedule.now →
-        Stepped result extent (net_of B.slots network.new) setup
-        (O.shows sink.old) (O.shows sink.new) }
+    ensures stepped { StepsFromStart extent (net_of B.slots network.old)
+        (net_of B.slots network.new) schedule.now result (O.shows sink.old) (O.shows sink.new) }
 {
     journal_guarantees();
     drains();

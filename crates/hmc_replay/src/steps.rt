@@ -13,7 +13,7 @@ ghost use Rattle.hmc_net.specs.Stands.{IsNext};
 ghost use Rattle.hmc_outside.specs.Lines.{WritesLines};
 ghost use Rattle.hmc_outside.specs.Views.{SinkView};
 ghost use Rattle.hmc_replay.specs.Output.{Writes};
-ghost use Rattle.hmc_replay.specs.Steps.{step_passed, IsBefore, IsAfter, TookAll, TookRound, WroteAll, WroteRound};
+ghost use Rattle.hmc_replay.specs.Steps.{step_passed, IsBefore, IsUnstarted, IsAfter, TookAll, TookRound, WroteAll, WroteRound};
 ghost use Rattle.hmc_schedule.specs.RoundsLeft.{steps_left};
 ghost use Rattle.hmc_schedule.specs.declared.step.Step.{Step};
 
@@ -67,7 +67,7 @@ fn take_round<B: Workbench>(
 
 /// Takes all steps. Returns whether a landing passed.
 pub fn take_steps<B: Workbench>(network: &mut Network<B>, schedule: &Schedule) -> bool
-    requires { (setup : Setup) × IsBefore (net_of B.slots network.old) setup [] schedule.now }
+    requires { IsUnstarted (net_of B.slots network.old) schedule.now }
     ensures { (setup : Setup) → IsBefore (net_of B.slots network.old) setup [] schedule.now →
         TookAll (net_of B.slots network.new) setup result }
 {
@@ -126,7 +126,7 @@ pub fn write_steps<O: Sink, B: Workbench>(
     network: &mut Network<B>,
     schedule: &Schedule,
 ) -> Result<bool, Failed>
-    requires { (setup : Setup) × IsBefore (net_of B.slots network.old) setup [] schedule.now }
+    requires { IsUnstarted (net_of B.slots network.old) schedule.now }
     ensures { (setup : Setup) → IsBefore (net_of B.slots network.old) setup [] schedule.now →
         WroteAll result (net_of B.slots network.new) setup
         (O.shows sink.old) (O.shows sink.new) }
