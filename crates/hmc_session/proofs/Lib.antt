@@ -1,7 +1,7 @@
 pub mod Standing
 pub mod Beginning
 pub mod Running
-pub mod Laying
 pub mod Runs
 pub mod Shown
+pub mod Known
 mod Worked

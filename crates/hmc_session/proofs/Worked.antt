@@ -20,7 +20,6 @@ use Rattle.hmc_entries.specs.declared.entry.Entry.{Entry}
 use Rattle.hmc_entries.specs.declared.entry.Entry.TheVariants.{Discarded, Unlocked, Idle}
 use Rattle.hmc_entries.specs.declared.outcome.Cause.TheVariants.{Empty}
 use Rattle.hmc_journal.specs.Setup.{Setup}
-use Rattle.hmc_session.specs.Ahead.{TakesFirst}
 use Rattle.hmc_session.specs.Asking.{item_in, told_of}
 use Rattle.hmc_session.specs.Running.{TakenOrWaiting, StopsOnce, stopped_at}
 use Rattle.hmc_session.specs.Session.{IsWaiting}
@@ -58,18 +57,6 @@ item_in-fault = refl
 -- out of memory says nothing of the text
 told_of-refusals : map told_of (Refused causes.Memory ∷ Refused causes.Full ∷ NotOne ∷ []) ≡ None ∷ Some (Refused causes.Full) ∷ Some NotOne ∷ []
 told_of-refusals = refl
-
--- ---- laid steps
-
-TakesFirst-first : TakesFirst (steps.Give 0 ∷ steps.Take 1 ∷ []) (Some (steps.Give 0)) (steps.Take 1 ∷ [])
-TakesFirst-first = refl
-
--- not the second one, and none only where none is left
-TakesFirst-second : TakesFirst (steps.Give 0 ∷ steps.Take 1 ∷ []) (Some (steps.Take 1)) (steps.Give 0 ∷ []) → ⊥
-TakesFirst-second is = absurd cc
-
-TakesFirst-none : TakesFirst (steps.Give 0 ∷ []) None [] → ⊥
-TakesFirst-none is = absurd (cc is.0)
 
 -- ---- runs
 

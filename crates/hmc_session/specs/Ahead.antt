@@ -12,11 +12,6 @@ use Rattle.hmc_session.specs.Session.{SessionFields, StandsIn, IsWaiting}
 use Rattle.hmc_session.specs.declared.refusal.NotTaken.{NotTaken}
 use Rattle.hmc_session.specs.declared.refusal.NotTaken.TheVariants.{Waits}
 
--- the first step was taken off a list, or there was none
-abbrev pub TakesFirst : List Step → Option Step → List Step → Type 0
-TakesFirst old None new = (old ≡ []) × (new ≡ [])
-TakesFirst old (Some step) new = old ≡ step ∷ new
-
 -- What becomes of a session by a step, and what is returned. It is taken exactly where nothing
 -- refuses it: then the session stands for the case with this step, and for the journal with its
 -- entry. Else nothing changes. Where it waits, it is a give of a host that has no request left.

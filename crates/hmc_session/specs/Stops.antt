@@ -1,5 +1,5 @@
 -- The kinds of entries at which a run of laid steps stops.
-use Rattle.std.specs.Prelude.{Bool}
+use Rattle.std.specs.Prelude.{Bool, false}
 use Rattle.hmc_entries.specs.declared.entry.Entry.{Entry}
 use Rattle.hmc_entries.specs.declared.entry.Entry.TheVariants.{Gave, Sent, Landed, Shifted, Dropped, Spread, Executed, Lifted, Took, Discarded, Through, Unlocked, Retired, Passed, Idle}
 use Rattle.hmc_session.specs.declared.stops.Stops.{Stops}
@@ -21,3 +21,23 @@ is_stop stops (Unlocked direction) = stops.unlocked
 is_stop stops (Retired slot) = stops.retired
 is_stop stops (Passed direction flit) = stops.passed
 is_stop stops (Idle step cause) = stops.idle
+
+-- no kind
+abbrev pub no_stops : Stops
+no_stops = record {
+  gave = false;
+  sent = false;
+  landed = false;
+  shifted = false;
+  dropped = false;
+  spread = false;
+  executed = false;
+  lifted = false;
+  took = false;
+  discarded = false;
+  through = false;
+  unlocked = false;
+  retired = false;
+  passed = false;
+  idle = false;
+}

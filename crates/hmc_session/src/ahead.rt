@@ -1,17 +1,19 @@
 //! Steps that are laid down ahead.
 
-ghost use Rattle.std.specs.Prelude.{◌≡◌, ◌∷◌, [], List, length, slice_get, IfOk};
+ghost use Rattle.std.specs.Prelude.{◌≡◌, ◌∷◌, [], List, length, slice_get, IfOk, IfSome};
 ghost use Rattle.std.specs.List.{All};
 ghost use Rattle.hmc_schedule.specs.Plan.{IsStepOf};
 ghost use Rattle.hmc_schedule.specs.Schedule.{schedule_of};
+ghost use Rattle.hmc_schedule.specs.StepsLeft.{TakesFirst};
 ghost use Rattle.hmc_schedule.specs.declared.step.Step.{Step};
-ghost use Rattle.hmc_session.specs.Ahead.{TakesFirst, StepsBy, IsWithoutStep};
+ghost use Rattle.hmc_net.specs.Went.{went_of};
+ghost use Rattle.hmc_session.specs.Ahead.{StepsBy, IsWithoutStep};
 ghost use Rattle.hmc_session.specs.Session.{session_of};
 ghost use Rattle.hmc_text.specs.InTurn.{Answers};
 
 use crate::{NotTaken, Session};
 use hmc_net::Went;
-use hmc_schedule::{Schedule, ScheduleFault, Step};
+use hmc_schedule::{Schedule, ScheduleFault, Step, StepsLeft};
 use hmc_units::Workbench;
 use std::alloc::Global;
 use std::marker::Model;
@@ -19,17 +21,16 @@ use std::marker::Model;
 /// Steps that are laid down ahead, in order. Contracts see the list of those that are left.
 #[derive(Drop)]
 pub struct Laid {
-    steps: Schedule,
-    at: u32,
+    left: StepsLeft,
 }
 
 impl Model for Laid {
-    ghost use Rattle.std.specs.Prelude.{List, drop};
+    ghost use Rattle.std.specs.Prelude.{List};
     ghost use Rattle.hmc_schedule.specs.declared.step.Step.{Step};
 
     ghost Value = { List Step };
 
-    ghost view = { λ l. drop l.at l.steps };
+    ghost view = { λ l. l.left };
 }
 
 impl Laid {
@@ -37,36 +38,31 @@ impl Laid {
     pub fn new(steps: Schedule) -> Self
         ensures { result ≡ steps }
     {
-        Laid { steps, at: 0 }
+        Laid {
+            left: steps.into_steps(),
+        }
     }
 
     /// The number of steps that are left.
     pub fn len(&self) -> u32
         ensures { result ≡ length self.now }
     {
-        self.steps.len().saturating_sub(self.at)
+        self.left.len()
     }
 
     /// The next step, if one is left. It stays on the list.
     pub fn first(&self) -> Option<Step>
         ensures { result ≡ slice_get self.now 0 }
     {
-        if self.at >= self.steps.len() {
-            return None;
-        }
-        Some(self.steps.step(self.at))
+        self.left.first()
     }
 
     /// Takes the next step off the list, if one is left.
+    #[inline(always)]
     pub fn take(&mut self) -> Option<Step>
         ensures { TakesFirst self.old result self.new }
     {
-        if self.at >= self.steps.len() {
-            return None;
-        }
-        let step = self.steps.step(self.at);
-        self.at += 1;
-        Some(step)
+        self.left.take()
     }
 }
 
@@ -83,6 +79,7 @@ impl<B: Workbench> Session<B> {
 
     /// Takes the next of the steps that are laid down. `None` if none is left. A step that is
     /// refused is off the list too.
+    #[inline(always)]
     pub fn next(&mut self, laid: &mut Laid) -> Result<Option<Went>, NotTaken>
         // Without a step nothing changes.
         ensures none { laid.old ≡ [] → IsWithoutStep result
@@ -92,19 +89,24 @@ impl<B: Workbench> Session<B> {
         ensures steps { (step : Step) (rest : List Step) → laid.old ≡ step ∷ rest →
             (laid.new ≡ rest) × StepsBy
             (session_of B.slots self.old) (session_of B.slots self.new) step result }
+        ensures last { IfOk result (λ taken. IfSome taken (λ went.
+            went ≡ went_of self.new.network.last)) }
         ensures finished { self.new.finished ≡ self.old.finished }
         ensures plan { self.new.plan ≡ self.old.plan }
     {
-        match laid.take() {
-            Some(step) => self.step_on(&step),
+        match &laid.take() {
+            Some(step) => self.step_on(step),
             None => Ok(None),
         }
     }
 
     // Takes a step, if nothing refuses it.
+    #[inline(always)]
     fn step_on(&mut self, step: &Step) -> Result<Option<Went>, NotTaken>
         ensures steps { StepsBy
             (session_of B.slots self.old) (session_of B.slots self.new) step.now result }
+        ensures last { IfOk result (λ taken. IfSome taken (λ went.
+            went ≡ went_of self.new.network.last)) }
         ensures finished { self.new.finished ≡ self.old.finished }
         ensures plan { self.new.plan ≡ self.old.plan }
     {

@@ -20,9 +20,9 @@ mod showing;
 mod stops;
 
 pub use ahead::Laid;
-pub use laws::a_session_is_a_run;
+pub use laws::{a_laid_step_is_known, a_run_without_stops_goes_on, a_session_is_a_run};
 pub use numbers::step_named;
 pub use refusal::{LineNotAsked, NotAsked, NotTaken};
 pub use run::Ran;
 pub use session::Session;
-pub use stops::{NO_STOPS, Stops};
+pub use stops::{NO_STOPS, Stops, no_stops};

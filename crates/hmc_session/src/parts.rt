@@ -25,6 +25,7 @@ pub fn cube_count(plan: &Plan) -> u8
     plan.cubes.len() as u8
 }
 
+#[inline(always)]
 fn has_cube(plan: &Plan, cube: u8) -> bool
     ensures value { result ≡ has_cube plan.now cube }
     ensures means { IsTrue result → cube < length plan.now.cubes }
@@ -32,6 +33,7 @@ fn has_cube(plan: &Plan, cube: u8) -> bool
     cube < plan.cube_count()
 }
 
+#[inline(always)]
 fn has_port(plan: &Plan, cube: u8, port: u8) -> bool
     ensures value { result ≡ has_port plan.now cube port }
     ensures means { IsTrue result → IsPortOf plan.now cube port }
@@ -39,6 +41,7 @@ fn has_port(plan: &Plan, cube: u8, port: u8) -> bool
     has_cube(plan, cube) && port < PORTS && plan.is_joined(cube, port)
 }
 
+#[inline(always)]
 fn has_vault(plan: &Plan, cube: u8, vault: u8) -> bool
     ensures value { result ≡ has_vault plan.now cube vault }
     ensures means { IsTrue result → IsVaultOf plan.now cube vault }
@@ -46,6 +49,7 @@ fn has_vault(plan: &Plan, cube: u8, vault: u8) -> bool
     has_cube(plan, cube) && vault < plan.vaults(cube)
 }
 
+#[inline(always)]
 fn has_lift(plan: &Plan, cube: u8, from: Lift) -> bool
     ensures value { result ≡ has_lift plan.now cube from }
     ensures means { IsTrue result → IsLiftOf plan.now cube from }
@@ -56,6 +60,7 @@ fn has_lift(plan: &Plan, cube: u8, from: Lift) -> bool
     }
 }
 
+#[inline(always)]
 fn has_host(plan: &Plan, host: u8) -> bool
     ensures value { result ≡ nat_lt host plan.now.hosts }
     ensures means { IsTrue result → host < plan.now.hosts }
@@ -63,6 +68,7 @@ fn has_host(plan: &Plan, host: u8) -> bool
     host < plan.hosts
 }
 
+#[inline(always)]
 fn has_direction(plan: &Plan, direction: u8) -> bool
     ensures value { result ≡ nat_lt direction plan.now.directions }
     ensures means { IsTrue result → direction < plan.now.directions }
@@ -70,6 +76,7 @@ fn has_direction(plan: &Plan, direction: u8) -> bool
     direction < plan.directions
 }
 
+#[inline(always)]
 fn has_bank(plan: &Plan, cube: u8, vault: u8, bank: u8) -> bool
     ensures value { result ≡
         (has_vault plan.now cube vault && nat_lt bank (banks_at plan.now cube)) }
@@ -79,6 +86,7 @@ fn has_bank(plan: &Plan, cube: u8, vault: u8, bank: u8) -> bool
 }
 
 /// Whether each number that the step names is one of the plan, or of a slot.
+#[inline(always)]
 pub fn has_step(plan: &Plan, step: &Step) -> bool
     ensures value { result ≡ has_step plan.now step.now }
     ensures means { IsTrue result → IsStepOf plan.now step.now }

@@ -3,11 +3,13 @@
 ghost use Rattle.std.specs.Prelude.{◌≡◌, List};
 ghost use Rattle.hmc_entries.specs.declared.entry.Entry.{Entry};
 ghost use Rattle.hmc_journal.specs.Setup.{Setup};
+ghost use Rattle.hmc_net.specs.Went.{went_of};
 ghost use Rattle.hmc_session.specs.Running.{RunsTo, TriesBy, stopped_at};
 ghost use Rattle.hmc_session.specs.Session.{session_of, StandsIn};
 
-use crate::stops::stops_at;
+use crate::stops::{stops_after, stops_at};
 use crate::{Laid, NotTaken, Session, Stops};
+use hmc_net::Went;
 use hmc_units::Workbench;
 
 /// How a run of laid steps ended.
@@ -49,6 +51,7 @@ impl<B: Workbench> Session<B> {
     }
 
     // Takes the next laid step, unless it waits. `Some` where a run ends with it.
+    #[inline(always)]
     fn try_next(&mut self, laid: &mut Laid, stops: &Stops) -> Option<Ran>
         ensures tries { (setup : Setup) (past : List Entry) →
             StandsIn (session_of B.slots self.old) setup past →
@@ -58,7 +61,7 @@ impl<B: Workbench> Session<B> {
         ensures plan { self.new.plan ≡ self.old.plan }
     {
         match self.next(laid) {
-            Ok(Some(_)) => self.stopped(stops),
+            Ok(Some(went)) => self.stopped_after(went, stops),
             Ok(None) => Some(Ran::Ended),
             Err(NotTaken::Waits) => None,
             Err(NotTaken::Unknown) => Some(Ran::Unknown),
@@ -66,8 +69,21 @@ impl<B: Workbench> Session<B> {
         }
     }
 
+    // The same after a step that went so.
+    #[inline(always)]
+    fn stopped_after(&self, went: Went, stops: &Stops) -> Option<Ran>
+        requires { went ≡ went_of self.now.network.last }
+        ensures { result ≡ stopped_at stops.now (session_of B.slots self.now).net.last }
+    {
+        if stops_after(stops, went, self.network().last()) {
+            return Some(Ran::Stopped);
+        }
+        None
+    }
+
     /// `Some` where the latest entry is of a chosen kind: a run ends there. It is of use after a
     /// step alone.
+    #[inline(always)]
     pub fn stopped(&self, stops: &Stops) -> Option<Ran>
         ensures { result ≡ stopped_at stops.now (session_of B.slots self.now).net.last }
     {

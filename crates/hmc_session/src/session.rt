@@ -1,10 +1,11 @@
 //! Sessions.
 
-ghost use Rattle.std.specs.Prelude.{◌≡◌, ◌<◌, [], ◌∷◌, List, Some, None, Err, true, false, replicate, slice_set, IfOk, IfErr, OnOk, OnErr};
+ghost use Rattle.std.specs.Prelude.{◌≡◌, ◌<◌, [], ◌∷◌, not, if◌then◌else◌, List, Some, None, Err, true, false, replicate, slice_set, IfOk, IfErr, OnOk, OnErr};
 ghost use Rattle.std.specs.Option.{unwrap_or};
 ghost use Rattle.hmc_codes.specs.Limits.{most_hosts};
 ghost use Rattle.hmc_schedule.specs.Plan.{IsStepOf};
 ghost use Rattle.hmc_case.specs.Plan.{plan_of};
+ghost use Rattle.hmc_entries.specs.Event.{is_passed};
 ghost use Rattle.hmc_entries.specs.declared.entry.Entry.{Entry};
 ghost use Rattle.hmc_journal.specs.Next.{next};
 ghost use Rattle.hmc_journal.specs.Setup.{Setup};
@@ -12,7 +13,8 @@ ghost use Rattle.hmc_growing.specs.Growing.{with_step, with_item};
 ghost use Rattle.hmc_net.specs.Asked.{item_with};
 ghost use Rattle.hmc_net.specs.Went.{went_of};
 ghost use Rattle.hmc_session.specs.Session.{session_of, StandsIn, IsWaiting, MayAsk, begun, waits, is_finished};
-ghost use Rattle.hmc_session.specs.Refusals.{step_refusal, ask_refusal};
+ghost use Rattle.hmc_session.specs.Refusals.{step_refusal, ask_refusal, has_step};
+ghost use Rattle.hmc_session.specs.declared.refusal.NotTaken.TheVariants.{Unknown, Over};
 
 use crate::parts::{has_flit, has_step, host_count};
 use crate::{NotAsked, NotTaken};
@@ -58,6 +60,25 @@ impl<B: Workbench> Model for Session<B> {
       taken = s.taken;
       passed = s.passed;
     })) };
+}
+
+// Whether a step is a landing that passed.
+#[inline(always)]
+fn has_passed(went: Went) -> bool
+    ensures { (entry : Entry) → went ≡ went_of entry → result ≡ is_passed entry }
+{
+    matches!(went, Went::Passed)
+}
+
+// Why a step isn't taken where none may follow. It is out of the way of steps that are taken.
+#[inline(never)]
+fn over_refusal(plan: &Plan, step: &Step) -> NotTaken
+    ensures { result ≡ (if not (has_step plan.now step.now) then Unknown else Over) }
+{
+    if !has_step(plan, step) {
+        return NotTaken::Unknown;
+    }
+    NotTaken::Over
 }
 
 impl<B: Workbench> Session<B> {
@@ -111,6 +132,7 @@ impl<B: Workbench> Session<B> {
     }
 
     /// Takes a step. An error says why it isn't taken; then nothing changes.
+    #[inline(always)]
     pub fn step(&mut self, step: &Step) -> Result<Went, NotTaken>
         // It is taken exactly where nothing refuses it.
         ensures refused { IfErr result (λ refusal.
@@ -128,6 +150,7 @@ impl<B: Workbench> Session<B> {
         ensures went { (setup : Setup) (past : List Entry) →
             StandsIn (session_of B.slots self.old) setup past →
             IfOk result (λ went. went ≡ went_of (next setup past step.now)) }
+        ensures last { IfOk result (λ went. went ≡ went_of self.new.network.last) }
 
         // Only a give waits, of a host that isn't finished and has no request left.
         ensures waits { (setup : Setup) (past : List Entry) →
@@ -189,6 +212,7 @@ impl<B: Workbench> Session<B> {
     }
 
     /// Why this step would not be taken now, if it would not.
+    #[inline(always)]
     pub fn step_refusal(&self, step: &Step) -> Option<NotTaken>
         ensures value { result ≡ step_refusal (session_of B.slots self.now) step.now }
         ensures within { result ≡ None → IsStepOf self.now.plan step.now }
@@ -196,11 +220,11 @@ impl<B: Workbench> Session<B> {
             StandsIn (session_of B.slots self.now) setup past → result ≡ Some NotTaken.Waits →
             IsWaiting self.now.finished setup past step.now }
     {
+        if self.passed || self.taken >= MOST_TAKEN {
+            return Some(over_refusal(&self.plan, step));
+        }
         if !has_step(&self.plan, step) {
             return Some(NotTaken::Unknown);
-        }
-        if self.passed || self.taken >= MOST_TAKEN {
-            return Some(NotTaken::Over);
         }
         if self.waits(step) {
             return Some(NotTaken::Waits);
@@ -230,6 +254,7 @@ impl<B: Workbench> Session<B> {
     }
 
     // Whether the step is a give of a host that has given all of its requests and isn't finished.
+    #[inline(always)]
     fn waits(&self, step: &Step) -> bool
         requires { IsStepOf self.now.plan step.now }
         ensures { result ≡ waits (session_of B.slots self.now) step.now }
@@ -251,6 +276,7 @@ impl<B: Workbench> Session<B> {
     }
 
     /// Takes a step that nothing refuses, which `step_refusal` says.
+    #[inline(always)]
     pub fn take(&mut self, step: &Step) -> Went
         requires within { IsStepOf self.old.plan step.now }
         requires free { step_refusal (session_of B.slots self.old) step.now ≡ None }
@@ -261,12 +287,13 @@ impl<B: Workbench> Session<B> {
         ensures went { (setup : Setup) (past : List Entry) →
             StandsIn (session_of B.slots self.old) setup past →
             result ≡ went_of (next setup past step.now) }
+        ensures last { result ≡ went_of self.new.network.last }
         ensures finished { self.new.finished ≡ self.old.finished }
         ensures plan { self.new.plan ≡ self.old.plan }
     {
         has_flit(step);
         let went = self.network.step(step);
-        self.passed = self.network.last().has_passed();
+        self.passed = has_passed(went);
         self.taken += 1;
         went
     }

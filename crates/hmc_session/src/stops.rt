@@ -1,9 +1,11 @@
 //! The kinds of entries at which a run of laid steps stops.
 
-ghost use Rattle.std.specs.Prelude.{◌≡◌};
-ghost use Rattle.hmc_session.specs.Stops.{is_stop};
+ghost use Rattle.std.specs.Prelude.{◌≡◌, false};
+ghost use Rattle.hmc_net.specs.Went.{went_of};
+ghost use Rattle.hmc_session.specs.Stops.{is_stop, no_stops};
 
 use hmc_entries::{Entry, LastEntry};
+use hmc_net::Went;
 
 /// Kinds of entries at which a run stops: those of the fields that are set.
 #[derive(Clone, Copy, Debug, PartialEq, Eq)]
@@ -59,6 +61,14 @@ pub const NO_STOPS: Stops = Stops {
     idle: false,
 };
 
+/// `NO_STOPS`. No entry is of its kinds.
+pub fn no_stops() -> Stops
+    ensures value { result ≡ no_stops }
+    ensures nowhere { (entry : Entry) → is_stop result entry ≡ false }
+{
+    NO_STOPS
+}
+
 // Whether the entry is of one of the kinds.
 fn is_stop(stops: &Stops, entry: &Entry) -> bool
     ensures { result ≡ is_stop stops.now entry.now }
@@ -82,8 +92,23 @@ fn is_stop(stops: &Stops, entry: &Entry) -> bool
     }
 }
 
+/// Whether the entry of a step that went so is of one of the kinds. Most steps do nothing, and of
+/// these the entry isn't looked at.
+#[tactic(auto, using(crate::proofs::Known::idle_stop))]
+#[inline(always)]
+pub fn stops_after(stops: &Stops, went: Went, last: &LastEntry) -> bool
+    requires { went ≡ went_of last.now }
+    ensures { result ≡ is_stop stops.now last.now }
+{
+    if let Went::Idle(_) = went {
+        return stops.idle;
+    }
+    is_stop(stops, &last.entry())
+}
+
 /// Whether the latest entry is of one of the kinds. Most steps of a schedule do nothing, so these
 /// are told without a copy of the entry.
+#[inline(always)]
 pub fn stops_at(stops: &Stops, last: &LastEntry) -> bool
     ensures { result ≡ is_stop stops.now last.now }
 {

@@ -22,7 +22,7 @@ use Rattle.hmc_journal.specs.Setup.{Setup}
 use Rattle.hmc_growing.specs.Growing.{with_step, with_item}
 use Rattle.hmc_net.specs.Went.{went_of}
 use Rattle.hmc_net.specs.declared.went.Went.{Went}
-use Rattle.hmc_session.specs.Ahead.{TakesFirst}
+use Rattle.hmc_schedule.specs.StepsLeft.{TakesFirst}
 use Rattle.hmc_session.specs.Refusals.{step_refusal}
 use Rattle.hmc_session.specs.Session.{StandsIn, IsWaiting, begun}
 use Rattle.hmc_session.specs.declared.refusal.NotTaken.{NotTaken}

@@ -1,8 +1,8 @@
 -- The step is one that may come next.
 use Rattle.std.proofs.Common.{◌≡◌, ◌∙◌, None, refl, ap, sym, subst}
 use Rattle.hmc_schedule.specs.Plan.{IsStepOf}
-use Rattle.hmc_entries.specs.Event.{is_passed}
 use Rattle.hmc_growing.specs.Growing.{with_step}
+use Rattle.hmc_journal.specs.Next.{next}
 use Rattle.hmc_growing.proofs.AddedStep.{same_entry}
 use Rattle.hmc_net.specs.Went.{went_of}
 use Rattle.hmc_session.specs.Refusals.{step_refusal}
@@ -32,7 +32,7 @@ invariant_of-self g c =
     let due = next_is s setup past c.args.step.now keeps may keeps.stands in
     keeps_with s _ setup (with_step setup c.args.step.now) past _ keeps keeps.stands
     (stands_next s _ setup past c.args.step.now keeps may keeps.stands (c.step-went.ensures.stands (with_step setup c.args.step.now) past due) refl
-    (c.has_passed-self-inside.ensures ∙ ap is_passed (c.last.ensures ∙ c.step-went.ensures.last (with_step setup c.args.step.now) past due)) refl (c.step-went.ensures.last (with_step setup c.args.step.now) past due)) refl refl refl
+    (c.has_passed-self-inside.ensures (next (with_step setup c.args.step.now) past c.args.step.now) (c.step-went.ensures.went (with_step setup c.args.step.now) past due)) refl (c.step-went.ensures.last (with_step setup c.args.step.now) past due)) refl refl refl
 
 pub returns-clause-stands : goal.returns-clause-stands
 returns-clause-stands g c = λ setup past is.
@@ -44,7 +44,7 @@ returns-clause-stands g c = λ setup past is.
     let before : StandsIn s setup past = subst (λ (x : SessionFields). StandsIn x setup past) (sym same) is in
     let due = next_is s setup past c.args.step.now c.self.invariant may before in
     stands_next s _ setup past c.args.step.now c.self.invariant may before (c.step-went.ensures.stands (with_step setup c.args.step.now) past due) refl
-    (c.has_passed-self-inside.ensures ∙ ap is_passed (c.last.ensures ∙ c.step-went.ensures.last (with_step setup c.args.step.now) past due)) refl (c.step-went.ensures.last (with_step setup c.args.step.now) past due)
+    (c.has_passed-self-inside.ensures (next (with_step setup c.args.step.now) past c.args.step.now) (c.step-went.ensures.went (with_step setup c.args.step.now) past due)) refl (c.step-went.ensures.last (with_step setup c.args.step.now) past due)
 
 pub returns-clause-went : goal.returns-clause-went
 returns-clause-went g c = λ setup past is.
@@ -55,3 +55,13 @@ returns-clause-went g c = λ setup past is.
     let may : MayTake s c.args.step.now = may_take s c.args.step.now (subst (λ (x : SessionFields). IsStepOf x.plan c.args.step.now) (sym same) c.requires.within) c.has_flit.ensures (subst (λ (x : SessionFields). step_refusal x c.args.step.now ≡ None) (sym same) c.requires.free) in
     let before : StandsIn s setup past = subst (λ (x : SessionFields). StandsIn x setup past) (sym same) is in
     c.step-went.ensures.went (with_step setup c.args.step.now) past (next_is s setup past c.args.step.now c.self.invariant may before) ∙ ap went_of (same_entry setup past c.args.step.now c.args.step.now)
+
+pub returns-clause-last : goal.returns-clause-last
+returns-clause-last g c =
+    let i = c.self.inside in
+    let slots = g.B.Workbench.slots in
+    let s : SessionFields = session_of slots (record { network = i.network; plan = i.plan; finished = i.finished; taken = i.taken; passed = i.passed }) in
+    let same : s ≡ session_of slots c.args.self.now = ap (session_of slots) c.self.view_is in
+    let may : MayTake s c.args.step.now = may_take s c.args.step.now (subst (λ (x : SessionFields). IsStepOf x.plan c.args.step.now) (sym same) c.requires.within) c.has_flit.ensures (subst (λ (x : SessionFields). step_refusal x c.args.step.now ≡ None) (sym same) c.requires.free) in
+    let due = some_next s c.args.step.now c.self.invariant may in
+    c.step-went.ensures.went due.0 due.1 due.2 ∙ ap went_of (sym (c.step-went.ensures.last due.0 due.1 due.2))

@@ -10,8 +10,8 @@ pub returns-in-Ok-Some-clause-tries : goal.returns-in-Ok-Some-clause-tries
 returns-in-Ok-Some-clause-tries g c = λ setup past stands.
     let before : SessionFields = session_of g.B.Workbench.slots c.args.self.now in
     let now : SessionFields = session_of g.B.Workbench.slots c.next.new.self in
-    let t = taken_step before now c.args.laid.now c.next.new.laid c.next.result c.in-Ok-Some.field-0-0 (c.in-Ok-Some.is ∙ ap Ok c.in-Ok-Some.field-0-is) c.next.ensures.none c.next.ensures.steps setup past stands in
-    tries_taken (StandsIn now) c.stopped.result now setup past c.args.laid.now c.next.new.laid c.args.stops.now t.0 t.1 t.2 t.2 c.stopped.ensures
+    let t = taken_step before now c.args.laid.now c.next.new.laid c.next.result c.in-Ok-Some.went (c.in-Ok-Some.is ∙ ap Ok c.in-Ok-Some.field-0-is) c.next.ensures.none c.next.ensures.steps setup past stands in
+    tries_taken (StandsIn now) c.stopped_after.result now setup past c.args.laid.now c.next.new.laid c.args.stops.now t.0 t.1 t.2 t.2 c.stopped_after.ensures
 
 pub returns-in-Ok-None-clause-tries : goal.returns-in-Ok-None-clause-tries
 returns-in-Ok-None-clause-tries g c = λ setup past stands.
