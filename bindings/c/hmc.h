@@ -6,8 +6,9 @@
  * from malloc, realloc and free; after hmc_open only calls whose comment has HMC_MEMORY take any.
  *
  * What a call returns is its status; its comment has those that it can return. With one that says
- * why it did nothing, nothing changed, and what it would write through a pointer isn't written,
- * except that `written` and `steps` are 0. No pointer may be null, also where a length is 0.
+ * why it did nothing, nothing changed (but that a laid step may be off its list), and what it would
+ * write through a pointer isn't written, except that `written` and `steps` are 0, and a length as is
+ * said. No pointer may be null, also where a length is 0.
  * Numbers of hosts, cubes, ports, vaults, banks and directions begin with 0. docs/c-library.md says
  * more.
  *
@@ -53,16 +54,24 @@ enum {
     HMC_NO_HOST = 12,  /* there is no such host */
     HMC_NO_CUBE = 13,  /* there is no such cube */
     HMC_FINISHED = 14, /* the host is finished */
-    HMC_FULL = 15      /* the host was asked for 4,294,967,295 requests */
+    HMC_FULL = 15,     /* the host was asked for 4,294,967,295 requests */
+    /* The first test that the flits of a packet fail: */
+    HMC_BAD_LENGTH = 16,   /* as many flits as the first one says */
+    HMC_BAD_COMMAND = 17,  /* a command of this length has this code */
+    HMC_BAD_RESERVED = 18, /* the bits that must be 0 are */
+    HMC_BAD_CRC = 19,      /* the check is that of the bytes before it, or its inverse */
+    HMC_UNLAWFUL = 20      /* the report is not that of the case */
 };
 
 /* The name of a status. */
 static inline const char *hmc_status_name(uint8_t status) {
-    static const char *const names[16] = {
-        "ok",     "memory", "?",     "?",    "?",       "?",       "bad",      "passed",
-        "none",   "closed", "waits", "over", "no host", "no cube", "finished", "full",
+    static const char *const names[21] = {
+        "ok",         "memory",      "?",            "?",       "?",        "?",       "bad",
+        "passed",     "none",        "closed",       "waits",   "over",     "no host", "no cube",
+        "finished",   "full",        "bad length",   "bad command",
+        "bad reserved", "bad crc",   "unlawful",
     };
-    return status < 16 ? names[status] : "?";
+    return status < 21 ? names[status] : "?";
 }
 
 /* Kinds of steps, each with the numbers of its words: a, b, c in this order. */
@@ -133,6 +142,39 @@ typedef struct {
     uint8_t returned[256]; /* the bytes of an answer */
 } hmc_entry_t;
 
+/* The kinds of logic units (docs/units.md). */
+enum {
+    HMC_REVERSE = 0, /* reverses blocks */
+    HMC_STAMP = 1    /* numbers blocks */
+};
+
+/* A logic unit that never worked: it does the command `unit` with the number `code` of a cube. Both
+ * are below 8. */
+typedef struct {
+    uint8_t kind;
+    uint8_t cube;
+    uint8_t code;
+} hmc_unit_t;
+
+/* A packet (docs/packets.md), with the return pointer that it is sent with. A field that a packet
+ * of its command lacks is 0. */
+typedef struct {
+    uint64_t address; /* below 2^34 */
+    uint32_t length;  /* the bytes of payload that count: as many as the command has */
+    uint16_t tag;     /* below 2,048 */
+    uint16_t frp;     /* the forward retry pointer: below 512, and in profile two below 2,048 */
+    uint16_t rrp;     /* the return retry pointer, likewise; 0 of a NULL */
+    uint8_t command;  /* the code of its command */
+    uint8_t cube;     /* below 8 */
+    uint8_t slid;     /* the host link of a request's host, below 8 */
+    uint8_t errstat;  /* the number of an error: below 128, and in profile two below 8 */
+    uint8_t rtc;      /* the code of the tokens that are returned, below 8 */
+    uint8_t seq;      /* the sequence number, below 8 */
+    bool flag;        /* of a response: whether an atomic command's condition held */
+    bool poisoned;    /* whether its check is the inverse of the right one */
+    uint8_t payload[256];
+} hmc_packet_t;
+
 /* The first fault of a text. */
 typedef struct {
     uint32_t line;    /* of a cube or a link its number, from 0; of a script or a schedule its line,
@@ -144,7 +186,8 @@ typedef struct {
 /* The tokens of a direction; their sum is what its receiving end advertises. */
 typedef struct {
     uint32_t held;      /* that its sender may still spend */
-    uint32_t transit;   /* flits of packets that were begun and are not accepted yet */
+    uint32_t transit;   /* flits of requests and responses that were begun and are not accepted
+                           yet */
     uint32_t used;      /* flits of packets in the receiving buffer */
     uint32_t due;       /* that the receiving end has to return */
     uint32_t returning; /* in packets of the other direction that are not accepted yet */
@@ -180,6 +223,15 @@ typedef struct {
  * its script asked, the steps of its schedule laid down, and none of them taken. What the handle
  * had is dropped. HMC_OK, HMC_MEMORY, HMC_BAD. */
 uint8_t hmc_open(const uint8_t *text, size_t length, hmc_session *s);
+/* The same with at most 8 logic units: the one at place i is in slot i. HMC_NONE: there are more,
+ * or one is none. HMC_OK, HMC_MEMORY, HMC_BAD, HMC_NONE. */
+uint8_t hmc_open_with(const uint8_t *text, size_t length, const hmc_unit_t *units, size_t count,
+                      hmc_session *s);
+/* The same with a tape: the requests and the steps are kept as a script and a schedule, which
+ * hmc_tape_script and hmc_tape_schedule write. Requests and steps take memory then. HMC_OK,
+ * HMC_MEMORY, HMC_BAD, HMC_NONE. */
+uint8_t hmc_open_taped(const uint8_t *text, size_t length, const hmc_unit_t *units, size_t count,
+                       hmc_session *s);
 /* Closes a handle; a closed one stays closed. */
 void hmc_close(hmc_session *s);
 /* The first fault of a text that is no case. HMC_OK, HMC_MEMORY, HMC_NONE (it is a case). */
@@ -188,12 +240,12 @@ uint8_t hmc_fault(const uint8_t *text, size_t length, hmc_fault_t *out);
 /* ---- Requests ---- */
 
 /* Asks a host for one request more, in the words of a script (docs/script.md), as "0 rd16 0 0x40";
- * a fence of its host may be on a line before it. HMC_OK, HMC_MEMORY, HMC_BAD, HMC_CLOSED,
- * HMC_NO_HOST to HMC_FULL. */
+ * a fence of its host may be on a line before it. HMC_OK, HMC_MEMORY, HMC_BAD (also where there is
+ * no such host or cube), HMC_CLOSED, HMC_FINISHED, HMC_FULL. */
 uint8_t hmc_ask(hmc_session *s, const uint8_t *text, size_t length);
 /* Asks a host for one request more: the code of its command (docs/packets.md), its cube, an
- * address below 2^34, and as many bytes as the command has. HMC_OK, HMC_MEMORY, HMC_BAD,
- * HMC_CLOSED, HMC_NO_HOST to HMC_FULL. */
+ * address below 2^34, and as many bytes as the command has, of which the first four count for mdwr.
+ * HMC_OK, HMC_MEMORY, HMC_BAD, HMC_CLOSED, HMC_NO_HOST to HMC_FULL. */
 uint8_t hmc_request(hmc_session *s, uint8_t host, bool fenced, bool poisoned, uint8_t code,
                     uint8_t cube, uint64_t address, const uint8_t *payload, size_t length);
 /* Asks a host for nothing more from now on. HMC_OK, HMC_CLOSED, HMC_NO_HOST. */
@@ -205,19 +257,22 @@ uint8_t hmc_ask_fault(hmc_session *s, const uint8_t *text, size_t length, hmc_fa
 
 /* ---- Steps ---- */
 
-/* Takes a step. HMC_OK, HMC_PASSED, HMC_NONE, HMC_CLOSED, HMC_WAITS, HMC_OVER. */
+/* Takes a step. HMC_MEMORY: the tape is out of memory. HMC_OK, HMC_MEMORY, HMC_PASSED, HMC_NONE,
+ * HMC_CLOSED, HMC_WAITS, HMC_OVER. */
 uint8_t hmc_step(hmc_session *s, uint8_t kind, uint8_t a, uint8_t b, uint8_t c,
                  const uint8_t mask[16]);
 /* Lays down steps, in the words of a schedule (docs/schedule.md), as "round 100", in place of those
  * that are left. HMC_OK, HMC_MEMORY, HMC_BAD, HMC_CLOSED. */
 uint8_t hmc_lay(hmc_session *s, const uint8_t *text, size_t length);
 /* Takes the next of the steps that are laid down, as hmc_step does; one that is refused is off the
- * list too. HMC_OK, HMC_PASSED, HMC_NONE (none is left), HMC_CLOSED, HMC_WAITS, HMC_OVER. */
+ * list too, and one that the tape has no memory for stays. HMC_OK, HMC_MEMORY, HMC_PASSED, HMC_NONE
+ * (none is left), HMC_CLOSED, HMC_WAITS, HMC_OVER. */
 uint8_t hmc_next(hmc_session *s);
 /* Takes steps that are laid down, and tries at most so many, up to an entry whose kind k has the
  * bit k set in `stops`, as 1u << HMC_TOOK; one that waits is passed over. `steps` is how many were
- * taken. HMC_OK (the latest entry is of such a kind, or so many were tried), HMC_NONE (none is
- * left), HMC_CLOSED, HMC_OVER (a step is left that may not be taken). */
+ * taken. HMC_OK (the latest entry is of such a kind, or so many were tried), HMC_MEMORY (the tape
+ * is out of memory for the next one, which stays), HMC_NONE (none is left), HMC_CLOSED, HMC_OVER
+ * (the next step may not be taken; it is off the list). */
 uint8_t hmc_run(hmc_session *s, uint32_t most, uint32_t stops, uint32_t *steps);
 /* The first fault of a text that hmc_lay finds bad: of section schedule. HMC_OK, HMC_MEMORY,
  * HMC_CLOSED, HMC_NONE (it is a schedule). */
@@ -229,6 +284,15 @@ uint8_t hmc_lay_fault(hmc_session *s, const uint8_t *text, size_t length, hmc_fa
 uint8_t hmc_entry(hmc_session *s, hmc_entry_t *out);
 /* The line of the latest entry; 2,048 bytes hold each. HMC_OK, HMC_NONE, HMC_CLOSED. */
 uint8_t hmc_line(hmc_session *s, uint8_t *out, size_t room, size_t *written);
+
+/* The tape of a session that was opened with one: the requests that were asked, as a script, and
+ * the steps that were taken, as a schedule. The session's case with these two texts in place of its
+ * own, and with the same logic units, has the session's journal, and its report begins with the
+ * session's lines, unless there are more than 65,536 requests or 1,000,000 steps. `length` is that of
+ * the text also where there is no room for it, and 0 where there is no tape. HMC_OK, HMC_NONE (no
+ * room, or no tape), HMC_CLOSED. */
+uint8_t hmc_tape_script(hmc_session *s, uint8_t *out, size_t room, size_t *length);
+uint8_t hmc_tape_schedule(hmc_session *s, uint8_t *out, size_t room, size_t *length);
 
 /* What the steps so far leave. After a landing that passed each of these is HMC_OVER. */
 
@@ -247,12 +311,36 @@ uint8_t hmc_cube(hmc_session *s, uint8_t cube, hmc_cube_t *out);
 uint8_t hmc_drained(hmc_session *s, bool *out);
 /* How many requests and responses are under way. HMC_OK, HMC_CLOSED, HMC_OVER. */
 uint8_t hmc_under_way(hmc_session *s, uint32_t *out);
+/* The final line of this number, from 0, that a report of the steps so far has; 2,048 bytes hold
+ * each. It takes as long as all final lines up to it. HMC_NONE: there are fewer, or no room for it.
+ * HMC_OK, HMC_NONE, HMC_CLOSED, HMC_OVER. */
+uint8_t hmc_final_line(hmc_session *s, uint32_t number, uint8_t *out, size_t room,
+                       size_t *written);
 /* So many rounds without noise drain a network of one cube and one link. HMC_OK, HMC_CLOSED,
  * HMC_OVER. */
 uint8_t hmc_drain_bound(hmc_session *s, uint64_t *out);
 
 /* ---- Without a session ---- */
 
+/* The whole report (docs/report.md) of a case with at most 8 logic units. It is made in memory, and
+ * then written. `report_length` is its length also where there is no room for it, and else 0 where
+ * nothing is written. HMC_OK, HMC_PASSED (it ends with a landing that passed), HMC_MEMORY, HMC_BAD,
+ * HMC_NONE (no room, or a unit is none). */
+uint8_t hmc_run_case(const uint8_t *text, size_t length, const hmc_unit_t *units, size_t count,
+                     uint8_t *out, size_t room, size_t *report_length);
+/* Whether a report is that of a case with at most 8 logic units. HMC_OK: it is, and `number` is
+ * how many entries it has. HMC_UNLAWFUL: it isn't, and `number` is the first line, from 1, that
+ * shows it. HMC_MEMORY, HMC_BAD (no case), HMC_NONE (a unit is none). */
+uint8_t hmc_check(const uint8_t *text, size_t length, const uint8_t *report, size_t report_length,
+                  const hmc_unit_t *units, size_t count, uint32_t *number);
+/* The flits of a packet as it is sent in profile two, or one, of 16 bytes each: `room` and
+ * `written` are numbers of flits. 17 hold each packet. HMC_BAD: the numbers are no packet, or one
+ * that doesn't fit the profile. HMC_OK, HMC_BAD, HMC_NONE (no room). */
+uint8_t hmc_spell(const hmc_packet_t *packet, bool two, uint8_t *out, size_t room,
+                  size_t *written);
+/* The packet that so many flits of 16 bytes are in profile two, or one. HMC_OK, HMC_BAD_LENGTH to
+ * HMC_BAD_CRC. */
+uint8_t hmc_read(const uint8_t *flits, size_t count, bool two, hmc_packet_t *out);
 /* The check of a packet: the CRC of its bytes (docs/crc.md). */
 uint32_t hmc_crc(const uint8_t *bytes, size_t length);
 /* The version of these calls: 1. */

@@ -1,43 +1,32 @@
-/* Random requests and steps, and what they did: the tape of a session. The tape is a case, so the
- * program replays it, and its report begins with the lines of the session.
- * Usage: drive CASE SCRIPT SCHEDULE LINES CHOICES SEED, where the case has no requests, and the
- * three files are written. Ends with 0 where each call answered as hmc.h says. */
+/* Random requests and steps, and what they did. The session's tape is a case, so the program
+ * replays it, and its report begins with the lines of the session. Usage: drive CASE SCRIPT
+ * SCHEDULE LINES CHOICES SEED, where the case has no requests, and the three files are written.
+ * Ends with 0 where each call answered as hmc.h says. */
 #include "hmc.h"
 
 #include <stdio.h>
 #include <stdlib.h>
-#include <string.h>
 
 enum { MOST_ASKED = 20000, MOST_TEXT = 65536, HOSTS = 2, CUBES = 3, DIRECTIONS = 8 };
 
-/* Some commands: words, codes, bytes of payload, and what addresses are multiples of. */
+/* Some commands: codes (docs/packets.md), bytes of payload, and what addresses are multiples of. */
 typedef struct {
-    const char *word;
     uint8_t code;
     size_t bytes;
     unsigned align;
 } command;
 
 static const command commands[] = {
-    {"rd16", 48, 0, 16},   {"rd128", 55, 0, 16},  {"rd256", 119, 0, 256}, {"wr16", 8, 16, 16},
-    {"wr64", 11, 64, 16},  {"wr256", 79, 256, 256}, {"pwr32", 25, 32, 16},  {"inc8", 80, 0, 8},
-    {"xor16", 64, 16, 16}, {"bwr", 17, 16, 8},    {"add16", 19, 16, 16},  {"caseq8", 100, 16, 8},
-    {"swap16", 106, 16, 16}, {"mdrd", 40, 0, 1},
+    {48, 0, 16},   {55, 0, 16},  {119, 0, 256}, {8, 16, 16},
+    {11, 64, 16},  {79, 256, 256}, {25, 32, 16},  {80, 0, 8},
+    {64, 16, 16}, {17, 16, 8},    {19, 16, 16},  {100, 16, 8},
+    {106, 16, 16}, {40, 0, 1},
 };
 enum { COMMANDS = sizeof commands / sizeof commands[0] };
 
-/* The words of steps, in the order of their kinds, and how many numbers each has. */
-static const struct {
-    const char *word;
-    int numbers;
-} steps[] = {
-    {"give", 1}, {"send", 1}, {"land", 1},      {"shift", 2}, {"spread", 2},  {"bank", 3},
-    {"registers", 1}, {"lift", 2}, {"take", 1}, {"through", 2}, {"unlock", 1}, {"retire", 1},
-};
-
 typedef struct {
     hmc_session session;
-    FILE *script, *schedule, *lines;
+    FILE *lines;
     unsigned long long seed;
     unsigned long asked, taken, waits, none, answers;
     bool is_over;
@@ -51,11 +40,6 @@ static unsigned below(drive *d, unsigned limit) {
 static void fail(const char *what, int status) {
     fprintf(stderr, "%s: %d\n", what, status);
     exit(1);
-}
-
-static void print_bytes(FILE *file, const uint8_t *bytes, size_t length) {
-    for (size_t i = 0; i < length; i++)
-        fprintf(file, "%02x", bytes[i]);
 }
 
 /* Asks for a random request, sometimes fenced, poisoned or with an address that has an error. */
@@ -73,31 +57,13 @@ static void ask(drive *d) {
                              address, payload, c->bytes);
     if (status != HMC_OK)
         fail("a request", status);
-    if (fenced)
-        fprintf(d->script, "%u fence\n", host);
-    fprintf(d->script, "%u %s%s %u 0x%x ", host, poisoned ? "poison " : "", c->word, cube, address);
-    print_bytes(d->script, payload, c->bytes);
-    fprintf(d->script, "\n");
     d->asked++;
 }
 
-/* The step on the tape, and its line. */
-static void note(drive *d, unsigned kind, const uint8_t numbers[3], const uint8_t mask[16]) {
-    static const uint8_t no_mask[16] = {0};
+/* The line of a step. */
+static void note(drive *d) {
     uint8_t line[2048];
     size_t length;
-    fprintf(d->schedule, "%s", steps[kind].word);
-    for (int i = 0; i < steps[kind].numbers; i++) {
-        if (kind == HMC_LIFT && i == 1 && numbers[i] == HMC_REGISTERS_OF)
-            fprintf(d->schedule, " r");
-        else
-            fprintf(d->schedule, " %u", numbers[i]);
-    }
-    if (memcmp(mask, no_mask, 16) != 0) {
-        fprintf(d->schedule, " ");
-        print_bytes(d->schedule, mask, 16);
-    }
-    fprintf(d->schedule, "\n");
     int status = hmc_line(&d->session, line, sizeof line, &length);
     if (status != HMC_OK || length == 0 || line[length - 1] != '\n')
         fail("a line", status);
@@ -114,8 +80,8 @@ static void choose(drive *d, unsigned kind, uint8_t numbers[3]) {
         numbers[0] = (uint8_t)below(d, HOSTS);
     if (kind == HMC_SEND || kind == HMC_LAND || kind == HMC_UNLOCK)
         numbers[0] = (uint8_t)below(d, DIRECTIONS);
-    if (kind == HMC_RETIRE) /* the program has units in slots 0 and 1, which the session hasn't */
-        numbers[0] = (uint8_t)(2 + below(d, 6));
+    if (kind == HMC_RETIRE)
+        numbers[0] = (uint8_t)below(d, 8);
     if (kind == HMC_SHIFT || kind == HMC_THROUGH)
         numbers[1] = (uint8_t)below(d, 4);
     if (kind == HMC_SPREAD || kind == HMC_BANK || kind == HMC_LIFT)
@@ -149,7 +115,7 @@ static void step(drive *d) {
         fail("a step", status);
     d->taken++;
     d->is_over = status == HMC_PASSED;
-    note(d, kind, numbers, mask);
+    note(d);
     hmc_entry_t entry;
     if (hmc_entry(&d->session, &entry) != HMC_OK)
         fail("an entry", 0);
@@ -157,18 +123,38 @@ static void step(drive *d) {
 }
 
 static void open_all(drive *d, char **words) {
+    /* The units of the program, in their slots. */
+    static const hmc_unit_t units[2] = {{HMC_REVERSE, 0, 0}, {HMC_STAMP, 0, 1}};
     static uint8_t text[MOST_TEXT];
     FILE *file = fopen(words[1], "rb");
-    d->script = fopen(words[2], "w");
-    d->schedule = fopen(words[3], "w");
     d->lines = fopen(words[4], "w");
-    if (!file || !d->script || !d->schedule || !d->lines)
+    if (!file || !d->lines)
         fail("a file", 0);
     size_t length = fread(text, 1, sizeof text, file);
     fclose(file);
-    int status = hmc_open(text, length, &d->session);
+    int status = hmc_open_taped(text, length, units, 2, &d->session);
     if (status != HMC_OK)
         fail("open", status);
+}
+
+/* Writes one text of the tape: first its length alone is asked for. */
+static void write_tape(drive *d, uint8_t (*text)(hmc_session *, uint8_t *, size_t, size_t *),
+                       const char *name) {
+    uint8_t none;
+    size_t length, written;
+    int status = text(&d->session, &none, 0, &length);
+    if (length > 0 && status != HMC_NONE)
+        fail("the length of a tape", status);
+    uint8_t *bytes = malloc(length + 1);
+    FILE *file = fopen(name, "w");
+    if (!bytes || !file)
+        fail("a file", 0);
+    status = text(&d->session, bytes, length, &written);
+    if (status != HMC_OK || written != length)
+        fail("a tape", status);
+    fwrite(bytes, 1, length, file);
+    fclose(file);
+    free(bytes);
 }
 
 int main(int count, char **words) {
@@ -184,9 +170,9 @@ int main(int count, char **words) {
         else
             step(&d);
     }
+    write_tape(&d, hmc_tape_script, words[2]);
+    write_tape(&d, hmc_tape_schedule, words[3]);
     hmc_close(&d.session);
-    fclose(d.script);
-    fclose(d.schedule);
     fclose(d.lines);
     printf("%lu requests, %lu steps, %lu waits, %lu of no part, %lu answers%s\n", d.asked, d.taken,
            d.waits, d.none, d.answers, d.is_over ? ", a changed flit passed" : "");

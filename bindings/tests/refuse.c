@@ -7,7 +7,7 @@
 #include <stdlib.h>
 #include <string.h>
 
-enum { MOST_TEXT = 65536, RD16 = 48, WR16 = 8, REQUESTS = 40, ROUNDS = 60 };
+enum { MOST_TEXT = 65536, MOST_REPORT = 4096, RD16 = 48, WR16 = 8, REQUESTS = 40, ROUNDS = 60 };
 
 static long refused = -1, allocations, live;
 static int wrong;
@@ -90,6 +90,66 @@ static bool run(const uint8_t *text, size_t length, long *absorbed) {
     return allocations > refused;
 }
 
+/* What a session with a tape did: the lengths of its two texts. */
+typedef struct {
+    size_t script, schedule;
+} tape;
+
+static void write_nothing(hmc_session *s, tape *of) {
+    uint8_t none;
+    want(hmc_tape_script(s, &none, 0, &of->script) == HMC_NONE, "a script, no room", 0);
+    want(hmc_tape_schedule(s, &none, 0, &of->schedule) == HMC_NONE, "a schedule, no room", 0);
+}
+
+/* Asks a session with a tape, and takes rounds; a call that is out of memory is made again. */
+static bool run_taped(const uint8_t *text, size_t length, tape *of) {
+    static const uint8_t bytes[16] = {1}, rounds[] = "round 60";
+    static const hmc_unit_t unit = {HMC_REVERSE, 0, 0};
+    hmc_session s = {0};
+    uint32_t steps;
+    uint8_t status = HMC_MEMORY;
+    allocations = live = 0;
+    for (int tries = 0; tries < 2 && status == HMC_MEMORY; tries++)
+        status = hmc_open_taped(text, length, &unit, 1, &s);
+    want(status == HMC_OK, "open with a tape again", status);
+    for (int i = 0; i < REQUESTS; i++) {
+        status = HMC_MEMORY;
+        for (int tries = 0; tries < 2 && status == HMC_MEMORY; tries++)
+            status = hmc_request(&s, 0, false, false, WR16, 0, 16 * (uint64_t)i, bytes, 16);
+        want(status == HMC_OK, "a request on a tape that is asked again", status);
+    }
+    status = HMC_MEMORY;
+    for (int tries = 0; tries < 2 && status == HMC_MEMORY; tries++)
+        status = hmc_lay(&s, rounds, sizeof rounds - 1);
+    want(status == HMC_OK, "lay again", status);
+    status = HMC_MEMORY;
+    for (int tries = 0; tries < 2 && status == HMC_MEMORY; tries++)
+        status = hmc_run(&s, UINT32_MAX, 0, &steps);
+    want(status == HMC_NONE, "run on a tape again", status);
+    write_nothing(&s, of);
+    hmc_close(&s);
+    want(live == 0, "live allocations after a tape", (int)live);
+    return allocations > refused;
+}
+
+/* A whole case and a check of its report. */
+static bool run_whole(const uint8_t *text, size_t length) {
+    static const hmc_unit_t unit = {HMC_REVERSE, 0, 0};
+    static uint8_t report[MOST_REPORT];
+    size_t written;
+    uint32_t number;
+    allocations = live = 0;
+    uint8_t status = hmc_run_case(text, length, &unit, 1, report, sizeof report, &written);
+    want(status == HMC_OK || status == HMC_MEMORY, "run_case", status);
+    want(status == HMC_OK || written == 0, "the length of no report", (int)written);
+    if (status == HMC_OK) {
+        status = hmc_check(text, length, report, written, &unit, 1, &number);
+        want(status == HMC_OK || status == HMC_MEMORY, "check", status);
+    }
+    want(live == 0, "live allocations after a case", (int)live);
+    return allocations > refused;
+}
+
 /* A handle on which open fails stays as it was. */
 static void reopen(const uint8_t *text, size_t length) {
     static const uint8_t no_mask[16] = {0};
@@ -122,6 +182,13 @@ int main(int count, char **words) {
     for (refused = 0; run(text, length, &absorbed); refused++) {
     }
     long tried = refused;
+    tape whole, of;
+    refused = -1;
+    run_taped(text, length, &whole);
+    for (refused = 0; run_taped(text, length, &of); refused++, tried++)
+        want(of.script == whole.script && of.schedule == whole.schedule, "the tape", 0);
+    for (refused = 0; run_whole(text, length); refused++, tried++) {
+    }
     reopen(text, length);
     printf("%ld allocations refused in turn, %ld of them done without, %d wrong\n", tried, absorbed,
            wrong);

@@ -128,9 +128,28 @@ def test_c(room: Path) -> str:
     program = compiled(room, "test", [BINDINGS / "c" / "test.c"], [])
     lines = run(program, case)
     report = example.with_suffix(".report").read_text(encoding="utf-8")
-    if not lines or not report.startswith(lines):
+    if lines != report:
         raise Failed("the lines of the example are not those of its report")
     return f"{lines.count(chr(10))} lines as stored"
+
+
+COMMENT = re.compile(r"/\*.*?\*/", re.DOTALL)
+DECLARED = re.compile(r"^(?!static|typedef)\w[\w *]*?\b(hmc_\w+)\(", re.MULTILINE)
+
+
+def test_header(_: Path) -> str:
+    """Each call that the headers declare is in the archive, and they declare each one there."""
+    declared: set[str] = set()
+    for header in ("hmc.h", "hmc_driver.h"):
+        text = (BINDINGS / "c" / header).read_text(encoding="utf-8")
+        declared.update(DECLARED.findall(COMMENT.sub("", text)))
+    rows = [row.split() for row in run("nm", "--defined-only", "-g", ARCHIVE).splitlines()]
+    defined = {row[2] for row in rows if len(row) == 3 and row[2].startswith("hmc_")}
+    for names, where in ((declared - defined, "not in the archive"),
+                         (defined - declared, "in no header")):
+        if names:
+            raise Failed(f"{', '.join(sorted(names))}: {where}")
+    return f"{len(declared)} calls"
 
 
 def test_drive(room: Path) -> str:
@@ -157,6 +176,17 @@ def replay(tape: bytes, lines: bytes) -> str:
     if not lines or not ran.stdout.startswith(lines):
         raise Failed("the report of the tape has other lines than the session")
     return "the same lines by the program"
+
+
+def test_whole(room: Path) -> str:
+    """The report of each stored example, its check, and a session of it to its final lines."""
+    program = compiled(room, "whole", [HERE / "whole.c"], [])
+    pairs: list[Path] = []
+    for case in sorted((TOP / "examples").glob("*.toml")):
+        report = case.with_suffix(".report")
+        if report.is_file() and not report.read_bytes().startswith(b"bad "):
+            pairs += [case, report]
+    return run(program, *pairs).strip()
 
 
 def test_refuse(room: Path) -> str:
@@ -265,6 +295,7 @@ def test_types(_: Path) -> str:
 TESTS: dict[str, Callable[[Path], str]] = {
     "c": test_c,
     "drive": test_drive,
+    "header": test_header,
     "refuse": test_refuse,
     "threads": test_threads,
     "cpp": test_cpp,
@@ -274,6 +305,7 @@ TESTS: dict[str, Callable[[Path], str]] = {
     "systemc": test_systemc,
     "types": test_types,
     "verilator": test_verilator,
+    "whole": test_whole,
 }
 
 

@@ -20,10 +20,7 @@ from tool.final import FINAL  # noqa: E402
 
 KINDS = {step.name.lower(): step for step in hmc.Step}
 REGISTERS = 255
-HOSTS = 8
 ENDED = re.compile(r"idle give [0-7] ended\n")
-# What a session without logic units does otherwise.
-UNITS = re.compile(r"\bunit[0-7]\b")
 
 Taken = tuple[hmc.Step, list[int], bytes]
 
@@ -36,11 +33,11 @@ def steps_of(document: cases.Document) -> Iterator[Taken]:
         yield KINDS[word], numbers, bytes.fromhex(mask) if mask else bytes(16)
 
 
-def lines_of(text: str, taken: list[Taken], *, are_finished: bool) -> list[str]:
-    """The lines of the steps that a session of the case takes."""
+def lines_of(text: str, taken: list[Taken], hosts: int) -> list[str]:
+    """The lines of the steps that a session of the case takes, with so many hosts finished."""
     lines: list[str] = []
-    with hmc.Session(text) as session:
-        for host in range(HOSTS if are_finished else 0):
+    with hmc.Session(text, hmc.PROGRAM_UNITS) as session:
+        for host in range(hosts):
             session.finish(host)
         for kind, numbers, mask in taken:
             a, b, c = (*numbers, 0, 0)[:3]
@@ -52,33 +49,31 @@ def lines_of(text: str, taken: list[Taken], *, are_finished: bool) -> list[str]:
     return lines
 
 
-def is_wrong(text: str, report: list[str], taken: list[Taken]) -> bool:
+def is_wrong(text: str, report: list[str], taken: list[Taken], hosts: int) -> bool:
     """Whether a line of the case differs from that of its report."""
     entries = [line for line in report if line.split()[0] not in FINAL]
-    if lines_of(text, taken, are_finished=True) != entries:
+    if lines_of(text, taken, hosts) != entries:
         return True
     without = [line for line in entries if not ENDED.fullmatch(line)]
-    return lines_of(text, taken, are_finished=False) != without
+    return lines_of(text, taken, 0) != without
 
 
 def main(folder: Path) -> int:
     """Runs each case that has a stored report, and returns how many differ."""
-    ran = steps = with_units = wrong = 0
+    ran = steps = wrong = 0
     for path in sorted(folder.glob("*.toml")):
         stored = path.with_suffix(".report")
         document, fault = cases.read(path.read_bytes())
         if fault or not stored.is_file():
             continue
-        if UNITS.search(document["script"]) or "retire" in document["schedule"]:
-            with_units += 1
-            continue
         report = stored.read_text(encoding="utf-8").splitlines(keepends=True)
         taken = list(steps_of(document))
-        if is_wrong(path.read_text(encoding="utf-8"), report, taken):
+        hosts = cases.plan_of(document).hosts
+        if is_wrong(path.read_text(encoding="utf-8"), report, taken, hosts):
             wrong += 1
             print(f"{path.name} differs")
         ran, steps = ran + 1, steps + len(taken)
-    print(f"{ran} examples, {steps} steps, {wrong} wrong; {with_units} with logic units not run")
+    print(f"{ran} examples, {steps} steps, {wrong} wrong")
     return wrong
 
 

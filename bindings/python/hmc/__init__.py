@@ -13,10 +13,11 @@ from hmc.commands import COMMANDS, Command
 from hmc.driver import Driver
 from hmc.entry import Answer, AnswerKind, Cause, Entry, EntryKind, Outcome, Step, What
 from hmc.memory import Memory
-from hmc.session import Session
+from hmc.session import PROGRAM_UNITS, Session, Unit
 
 __all__ = [
     "COMMANDS",
+    "PROGRAM_UNITS",
     "Answer",
     "AnswerKind",
     "Cause",
@@ -30,6 +31,7 @@ __all__ = [
     "Session",
     "Status",
     "Step",
+    "Unit",
     "What",
     "crc",
 ]

@@ -31,6 +31,11 @@ class Status(enum.IntEnum):
     NO_CUBE = 13
     FINISHED = 14
     FULL = 15
+    BAD_LENGTH = 16
+    BAD_COMMAND = 17
+    BAD_RESERVED = 18
+    BAD_CRC = 19
+    UNLAWFUL = 20
 
 
 class Error(Exception):
@@ -45,6 +50,12 @@ class Handle(ctypes.Structure):
     """A handle; zeros are a closed one."""
 
     _fields_ = [("at", ctypes.c_void_p)]
+
+
+class RawUnit(ctypes.Structure):
+    """A logic unit, as hmc.h has it."""
+
+    _fields_ = [("kind", ctypes.c_uint8), ("cube", ctypes.c_uint8), ("code", ctypes.c_uint8)]
 
 
 class RawEntry(ctypes.Structure):
@@ -113,6 +124,7 @@ _REQUEST = (_BYTE, _BYTE, ctypes.c_uint64, _BYTES, _SIZE)
 _STEP = (_BYTE, _BYTE, _BYTE, _BYTE, _BYTES)
 CALLS = {
     "hmc_open": (_BYTE, (_BYTES, _SIZE, _HANDLE)),
+    "hmc_open_with": (_BYTE, (_BYTES, _SIZE, ctypes.POINTER(RawUnit), _SIZE, _HANDLE)),
     "hmc_block": (_BYTE, (_HANDLE, _BYTE, ctypes.c_uint64, _BYTES)),
     "hmc_close": (None, (_HANDLE,)),
     "hmc_request": (_BYTE, (_HANDLE, _BYTE, _BOOL, _BOOL, *_REQUEST)),

@@ -3,9 +3,11 @@
 from __future__ import annotations
 
 import ctypes
+from collections.abc import Sequence
+from dataclasses import dataclass
 from types import TracebackType
 
-from hmc.calls import Error, Handle, RawEntry, Status, check_number, library
+from hmc.calls import Error, Handle, RawEntry, RawUnit, Status, check_number, library
 from hmc.commands import command_of
 from hmc.entry import Entry, Step
 
@@ -13,13 +15,34 @@ NO_MASK = bytes(16)
 LINE_BYTES = 2048
 
 
-class Session:
-    """A session of a case (docs/case.md), for one thread at a time. Close it, or use `with`."""
+@dataclass(frozen=True)
+class Unit:
+    """A logic unit of a shipped kind (docs/units.md) that never worked: kind 0 reverses blocks, and
+    1 numbers them; it does the command `unit` with the number `code` of a cube."""
 
-    def __init__(self, case: str) -> None:
+    kind: int
+    cube: int
+    code: int
+
+
+# The units of the program, in their slots.
+PROGRAM_UNITS = (Unit(0, 0, 0), Unit(1, 0, 1))
+
+
+class Session:
+    """A session of a case (docs/case.md), for one thread at a time. Close it, or use `with`. The
+    unit at place i is in slot i; there are at most 8."""
+
+    def __init__(self, case: str, units: Sequence[Unit] = ()) -> None:
         text = case.encode()
         self._handle = Handle()
-        status = library.hmc_open(text, len(text), self._handle)
+        for unit in units:
+            for number in (unit.kind, unit.cube, unit.code):
+                check_number("unit", number, 8)
+        raw = (RawUnit * max(1, len(units)))(
+            *(RawUnit(it.kind, it.cube, it.code) for it in units)
+        )
+        status = library.hmc_open_with(text, len(text), raw, len(units), self._handle)
         if status:
             raise Error("open", status)
 

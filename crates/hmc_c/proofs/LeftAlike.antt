@@ -1,5 +1,5 @@
 -- What a network shows by numbers is what its journal leaves.
-use Rattle.std.proofs.Common.{◌≡◌, ◌∙◌, ◌<◌, ℕ, Bool, true, false, List, Option, Some, None, ap, refl, sym, subst, arith}
+use Rattle.std.proofs.Common.{◌≡◌, ◌∙◌, ◌<◌, ℕ, Bool, true, false, List, Option, Some, None, ap, refl, sym, subst}
 use Rattle.std.specs.Prelude.{nat_lt, if◌then◌else◌, slice_get}
 use Rattle.std.proofs.lemmas.Bool.{ltb-true}
 use Rattle.hmc_codes.specs.declared.counts.Counters.{Counters}
@@ -8,7 +8,6 @@ use Rattle.hmc_codes.specs.declared.counts.HostCounts.{HostCounts}
 use Rattle.hmc_codes.specs.declared.counts.TokenRow.{TokenRow}
 use Rattle.hmc_entries.specs.declared.entry.Entry.{Entry}
 use Rattle.hmc_journal.specs.Final.{values_of}
-use Rattle.hmc_journal.specs.Lawful.{has_passed}
 use Rattle.hmc_journal.specs.Setup.{Setup}
 use Rattle.hmc_net.proofs.FinalStands.{alike}
 use Rattle.hmc_report.specs.Final.{FinalValues}

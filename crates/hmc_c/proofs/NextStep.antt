@@ -1,5 +1,5 @@
 -- The next of the steps that are laid down.
-use Rattle.std.proofs.Common.{◌≡◌, List, [], ◌∷◌, Option, Some, None, ap, refl, sym, subst}
+use Rattle.std.proofs.Common.{◌≡◌, false, List, [], ◌∷◌, Option, Some, None, ap, inl, refl, sym, subst}
 use Rattle.std.specs.Prelude.{Result, Ok, Err}
 use Rattle.hmc_schedule.specs.declared.step.Step.{Step}
 use Rattle.hmc_entries.specs.declared.entry.Entry.{Entry}
@@ -14,7 +14,7 @@ use Rattle.hmc_session.specs.Session.{SessionFields, StandsIn}
 use Rattle.hmc_session.specs.declared.refusal.NotTaken.{NotTaken}
 use Rattle.hmc_c.specs.Laying.{NextBy, next_status}
 use Rattle.hmc_c.specs.Status.{refused_status, taken_status}
-use Rattle.hmc_c.specs.Steps.{StepsBy}
+use Rattle.hmc_c.specs.Steps.{TakesBy}
 
 abbrev nothing : Option Went
 nothing = None
@@ -26,16 +26,16 @@ no_went went e = cc
 step_by : (step : Step) (result : Result (Option Went) NotTaken) (before now : SessionFields)
     (setup : Setup) (past : List Entry) → ahead.StepsBy before now step result →
     StandsIn before setup past →
-    StepsBy (next_status result) (step_refusal before step) now setup past step
+    TakesBy (next_status result) (step_refusal before step) (StandsIn now) setup past step
 step_by step (Ok (Some went)) before now setup past by stands =
     let goes : Some went ≡ Some (went_of (next setup past step)) = by.went setup past stands in
     let is : went ≡ went_of (next setup past step) = cc in
-    subst (λ (r : Option NotTaken). StepsBy (taken_status went) r now setup past step) (sym by.taken)
+    subst (λ (r : Option NotTaken). TakesBy (taken_status went) r (StandsIn now) setup past step) (sym by.taken)
     (ap taken_status is, by.stands setup past stands)
 step_by step (Ok None) before now setup past by stands =
     absurd (no_went (went_of (next setup past step)) (by.went setup past stands))
 step_by step (Err refusal) before now setup past by stands =
-    subst (λ (r : Option NotTaken). StepsBy (refused_status refusal) r now setup past step) (sym by.refused)
+    subst (λ (r : Option NotTaken). TakesBy (refused_status refusal) r (StandsIn now) setup past step) (sym by.refused)
     (refl, subst (λ (s : SessionFields). StandsIn s setup past) (sym by.same) stands)
 
 pub next_by : (laid left : List Step) (result : Result (Option Went) NotTaken)
@@ -44,10 +44,10 @@ pub next_by : (laid left : List Step) (result : Result (Option Went) NotTaken)
     ((step : Step) (rest : List Step) → laid ≡ step ∷ rest →
     (left ≡ rest) × ahead.StepsBy before now step result) →
     StandsIn before setup past →
-    NextBy (next_status result) before now setup past laid left
+    NextBy (next_status result) false before (StandsIn now) setup past laid left
 next_by [] left result before now setup past none some stands =
     let without = none refl in
     (ap next_status without.none, subst (λ (s : SessionFields). StandsIn s setup past) (sym without.same) stands, without.nothing_left)
 next_by (step ∷ rest) left result before now setup past none some stands =
     let by = some step rest refl in
-    (step_by step result before now setup past by.1 stands, by.0)
+    inl (step_by step result before now setup past by.1 stands, by.0)

@@ -34,8 +34,8 @@ payload_by-mdwr : payload_by Mdwr (1 ∷ 2 ∷ 3 ∷ 4 ∷ replicate 12 9)
     ≡ (1 ∷ 2 ∷ 3 ∷ 4 ∷ []) ++ replicate 12 0
 payload_by-mdwr = refl
 
-finish_status-last : finish_status 7 ≡ 0
+finish_status-last : finish_status 8 7 ≡ 0
 finish_status-last = refl
 
-finish_status-past : finish_status 8 ≡ 12
+finish_status-past : finish_status 1 1 ≡ 12
 finish_status-past = refl

@@ -7,28 +7,29 @@ use Rattle.hmc_script.specs.Items.{ItemFields}
 use Rattle.hmc_growing.specs.Growing.{with_item}
 use Rattle.hmc_net.specs.Asked.{item_with}
 use Rattle.hmc_session.specs.Refusals.{ask_refusal}
-use Rattle.hmc_session.specs.Session.{SessionFields, StandsIn}
 use Rattle.hmc_session.specs.declared.refusal.NotAsked.{NotAsked}
-use Rattle.hmc_c.specs.Handles.{shown}
+use Rattle.hmc_c.specs.Handles.{Stands, shown}
 use Rattle.hmc_c.specs.Status.{asked_status, bad, memory, ok}
 use Rattle.hmc_c.specs.declared.held.Held.{Held}
 
+-- In what follows `stands_for` says what it stands for afterwards.
+
 -- a request that is refused leaves all as it was; one that isn't is asked, unless out of memory
-abbrev pub AsksBy : (status : ℕ) → Option NotAsked → SessionFields → Setup → List Entry →
-    ItemFields → Type 0
-AsksBy status (Some refusal) new setup past item =
-    (status ≡ asked_status refusal) × StandsIn new setup past
-AsksBy status None new setup past item =
-    ((status ≡ ok) × StandsIn new (with_item setup item) past)
-    ⊎ ((status ≡ memory) × StandsIn new setup past)
+abbrev pub AsksBy : (status : ℕ) → Option NotAsked → (stands_for : Setup → List Entry → Type 0) →
+    Setup → List Entry → ItemFields → Type 0
+AsksBy status (Some refusal) stands_for setup past item =
+    (status ≡ asked_status refusal) × stands_for setup past
+AsksBy status None stands_for setup past item =
+    ((status ≡ ok) × stands_for (with_item setup item) past)
+    ⊎ ((status ≡ memory) × stands_for setup past)
 
 -- the same where there is a request; where there is none, nothing changes
 abbrev pub Asked : (status : ℕ) → (old new : Held) → Setup → List Entry → (host : ℕ) →
     (fenced poisoned : Bool) → Option RequestFields → Type 0
 Asked status old new setup past host fenced poisoned None =
-    (status ≡ bad) × StandsIn (shown new) setup past
+    (status ≡ bad) × Stands new setup past
 Asked status old new setup past host fenced poisoned (Some request) =
-    AsksBy status (ask_refusal (shown old) host request.cube) (shown new) setup past
+    AsksBy status (ask_refusal (shown old) host request.cube) (Stands new) setup past
     (item_with host fenced poisoned request)
 
 -- the same of handles: it is open then

@@ -1,12 +1,10 @@
 -- The first fault of a text, as C sees it.
-use Rattle.std.specs.Prelude.{◌≡◌, ◌⊎◌, ℕ, List, length, codes, Option, Some, None, Result, Ok, Err}
+use Rattle.std.specs.Prelude.{◌≡◌, ◌⊎◌, ℕ, List, codes, Option, Some, None, Result, Ok, Err}
 use Rattle.std.specs.Prelude.{IsUtf8}
 use Rattle.hmc_codes.specs.Bytes.{padded_bytes}
 use Rattle.hmc_script.specs.Items.{ItemFields}
 use Rattle.hmc_script.specs.Kind.{kind_word as script_word}
 use Rattle.hmc_schedule.specs.Kind.{kind_word as schedule_word}
-use Rattle.hmc_schedule.specs.Plan.{PlanFields}
-use Rattle.hmc_schedule.specs.Schedule.{schedule_of}
 use Rattle.hmc_schedule.specs.declared.fault.ScheduleKind.{ScheduleKind}
 use Rattle.hmc_schedule.specs.declared.step.Step.{Step}
 use Rattle.hmc_case.specs.Case.{CaseFields}
@@ -14,7 +12,6 @@ use Rattle.hmc_case.specs.Kind.{kind_word}
 use Rattle.hmc_case.specs.Reading.{Fault}
 use Rattle.hmc_case.specs.declared.fault.Section.{Section}
 use Rattle.hmc_case.specs.declared.fault.Section.TheVariants as sections
-use Rattle.hmc_session.specs.Asking.{item_in}
 use Rattle.hmc_session.specs.declared.refusal.LineNotAsked.{LineNotAsked}
 use Rattle.hmc_session.specs.declared.refusal.LineNotAsked.TheVariants as lines
 use Rattle.hmc_c.specs.Status.{memory, none, ok}

@@ -1,7 +1,5 @@
 -- What a handle shows, and what it stands for.
-use Rattle.std.specs.Prelude.{◌≡◌, ◌⊎◌, ℕ, List, [], Option, Some, None, Result, Ok, Err}
-use Rattle.hmc_units.specs.Kinds.{unit_of}
-use Rattle.hmc_units.specs.Slots.{units_in}
+use Rattle.std.specs.Prelude.{◌≡◌, ◌⊎◌, ℕ, Bool, false, List, [], Option, Some, None, Result, Ok, Err}
 use Rattle.hmc_units.specs.Unit.{UnitFields}
 use Rattle.hmc_text.specs.InTurn.{ReportsBy}
 use Rattle.hmc_schedule.specs.declared.step.Step.{Step}
@@ -10,40 +8,53 @@ use Rattle.hmc_case.specs.Reading.{Fault, fault_of}
 use Rattle.hmc_case.specs.declared.fault.CaseFault.{CaseFault}
 use Rattle.hmc_entries.specs.declared.entry.Entry.{Entry}
 use Rattle.hmc_journal.specs.Setup.{Setup}
-use Rattle.hmc_session.specs.Session.{SessionFields, StandsIn, begun, session_of}
+use Rattle.hmc_session.specs.Session.{SessionFields, begun}
+use Rattle.hmc_c.specs.Kept.{KeptStands, fields_in, has_tape}
 use Rattle.hmc_c.specs.Status.{bad, memory, ok}
 use Rattle.hmc_c.specs.declared.held.Held.{Held}
 
 -- the session of a handle, with the slots of its bench
 abbrev pub shown : Held → SessionFields
-shown held = session_of (units_in unit_of) held.session
+shown held = fields_in held.kept
+
+-- what it stands for
+abbrev pub Stands : Held → Setup → List Entry → Type 0
+Stands held setup past = KeptStands held.kept setup past
 
 -- an open handle stands for the case and the journal of its session, and a closed one for none
 abbrev pub HandleStands : Option Held → Setup → List Entry → Type 0
 HandleStands None setup past = ⊥
-HandleStands (Some held) setup past = StandsIn (shown held) setup past
+HandleStands (Some held) setup past = Stands held setup past
+
+-- it is open on a session with a tape
+abbrev pub is_taped : Option Held → Bool
+is_taped None = false
+is_taped (Some held) = has_tape held.kept
 
 -- the steps of a handle that are laid down: a closed one has none
 abbrev pub laid_in : Option Held → List Step
 laid_in None = []
 laid_in (Some held) = held.laid
 
--- a session of a case with these logic units, before its first step, and the steps of the case laid
--- down
-pub record IsHeld (held : Held) (case : CaseFields) (slots : List (Option UnitFields))
-    : Type 0 where
-  pub stands : StandsIn (shown held) (begun case slots) []
+-- a session of a case with these logic units, before its first step, with a tape or without, and
+-- the steps of the case laid down
+pub record IsHeld (held : Held) (tape : Bool) (case : CaseFields)
+    (slots : List (Option UnitFields)) : Type 0 where
+  pub stands : Stands held (begun case slots) []
+  pub tape_is : has_tape held.kept ≡ tape
   pub laid : held.laid ≡ case.schedule
 
 -- a handle is open on such a session
-abbrev pub IsOpen : Option Held → CaseFields → (slots : List (Option UnitFields)) → Type 0
-IsOpen None case slots = ⊥
-IsOpen (Some held) case slots = IsHeld held case slots
+abbrev pub IsOpen : Option Held → (tape : Bool) → CaseFields →
+    (slots : List (Option UnitFields)) → Type 0
+IsOpen None tape case slots = ⊥
+IsOpen (Some held) tape case slots = IsHeld held tape case slots
 
 -- a session of the case that was read, with these logic units
-abbrev pub HoldsRead : Held → Result CaseFields Fault → (slots : List (Option UnitFields)) → Type 0
-HoldsRead held (Ok case) slots = IsHeld held case slots
-HoldsRead held (Err fault) slots = ⊥
+abbrev pub HoldsRead : Held → (tape : Bool) → Result CaseFields Fault →
+    (slots : List (Option UnitFields)) → Type 0
+HoldsRead held tape (Ok case) slots = IsHeld held tape case slots
+HoldsRead held tape (Err fault) slots = ⊥
 
 -- a fault is the first one of these bytes, or out of memory
 abbrev pub Reports : CaseFault → Result CaseFields Fault → Type 0
@@ -51,9 +62,9 @@ Reports fault read = ReportsBy fault_of fault read
 
 -- a handle is opened on a session of the case that was read, or it is out of memory; where no case
 -- was read, or out of memory, the handle is as it was
-abbrev pub OpenedBy : (status : ℕ) → Result CaseFields Fault → (slots : List (Option UnitFields)) →
-    (old new : Option Held) → Type 0
-OpenedBy status (Ok case) slots old new =
-    ((status ≡ ok) × IsOpen new case slots) ⊎ ((status ≡ memory) × (new ≡ old))
-OpenedBy status (Err fault) slots old new =
+abbrev pub OpenedBy : (status : ℕ) → (tape : Bool) → Result CaseFields Fault →
+    (slots : List (Option UnitFields)) → (old new : Option Held) → Type 0
+OpenedBy status tape (Ok case) slots old new =
+    ((status ≡ ok) × IsOpen new tape case slots) ⊎ ((status ≡ memory) × (new ≡ old))
+OpenedBy status tape (Err fault) slots old new =
     ((status ≡ bad) ⊎ (status ≡ memory)) × (new ≡ old)

@@ -1,5 +1,5 @@
 -- Steps that are laid down, and taken one after another.
-use Rattle.std.specs.Prelude.{◌≡◌, ◌⊎◌, ◌==◌, ◌-◌, ◌/◌, ◌%◌, ℕ, Bool, List, [], ◌∷◌, Option, Some, None, Result, Ok, Err}
+use Rattle.std.specs.Prelude.{◌≡◌, ◌≢◌, ◌<◌, ◌⊎◌, ◌==◌, ◌-◌, ◌/◌, ◌%◌, ℕ, Bool, true, false, List, [], ◌∷◌, Option, Some, None, Result, Ok, Err}
 use Rattle.std.specs.Prelude.{IsUtf8}
 use Rattle.hmc_schedule.specs.Schedule.{schedule_of}
 use Rattle.hmc_schedule.specs.declared.fault.ScheduleKind.{ScheduleKind}
@@ -8,15 +8,16 @@ use Rattle.hmc_entries.specs.declared.entry.Entry.{Entry}
 use Rattle.hmc_journal.specs.Setup.{Setup}
 use Rattle.hmc_net.specs.declared.went.Went.{Went}
 use Rattle.hmc_session.specs.Refusals.{step_refusal}
-use Rattle.hmc_session.specs.Running.{RunsTo}
-use Rattle.hmc_session.specs.Session.{SessionFields, StandsIn}
+use Rattle.hmc_session.specs.Running.{RunsBy, RunsOn}
+use Rattle.hmc_session.specs.Session.{SessionFields}
 use Rattle.hmc_session.specs.declared.refusal.NotTaken.{NotTaken}
 use Rattle.hmc_session.specs.declared.run.Ran.{Ran}
 use Rattle.hmc_session.specs.declared.run.Ran.TheVariants.{Stopped, Tried, Ended, Unknown, Over}
 use Rattle.hmc_session.specs.declared.stops.Stops.{Stops}
-use Rattle.hmc_c.specs.Handles.{shown}
+use Rattle.hmc_c.specs.Handles.{Stands, shown}
+use Rattle.hmc_c.specs.Kept.{has_tape}
 use Rattle.hmc_c.specs.Status.{bad, memory, none, ok, over, refused_status, taken_status}
-use Rattle.hmc_c.specs.Steps.{StepsBy}
+use Rattle.hmc_c.specs.Steps.{LacksRoom, TakesBy}
 use Rattle.hmc_c.specs.declared.held.Held.{Held}
 
 -- the steps of a schedule are laid down in place of those that were left; where it is none, or out
@@ -30,9 +31,9 @@ LaidBy status (Err fault) old new = ((status ≡ bad) ⊎ (status ≡ memory)) �
 -- bytes that are text are read so; others are no schedule. The session stays.
 pub record BytesLaid (status : ℕ) (old new : Held) (bytes : List ℕ) : Type 0 where
   pub text : IsUtf8 bytes →
-      LaidBy status (schedule_of old.session.plan bytes) old.laid new.laid
+      LaidBy status (schedule_of (shown old).plan bytes) old.laid new.laid
   pub none : (IsUtf8 bytes → ⊥) → (status ≡ bad) × (new.laid ≡ old.laid)
-  pub session : new.session ≡ old.session
+  pub kept : new.kept ≡ old.kept
 
 -- the same of handles: it is open then
 abbrev pub IsLaid : (status : ℕ) → (old new : Option Held) → (bytes : List ℕ) → Type 0
@@ -45,19 +46,23 @@ next_status (Ok (Some went)) = taken_status went
 next_status (Ok None) = none
 next_status (Err refusal) = refused_status refusal
 
--- the first of the steps that are left is off the list, and taken or refused as by a step by
--- numbers; where none is left, nothing changes
-abbrev pub NextBy : (status : ℕ) → (old new : SessionFields) → Setup → List Entry →
-    (laid left : List Step) → Type 0
-NextBy status old new setup past [] left =
-    (status ≡ none) × StandsIn new setup past × (left ≡ [])
-NextBy status old new setup past (step ∷ rest) left =
-    StepsBy status (step_refusal old step) new setup past step × (left ≡ rest)
+-- In what follows `stands_for` says what it stands for afterwards.
+
+-- The first of the steps that are left is off the list, and taken or refused as by a step by
+-- numbers; where the tape has no memory for it, it stays. Where none is left, nothing changes.
+abbrev pub NextBy : (status : ℕ) → (tape : Bool) → (old : SessionFields) →
+    (stands_for : Setup → List Entry → Type 0) → Setup → List Entry → (laid left : List Step) →
+    Type 0
+NextBy status tape old stands_for setup past [] left =
+    (status ≡ none) × stands_for setup past × (left ≡ [])
+NextBy status tape old stands_for setup past (step ∷ rest) left =
+    (TakesBy status (step_refusal old step) stands_for setup past step × (left ≡ rest))
+    ⊎ (LacksRoom status tape (step_refusal old step) stands_for setup past × (left ≡ step ∷ rest))
 
 -- the same of handles: it is open then
 abbrev pub IsNexted : (status : ℕ) → (old new : Option Held) → Setup → List Entry → Type 0
 IsNexted status (Some old) (Some new) setup past =
-    NextBy status (shown old) (shown new) setup past old.laid new.laid
+    NextBy status (has_tape old.kept) (shown old) (Stands new) setup past old.laid new.laid
 IsNexted status old new setup past = ⊥
 
 -- the number has this power of two
@@ -93,16 +98,37 @@ ran_status Unknown = none
 ran_status Over = over
 
 -- the status says how a run ended
-pub record RunBy (status : ℕ) (old new : SessionFields) (setup : Setup) (past : List Entry)
-    (laid left : List Step) (stops : Stops) (most steps : ℕ) : Type 0 where
+pub record RanBy (status : ℕ) (stands_for : Setup → List Entry → Type 0) (now : SessionFields)
+    (setup : Setup) (past : List Entry) (laid left : List Step) (stops : Stops) (most : ℕ)
+    : Type 0 where
   pub ran : Ran
   pub ended : status ≡ ran_status ran
-  pub runs : RunsTo ran new setup past laid left stops most
-  pub steps_taken : steps ≡ new.taken - old.taken
+  pub runs : RunsBy stands_for ran now setup past laid left stops most
 
--- the same of handles: it is open then
+-- there is a tape, and no memory on it for the first of the steps that are left; those before were
+-- taken or waited
+pub record IsCutShort (status : ℕ) (tape : Bool) (stands_for : Setup → List Entry → Type 0)
+    (now : SessionFields) (setup : Setup) (past : List Entry) (laid left : List Step)
+    (stops : Stops) (most : ℕ) : Type 0 where
+  pub taped : tape ≡ true
+  pub lacks : status ≡ memory
+  pub count : ℕ
+  pub few : count < most
+  pub some_left : left ≢ []
+  pub runs : RunsOn stands_for now.finished setup past laid left stops count false
+
+-- one or the other
+abbrev pub RunBy : (status : ℕ) → (tape : Bool) → (stands_for : Setup → List Entry → Type 0) →
+    SessionFields → Setup → List Entry → (laid left : List Step) → Stops → (most : ℕ) → Type 0
+RunBy status tape stands_for now setup past laid left stops most =
+    RanBy status stands_for now setup past laid left stops most
+    ⊎ IsCutShort status tape stands_for now setup past laid left stops most
+
+-- the same of handles: it is open then; so many steps were taken
 abbrev pub IsRun : (status : ℕ) → (old new : Option Held) → Setup → List Entry → Stops →
     (most steps : ℕ) → Type 0
 IsRun status (Some old) (Some new) setup past stops most steps =
-    RunBy status (shown old) (shown new) setup past old.laid new.laid stops most steps
+    RunBy status (has_tape old.kept) (Stands new) (shown new) setup past old.laid new.laid stops
+    most
+    × (steps ≡ (shown new).taken - (shown old).taken)
 IsRun status old new setup past stops most steps = ⊥

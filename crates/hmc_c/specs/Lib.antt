@@ -1,7 +1,10 @@
 pub mod Owned
 pub mod Status
+pub mod Kept
 pub mod Handles
+pub mod Units
 pub mod Lines
+pub mod Codec
 pub mod Values
 pub mod Steps
 pub mod Requests
@@ -10,3 +13,5 @@ pub mod Words
 pub mod Laying
 pub mod Faults
 pub mod Entries
+pub mod Report
+pub mod Reports

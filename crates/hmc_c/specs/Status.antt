@@ -19,6 +19,10 @@ memory = 1
 abbrev pub bad : ℕ
 bad = 6
 
+-- it is done, and a landing passed
+abbrev pub passed : ℕ
+passed = 7
+
 -- there is no such step, or part
 abbrev pub none : ℕ
 none = 8
@@ -35,9 +39,13 @@ over = 11
 abbrev pub no_host : ℕ
 no_host = 12
 
+-- a report is not that of its case
+abbrev pub unlawful : ℕ
+unlawful = 20
+
 -- a step that was taken: whether its landing passed
 abbrev pub taken_status : Went → ℕ
-taken_status Passed = 7
+taken_status Passed = passed
 taken_status Done = ok
 taken_status (Idle cause) = ok
 

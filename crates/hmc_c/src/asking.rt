@@ -3,47 +3,25 @@
 ghost use Rattle.std.specs.Prelude.{◌≡◌, List, None};
 ghost use Rattle.hmc_entries.specs.declared.entry.Entry.{Entry};
 ghost use Rattle.hmc_journal.specs.Setup.{Setup};
-ghost use Rattle.hmc_session.specs.Session.{StandsIn};
-ghost use Rattle.hmc_c.specs.Handles.{HandleStands, laid_in, shown};
+ghost use Rattle.hmc_c.specs.Handles.{HandleStands, Stands, is_taped, laid_in};
+ghost use Rattle.hmc_c.specs.Kept.{has_tape};
 ghost use Rattle.hmc_c.specs.Status.{closed};
-ghost use Rattle.hmc_c.specs.Words.{BytesAsked, IsLineAsked, TextAsked, line_status};
+ghost use Rattle.hmc_c.specs.Words.{BytesAsked, IsLineAsked};
 
 use crate::handle::{Handle, put, taken};
 use crate::held::Held;
-use crate::status::{BAD, CLOSED, OK, asked_status};
-use hmc_session::LineNotAsked;
+use crate::status::{BAD, CLOSED};
 use std::alloc::Global;
 
-// The status of a text that is refused.
-fn line_status(refusal: LineNotAsked) -> u8
-    ensures { result ≡ line_status refusal }
-{
-    match refusal {
-        LineNotAsked::Fault { .. } | LineNotAsked::NotOne => BAD,
-        LineNotAsked::Refused(refusal) => asked_status(refusal),
-    }
-}
-
-// Asks for the one request that a text states.
-fn ask_text(held: &mut Held, alloc: Global, text: &str) -> u8
-    ensures stands { (setup : Setup) (past : List Entry) → StandsIn (shown held.old) setup past →
-        TextAsked result (shown held.old) (shown held.new) setup past text.now }
-    ensures laid { held.new.laid ≡ held.old.laid }
-{
-    match held.session.ask_line(alloc, text) {
-        Ok(()) => OK,
-        Err(refusal) => line_status(refusal),
-    }
-}
-
-// The same of bytes, which may be no text.
+// Asks for the one request that these bytes state, which may be no text.
 fn ask_bytes(held: &mut Held, alloc: Global, bytes: &[u8]) -> u8
-    ensures stands { (setup : Setup) (past : List Entry) → StandsIn (shown held.old) setup past →
-        BytesAsked result (shown held.old) (shown held.new) setup past bytes.now }
+    ensures stands { (setup : Setup) (past : List Entry) → Stands held.old setup past →
+        BytesAsked result held.old held.new setup past bytes.now }
     ensures laid { held.new.laid ≡ held.old.laid }
+    ensures tape { has_tape held.new.kept ≡ has_tape held.old.kept }
 {
     match str::from_utf8(bytes) {
-        Ok(text) => ask_text(held, alloc, text),
+        Ok(text) => held.kept.ask_text(alloc, text),
         Err(_) => BAD,
     }
 }
@@ -62,6 +40,7 @@ pub extern "C" fn hmc_ask(alloc: Global, handle: &mut Handle, text: &[u8]) -> u8
     ensures laid { laid_in handle.new.value ≡ laid_in handle.old.value }
     ensures closed { handle.old.value ≡ None → result ≡ closed }
     ensures stays { handle.old.value ≡ None → handle.new.value ≡ None }
+    ensures tape { is_taped handle.new.value ≡ is_taped handle.old.value }
 {
     let Some(held) = taken(alloc, handle) else {
         return CLOSED;

@@ -7,26 +7,30 @@ ghost use Rattle.hmc_journal.specs.Drained.{is_drained};
 ghost use Rattle.hmc_journal.specs.Lawful.{has_passed};
 ghost use Rattle.hmc_journal.specs.Setup.{Setup};
 ghost use Rattle.hmc_journal.specs.UnderWay.{under_way};
-ghost use Rattle.hmc_session.specs.Session.{StandsIn};
-ghost use Rattle.hmc_c.specs.Handles.{HandleStands, shown};
+ghost use Rattle.hmc_c.specs.Handles.{HandleStands};
 ghost use Rattle.hmc_c.specs.Status.{closed};
 ghost use Rattle.hmc_c.specs.Values.{LeftShown};
 
-use crate::handle::{Handle, put, taken};
+use crate::handle::Handle;
 use crate::held::Held;
-use crate::status::{CLOSED, OK, OVER};
+use crate::showing::{Part, show};
 use std::alloc::Global;
 
-// Shows it where no landing passed.
-fn show_drained(held: &Held, out: &mut bool) -> u8
-    ensures { (setup : Setup) (past : List Entry) → StandsIn (shown held.now) setup past →
-        LeftShown result (has_passed past) (Some (is_drained setup.topology past)) out.old out.new }
-{
-    if held.session.has_passed() {
-        return OVER;
+// Whether nothing is on its way.
+#[derive(Drop)]
+struct Drained;
+
+impl Part for Drained {
+    ghost use Rattle.std.specs.Prelude.{Some};
+    ghost use Rattle.hmc_journal.specs.Drained.{is_drained};
+
+    type Out = bool;
+
+    ghost value = { λ part setup past. Some (is_drained setup.topology past) };
+
+    fn find(&self, held: &Held) -> Option<bool> {
+        Some(held.kept.session().network().drained())
     }
-    *out = held.session.network().drained();
-    OK
 }
 
 /// Shows whether nothing is on its way.
@@ -40,24 +44,24 @@ pub extern "C" fn hmc_drained(alloc: Global, handle: &mut Handle, out: &mut bool
     ensures closed { handle.old.value ≡ None → (result ≡ closed) × (out.new ≡ out.old) }
     ensures stays { handle.new.value ≡ handle.old.value }
 {
-    let Some(held) = taken(alloc, handle) else {
-        return CLOSED;
-    };
-    let status = show_drained(&held, out);
-    put(handle, held);
-    status
+    show(alloc, handle, &Drained, out)
 }
 
-// Shows it where no landing passed.
-fn show_under_way(held: &Held, out: &mut u32) -> u8
-    ensures { (setup : Setup) (past : List Entry) → StandsIn (shown held.now) setup past →
-        LeftShown result (has_passed past) (Some (under_way setup.topology past)) out.old out.new }
-{
-    if held.session.has_passed() {
-        return OVER;
+// How many requests and responses are under way.
+#[derive(Drop)]
+struct UnderWay;
+
+impl Part for UnderWay {
+    ghost use Rattle.std.specs.Prelude.{Some};
+    ghost use Rattle.hmc_journal.specs.UnderWay.{under_way};
+
+    type Out = u32;
+
+    ghost value = { λ part setup past. Some (under_way setup.topology past) };
+
+    fn find(&self, held: &Held) -> Option<u32> {
+        Some(held.kept.session().network().under_way())
     }
-    *out = held.session.network().under_way();
-    OK
 }
 
 /// Shows how many requests and responses are under way.
@@ -71,25 +75,24 @@ pub extern "C" fn hmc_under_way(alloc: Global, handle: &mut Handle, out: &mut u3
     ensures closed { handle.old.value ≡ None → (result ≡ closed) × (out.new ≡ out.old) }
     ensures stays { handle.new.value ≡ handle.old.value }
 {
-    let Some(held) = taken(alloc, handle) else {
-        return CLOSED;
-    };
-    let status = show_under_way(&held, out);
-    put(handle, held);
-    status
+    show(alloc, handle, &UnderWay, out)
 }
 
-// Shows it where no landing passed.
-fn show_drain_bound(held: &Held, out: &mut u64) -> u8
-    ensures { (setup : Setup) (past : List Entry) → StandsIn (shown held.now) setup past →
-        LeftShown result (has_passed past) (Some (drain_bound setup.topology past))
-        out.old out.new }
-{
-    if held.session.has_passed() {
-        return OVER;
+// A number of whole rounds without noise that drain a network of one cube and one link.
+#[derive(Drop)]
+struct DrainBound;
+
+impl Part for DrainBound {
+    ghost use Rattle.std.specs.Prelude.{Some};
+    ghost use Rattle.hmc_bound.specs.Bound.{drain_bound};
+
+    type Out = u64;
+
+    ghost value = { λ part setup past. Some (drain_bound setup.topology past) };
+
+    fn find(&self, held: &Held) -> Option<u64> {
+        Some(held.kept.session().network().drain_bound())
     }
-    *out = held.session.network().drain_bound();
-    OK
 }
 
 /// Shows a number of whole rounds without noise that drain a network of one cube and one link.
@@ -103,10 +106,5 @@ pub extern "C" fn hmc_drain_bound(alloc: Global, handle: &mut Handle, out: &mut 
     ensures closed { handle.old.value ≡ None → (result ≡ closed) × (out.new ≡ out.old) }
     ensures stays { handle.new.value ≡ handle.old.value }
 {
-    let Some(held) = taken(alloc, handle) else {
-        return CLOSED;
-    };
-    let status = show_drain_bound(&held, out);
-    put(handle, held);
-    status
+    show(alloc, handle, &DrainBound, out)
 }

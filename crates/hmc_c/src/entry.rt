@@ -371,7 +371,7 @@ fn show_last(held: &Held, out: &mut EntryOut) -> u8
     ensures none { (setup : Setup) → StandsIn (shown held.now) setup [] →
         (result ≡ none) × (out.new ≡ out.old) }
 {
-    match held.session.last() {
+    match held.kept.session().last() {
         Some(last) => {
             *out = shown_entry(&last.entry());
             OK
@@ -383,6 +383,7 @@ fn show_last(held: &Held, out: &mut EntryOut) -> u8
 /// Shows the latest entry.
 ///
 /// 0: it is shown. 8: no step was taken; nothing is written. 9: the handle is closed.
+#[tactic(auto, using(crate::proofs::KeptLemmas::stands_in))]
 #[unsafe(no_mangle)]
 pub extern "C" fn hmc_entry(alloc: Global, handle: &mut Handle, out: &mut EntryOut) -> u8
     ensures entry { (setup : Setup) (past : List Entry) (entry : Entry) →

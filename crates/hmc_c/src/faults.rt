@@ -9,6 +9,7 @@ ghost use Rattle.hmc_case.specs.Case.{case_of};
 ghost use Rattle.hmc_case.specs.declared.fault.Section.TheVariants as sections;
 ghost use Rattle.hmc_session.specs.Asking.{item_in, item_read};
 ghost use Rattle.hmc_c.specs.Faults.{BytesFault, FaultShown, case_fault, fault_with, request_fault, section_number, steps_fault};
+ghost use Rattle.hmc_c.specs.Handles.{shown};
 ghost use Rattle.hmc_c.specs.Status.{closed};
 
 use crate::handle::{Handle, put, taken};
@@ -93,8 +94,8 @@ pub extern "C" fn hmc_fault(alloc: Global, text: &[u8], out: &mut FaultOut) -> u
     }
 }
 
-// The number of hosts of a plan.
-fn host_count(plan: &Plan) -> u8
+/// The number of hosts of a plan.
+pub(crate) fn host_count(plan: &Plan) -> u8
     ensures count { result ≡ plan.now.hosts }
     ensures few { result ≤ most_hosts }
 {
@@ -137,10 +138,10 @@ fn show_request(plan: &Plan, alloc: Global, text: &str, out: &mut FaultOut) -> u
 // The same of bytes, which may be no text.
 fn show_request_bytes(held: &Held, alloc: Global, bytes: &[u8], out: &mut FaultOut) -> u8
     ensures { BytesFault result sections.Script
-        (request_fault (item_in held.now.session.plan bytes.now)) bytes.now out.old out.new }
+        (request_fault (item_in (shown held.now).plan bytes.now)) bytes.now out.old out.new }
 {
     match str::from_utf8(bytes) {
-        Ok(text) => show_request(held.session.plan(), alloc, text, out),
+        Ok(text) => show_request(held.kept.session().plan(), alloc, text, out),
         Err(_) => {
             *out = fault_with(Section::Script, 0, "utf8");
             OK
@@ -163,7 +164,7 @@ pub extern "C" fn hmc_ask_fault(
 ) -> u8
     ensures fault { MatchOption handle.old.value ((result ≡ closed) × (out.new ≡ out.old))
         (λ held. BytesFault result sections.Script
-        (request_fault (item_in held.session.plan text.now)) text.now out.old out.new) }
+        (request_fault (item_in (shown held).plan text.now)) text.now out.old out.new) }
     ensures stays { handle.new.value ≡ handle.old.value }
 {
     let Some(held) = taken(alloc, handle) else {
@@ -191,10 +192,10 @@ fn show_steps(plan: &Plan, alloc: Global, text: &str, out: &mut FaultOut) -> u8
 // The same of bytes, which may be no text.
 fn show_steps_bytes(held: &Held, alloc: Global, bytes: &[u8], out: &mut FaultOut) -> u8
     ensures { BytesFault result sections.Schedule
-        (steps_fault (schedule_of held.now.session.plan bytes.now)) bytes.now out.old out.new }
+        (steps_fault (schedule_of (shown held.now).plan bytes.now)) bytes.now out.old out.new }
 {
     match str::from_utf8(bytes) {
-        Ok(text) => show_steps(held.session.plan(), alloc, text, out),
+        Ok(text) => show_steps(held.kept.session().plan(), alloc, text, out),
         Err(_) => {
             *out = fault_with(Section::Schedule, 0, "utf8");
             OK
@@ -216,7 +217,7 @@ pub extern "C" fn hmc_lay_fault(
 ) -> u8
     ensures fault { MatchOption handle.old.value ((result ≡ closed) × (out.new ≡ out.old))
         (λ held. BytesFault result sections.Schedule
-        (steps_fault (schedule_of held.session.plan text.now)) text.now out.old out.new) }
+        (steps_fault (schedule_of (shown held).plan text.now)) text.now out.old out.new) }
     ensures stays { handle.new.value ≡ handle.old.value }
 {
     let Some(held) = taken(alloc, handle) else {

@@ -1,12 +1,11 @@
 //! What a handle holds.
 
-use hmc_session::{Laid, Session};
-use hmc_units::{Shipped, Slots};
+use crate::kept::Kept;
+use hmc_session::Laid;
 
-/// What an open handle holds: a session, whose logic units are of the shipped kinds, and the steps
-/// that are laid down.
+/// What an open handle holds: a session, with a tape or without, and the steps that are laid down.
 #[derive(Drop)]
 pub struct Held {
-    pub(crate) session: Session<Slots<Shipped>>,
+    pub(crate) kept: Kept,
     pub(crate) laid: Laid,
 }

@@ -5,26 +5,25 @@ ghost use Rattle.std.specs.Option.{MatchOption};
 ghost use Rattle.hmc_entries.specs.declared.entry.Entry.{Entry};
 ghost use Rattle.hmc_journal.specs.Setup.{Setup};
 ghost use Rattle.hmc_schedule.specs.Schedule.{schedule_of};
-ghost use Rattle.hmc_session.specs.Session.{StandsIn};
-ghost use Rattle.hmc_c.specs.Handles.{HandleStands, shown};
-ghost use Rattle.hmc_c.specs.Laying.{BytesLaid, IsLaid, IsNexted, IsRun, LaidBy, NextBy, RunBy, has_bit, next_status, ran_status, stops_of};
+ghost use Rattle.hmc_c.specs.Handles.{HandleStands, Stands, is_taped, shown};
+ghost use Rattle.hmc_c.specs.Kept.{has_tape};
+ghost use Rattle.hmc_c.specs.Laying.{BytesLaid, IsLaid, IsNexted, IsRun, LaidBy, NextBy, RunBy, has_bit, stops_of};
 ghost use Rattle.hmc_c.specs.Status.{closed};
 
 use crate::handle::{Handle, put, taken};
 use crate::held::Held;
-use crate::status::{BAD, CLOSED, MEMORY, NONE, OK, OVER, refused_status, taken_status};
-use hmc_net::Went;
+use crate::status::{BAD, CLOSED, MEMORY, OK};
 use hmc_schedule::ScheduleFault;
-use hmc_session::{NotTaken, Ran, Stops};
+use hmc_session::Stops;
 use std::alloc::Global;
 
 // Lays down the steps of a schedule in place of those that are left.
 fn lay_text(held: &mut Held, alloc: Global, text: &str) -> u8
-    ensures laid { LaidBy result (schedule_of held.old.session.plan text.now)
+    ensures laid { LaidBy result (schedule_of (shown held.old).plan text.now)
         held.old.laid held.new.laid }
-    ensures session { held.new.session ≡ held.old.session }
+    ensures kept { held.new.kept ≡ held.old.kept }
 {
-    match held.session.lay(alloc, text) {
+    match held.kept.session().lay(alloc, text) {
         Ok(laid) => {
             held.laid = laid;
             OK
@@ -66,30 +65,23 @@ pub extern "C" fn hmc_lay(alloc: Global, handle: &mut Handle, text: &[u8]) -> u8
     status
 }
 
-// What became of the next step.
-fn next_status(next: Result<Option<Went>, NotTaken>) -> u8
-    ensures { result ≡ next_status next }
-{
-    match next {
-        Ok(Some(went)) => taken_status(went),
-        Ok(None) => NONE,
-        Err(refusal) => refused_status(refusal),
-    }
-}
-
 // Takes the next of the steps that are laid down.
 fn take_next(held: &mut Held) -> u8
-    ensures { (setup : Setup) (past : List Entry) → StandsIn (shown held.old) setup past →
-        NextBy result (shown held.old) (shown held.new) setup past held.old.laid held.new.laid }
+    ensures does { (setup : Setup) (past : List Entry) → Stands held.old setup past →
+        NextBy result (has_tape held.old.kept) (shown held.old) (Stands held.new) setup past
+        held.old.laid held.new.laid }
+    ensures tape { has_tape held.new.kept ≡ has_tape held.old.kept }
 {
-    next_status(held.session.next(&mut held.laid))
+    held.kept.next(&mut held.laid)
 }
 
-/// Takes the next of the steps that are laid down. One that is refused is off the list too.
+/// Takes the next of the steps that are laid down. One that is refused is off the list too; one that
+/// the tape has no memory for stays.
 ///
-/// 0: it is taken. 7: it is taken, and its landing passed; no step may follow. 8: none is left. 9:
-/// the handle is closed. 10: it is a give of a host that has given all of its requests and may be
-/// asked for more. 11: no step may be taken any more. With 8 to 11 the session doesn't change.
+/// 0: it is taken. 7: it is taken, and its landing passed; no step may follow. 1: the tape is out of
+/// memory. 8: none is left. 9: the handle is closed. 10: it is a give of a host that has given all
+/// of its requests and may be asked for more. 11: no step may be taken any more. With 1 and 8 to 11
+/// the session doesn't change.
 #[unsafe(no_mangle)]
 pub extern "C" fn hmc_next(alloc: Global, handle: &mut Handle) -> u8
     ensures stands { (setup : Setup) (past : List Entry) →
@@ -97,6 +89,7 @@ pub extern "C" fn hmc_next(alloc: Global, handle: &mut Handle) -> u8
         IsNexted result handle.old.value handle.new.value setup past }
     ensures closed { handle.old.value ≡ None → result ≡ closed }
     ensures stays { handle.old.value ≡ None → handle.new.value ≡ None }
+    ensures tape { is_taped handle.new.value ≡ is_taped handle.old.value }
 {
     let Some(held) = taken(alloc, handle) else {
         return CLOSED;
@@ -139,35 +132,27 @@ fn stops_of(number: u32) -> Stops
     }
 }
 
-// The status of a run that ended so.
-fn ran_status(ran: Ran) -> u8
-    ensures { result ≡ ran_status ran }
-{
-    match ran {
-        Ran::Stopped | Ran::Tried => OK,
-        Ran::Ended | Ran::Unknown => NONE,
-        Ran::Over => OVER,
-    }
-}
-
 // Takes steps up to an entry of one of these kinds, and counts them.
 fn run_on(held: &mut Held, most: u32, stops: &Stops, steps: &mut u32) -> u8
-    ensures { (setup : Setup) (past : List Entry) → StandsIn (shown held.old) setup past →
-        RunBy result (shown held.old) (shown held.new) setup past held.old.laid held.new.laid
-        stops.now most steps.new }
+    ensures run { (setup : Setup) (past : List Entry) → Stands held.old setup past →
+        RunBy result (has_tape held.old.kept) (Stands held.new) (shown held.new) setup past
+        held.old.laid held.new.laid stops.now most }
+    ensures steps { steps.new ≡ (shown held.new).taken - (shown held.old).taken }
+    ensures tape { has_tape held.new.kept ≡ has_tape held.old.kept }
 {
-    let before = held.session.taken();
-    let ran = held.session.run(&mut held.laid, most, stops);
-    *steps = held.session.taken().saturating_sub(before);
-    ran_status(ran)
+    let before = held.kept.session().taken();
+    let status = held.kept.run(&mut held.laid, most, stops);
+    *steps = held.kept.session().taken().saturating_sub(before);
+    status
 }
 
 /// Takes steps that are laid down, up to an entry whose kind k has the bit k set in `stops`, and
 /// tries at most so many. A step that waits is passed over; one that is refused for another cause
 /// is off the list, and ends the run. `steps` is how many were taken.
 ///
-/// 0: the latest entry is of such a kind, or so many were tried. 8: no step is left. 9: the handle
-/// is closed; then `steps` is 0. 11: a step may not be taken any more.
+/// 0: the latest entry is of such a kind, or so many were tried. 1: the tape is out of memory for the
+/// next step, which stays on the list. 8: no step is left. 9: the handle is closed; then `steps` is
+/// 0. 11: a step may not be taken any more.
 #[unsafe(no_mangle)]
 pub extern "C" fn hmc_run(
     alloc: Global,
@@ -181,6 +166,7 @@ pub extern "C" fn hmc_run(
         IsRun result handle.old.value handle.new.value setup past (stops_of stops) most steps.new }
     ensures closed { handle.old.value ≡ None → (result ≡ closed) × (steps.new ≡ 0) }
     ensures stays { handle.old.value ≡ None → handle.new.value ≡ None }
+    ensures tape { is_taped handle.new.value ≡ is_taped handle.old.value }
 {
     *steps = 0;
     let Some(held) = taken(alloc, handle) else {

@@ -4,21 +4,21 @@ ghost use Rattle.std.specs.Prelude.{◌≡◌, List, None, option_map};
 ghost use Rattle.hmc_entries.specs.Lines.{line_of};
 ghost use Rattle.hmc_entries.specs.declared.entry.Entry.{Entry};
 ghost use Rattle.hmc_journal.specs.Setup.{Setup};
-ghost use Rattle.hmc_session.specs.Session.{StandsIn};
 ghost use Rattle.hmc_session.specs.Showing.{latest};
-ghost use Rattle.hmc_c.specs.Handles.{HandleStands, shown};
-ghost use Rattle.hmc_c.specs.Lines.{LineShown, LineWritten};
+ghost use Rattle.hmc_c.specs.Handles.{HandleStands};
+ghost use Rattle.hmc_c.specs.Lines.{IsWritten, LineShown, TextShown};
 ghost use Rattle.hmc_c.specs.Status.{closed};
 
-use crate::handle::{Handle, put, taken};
+use crate::handle::Handle;
 use crate::held::Held;
-use crate::status::{CLOSED, NONE, OK};
+use crate::showing::{Text, write};
+use crate::status::{NONE, OK};
 use hmc_codes::LineText;
 use std::alloc::Global;
 
 /// Writes a line to the front of a room for it, if it is long enough.
 pub(crate) fn write_line(line: &[u8], out: &mut [u8], written: &mut usize) -> u8
-    ensures { LineWritten result written.new line.now out.old out.new }
+    ensures { IsWritten result written.new line.now out.old out.new }
 {
     *written = 0;
     if line.len() > out.len() {
@@ -29,19 +29,41 @@ pub(crate) fn write_line(line: &[u8], out: &mut [u8], written: &mut usize) -> u8
     OK
 }
 
-// Writes the line of the latest entry of a session, if it has one.
-fn write_last(held: &Held, out: &mut [u8], written: &mut usize) -> u8
-    ensures { (setup : Setup) (past : List Entry) → StandsIn (shown held.now) setup past →
-        LineShown result written.new (option_map line_of (latest past)) out.old out.new }
+/// Writes a text to the front of a room for it, if it is long enough, and says its length.
+pub(crate) fn write_text(due: u8, text: &[u8], out: &mut [u8], count: &mut usize) -> u8
+    ensures { TextShown due result count.new text.now out.old out.new }
 {
-    *written = 0;
-    match held.session.last() {
-        Some(last) => {
-            let mut text = LineText::new();
-            last.line(&mut text);
-            write_line(text.as_str().as_bytes(), out, written)
+    *count = text.len();
+    if text.len() > out.len() {
+        return NONE;
+    }
+    out[..text.len()].copy_from_slice(text);
+    due
+}
+
+// The line of the latest entry.
+#[derive(Drop)]
+struct LastLine;
+
+impl Text for LastLine {
+    ghost use Rattle.std.specs.Prelude.{option_map};
+    ghost use Rattle.hmc_entries.specs.Lines.{line_of};
+    ghost use Rattle.hmc_session.specs.Showing.{latest};
+    ghost use Rattle.hmc_c.specs.Lines.{LineShown};
+
+    ghost shows = { λ text tape setup past status written old new.
+        LineShown status written (option_map line_of (latest past)) old new };
+
+    fn write(&self, held: &Held, out: &mut [u8], written: &mut usize) -> u8 {
+        *written = 0;
+        match held.kept.session().last() {
+            Some(last) => {
+                let mut text = LineText::new();
+                last.line(&mut text);
+                write_line(text.as_str().as_bytes(), out, written)
+            }
+            None => NONE,
         }
-        None => NONE,
     }
 }
 
@@ -64,11 +86,5 @@ pub extern "C" fn hmc_line(
         (result ≡ closed) × (written.new ≡ 0) × (out.new ≡ out.old) }
     ensures stays { handle.new.value ≡ handle.old.value }
 {
-    *written = 0;
-    let Some(held) = taken(alloc, handle) else {
-        return CLOSED;
-    };
-    let status = write_last(&held, out, written);
-    put(handle, held);
-    status
+    write(alloc, handle, &LastLine, out, written)
 }

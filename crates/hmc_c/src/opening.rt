@@ -1,43 +1,51 @@
 //! A handle is opened and closed.
 
-ghost use Rattle.std.specs.Prelude.{◌≡◌, [], IfOk, IfErr};
+ghost use Rattle.std.specs.Prelude.{◌≡◌, [], IfOk, IfErr, false, true};
 ghost use Rattle.std.specs.declared.option.Option.TheVariants.{None};
 ghost use Rattle.hmc_case.specs.Case.{case_of};
 ghost use Rattle.hmc_units.specs.Kinds.{unit_of};
 ghost use Rattle.hmc_units.specs.Slots.{units_in};
 ghost use Rattle.hmc_c.specs.Handles.{HoldsRead, OpenedBy, Reports};
+ghost use Rattle.hmc_c.specs.Units.{OpenedWith, are_units, slots_of};
 
 use crate::handle::{Handle, close, put};
 use crate::held::Held;
-use crate::status::{BAD, MEMORY, OK};
+use crate::kept::Kept;
+use crate::status::{BAD, MEMORY, NONE, OK};
+use crate::units::{UnitIn, bench_of};
 use hmc_case::{Case, CaseFault};
-use hmc_codes::Memory;
-use hmc_session::{Laid, Session};
+use hmc_session::Laid;
 use hmc_units::{Shipped, Slots};
 use std::alloc::Global;
 
-// A session of the case that these bytes are, with this bench, and the steps of the case.
-fn opened(alloc: Global, bytes: &[u8], bench: Slots<Shipped>) -> Result<Box<Held>, CaseFault>
+// A session of the case that these bytes are, with this bench, with a tape or without, and the
+// steps of the case.
+fn opened(
+    alloc: Global,
+    bytes: &[u8],
+    bench: Slots<Shipped>,
+    tape: bool,
+) -> Result<Box<Held>, CaseFault>
     ensures held { IfOk result (λ held.
-        HoldsRead held.value (case_of bytes.now) (units_in unit_of bench)) }
+        HoldsRead held.value tape (case_of bytes.now) (units_in unit_of bench)) }
     ensures fault { IfErr result (λ fault. Reports fault (case_of bytes.now)) }
 {
     let case = Case::read(alloc, bytes)?;
     case.invariant();
-    let session = Session::begin(alloc, &case, bench)?;
+    let kept = Kept::begin(alloc, &case, bench, tape)?;
     let laid = Laid::new(case.into_schedule());
-    match Box::new(alloc, Held { session, laid }) {
+    match Box::new(alloc, Held { kept, laid }) {
         Ok(held) => Ok(held),
         Err(_) => Err(CaseFault::Memory),
     }
 }
 
 // Opens a handle on such a session.
-fn open_on(alloc: Global, text: &[u8], bench: Slots<Shipped>, handle: &mut Handle) -> u8
-    ensures { OpenedBy result (case_of text.now) (units_in unit_of bench)
+fn open_on(alloc: Global, text: &[u8], bench: Slots<Shipped>, tape: bool, handle: &mut Handle) -> u8
+    ensures { OpenedBy result tape (case_of text.now) (units_in unit_of bench)
         handle.old.value handle.new.value }
 {
-    match opened(alloc, text, bench) {
+    match opened(alloc, text, bench, tape) {
         Ok(held) => {
             put(handle, held);
             OK
@@ -47,12 +55,16 @@ fn open_on(alloc: Global, text: &[u8], bench: Slots<Shipped>, handle: &mut Handl
     }
 }
 
-// A bench of no logic units.
-fn no_units(alloc: Global) -> Result<Slots<Shipped>, Memory>
-    ensures { IfOk result (λ bench. units_in unit_of bench ≡ []) }
+// The same with the logic units that these numbers name.
+fn open_with(alloc: Global, text: &[u8], units: &[UnitIn], tape: bool, handle: &mut Handle) -> u8
+    ensures { OpenedWith (are_units units.now) result tape (case_of text.now) (slots_of units.now)
+        handle.old.value handle.new.value }
 {
-    let bench = Slots::new(alloc, Vec::new(alloc))?;
-    Ok(bench)
+    match bench_of(alloc, units) {
+        Ok(Some(bench)) => open_on(alloc, text, bench, tape, handle),
+        Ok(None) => NONE,
+        Err(_) => MEMORY,
+    }
 }
 
 /// Opens a handle on a session of the case that these bytes are, as docs/case.md has it, with no
@@ -63,12 +75,41 @@ fn no_units(alloc: Global) -> Result<Slots<Shipped>, Memory>
 /// changes.
 #[unsafe(no_mangle)]
 pub extern "C" fn hmc_open(alloc: Global, text: &[u8], handle: &mut Handle) -> u8
-    ensures { OpenedBy result (case_of text.now) [] handle.old.value handle.new.value }
+    ensures { OpenedBy result false (case_of text.now) [] handle.old.value handle.new.value }
 {
-    match no_units(alloc) {
-        Ok(bench) => open_on(alloc, text, bench, handle),
-        Err(_) => MEMORY,
-    }
+    open_with(alloc, text, &[], false, handle)
+}
+
+/// The same with at most eight logic units: the one at place i is in slot i. Where two have the
+/// same cube and code, the one in the lower slot works as long as it is live.
+///
+/// 8: there are more than eight, or one names no unit; then nothing changes.
+#[unsafe(no_mangle)]
+pub extern "C" fn hmc_open_with(
+    alloc: Global,
+    text: &[u8],
+    units: &[UnitIn],
+    handle: &mut Handle,
+) -> u8
+    ensures { OpenedWith (are_units units.now) result false (case_of text.now) (slots_of units.now)
+        handle.old.value handle.new.value }
+{
+    open_with(alloc, text, units, false, handle)
+}
+
+/// The same with a tape: the requests and the steps are kept as a script and a schedule, which
+/// `hmc_tape_script` and `hmc_tape_schedule` write.
+#[unsafe(no_mangle)]
+pub extern "C" fn hmc_open_taped(
+    alloc: Global,
+    text: &[u8],
+    units: &[UnitIn],
+    handle: &mut Handle,
+) -> u8
+    ensures { OpenedWith (are_units units.now) result true (case_of text.now) (slots_of units.now)
+        handle.old.value handle.new.value }
+{
+    open_with(alloc, text, units, true, handle)
 }
 
 /// Closes a handle. A closed one stays closed.

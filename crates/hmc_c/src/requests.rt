@@ -6,15 +6,15 @@ ghost use Rattle.hmc_codes.specs.Commands.{payload_len_of};
 ghost use Rattle.hmc_entries.specs.declared.entry.Entry.{Entry};
 ghost use Rattle.hmc_journal.specs.Setup.{Setup};
 ghost use Rattle.hmc_script.specs.Payload.{IsPayload};
-ghost use Rattle.hmc_session.specs.Session.{StandsIn};
 ghost use Rattle.hmc_c.specs.Asks.{Asked, IsAsked};
-ghost use Rattle.hmc_c.specs.Handles.{HandleStands, laid_in, shown};
+ghost use Rattle.hmc_c.specs.Handles.{HandleStands, Stands, is_taped, laid_in};
 ghost use Rattle.hmc_c.specs.Requests.{payload_by, request_named, request_with};
+ghost use Rattle.hmc_c.specs.Kept.{has_tape};
 ghost use Rattle.hmc_c.specs.Status.{closed};
 
 use crate::handle::{Handle, put, taken};
 use crate::held::Held;
-use crate::status::{BAD, CLOSED, OK, asked_status};
+use crate::status::{BAD, CLOSED};
 use hmc_codes::{Command, Family, MOST_CUBES, Payload, Request};
 use std::alloc::Global;
 
@@ -82,17 +82,15 @@ fn request_named(code: u8, cube: u8, address: u64, bytes: &[u8]) -> Option<Reque
 
 // Asks a host for this request, if there is one.
 fn ask(held: &mut Held, host: u8, fenced: bool, poisoned: bool, request: Option<Request>) -> u8
-    ensures stands { (setup : Setup) (past : List Entry) → StandsIn (shown held.old) setup past →
+    ensures stands { (setup : Setup) (past : List Entry) → Stands held.old setup past →
         Asked result held.old held.new setup past host fenced poisoned request }
     ensures laid { held.new.laid ≡ held.old.laid }
+    ensures tape { has_tape held.new.kept ≡ has_tape held.old.kept }
 {
     let Some(request) = request else {
         return BAD;
     };
-    match held.session.ask(host, fenced, poisoned, &request) {
-        Ok(()) => OK,
-        Err(refusal) => asked_status(refusal),
-    }
+    held.kept.ask(host, fenced, poisoned, &request)
 }
 
 /// Asks a host for one request, which it gives after its others: the code of its command (docs/
@@ -122,6 +120,7 @@ pub extern "C" fn hmc_request(
     ensures laid { laid_in handle.new.value ≡ laid_in handle.old.value }
     ensures closed { handle.old.value ≡ None → result ≡ closed }
     ensures stays { handle.old.value ≡ None → handle.new.value ≡ None }
+    ensures tape { is_taped handle.new.value ≡ is_taped handle.old.value }
 {
     let Some(held) = taken(alloc, handle) else {
         return CLOSED;

@@ -1,10 +1,12 @@
 //! What calls return.
 
 ghost use Rattle.std.specs.Prelude.{◌≡◌};
+ghost use Rattle.hmc_c.specs.Laying.{next_status, ran_status};
 ghost use Rattle.hmc_c.specs.Status.{taken_status, refused_status, asked_status};
+ghost use Rattle.hmc_c.specs.Words.{line_status};
 
 use hmc_net::Went;
-use hmc_session::{NotAsked, NotTaken};
+use hmc_session::{LineNotAsked, NotAsked, NotTaken, Ran};
 
 /// It is done.
 pub(crate) const OK: u8 = 0;
@@ -30,6 +32,18 @@ pub(crate) const NO_CUBE: u8 = 13;
 pub(crate) const FINISHED: u8 = 14;
 /// The host was asked for as many requests as it may be.
 pub(crate) const FULL: u8 = 15;
+
+/// The flits are not as many as their first one says.
+pub(crate) const BAD_LENGTH: u8 = 16;
+/// No command of this length has this code.
+pub(crate) const BAD_COMMAND: u8 = 17;
+/// A bit that must be 0 isn't.
+pub(crate) const BAD_RESERVED: u8 = 18;
+/// The check is wrong.
+pub(crate) const BAD_CRC: u8 = 19;
+
+/// The report is not that of the case.
+pub(crate) const UNLAWFUL: u8 = 20;
 
 /// The status of a step that was taken.
 pub(crate) fn taken_status(went: Went) -> u8
@@ -62,5 +76,37 @@ pub(crate) fn asked_status(refusal: NotAsked) -> u8
         NotAsked::NoCube => NO_CUBE,
         NotAsked::Finished => FINISHED,
         NotAsked::Full => FULL,
+    }
+}
+
+/// The status of a text that is refused.
+pub(crate) fn line_status(refusal: LineNotAsked) -> u8
+    ensures { result ≡ line_status refusal }
+{
+    match refusal {
+        LineNotAsked::Fault { .. } | LineNotAsked::NotOne => BAD,
+        LineNotAsked::Refused(refusal) => asked_status(refusal),
+    }
+}
+
+/// What became of the next step.
+pub(crate) fn next_status(next: Result<Option<Went>, NotTaken>) -> u8
+    ensures { result ≡ next_status next }
+{
+    match next {
+        Ok(Some(went)) => taken_status(went),
+        Ok(None) => NONE,
+        Err(refusal) => refused_status(refusal),
+    }
+}
+
+/// The status of a run that ended so.
+pub(crate) fn ran_status(ran: Ran) -> u8
+    ensures { result ≡ ran_status ran }
+{
+    match ran {
+        Ran::Stopped | Ran::Tried => OK,
+        Ran::Ended | Ran::Unknown => NONE,
+        Ran::Over => OVER,
     }
 }

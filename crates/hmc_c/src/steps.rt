@@ -5,31 +5,30 @@ ghost use Rattle.std.specs.Option.{MatchOption};
 ghost use Rattle.hmc_entries.specs.declared.entry.Entry.{Entry};
 ghost use Rattle.hmc_journal.specs.Setup.{Setup};
 ghost use Rattle.hmc_session.specs.Numbers.{step_named};
-ghost use Rattle.hmc_session.specs.Session.{StandsIn};
-ghost use Rattle.hmc_c.specs.Handles.{HandleStands, laid_in, shown};
+ghost use Rattle.hmc_c.specs.Handles.{HandleStands, Stands, is_taped, laid_in, shown};
 ghost use Rattle.hmc_c.specs.Steps.{IsStepped, Stepped, after_finish, finish_status};
+ghost use Rattle.hmc_c.specs.Kept.{has_tape};
 ghost use Rattle.hmc_c.specs.Status.{closed};
 
+use crate::faults::host_count;
 use crate::handle::{Handle, put, taken};
 use crate::held::Held;
-use crate::status::{CLOSED, NO_HOST, NONE, OK, refused_status, taken_status};
-use hmc_codes::{Flit, MOST_HOSTS};
+use crate::status::{CLOSED, NO_HOST, NONE, OK};
+use hmc_codes::Flit;
 use hmc_session::step_named;
 use std::alloc::Global;
 
 // Takes the step of these numbers, if it is one that is taken.
 fn step_by(held: &mut Held, kind: u8, a: u8, b: u8, c: u8, mask: &Flit) -> u8
-    ensures stands { (setup : Setup) (past : List Entry) → StandsIn (shown held.old) setup past →
+    ensures stands { (setup : Setup) (past : List Entry) → Stands held.old setup past →
         Stepped result held.old held.new setup past (step_named kind a b c mask.now) }
     ensures laid { held.new.laid ≡ held.old.laid }
+    ensures tape { has_tape held.new.kept ≡ has_tape held.old.kept }
 {
     let Some(step) = step_named(kind, a, b, c, mask) else {
         return NONE;
     };
-    match held.session.step(&step) {
-        Ok(went) => taken_status(went),
-        Err(refusal) => refused_status(refusal),
-    }
+    held.kept.step(&step)
 }
 
 /// Takes the step that these numbers name: its kind, the numbers of its words in order, and the
@@ -37,10 +36,10 @@ fn step_by(held: &mut Held, kind: u8, a: u8, b: u8, c: u8, mask: &Flit) -> u8
 /// 7 lift, 8 take, 9 through, 10 unlock and 11 retire. A lift of the answers of the registers has
 /// 255 in place of a vault.
 ///
-/// 0: it is taken. 7: it is taken, and its landing passed; no step may follow. 8: it names no part
-/// of the network. 9: the handle is closed. 10: it is a give of a host that has given all of its
-/// requests and may be asked for more. 11: no step may be taken any more. With 8 to 11 nothing
-/// changes.
+/// 0: it is taken. 7: it is taken, and its landing passed; no step may follow. 1: the tape is out of
+/// memory. 8: it names no part of the network. 9: the handle is closed. 10: it is a give of a host
+/// that has given all of its requests and may be asked for more. 11: no step may be taken any more.
+/// With 1 and 8 to 11 nothing changes.
 #[unsafe(no_mangle)]
 pub extern "C" fn hmc_step(
     alloc: Global,
@@ -58,6 +57,7 @@ pub extern "C" fn hmc_step(
     ensures laid { laid_in handle.new.value ≡ laid_in handle.old.value }
     ensures closed { handle.old.value ≡ None → result ≡ closed }
     ensures stays { handle.old.value ≡ None → handle.new.value ≡ None }
+    ensures tape { is_taped handle.new.value ≡ is_taped handle.old.value }
 {
     let Some(held) = taken(alloc, handle) else {
         return CLOSED;
@@ -70,15 +70,15 @@ pub extern "C" fn hmc_step(
 
 // Asks a host for nothing more, if it is there.
 fn finish(held: &mut Held, host: u8) -> u8
-    ensures status { result ≡ finish_status host }
+    ensures status { result ≡ finish_status (shown held.old).plan.hosts host }
     ensures left { held.new ≡ after_finish host held.old }
-    ensures stands { (setup : Setup) (past : List Entry) → StandsIn (shown held.old) setup past →
-        StandsIn (shown held.new) setup past }
+    ensures stands { (setup : Setup) (past : List Entry) → Stands held.old setup past →
+        Stands held.new setup past }
 {
-    if host >= MOST_HOSTS {
+    if host >= host_count(held.kept.session().plan()) {
         return NO_HOST;
     }
-    held.session.finish(host);
+    held.kept.finish(host);
     OK
 }
 
@@ -89,7 +89,7 @@ fn finish(held: &mut Held, host: u8) -> u8
 #[unsafe(no_mangle)]
 pub extern "C" fn hmc_finish(alloc: Global, handle: &mut Handle, host: u8) -> u8
     ensures status { MatchOption handle.old.value (result ≡ closed)
-        (λ _. result ≡ finish_status host) }
+        (λ held. result ≡ finish_status (shown held).plan.hosts host) }
     ensures left { handle.new.value ≡ option_map (after_finish host) handle.old.value }
     ensures stands { (setup : Setup) (past : List Entry) →
         HandleStands handle.old.value setup past → HandleStands handle.new.value setup past }

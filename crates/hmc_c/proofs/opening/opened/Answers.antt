@@ -1,11 +1,10 @@
--- The case was read, and the box has the session and the steps.
-use Rattle.std.proofs.Common.{◌∙◌, [], List, sym, subst}
+-- The case was read, and the box has what is kept and the steps.
+use Rattle.std.proofs.Common.{◌∙◌, sym, subst}
 use Rattle.std.specs.Prelude.{Result}
 use Rattle.hmc_case.specs.Case.{CaseFields}
 use Rattle.hmc_case.specs.Reading.{Fault}
 use Rattle.hmc_units.specs.Kinds.{unit_of}
 use Rattle.hmc_units.specs.Slots.{units_in}
-use Rattle.hmc_session.specs.Session.{begun}
 use Rattle.hmc_c.specs.Handles.{HoldsRead, IsHeld}
 use Rattle.hmc_c.specs.declared.held.Held.{Held}
 use Rattle.hmc_c.proofs.opening.opened.Goals as goal
@@ -14,8 +13,9 @@ pub returns-in-Ok-clause-held : goal.returns-in-Ok-clause-held
 returns-in-Ok-clause-held c =
     let case = c.in_ok-case.case in
     let slots = units_in unit_of c.args.bench in
-    subst (λ (read : Result CaseFields Fault). HoldsRead c.in-Ok.held.value read slots) (sym c.in_ok-case.ensures.exact)
-    (subst (λ (held : Held). IsHeld held case slots) (sym c.in-Ok.ensures.ok) (record {
-      stands = c.in_ok-session.ensures.stands;
+    subst (λ (read : Result CaseFields Fault). HoldsRead c.in-Ok.held.value c.args.tape read slots) (sym c.in_ok-case.ensures.exact)
+    (subst (λ (held : Held). IsHeld held c.args.tape case slots) (sym c.in-Ok.ensures.ok) (record {
+      stands = c.in_ok-kept.ensures.stands;
+      tape_is = c.in_ok-kept.ensures.tape;
       laid = c.new-laid.ensures ∙ c.into_schedule.ensures;
     }))

@@ -1,0 +1,10 @@
+-- What the network shows is what the journal leaves.
+use Rattle.std.proofs.Common.{◌∙◌}
+use Rattle.hmc_journal.specs.Final.{values_of}
+use Rattle.hmc_c.specs.Values.{values_in}
+use Rattle.hmc_c.proofs.LeftAlike.{block_alike, values_alike}
+use Rattle.hmc_c.proofs.left.BlockAtPart.find.Goals as goal
+
+pub returns : goal.returns
+returns c = λ setup past stands on.
+    c.find_block.ensures ∙ block_alike (values_in c.args.held.now) (values_of setup past) c.args.self.now.cube c.args.self.now.address (values_alike c.args.held.now setup past stands on)

@@ -1,0 +1,10 @@
+-- What the network shows is what the journal leaves.
+use Rattle.std.proofs.Common.{◌∙◌}
+use Rattle.hmc_journal.specs.Final.{values_of}
+use Rattle.hmc_c.specs.Values.{values_in}
+use Rattle.hmc_c.proofs.LeftAlike.{cube_alike, values_alike}
+use Rattle.hmc_c.proofs.left.CubeOfPart.find.Goals as goal
+
+pub returns : goal.returns
+returns c = λ setup past stands on.
+    c.find_cube.ensures ∙ cube_alike (values_in c.args.held.now) (values_of setup past) c.args.self.now.cube (values_alike c.args.held.now setup past stands on)

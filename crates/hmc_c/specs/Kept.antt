@@ -1,0 +1,39 @@
+-- What a handle keeps: a session, with a tape or without.
+use Rattle.std.specs.Prelude.{Bool, true, false, List}
+use Rattle.hmc_units.specs.Kinds.{unit_of}
+use Rattle.hmc_units.specs.Slots.{units_in}
+use Rattle.hmc_units.specs.declared.shipped.Shipped.{Shipped}
+use Rattle.hmc_units.specs.declared.slots.Slots.{Slots}
+use Rattle.hmc_entries.specs.declared.entry.Entry.{Entry}
+use Rattle.hmc_journal.specs.Setup.{Setup}
+use Rattle.hmc_session.specs.Session.{SessionFields, SessionParts, StandsIn, session_of}
+use Rattle.hmc_tape.specs.Tape.{IsTapeOf, TapedFields, TapedParts, taped_of}
+use Rattle.hmc_c.specs.declared.kept.Kept.{Kept}
+use Rattle.hmc_c.specs.declared.kept.Kept.TheVariants.{OnTape, Untaped}
+
+-- the session
+abbrev pub session_in : Kept → SessionParts (Slots Shipped)
+session_in (Untaped session) = session
+session_in (OnTape taped) = taped.session
+
+-- sessions and taped sessions, with the slots of their bench
+abbrev pub plain_fields : SessionParts (Slots Shipped) → SessionFields
+plain_fields session = session_of (units_in unit_of) session
+
+abbrev pub tape_fields : TapedParts (Slots Shipped) → TapedFields
+tape_fields taped = taped_of (units_in unit_of) taped
+
+-- the session, with the slots of its bench
+abbrev pub fields_in : Kept → SessionFields
+fields_in kept = plain_fields (session_in kept)
+
+-- it has a tape
+abbrev pub has_tape : Kept → Bool
+has_tape (Untaped session) = false
+has_tape (OnTape taped) = true
+
+-- It stands for the case and the journal of its session. A tape has the requests and the steps of
+-- this case.
+abbrev pub KeptStands : Kept → Setup → List Entry → Type 0
+KeptStands (Untaped session) setup past = StandsIn (plain_fields session) setup past
+KeptStands (OnTape taped) setup past = IsTapeOf (tape_fields taped) setup past
