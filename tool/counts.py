@@ -1,19 +1,19 @@
 """The tables of docs/ that count something: `python3 -m tool.counts` prints them. With `--write` it
-puts them into their pages, and the contracts into the pages CALLING.md.
+puts them into their pages, the numbers too, and the contracts into the pages CALLING.md.
 """
 
 from __future__ import annotations
 
 import re
 import sys
-from collections.abc import Iterable, Iterator
+from collections.abc import Callable, Iterable, Iterator
 from pathlib import Path
 
-from tool import quotes
+from tool import numbers, quotes
 from tool.build import crates_below, libraries
 from tool.kit import TOP
 from tool.promises import promise_table, reading_table, word_table
-from tool.touched import named_table
+from tool.touched import named_table, section_table
 
 CRATES = TOP / "crates"
 # What only tests, beside the crates hmc_tests_.
@@ -104,11 +104,17 @@ def layer_table() -> list[str]:
     return rows
 
 
+def measured_table(name: str) -> Callable[[], list[str]]:
+    """The table that a script of `bench/` printed when it was run last."""
+    return lambda: (TOP / "bench" / "measured" / f"{name}.txt").read_text("utf-8").splitlines()
+
+
 # The tables of each page.
 PAGES = {
-    "ARCHITECTURE.md": (layer_table, named_table),
-    "PROOFS.md": (number_table,),
-    "TRUST.md": (promise_table, reading_table, word_table),
+    "docs/ARCHITECTURE.md": (layer_table, named_table, section_table),
+    "docs/PROOFS.md": (number_table,),
+    "docs/speed.md": (measured_table("plain"), measured_table("events")),
+    "docs/TRUST.md": (promise_table, reading_table, word_table),
 }
 
 
@@ -119,16 +125,20 @@ def page_with(text: str, table: list[str]) -> str:
     return text[:at] + "\n".join(table) + text[end:]
 
 
+def page_of(path: str) -> str:
+    """A page with its tables, contracts and numbers as they have to be."""
+    calling = path.endswith("CALLING.md")
+    text = quotes.requote(TOP / path) if calling else (TOP / path).read_text(encoding="utf-8")
+    for table in PAGES.get(path, ()):
+        text = page_with(text, table())
+    return numbers.page_with(path, text)
+
+
 def pages() -> Iterator[tuple[Path, str]]:
-    """Yields each page with a table, or with contracts, as it has to be."""
-    for name, tables in PAGES.items():
-        path = TOP / "docs" / name
-        text = path.read_text(encoding="utf-8")
-        for table in tables:
-            text = page_with(text, table())
-        yield path, text
-    for path in sorted(CRATES.glob("*/CALLING.md")):
-        yield path, quotes.requote(path)
+    """Yields each page that has a table, contracts or numbers, as it has to be."""
+    calling = [str(it.relative_to(TOP)) for it in CRATES.glob("*/CALLING.md")]
+    for path in sorted({*PAGES, *calling, *numbers.NUMBERS}):
+        yield TOP / path, page_of(path)
 
 
 def write() -> None:

@@ -97,6 +97,10 @@ WORDS = {
     f"{JOURNAL}/Setup.antt": ("unit_in",),
     f"{JOURNAL}/LinkSteps.antt": ("land_entry",),
     f"{JOURNAL}/Drained.antt": ("is_drained", "IsDrained"),
+    "crates/hmc_promises/src/laws.rt": ("drained_is_tested",),
+    f"{JOURNAL}/UnderWay.antt": ("under_way",),
+    f"{JOURNAL}/Settled.antt": ("AreSettled",),
+    "crates/hmc_host/specs/Give.antt": ("give_says",),
     f"{JOURNAL}/Report.antt": ("report_lines",),
     f"{JOURNAL}/Final.antt": ("values_of", "final_lines_of"),
     "crates/hmc_entries/specs/Lines.antt": ("line_of",),
@@ -110,7 +114,7 @@ WORDS = {
     "crates/hmc_bound/specs/Ends.antt": ("EndsDrained", "EndsWithRounds", "AreEnough"),
     "crates/hmc_check/specs/Verdict.antt": ("IsLawfulReport", "IsLeastUnfit"),
     f"{CASE}/Case.antt": ("case_of",),
-    f"{REPLAY}/Report.antt": ("report_of", "report_status"),
+    f"{REPLAY}/Report.antt": ("report_of", "end_lines", "report_status"),
     f"{REPLAY}/RunAnswer.antt": ("IsRunAnswer",),
     f"{REPLAY}/Reported.antt": ("IsReport",),
     f"{REPLAY}/Top.antt": ("Replayed",),
@@ -123,7 +127,9 @@ def word_table() -> list[str]:
     rows = ["| Word | File and line |", "|---|---|"]
     for path, words in WORDS.items():
         for word in words:
-            head = next(it for it in lines_of((path, word)) if not it.startswith("--"))
+            head = f"pub fn {word}()"  # a law
+            if path.endswith(".antt"):
+                head = next(it for it in lines_of((path, word)) if not it.startswith("--"))
             line = text_of(path)[: text_of(path).index(f"\n{head}\n") + 1].count("\n") + 1
             name = path.removeprefix("crates/")
             rows.append(f"| `{word}` | [{name}:{line}](../{path}) |")

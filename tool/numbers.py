@@ -1,0 +1,254 @@
+"""The numbers that pages state about this repository, each with what it is taken from.
+
+`python3 -m tool.counts --write` puts them into their pages. A test of the gate says which numbers a
+page may have beside them. What a script of `bench/` printed is in `bench/measured/`, as it was.
+"""
+
+from __future__ import annotations
+
+import re
+from collections.abc import Callable
+from typing import NamedTuple
+
+from tool import case
+from tool.kit import TOP
+from tool.texts import CubeParts, Plan
+
+Value = Callable[[], str]
+
+
+class Number(NamedTuple):
+    """Words of a page with `{}` for a number, and how the number is found."""
+
+    words: str
+    value: Value
+
+    @property
+    def pattern(self) -> re.Pattern[str]:
+        """The words, with any number and wherever the line ends."""
+        before, after = (spaced(part) for part in self.words.split("{}"))
+        return re.compile(rf"({before})([0-9][0-9,.]*[0-9]|[0-9])({after})")
+
+
+def spaced(words: str) -> str:
+    """A pattern of these words, between which a line may end."""
+    return re.escape(words).replace(r"\ ", r"\s+(?:>\s+)?")
+
+
+def shown(number: int) -> str:
+    """A number as pages show it."""
+    return f"{number:,}"
+
+
+def text_of(path: str) -> str:
+    """The content of a file of this repository."""
+    return (TOP / path).read_text(encoding="utf-8")
+
+
+def named(path: str, pattern: str) -> Value:
+    """The number that a file has behind these words, as a whole one."""
+
+    def value() -> str:
+        found = set(re.findall(rf"{pattern}([0-9_,]+)", text_of(path)))
+        numbers = {int(re.sub("[_,]", "", it)) for it in found}
+        assert len(numbers) == 1, f"{path}: {pattern}: {sorted(numbers)}"
+        return shown(numbers.pop())
+
+    return value
+
+
+def limit(name: str) -> Value:
+    """A limit of the one file of limits."""
+    return named("crates/hmc_codes/src/limits.rt", rf"\b{name}: u\w+ = ")
+
+
+def lines(path: str, pattern: str = "") -> Value:
+    """How many lines of a file begin with this pattern."""
+    return lambda: shown(sum(bool(re.match(pattern, it)) for it in text_of(path).splitlines()))
+
+
+def files(pattern: str) -> Value:
+    """How many files have such a path."""
+    return lambda: shown(len(list(TOP.glob(pattern))))
+
+
+def place(path: str, pattern: str) -> Value:
+    """The number of the first line of a file that has this pattern."""
+
+    def value() -> str:
+        rows = text_of(path).splitlines()
+        return shown(next(at for at, row in enumerate(rows, start=1) if re.search(pattern, row)))
+
+    return value
+
+
+def steps_of(case_path: str, rounds: int) -> Value:
+    """The steps of so many rounds in the network of a case."""
+
+    def value() -> str:
+        document = case.document_of((TOP / case_path).read_bytes())[0]
+        return shown(rounds * case.plan_of(document).round_steps)
+
+    return value
+
+
+def largest_round() -> str:
+    """The steps of a round where there are most cubes, vaults, banks, hosts and links."""
+    vaults, banks = (1 << case.CUBE_RANGES[key][1] for key in ("vault_bits", "bank_bits"))
+    cubes = [CubeParts(vaults, banks, case.EVERY_PORT)] * case.CUBES[1]
+    ends = len(cubes) * len(case.EVERY_PORT)
+    links = case.HOSTS + (ends - case.HOSTS) // 2
+    return shown(Plan(case.HOSTS, 2 * links, cubes).round_steps)
+
+
+LIMITS = "crates/hmc_codes/src/limits.rt"
+DATA = "crates/hmc_faults/data"
+STAGES = "crates/hmc_drain/specs/Stages.antt"
+CHANGED = "examples/changed-flit.report"
+FIRST = "examples/write-then-read"
+ROW = ".* = "
+
+
+def measured(name: str, row: str) -> Value:
+    """The last word of a row that a script of `bench/` printed when it was run last."""
+
+    def value() -> str:
+        rows = text_of(f"bench/measured/{name}.txt").splitlines()
+        return next(it for it in rows if it.startswith(row)).split()[-1]
+
+    return value
+
+
+def instructions_a_step() -> str:
+    """Of the first workload of `bench/plain`, which has 18,000 rounds between its two sizes."""
+    counted = next(it for it in text_of("bench/measured/plain.txt").splitlines() if "a write" in it)
+    steps = int(steps_of(f"{FIRST}.toml", 18000)().replace(",", ""))
+    return shown(int(counted.split("|")[2].replace(",", "")) // steps)
+
+
+def stage(name: str) -> Value:
+    """The rounds of a stage of the drain bound."""
+    return named(STAGES, rf"{name} p c = Leads p c ")
+
+
+def schedule_faults() -> str:
+    """The rows of the two tables of schedules."""
+    tables = ("schedule-faults", "schedule-faults-small")
+    return shown(sum(int(lines(f"{DATA}/{it}.txt", ROW)()) for it in tables))
+
+
+def bound_lines() -> str:
+    """The lines of steps where the drain bound's rounds follow two gives of the first example."""
+    rounds = int(text_of("examples/bound-two-requests.bound").split()[-1])
+    return shown(2 + int(steps_of(f"{FIRST}.toml", rounds)().replace(",", "")))
+
+
+def trained() -> str:
+    """How often direction 0 sends before a request is given, in the example of docs/through.md."""
+    before = text_of("examples/through-two-cubes.report").split("\ngave ")[0]
+    return shown(len(re.findall(r"^sent 0 ", before, re.MULTILINE)))
+
+
+def largest_shape() -> str:
+    """The bytes of a cube with most vaults, banks and rows, and the largest block."""
+    vaults, banks, rows = (case.CUBE_RANGES[it][1] for it in ("vault_bits", "bank_bits", "rows"))
+    return shown((rows * case.BLOCKS[-1]) << (vaults + banks))
+
+
+SETTLED = named("crates/hmc_bound/specs/Bound.antt", r"= [0-9]+ \+ ")
+TO_SETTLE = named("crates/hmc_bound/specs/Bound.antt", "drain_bound topology past = ")
+WEIGHT = named(STAGES, "weight s ≤ ")
+BEGIN = named("crates/hmc_link_state/specs/State.antt", "each begin ")
+DRAWN = named("crates/hmc_make/src/items.rt", "const REQUESTS: u32 = ")
+NOISY = named("crates/hmc_make/src/steps.rt", r"rounds\(&plan, (?=[0-9]+, Some)")
+QUIET = named("crates/hmc_make/src/steps.rt", r"rounds\(&plan, (?=[0-9]+, None)")
+TEXT = "crates/hmc_codes/src/text.rt"
+PIECES = "crates/hmc_codes/src/pieces.rt"
+MEANING = "crates/hmc_trace/src/meaning.rt"
+BENCH = "bindings/verilator/test.sv"
+BAD_CASES = lines(f"{DATA}/bad-cases.txt", "= ")
+NUMBERS: dict[str, tuple[Number, ...]] = {
+    "README.md": (Number("the report has {} lines", lines(f"{FIRST}.report")),),
+    "CONTRIBUTING.md": (
+        Number("the script have at most {} lines", named("tool/pylintrc", "max-module-lines=")),
+    ),
+    "docs/DECISIONS.md": (
+        Number("of hmc_codes), {} where", named(PIECES, "Gathered = ArrayString<")),
+        Number("`Finished::capacity` is at most {}**", largest_shape),
+    ),
+    "docs/PROOFS.md": (
+        Number("of at most {} and 519 bytes", named(TEXT, "last word. It has at most ")),
+        Number("of at most 562 and {} bytes", named(TEXT, "decimal. It has at most ")),
+        Number("its {} requests by draws", DRAWN),
+        Number("(`under_way`). {} * (k + 1) whole rounds", SETTLED),
+        Number("(`AreSettled`), and {} more from any state", TO_SETTLE),
+        Number("The reports of the {} cases in `examples/`", files("examples/*.toml")),
+        Number("are {} changes of one case", BAD_CASES),
+        Number("changes of one case, {} scripts", lines(f"{DATA}/script-faults.txt", ROW)),
+        Number("scripts and {} schedules", schedule_faults),
+        Number("and {} wrong forms of words", lines(f"{DATA}/words.txt", r"\$")),
+    ),
+    "docs/TRUST.md": (
+        Number("before them, {} (k + 1) rounds are enough", SETTLED),
+        Number("a settled link, and {} + 2,000 (k + 1)", TO_SETTLE),
+    ),
+    "docs/case.md": (Number("has {} examples, each a change", BAD_CASES),),
+    "docs/co-simulation.md": (
+        Number("A round of the largest network has {} steps", largest_round),
+        Number("a random drive of {} choices", named("bindings/tests/run.py", "CHOICES = ")),
+    ),
+    "docs/drain.md": (
+        Number("| settled | {} * (k + 1) |", SETTLED),
+        Number("| in any state | {} + 2,000 * (k + 1) |", TO_SETTLE),
+        Number("It has {} lines of steps", bound_lines),
+        Number("| {} | `LeavesTrain`", stage("LeavesTrain")),
+        Number("| {} | `BecomesGood`", stage("BecomesGood")),
+        Number("| {} | `Settles`", stage("Settles")),
+        Number("| {} | `SettlesInAll`", stage("SettlesInAll")),
+        Number("| {} | `CatchesUp`", stage("CatchesUp")),
+        Number("| {} | `Arrives`", stage("Arrives")),
+        Number("| {} | `Begins`", stage("Begins")),
+        Number("A request has at most {} rounds before it", WEIGHT),
+        Number("begin and acceptance ({} and 100), shift", BEGIN),
+        Number("its bound is {},", named("examples/bound-two-requests.bound", "bound ")),
+    ),
+    "docs/report.md": (
+        Number("Host 0 has {} requests", DRAWN),
+        Number("with N = {} + 2,000 * (K", TO_SETTLE),
+        Number("with N = 4,000 + {} * (K", SETTLED),
+    ),
+    "docs/retry-example.md": (Number("counters: {} flits were sent", lines(CHANGED, "sent 0 ")),),
+    "docs/schedule.md": (
+        Number("is a schedule of {} steps", steps_of(f"{FIRST}.toml", 83333)),
+    ),
+    "docs/speed.md": (
+        Number("The first workload is {} steps", steps_of(f"{FIRST}.toml", 18000)),
+        Number("steps: {} instructions a step", instructions_a_step),
+        Number("it takes {} times the instructions of", measured("check", "a write and a read")),
+        Number("write and a read, {} for writes", measured("check", "writes of 16 bytes")),
+        Number("and {} for a chain of eight", measured("check", "chain of eight cubes")),
+    ),
+    "docs/through.md": (Number("there are {} sends and", trained),),
+    "docs/tool.md": (Number("Each has {} rounds", named("examples/make-3.report", "counters 0 ")),),
+    "docs/trace.md": (Number("of 1 to {} bytes", named(MEANING, "MOST: usize = ")),),
+    "docs/verilator.md": (Number("with {} requests of", named(BENCH, "COUNT = ")),),
+    "crates/hmc_make/CALLING.md": (
+        Number("{} requests of one host", DRAWN),
+        Number("schedule of {} rounds with noise", NOISY),
+        Number("with noise and {} without", QUIET),
+    ),
+}
+
+
+def put(text: str, number: Number) -> str:
+    """A page with this number in its place, which is there once."""
+    text, count = number.pattern.subn(rf"\g<1>{number.value()}\g<3>", text)
+    assert count == 1, f"{number.words}: found {count} times"
+    return text
+
+
+def page_with(page: str, text: str) -> str:
+    """A page with its numbers as they have to be."""
+    for number in NUMBERS.get(page, ()):
+        text = put(text, number)
+    return text
