@@ -1,6 +1,7 @@
-"""Tests that the lines of reports that a page quotes are lines of these reports."""
+"""Tests that the lines of reports that pages quote are lines of these reports."""
 
 import re
+import subprocess
 import unittest
 from collections.abc import Iterator
 
@@ -28,6 +29,21 @@ class Quoted(unittest.TestCase):
             self.assertEqual(lines[number - 1], line, f"{name}, line {number}")
             count += 1
         self.assertGreater(count, 30)
+
+    def test_the_lines_of_a_packet_that_goes_on(self) -> None:
+        """The block of docs/through.md has lines of its example's report, one after another."""
+        page = (TOP / "docs" / "through.md").read_text(encoding="utf-8")
+        block = page.split("Its report has these lines:\n\n```\n")[1].split("```")[0]
+        report = (EXAMPLES / "through-two-cubes.report").read_text(encoding="utf-8")
+        self.assertGreater(block.count("\n"), 10)
+        self.assertIn(f"\n{block}", report)
+
+    def test_what_the_link_alone_prints(self) -> None:
+        """The block of docs/link.md is what its program prints, which `rt try` builds."""
+        page = (TOP / "docs" / "link.md").read_text(encoding="utf-8")
+        block = page.split("It prints:\n\n```text\n")[1].split("```")[0]
+        ran = subprocess.run([TOP / "bench" / "link-example"], capture_output=True, text=True)
+        self.assertEqual((ran.returncode, ran.stdout), (0, block), ran.stderr)
 
 
 if __name__ == "__main__":
