@@ -41,7 +41,7 @@ crc_of-zero_first bytes = refl
 abbrev pub remainder_from : ℕ → List ℕ → List Bool
 remainder_from register rest = divide divisor (length (bits_of rest)) (plus (bits_below 32 register) (bits_of rest ++ zeros 32))
 
-length-bits_with_zeros : (bytes : List ℕ) → 32 ≤ length (bits_of bytes ++ zeros 32)
+pub length-bits_with_zeros : (bytes : List ℕ) → 32 ≤ length (bits_of bytes ++ zeros 32)
 length-bits_with_zeros bytes = omega (arith, length-append (bits_of bytes) (zeros 32), length-zeros 32)
 
 bits_below-zero : bits_below 32 0 ≡ zeros 32

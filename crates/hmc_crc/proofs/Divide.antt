@@ -1,9 +1,9 @@
 -- Long division: what its steps leave alone, and how they come one after another.
-use Rattle.std.proofs.Common.{◌≡◌, ℕ, zero, suc, ◌+◌, ◌<◌, ◌≤◌, Bool, true, false, List, [], ◌∷◌, ◌++◌, length, refl, sym, ◌∙◌, arith, append_assoc, length-append}
+use Rattle.std.proofs.Common.{◌≡◌, ℕ, zero, suc, ◌+◌, ◌<◌, ◌≤◌, Bool, true, false, List, [], ◌∷◌, ◌++◌, length, refl, sym, ap, ◌∙◌, arith, append_assoc, length-append}
 use Rattle.std.proofs.lemmas.List.{append-nil}
 use mathlib.Core.Bool.{xor}
 use Rattle.hmc_crc.specs.Remainder.{plus, zeros, divide}
-use Rattle.hmc_crc.proofs.Plus.{plus_comm, plus_assoc, length-plus, plus-append, plus-append_zeros, plus-zeros_append}
+use Rattle.hmc_crc.proofs.Plus.{plus_comm, plus_assoc, plus-twice, length-plus, plus-append, plus-append_zeros, plus-zeros_append}
 
 pub divide-add : (by : List Bool) (m n : ℕ) (bits : List Bool) → divide by (m + n) bits ≡ divide by n (divide by m bits)
 unfolding divide
@@ -66,6 +66,32 @@ divide-plus by (suc n) (true ∷ xs) ys same long =
       ← plus_assoc by (xs ++ false ∷ []) (zeros n ++ ys),
     )
     (divide-plus by n (plus by (xs ++ false ∷ [])) ys added long)
+
+-- what sums leave is the sum of what is left
+pub divide-sum : (by : List Bool) (n : ℕ) (xs ys : List Bool) → length xs ≡ length ys → n + length by ≤ length xs →
+    divide by n (plus xs ys) ≡ plus (divide by n xs) (divide by n ys)
+unfolding divide plus xor
+divide-sum by zero xs ys same long = refl
+divide-sum by (suc n) [] ys same long = absurd (omega arith)
+divide-sum by (suc n) (x ∷ xs) [] same long = absurd (omega arith)
+divide-sum by (suc n) (false ∷ xs) (false ∷ ys) same long = divide-sum by n xs ys (omega arith) (omega arith)
+divide-sum by (suc n) (false ∷ xs) (true ∷ ys) same long =
+    let added : length (plus by ys) ≡ length ys = length-plus by ys (omega arith) in
+    ap (divide by n) (sym (plus_assoc by xs ys) ∙ ap (λ (bits : List Bool). plus bits ys) (plus_comm by xs) ∙ plus_assoc xs by ys)
+    ∙ divide-sum by n xs (plus by ys) (omega (arith, added)) (omega arith)
+divide-sum by (suc n) (true ∷ xs) (false ∷ ys) same long =
+    let added : length (plus by xs) ≡ length xs = length-plus by xs (omega arith) in
+    ap (divide by n) (sym (plus_assoc by xs ys))
+    ∙ divide-sum by n (plus by xs) ys (omega (arith, added)) (omega (arith, added))
+divide-sum by (suc n) (true ∷ xs) (true ∷ ys) same long =
+    let added : length (plus by xs) ≡ length xs = length-plus by xs (omega arith) in
+    let also : length (plus by ys) ≡ length ys = length-plus by ys (omega arith) in
+    let cancelled : plus (plus by xs) (plus by ys) ≡ plus xs ys =
+    ap (λ (bits : List Bool). plus bits (plus by ys)) (plus_comm by xs)
+    ∙ plus_assoc xs by (plus by ys)
+    ∙ ap (plus xs) (plus-twice by ys (omega arith)) in
+    ap (divide by n) (sym cancelled)
+    ∙ divide-sum by n (plus by xs) (plus by ys) (omega (arith, added, also)) (omega (arith, added))
 
 -- A register as long as the divisor takes the next coefficients in front, and is divided by so many steps.
 pub divide-front : (by xs front ys : List Bool) (n : ℕ) →

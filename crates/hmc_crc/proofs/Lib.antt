@@ -4,5 +4,6 @@ pub mod Bits
 mod Register
 pub mod Check
 mod TableLemmas
+mod WordLemmas
 mod Update
 mod Worked

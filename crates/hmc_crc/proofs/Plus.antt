@@ -26,6 +26,13 @@ unfolding xor
 xor-false false = refl
 xor-false true = refl
 
+xor-twice : (a b : Bool) → xor a (xor a b) ≡ b
+unfolding xor
+xor-twice false false = refl
+xor-twice false true = refl
+xor-twice true false = refl
+xor-twice true true = refl
+
 pub plus-nil : (xs : List Bool) → plus xs [] ≡ xs
 unfolding plus
 plus-nil [] = refl
@@ -80,3 +87,10 @@ pub plus-zeros_append : (xs ys : List Bool) → plus xs (zeros (length xs) ++ ys
 unfolding plus zeros
 plus-zeros_append [] ys = refl
 plus-zeros_append (x ∷ xs) ys = rw (xor-false x, plus-zeros_append xs ys)
+
+-- what is added twice is gone
+pub plus-twice : (xs ys : List Bool) → length xs ≤ length ys → plus xs (plus xs ys) ≡ ys
+unfolding plus
+plus-twice [] ys h = refl
+plus-twice (x ∷ xs) [] h = absurd (omega arith)
+plus-twice (x ∷ xs) (y ∷ ys) h = rw (xor-twice x y, plus-twice xs ys (omega arith)) refl

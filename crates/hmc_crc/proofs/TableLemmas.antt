@@ -1,5 +1,5 @@
 -- The table: each entry is what eight steps leave of its byte, and so eight steps of a register are one entry and a shift.
-use Rattle.std.proofs.Common.{◌≡◌, ℕ, zero, suc, ◌+◌, ◌*◌, ◌/◌, ◌%◌, ◌^◌, ◌==◌, ◌<◌, Bool, List, [], ◌∷◌, ◌++◌, length, map, get_or, slice_index, refl, sym, ap, ap₂, ◌∙◌, arith, append_assoc, length-append}
+use Rattle.std.proofs.Common.{◌≡◌, ℕ, zero, suc, ◌+◌, ◌*◌, ◌/◌, ◌%◌, ◌^◌, ◌==◌, ◌<◌, ◌≤◌, Bool, List, [], ◌∷◌, ◌++◌, length, map, get_or, slice_index, refl, sym, ap, ap₂, ◌∙◌, arith, append_assoc, length-append}
 use Rattle.std.specs.List.{range_with_len}
 use Rattle.std.specs.Int.Bits.{bit_xor}
 use Rattle.std.proofs.lemmas.List.{get_or-map}
@@ -10,13 +10,19 @@ use Rattle.hmc_crc.specs.declared.table.TheConstants.{REMAINDERS}
 use Rattle.hmc_crc.specs.Bits.{bits_below}
 use Rattle.hmc_crc.specs.Remainder.{coefficients, plus, divide, divisor, zeros}
 use Rattle.hmc_crc.proofs.Plus.{plus_comm, plus-append, plus-append_zeros, plus-zeros_append, length-zeros}
-use Rattle.hmc_crc.proofs.Divide.{divide-plus}
+use Rattle.hmc_crc.proofs.Divide.{divide-plus, length-divide}
 use Rattle.hmc_crc.proofs.Bits.{length-bits_below, bits_below-xor, bits_below-mod, bits_below-shifted}
 use Rattle.hmc_crc.proofs.Check.{length-divisor}
 
 -- what eight steps leave of a byte
 abbrev pub steps_of_byte : ℕ → List Bool
 steps_of_byte byte = divide divisor 8 (bits_below 8 byte ++ zeros 32)
+
+pub length-steps_of_byte : (byte : ℕ) → length (steps_of_byte byte) ≡ 32
+length-steps_of_byte byte =
+    let bits : List Bool = bits_below 8 byte ++ zeros 32 in
+    let long : length bits ≡ 40 = length-append (bits_below 8 byte) (zeros 32) ∙ omega (arith, length-bits_below 8 byte, length-zeros 32) in
+    omega (arith, long, length-divide divisor 8 bits (omega (arith, long, length-divisor)))
 
 -- every entry, computed
 table_is_right : map (bits_below 32) REMAINDERS ≡ map steps_of_byte (range_with_len 0 256)
@@ -30,7 +36,7 @@ entry_is_right byte small =
     ∙ get_or-map-range_with_len steps_of_byte 0 256 byte byte [] small (omega arith)
 
 -- a number's highest bits, and the others
-bits_below-split : (high low n : ℕ) → bits_below (high + low) n ≡ bits_below high (n / 2 ^ low) ++ bits_below low n
+pub bits_below-split : (high low n : ℕ) → bits_below (high + low) n ≡ bits_below high (n / 2 ^ low) ++ bits_below low n
 unfolding bits_below
 bits_below-split zero low n = let e : zero + low ≡ low = omega arith in rw e refl
 bits_below-split (suc high) low n =
@@ -53,7 +59,7 @@ unfolding zeros
 more_zeros bits = append_assoc bits (zeros 24) (zeros 8)
 
 -- eight steps of a byte with more bits after it
-steps_with_more : (byte : ℕ) (more : List Bool) → length more ≡ 32 → divide divisor 8 (bits_below 8 byte ++ more) ≡ plus (steps_of_byte byte) more
+pub steps_with_more : (byte : ℕ) (more : List Bool) → 32 ≤ length more → divide divisor 8 (bits_below 8 byte ++ more) ≡ plus (steps_of_byte byte) more
 steps_with_more byte more long =
     let eight : length (bits_below 8 byte) ≡ 8 = length-bits_below 8 byte in
     let sized : length (bits_below 8 byte ++ zeros 24) ≡ length divisor = length-append (bits_below 8 byte) (zeros 24) ∙ omega (arith, eight, length-zeros 24, length-divisor) in
@@ -76,7 +82,7 @@ eight_steps_at_once register byte highest entry is small looked_up =
     bits_below-xor 32 (register * 256 % 4294967296) entry
     ∙ ap₂ plus (moved_up register) (ap (bits_below 32) looked_up ∙ entry_is_right highest small)
     ∙ plus_comm more (steps_of_byte highest)
-    ∙ sym (steps_with_more highest more long)
+    ∙ sym (steps_with_more highest more (omega (arith, long)))
     ∙ ap (λ (n : ℕ). divide divisor 8 (bits_below 8 n ++ more)) is
     ∙ ap (divide divisor 8) (sym (append_assoc (bits_below 8 (bit_xor (register / 2 ^ 24) byte)) (bits_below 24 register) (zeros 8)))
     ∙ ap (λ (bits : List Bool). divide divisor 8 (bits ++ zeros 8)) (sym (met register byte))

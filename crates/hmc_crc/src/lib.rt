@@ -13,6 +13,7 @@
 
 mod remainder;
 mod table;
+mod word;
 
 pub use remainder::{POLYNOMIAL, check_is_a_word, crc};
 pub use table::{crc_fast, crc_update};

@@ -1,8 +1,10 @@
-//! The division, a byte at a time, by a table of the remainders of all bytes.
+//! The division, by tables of the remainders of all bytes.
 
 ghost use Rattle.std.specs.Prelude.{◌≡◌, ℕ, List, ◌++◌, slice_index};
 ghost use Rattle.hmc_crc.specs.Bits.{bits_below};
 ghost use Rattle.hmc_crc.specs.Remainder.{plus, divide, divisor, zeros, crc_of, crc_update};
+
+use crate::word::{with_word, word_at};
 
 /// The remainder of each byte, by its number.
 const REMAINDERS: [u32; 256] = [
@@ -264,14 +266,14 @@ const REMAINDERS: [u32; 256] = [
     0x4E34_4A03,
 ];
 
-/// The check of `bytes`, by the table: the same value as that of [`crc`](crate::crc).
+/// The check of `bytes`, by tables: the same value as that of [`crc`](crate::crc).
 pub fn crc_fast(bytes: &[u8]) -> u32
     ensures { result ≡ crc_of bytes.now }
 {
     crc_update(0, bytes)
 }
 
-/// The check of some bytes and of `more` after them, given the check of those before, by the table.
+/// The check of some bytes and of `more` after them, given the check of those before, by tables.
 ///
 /// The check of no bytes is 0. So bytes that come in pieces are read once, with no buffer.
 pub fn crc_update(check: u32, more: &[u8]) -> u32
@@ -280,7 +282,20 @@ pub fn crc_update(check: u32, more: &[u8]) -> u32
         result ≡ crc_of (before ++ more.now) }
 {
     let mut register = check;
-    for byte in more {
+    let mut at = 0;
+    'words: while more.len() - at >= 4 {
+        register = with_word(register, word_at(more, at));
+        at += 4;
+    }
+    with_bytes(register, &more[at..])
+}
+
+// The check after the bytes that are too few for a word.
+fn with_bytes(start: u32, bytes: &[u8]) -> u32
+    ensures { result ≡ crc_update start bytes.now }
+{
+    let mut register = start;
+    for byte in bytes {
         register = with_byte(register, *byte);
     }
     register
@@ -296,8 +311,8 @@ fn with_byte(register: u32, byte: u8) -> u32
     (register << 8) ^ remainder_of(highest)
 }
 
-// The remainder of one byte.
-fn remainder_of(byte: u8) -> u32
+/// The remainder of one byte.
+pub(crate) fn remainder_of(byte: u8) -> u32
     ensures { result ≡ slice_index REMAINDERS byte }
 {
     REMAINDERS[usize::from(byte)]

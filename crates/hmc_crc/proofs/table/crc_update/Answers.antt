@@ -1,31 +1,34 @@
--- Each byte comes in at the register's front, and after the last one the register is the check.
-use Rattle.std.proofs.Common.{◌≡◌, ◌+◌, List, ℕ, [], ◌∷◌, drop, get_or, refl, sym, ap, ◌∙◌, arith}
-use Rattle.std.proofs.lemmas.List.{drop_more, drop_all}
+-- Each word comes in at the register's front, and after the last one the bytes that are left.
+use Rattle.std.proofs.Common.{◌≡◌, ◌+◌, ◌≤◌, List, ℕ, drop, get_or, length, refl, sym, ap, ◌∙◌, arith}
+use Rattle.std.proofs.lemmas.List.{take_rest}
 use Rattle.hmc_crc.specs.Remainder.{crc_update}
-use Rattle.hmc_crc.proofs.Check.{remainder_from, remainder_from-more, remainder_from-last}
+use Rattle.hmc_crc.specs.Bits.{number_of}
 use Rattle.hmc_crc.proofs.Update.{crc_update-is, crc_update-joined}
+use Rattle.hmc_crc.proofs.WordLemmas.{drop_four, remainder_from-word}
 use Rattle.hmc_crc.proofs.table.crc_update.Goals as goal
 
-pub loop-byte-init : goal.loop-byte-init
-loop-byte-init c = record { fits = omega arith; whole = refl }
+pub words-init : goal.words-init
+words-init c = record { within = omega arith; fits = omega arith; remains = refl }
 
-pub loop-byte-preserved : goal.loop-byte-preserved
-loop-byte-preserved c =
+pub words-preserved : goal.words-preserved
+words-preserved c =
     let bytes : List ℕ = c.args.more.now in
-    let i : ℕ = c.loop-byte.byte-index in
-    let byte : ℕ = get_or bytes i 0 in
-    let rest : List ℕ = drop (i + 1) bytes in
-    let front : drop i bytes ≡ byte ∷ rest = drop_more bytes i 0 c.loop-byte-test.true in
+    let i : ℕ = c.words.at in
+    let room : i + 4 ≤ length bytes = omega (arith, c.words-test.true, c.words.invariant.within) in
     record {
-      fits = c.with_byte-register.type_inv;
-      whole = remainder_from-more c.loop-byte.register byte c.with_byte-register.result rest c.with_byte-register.ensures
-          ∙ (rw front at c.loop-byte.invariant.whole);
+      within = room;
+      fits = c.with_word-register.type_inv;
+      remains = remainder_from-word c.words.register (get_or bytes i 0) (get_or bytes (i + 1) 0) (get_or bytes (i + 2) 0) (get_or bytes (i + 3) 0)
+          c.word_at.result c.with_word-register.result (drop (i + 4) bytes) c.word_at.ensures c.with_word-register.ensures
+          ∙ (rw (drop_four bytes i room) at c.words.invariant.remains);
     }
 
-exact : (c : goal.After-loop-byte) → c.loop-byte.register ≡ crc_update c.args.check c.args.more.now
+exact : (c : goal.After-with_bytes) → c.with_bytes.result ≡ crc_update c.args.check c.args.more.now
 exact c =
-    let none : drop c.loop-byte.byte-index c.args.more.now ≡ [] = drop_all c.loop-byte.byte-index c.args.more.now c.loop-byte-test.false in
-    remainder_from-last c.loop-byte.register (remainder_from c.args.check c.args.more.now) c.loop-byte.invariant.fits (rw none at c.loop-byte.invariant.whole)
+    c.with_bytes.ensures
+    ∙ ap (crc_update c.words.register) (take_rest c.args.more.now c.words.at)
+    ∙ crc_update-is c.words.register (drop c.words.at c.args.more.now)
+    ∙ ap number_of c.words.invariant.remains
     ∙ sym (crc_update-is c.args.check c.args.more.now)
 
 pub returns-clause-exact : goal.returns-clause-exact

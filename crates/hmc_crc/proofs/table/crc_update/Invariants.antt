@@ -1,11 +1,15 @@
 -- Dividing what is still to come, with the register added onto its front, gives what the first
 -- register and all of the bytes give.
-use Rattle.std.proofs.Common.{◌≡◌, ◌^◌, ◌<◌, drop}
+use Rattle.std.proofs.Common.{◌≡◌, ◌-◌, ◌^◌, ◌<◌, ◌≤◌, drop, length}
 use Rattle.hmc_crc.proofs.Check.{remainder_from}
 use Rattle.hmc_crc.proofs.table.crc_update.Given as goal
 
-abbrev pub invariant-loop-byte : goal.invariant-loop-byte
-invariant-loop-byte l = record {
+abbrev pub invariant-words : goal.invariant-words
+invariant-words l = record {
+  within : l.at ≤ length l.more;
   fits : l.register < 2 ^ 32;
-  whole : remainder_from l.register (drop l.byte-index l.more) ≡ remainder_from l.check l.more;
+  remains : remainder_from l.register (drop l.at l.more) ≡ remainder_from l.check l.more;
 }
+
+abbrev pub decreases-words : goal.decreases-words
+decreases-words l = length l.more - l.at
