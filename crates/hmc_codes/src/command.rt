@@ -101,6 +101,7 @@ impl Command {
     }
 
     /// The code in a packet's header, 0 to 120.
+    #[inline(always)]
     pub fn code(self) -> u8
         ensures { result ≡ code_of self }
     {
@@ -115,6 +116,7 @@ impl Command {
     }
 
     /// The fields of a packet with this command.
+    #[inline(always)]
     pub fn layout(self) -> Layout
         ensures { result ≡ layout_of self }
     {
@@ -134,6 +136,7 @@ impl Command {
 
     /// The command of the response to a request. `None` if the request is posted, or the command is
     /// not that of a request.
+    #[inline(always)]
     pub fn reply(self) -> Option<Self>
         ensures { result ≡ reply_of self }
     {

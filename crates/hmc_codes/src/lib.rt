@@ -50,7 +50,7 @@ pub use memory::Memory;
 pub use payload::Payload;
 pub use pieces::{
     Gathered, Line, LineText, append_bytes, append_decimal, append_hex_number, append_sixteen,
-    append_spaced,
+    append_spaced, spaced_digit,
 };
 pub use place::{Join, Place};
 pub use profile::Profile;

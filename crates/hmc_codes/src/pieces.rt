@@ -110,8 +110,9 @@ pub fn append_decimal<const N: usize>(into: &mut ArrayString<N>, number: u64)
     into.push_str(decimal_digits(number).as_str());
 }
 
-// A space and a digit.
-fn spaced_digit(digit: u64) -> &'static str
+/// A space and a digit, from 0 to 9.
+#[inline(always)]
+pub fn spaced_digit(digit: u64) -> &'static str
     requires { digit < 10 }
     ensures { result.now ≡ 32 ∷ digit_glyph false digit ∷ [] }
 {

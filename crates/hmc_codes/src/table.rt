@@ -179,6 +179,7 @@ pub fn with_code(code: u8) -> Option<Command>
 
 /// The code in a packet's header.
 #[tactic(auto, unfolding(crate::specs::Table::table_line))]
+#[inline(always)]
 pub fn code(command: Command) -> u8
     ensures { result ≡ code_of command }
 {
@@ -195,6 +196,7 @@ pub fn word(command: Command) -> &'static str
 
 /// The fields of a packet.
 #[tactic(auto, unfolding(crate::specs::Table::table_line))]
+#[inline(always)]
 pub fn layout(command: Command) -> Layout
     ensures { result ≡ layout_of command }
 {
@@ -211,6 +213,7 @@ pub fn length(command: Command) -> Length
 
 /// The command of the response.
 #[tactic(auto, unfolding(crate::specs::Table::table_line))]
+#[inline(always)]
 pub fn reply(command: Command) -> Option<Command>
     ensures { result ≡ reply_of command }
 {

@@ -11,7 +11,7 @@ use crate::{Cause, Entry, Goal};
 use arrayvec::ArrayString;
 use hmc_codes::{
     Answer, Flit, Lift, LineText, Memory, Request, Unit, append_decimal, append_sixteen,
-    append_spaced,
+    append_spaced, spaced_digit,
 };
 use hmc_packet::{Bad, Kind, Outcome, What, is_null};
 use hmc_schedule::Step;
@@ -333,26 +333,6 @@ fn push_idle_pair<const N: usize>(
     push_idle_end(into, second, cause);
 }
 
-// A space and a digit.
-#[inline(always)]
-fn digit_word(digit: u8) -> &'static str
-    requires { digit < 10 }
-    ensures { result.now ≡ 32 ∷ digit_glyph false digit ∷ [] }
-{
-    match digit {
-        0 => " 0",
-        1 => " 1",
-        2 => " 2",
-        3 => " 3",
-        4 => " 4",
-        5 => " 5",
-        6 => " 6",
-        7 => " 7",
-        8 => " 8",
-        _ => " 9",
-    }
-}
-
 // A space and a number. Most numbers have one digit: others stand out of line.
 #[tactic(auto, using(hmc_codes::proofs::Digits::decimal_last))]
 #[inline(always)]
@@ -362,7 +342,7 @@ fn push_number<const N: usize>(into: &mut ArrayString<N>, number: u8)
     ensures few { length into.new.bytes ≤ length into.old.bytes + 21 }
 {
     if number < 10 {
-        into.push_str(digit_word(number));
+        into.push_str(spaced_digit(u64::from(number)));
     } else {
         push_long_number(into, number);
     }
