@@ -1,5 +1,5 @@
 -- Steps of the plan are known, and no entry is of no kind.
-use Rattle.std.proofs.Common.{◌≡◌, ◌∙◌, ◌<◌, ◌++◌, ◌&&◌, ◌||◌, if◌then◌else◌, ℕ, Bool, true, false, not, nat_lt, List, [], ◌∷◌, length, Option, Some, None, refl, sym, ap, ap₂, subst, arith}
+use Rattle.std.proofs.Common.{◌≡◌, ◌∙◌, ◌<◌, ◌++◌, ◌&&◌, if◌then◌else◌, ℕ, Bool, true, false, not, nat_lt, List, [], ◌∷◌, Option, Some, None, refl, sym, ap, subst, arith}
 use Rattle.std.specs.List.{All}
 use Rattle.std.proofs.lemmas.Bool.Decides.{nat_tests}
 use Rattle.std.proofs.lemmas.List.Elements.{All-head, All-tail}
@@ -8,17 +8,19 @@ use Rattle.hmc_codes.specs.declared.lift.Lift.TheVariants as lifts
 use Rattle.hmc_schedule.specs.Plan.{PlanFields, IsStepOf, IsPortOf, IsVaultOf, IsLiftOf}
 use Rattle.hmc_schedule.specs.declared.step.Step.{Step}
 use Rattle.hmc_schedule.specs.declared.step.Step.TheVariants as steps
+use Rattle.hmc_entries.specs.Event.{event_of}
 use Rattle.hmc_entries.specs.declared.entry.Entry.{Entry}
+use Rattle.hmc_entries.specs.declared.event.Event.{Event}
 use Rattle.hmc_entries.specs.declared.entry.Entry.TheVariants as entries
 use Rattle.hmc_entries.specs.declared.outcome.Cause.{Cause}
 use Rattle.hmc_journal.specs.Setup.{Setup}
 use Rattle.hmc_net.specs.Went.{went_of}
 use Rattle.hmc_net.specs.declared.went.Went.{Went}
 use Rattle.hmc_net.specs.declared.went.Went.TheVariants.{Idle}
-use Rattle.hmc_session.specs.Refusals.{has_cube, has_port, has_vault, has_lift, has_step, step_refusal}
+use Rattle.hmc_session.specs.Refusals.{has_port, has_vault, has_lift, has_step, step_refusal}
 use Rattle.hmc_session.specs.Running.{StopsOnce, RunsTo}
 use Rattle.hmc_session.specs.Session.{SessionFields}
-use Rattle.hmc_session.specs.Stops.{is_stop, no_stops}
+use Rattle.hmc_session.specs.Stops.{event_stop, is_stop, no_stops}
 use Rattle.hmc_session.specs.declared.refusal.NotTaken.TheVariants.{Unknown, Over, Waits}
 use Rattle.hmc_session.specs.declared.run.Ran.TheVariants.{Stopped}
 use Rattle.hmc_session.specs.declared.run.Ran.TheVariants as rans
@@ -123,3 +125,24 @@ idle_stop stops went cause (entries.Through cube port direction) idle is = absur
 idle_stop stops went cause (entries.Unlocked direction) idle is = absurd (cc (idle, is))
 idle_stop stops went cause (entries.Retired slot) idle is = absurd (cc (idle, is))
 idle_stop stops went cause (entries.Passed direction flit) idle is = absurd (cc (idle, is))
+
+-- what an entry is counted as tells of a kind
+tells : (stops : Stops) (entry : Entry) (told : Bool) → event_stop stops (event_of entry) ≡ Some told → told ≡ is_stop stops entry
+tells stops (entries.Gave host tag poisoned request) told is = cc is
+tells stops (entries.Sent direction what flit) told is = cc is
+tells stops (entries.Landed direction flit outcome) told is = cc is
+tells stops (entries.Shifted cube port goal) told is = absurd (cc is)
+tells stops (entries.Dropped cube port) told is = cc is
+tells stops (entries.Spread cube vault bank) told is = absurd (cc is)
+tells stops (entries.Executed unit host tag request answer) told is = cc is
+tells stops (entries.Lifted cube from port) told is = absurd (cc is)
+tells stops (entries.Took host tag answer) told is = cc is
+tells stops (entries.Discarded host) told is = absurd (cc is)
+tells stops (entries.Through cube port direction) told is = absurd (cc is)
+tells stops (entries.Unlocked direction) told is = cc is
+tells stops (entries.Retired slot) told is = absurd (cc is)
+tells stops (entries.Passed direction flit) told is = absurd (cc is)
+tells stops (entries.Idle step cause) told is = absurd (cc is)
+
+pub told_stop : (stops : Stops) (found : Option Bool) (told : Bool) (event : Event) (entry : Entry) → found ≡ Some told → found ≡ event_stop stops event → event ≡ event_of entry → told ≡ is_stop stops entry
+told_stop stops found told event entry is of_event of_entry = tells stops entry told (ap (event_stop stops) (sym of_entry) ∙ sym of_event ∙ is)

@@ -12,7 +12,7 @@ use Rattle.hmc_net.specs.Went.{went_of}
 use Rattle.hmc_net.specs.declared.went.Went.{Went}
 use Rattle.hmc_session.specs.Ahead.{StepsBy, IsWithoutStep}
 use Rattle.hmc_session.specs.Refusals.{step_refusal}
-use Rattle.hmc_session.specs.Running.{with_steps, TakenOrWaiting, StopsOnce, RunsOn, RefusedAfter, RunsBy, TriesBy, stopped_at}
+use Rattle.hmc_session.specs.Running.{with_steps, TakenOrWaiting, StopsOnce, EndsTaken, RunsOn, RefusedAfter, RunsBy, TriesBy, stopped_at}
 use Rattle.hmc_session.specs.Session.{SessionFields, StandsIn, IsWaiting}
 use Rattle.hmc_session.specs.Stops.{is_stop}
 use Rattle.hmc_session.specs.declared.refusal.NotTaken.{NotTaken}
@@ -66,6 +66,9 @@ no_step before now (step ∷ rest) left result is none by setup past stands =
 
 -- ---- so many steps
 
+unstopped : false ≡ true → ⊥
+unstopped is = cc
+
 no_more : (setup : Setup) → with_steps setup [] ≡ setup
 no_more setup = ap {B = Setup} (λ (l : List Step). record { topology = setup.topology; slots = setup.slots; script = setup.script; schedule = l }) (append-nil setup.schedule)
 
@@ -80,6 +83,7 @@ runs_none S finished setup past laid left stops stands same = record {
   each = refl;
   stands = subst (λ (t : Setup). S t past) (sym (no_more setup)) stands;
   once = All-nil (λ entry. is_stop stops entry ≡ false);
+  ends = λ is. absurd (unstopped is);
 }
 
 pub runs_wait : (S : Setup → List Entry → Type 0) (finished : List Bool) (setup : Setup) (past : List Entry) (laid left : List Step) (stops : Stops) (step : Step) → S setup past → laid ≡ step ∷ left → IsWaiting finished setup past step → RunsOn S finished setup past laid left stops 1 false
@@ -93,6 +97,7 @@ runs_wait S finished setup past laid left stops step stands same waiting = recor
   each = (waiting, refl);
   stands = subst (λ (t : Setup). S t past) (sym (no_more setup)) stands;
   once = All-nil (λ entry. is_stop stops entry ≡ false);
+  ends = λ is. absurd (unstopped is);
 }
 
 stops_one : (stopped : Bool) (stops : Stops) (entry : Entry) → is_stop stops entry ≡ stopped → StopsOnce stopped stops (entry ∷ [])
@@ -112,6 +117,16 @@ runs_step S finished setup past laid left stops step stopped stands same stop = 
   each = inl (refl, refl);
   stands = stands;
   once = stops_one stopped stops (next setup past step) stop;
+  ends = λ is. record {
+    before = [];
+    some = [];
+    last = step;
+    earlier = past;
+    tried_is = refl;
+    taken_is = refl;
+    journal_is = ap (λ (t : Setup). next t past step ∷ past) (sym (no_more setup));
+    each = refl;
+  };
 }
 
 by_stop : (S : Setup → List Entry → Type 0) (ran : Option Ran) (now : SessionFields) (setup : Setup) (past : List Entry) (laid left : List Step) (stops : Stops) (step : Step) (stopped : Bool) → S (with_step setup step) (next setup past step ∷ past) → laid ≡ step ∷ left
@@ -171,6 +186,19 @@ once_append false stops later earlier is none = All-append (λ entry. is_stop st
 once_append true stops [] earlier is none = absurd is
 once_append true stops (entry ∷ later) earlier is none = (is.0, All-append (λ entry. is_stop stops entry ≡ false) later earlier is.1 none)
 
+ends_append : (finished : List Bool) (setup : Setup) (past : List Entry) (tried taken : List Step) (some : List Entry) (tried' taken' : List Step) (more : List Entry) → TakenOrWaiting finished setup past tried taken (some ++ past)
+    → EndsTaken finished (with_steps setup taken) (some ++ past) tried' taken' (more ++ (some ++ past)) → EndsTaken finished setup past (tried ++ tried') (taken ++ taken') ((more ++ some) ++ past)
+ends_append finished setup past tried taken some tried' taken' more each e = record {
+  before = tried ++ e.before;
+  some = taken ++ e.some;
+  last = e.last;
+  earlier = e.earlier;
+  tried_is = ap (λ (l : List Step). tried ++ l) e.tried_is ∙ sym (append_assoc tried e.before (e.last ∷ []));
+  taken_is = ap (λ (l : List Step). taken ++ l) e.taken_is ∙ sym (append_assoc taken e.some (e.last ∷ []));
+  journal_is = append_assoc more some past ∙ e.journal_is ∙ ap (λ (t : Setup). next t e.earlier e.last ∷ e.earlier) (with_both setup taken e.some);
+  each = each_append finished setup past (some ++ past) e.earlier tried taken e.before e.some each e.each;
+}
+
 -- steps that follow others
 pub run_on : (T S : Setup → List Entry → Type 0) (finished : List Bool) (setup : Setup) (past : List Entry) (laid left left' : List Step) (stops : Stops) (n m : ℕ) (stopped : Bool) (a : RunsOn T finished setup past laid left stops n false)
     → RunsOn S finished (with_steps setup a.taken) (a.entries ++ past) left left' stops m stopped → RunsOn S finished setup past laid left' stops (n + m) stopped
@@ -187,6 +215,7 @@ run_on T S finished setup past laid left left' stops n m stopped a b = record {
       subst (λ (t : Setup). S t ((b.entries ++ a.entries) ++ past)) (with_both setup a.taken b.taken)
       (subst (λ (l : List Entry). S (with_steps (with_steps setup a.taken) b.taken) l) (sym (append_assoc b.entries a.entries past)) b.stands);
   once = once_append stopped stops b.entries a.entries b.once a.once;
+  ends = λ is. ends_append finished setup past a.tried a.taken a.entries b.tried b.taken b.entries a.each (b.ends is);
 }
 
 -- the same, where nobody was finished meanwhile

@@ -1,9 +1,11 @@
 -- Texts that are asked, laid steps, runs and chosen kinds, computed.
-use Rattle.std.proofs.Common.{◌≡◌, ◌∙◌, ℕ, List, [], ◌∷◌, ◌++◌, Some, None, Ok, Err, true, false, inl, inr, refl, ap}
+use Rattle.std.proofs.Common.{◌≡◌, ◌∙◌, ◌<◌, ◌+◌, ℕ, List, [], ◌∷◌, ◌++◌, length, length-append, Option, Some, None, Ok, Err, true, false, inl, inr, refl, sym, ap, subst, arith}
 use Rattle.std.specs.Prelude.{codes, map, slice_index_or}
+use Rattle.std.proofs.lemmas.List.{append-nil}
 use Rattle.hmc_codes.specs.Codes.{all_commands}
 use Rattle.hmc_codes.specs.Table.{table_line}
 use Rattle.hmc_codes.specs.declared.command.Command.TheVariants as commands
+use Rattle.hmc_codes.specs.declared.lift.Lift.TheVariants as lifts
 use Rattle.hmc_text.specs.InTurn.{after_lines}
 use Rattle.hmc_text.specs.Lines.{lines_of}
 use Rattle.hmc_text.specs.Number.{number_after, number_in, number_of}
@@ -15,18 +17,23 @@ use Rattle.hmc_script.specs.Meaning.{command_word, request_of, ask_of, fence_of,
 use Rattle.hmc_script.specs.Payload.{payload_of, no_payload, some_payload, payload_word}
 use Rattle.hmc_script.specs.Script.{after_meaning, after_line, script_of}
 use Rattle.hmc_schedule.specs.Plan.{PlanFields}
+use Rattle.hmc_schedule.specs.declared.step.Step.{Step}
 use Rattle.hmc_schedule.specs.declared.step.Step.TheVariants as steps
 use Rattle.hmc_entries.specs.declared.entry.Entry.{Entry}
 use Rattle.hmc_entries.specs.declared.entry.Entry.TheVariants.{Discarded, Unlocked, Idle}
+use Rattle.hmc_entries.specs.declared.event.Event.TheVariants as events
 use Rattle.hmc_entries.specs.declared.outcome.Cause.TheVariants.{Empty}
 use Rattle.hmc_journal.specs.Setup.{Setup}
 use Rattle.hmc_session.specs.Asking.{item_in, told_of}
-use Rattle.hmc_session.specs.Running.{TakenOrWaiting, StopsOnce, stopped_at}
-use Rattle.hmc_session.specs.Session.{IsWaiting}
-use Rattle.hmc_session.specs.Stops.{is_stop}
+use Rattle.hmc_session.specs.Numbers.{step_named}
+use Rattle.hmc_session.specs.Refusals.{has_step, step_refusal}
+use Rattle.hmc_session.specs.Running.{TakenOrWaiting, StopsOnce, EndsTaken, RunsOn, RunsBy, stopped_at}
+use Rattle.hmc_session.specs.Session.{SessionFields, IsWaiting}
+use Rattle.hmc_session.specs.Stops.{event_stop, is_stop}
 use Rattle.hmc_session.specs.declared.refusal.LineNotAsked.TheVariants.{Fault, NotOne, Refused}
 use Rattle.hmc_session.specs.declared.refusal.NotAsked.TheVariants as causes
-use Rattle.hmc_session.specs.declared.run.Ran.TheVariants.{Stopped}
+use Rattle.hmc_session.specs.declared.refusal.NotTaken.TheVariants as refusals
+use Rattle.hmc_session.specs.declared.run.Ran.TheVariants.{Ended, Over, Stopped}
 use Rattle.hmc_session.specs.declared.stops.Stops.{Stops}
 
 -- ---- texts: two hosts and one cube
@@ -57,6 +64,28 @@ item_in-fault = refl
 -- out of memory says nothing of the text
 told_of-refusals : map told_of (Refused causes.Memory ∷ Refused causes.Full ∷ NotOne ∷ []) ≡ None ∷ Some (Refused causes.Full) ∷ Some NotOne ∷ []
 told_of-refusals = refl
+
+-- ---- steps by numbers, and the parts that they name
+
+-- in place of a vault 255 are the registers; there are twelve kinds
+step_named-registers : step_named 7 2 255 9 [] ≡ Some (steps.Lift 2 lifts.Registers)
+unfolding step_named
+step_named-registers = refl
+
+step_named-vault : step_named 7 2 254 9 [] ≡ Some (steps.Lift 2 (lifts.Vault 254))
+unfolding step_named
+step_named-vault = refl
+
+step_named-none : step_named 12 0 0 0 [] ≡ None
+unfolding step_named
+step_named-none = refl
+
+-- the last host, bank and slot, and one more each; a port that no link joins
+has_step-last : map (has_step plan) (steps.Give 1 ∷ steps.Bank 0 0 0 ∷ steps.Retire 7 ∷ steps.Lift 0 lifts.Registers ∷ []) ≡ true ∷ true ∷ true ∷ true ∷ []
+has_step-last = refl
+
+has_step-past : map (has_step plan) (steps.Give 2 ∷ steps.Bank 0 0 1 ∷ steps.Retire 8 ∷ steps.Lift 1 lifts.Registers ∷ steps.Shift 0 0 ∷ []) ≡ false ∷ false ∷ false ∷ false ∷ false ∷ []
+has_step-past = refl
 
 -- ---- runs
 
@@ -95,6 +124,59 @@ unfolding TakenOrWaiting
 TakenOrWaiting-order setup past journal (inl is) = let same = is.0 in absurd cc
 TakenOrWaiting-order setup past journal (inr is) = IsWaiting-send setup past is.0
 
+-- no step was tried that wasn't laid, and they are as many as is said
+RunsOn-nothing : (S : Setup → List Entry → Type 0) (setup : Setup) (past : List Entry) (stops : Stops) → RunsOn S [] setup past [] [] stops 1 false → ⊥
+RunsOn-nothing S setup past stops is =
+    let none : [] ≡ is.tried = is.laid_is ∙ append-nil is.tried in
+    let no : 0 ≡ 1 = ap length none ∙ is.count_is in
+    absurd cc
+
+-- a send that is off the list was taken
+RunsOn-send : (S : Setup → List Entry → Type 0) (setup : Setup) (past : List Entry) (stops : Stops) (is : RunsOn S (false ∷ []) setup past (steps.Send 0 ∷ []) [] stops 1 false) → is.taken ≡ [] → ⊥
+RunsOn-send S setup past stops is none =
+    let tried : is.tried ≡ steps.Send 0 ∷ [] = sym (is.laid_is ∙ append-nil is.tried) in
+    TakenOrWaiting-send setup past (is.entries ++ past)
+    (subst (λ (l : List Step). TakenOrWaiting (false ∷ []) setup past l [] (is.entries ++ past)) tried
+    (subst (λ (l : List Step). TakenOrWaiting (false ∷ []) setup past is.tried l (is.entries ++ past)) none is.each))
+
+-- where as many as allowed were tried, a run doesn't end since none is left
+RunsBy-ended : (S : Setup → List Entry → Type 0) (now : SessionFields) (setup : Setup) (past : List Entry) (stops : Stops) → RunsBy S Ended now setup past [] [] stops 0 → ⊥
+RunsBy-ended S now setup past stops is = let few : is.0 < 0 = is.1 in absurd (omega (arith, few))
+
+-- nor because a step is refused, nor at an entry
+RunsBy-over : (S : Setup → List Entry → Type 0) (now : SessionFields) (setup : Setup) (past : List Entry) (laid left : List Step) (stops : Stops) → RunsBy S Over now setup past laid left stops 0 → ⊥
+RunsBy-over S now setup past laid left stops is = let few = is.few in absurd (omega (arith, few))
+
+RunsBy-refused : (S : Setup → List Entry → Type 0) (now : SessionFields) (setup : Setup) (past : List Entry) (laid left : List Step) (stops : Stops) (most : ℕ) (is : RunsBy S Over now setup past laid left stops most) → step_refusal now is.step ≡ Some refusals.Over
+RunsBy-refused S now setup past laid left stops most is = is.refused
+
+RunsBy-stopped : (S : Setup → List Entry → Type 0) (now : SessionFields) (setup : Setup) (past : List Entry) (laid left : List Step) (stops : Stops) → RunsBy S Stopped now setup past laid left stops 0 → ⊥
+RunsBy-stopped S now setup past laid left stops is =
+    let ends = is.2.ends refl in
+    let some : length is.2.tried ≡ length ends.before + 1 = ap length ends.tried_is ∙ length-append ends.before (ends.last ∷ []) in
+    let count = is.2.count_is in
+    let few = is.1 in
+    absurd (omega (arith, some, count, few))
+
+-- a run that stopped tried no step after the one at which it stopped
+last_of : List Step → Option Step
+last_of [] = None
+last_of (step ∷ []) = Some step
+last_of (step ∷ more ∷ steps) = last_of (more ∷ steps)
+
+last_append : (l : List Step) (step : Step) → last_of (l ++ step ∷ []) ≡ Some step
+unfolding last_of
+last_append [] step = refl
+last_append (first ∷ []) step = refl
+last_append (first ∷ second ∷ l) step = last_append (second ∷ l) step
+
+EndsTaken-after : (setup : Setup) (past journal : List Entry) → EndsTaken (false ∷ []) setup past (steps.Unlock 0 ∷ steps.Give 0 ∷ []) (steps.Unlock 0 ∷ []) journal → ⊥
+unfolding last_of
+EndsTaken-after setup past journal is =
+    let tried : Some (steps.Give 0) ≡ Some is.last = ap last_of is.tried_is ∙ last_append is.before is.last in
+    let taken : Some (steps.Unlock 0) ≡ Some is.last = ap last_of is.taken_is ∙ last_append is.some is.last in
+    absurd cc
+
 -- ---- chosen kinds
 
 abbrev unlocks : Stops
@@ -105,6 +187,10 @@ is_stop-each = refl
 
 stopped_at-each : map (stopped_at unlocks) (Unlocked 0 ∷ Discarded 0 ∷ []) ≡ Some Stopped ∷ None ∷ []
 stopped_at-each = refl
+
+-- what is counted as nothing may be of a chosen kind or not
+event_stop-each : map (event_stop unlocks) (events.Unlocked 0 ∷ events.Gave 0 ∷ events.Other ∷ []) ≡ Some true ∷ Some false ∷ None ∷ []
+event_stop-each = refl
 
 -- the latest entry is the first of a list: a run that stopped has one, and no earlier one is chosen
 StopsOnce-nothing : StopsOnce true unlocks [] → ⊥

@@ -45,6 +45,19 @@ StopsOnce true stops [] = ⊥
 StopsOnce true stops (entry ∷ entries) =
     (is_stop stops entry ≡ true) × All (λ entry. is_stop stops entry ≡ false) entries
 
+-- The last of the steps that were tried was taken, and its entry is the latest: no step was tried
+-- after it.
+pub record EndsTaken (finished : List Bool) (setup : Setup) (past : List Entry)
+    (tried taken : List Step) (journal : List Entry) : Type 0 where
+  pub before : List Step
+  pub some : List Step
+  pub last : Step
+  pub earlier : List Entry
+  pub tried_is : tried ≡ before ++ last ∷ []
+  pub taken_is : taken ≡ some ++ last ∷ []
+  pub journal_is : journal ≡ next (with_steps setup some) earlier last ∷ earlier
+  pub each : TakenOrWaiting finished setup past before some earlier
+
 -- So many of the laid steps were tried, and these are left. What runs stands for the case with the
 -- steps that were taken, and for the journal with their entries, the latest one first. What that
 -- means is a parameter, since a session may have more beside it that stands for them.
@@ -59,6 +72,7 @@ pub record RunsOn (stands_for : Setup → List Entry → Type 0) (finished : Lis
   pub each : TakenOrWaiting finished setup past tried taken (entries ++ past)
   pub stands : stands_for (with_steps setup taken) (entries ++ past)
   pub once : StopsOnce stopped stops entries
+  pub ends : stopped ≡ true → EndsTaken finished setup past tried taken (entries ++ past)
 
 -- the same, and the next step is refused: it is off the list, and not among those that were tried
 pub record RefusedAfter (stands_for : Setup → List Entry → Type 0) (refusal : NotTaken)
@@ -79,7 +93,7 @@ RunsBy stands_for Stopped now setup past laid left stops most =
 RunsBy stands_for Tried now setup past laid left stops most =
     RunsOn stands_for now.finished setup past laid left stops most false
 RunsBy stands_for Ended now setup past laid left stops most =
-    (count : ℕ) × (count ≤ most) × (left ≡ [])
+    (count : ℕ) × (count < most) × (left ≡ [])
     × RunsOn stands_for now.finished setup past laid left stops count false
 RunsBy stands_for Unknown now setup past laid left stops most =
     RefusedAfter stands_for refusals.Unknown now setup past laid left stops most

@@ -1,7 +1,9 @@
 -- The kinds of entries at which a run of laid steps stops.
-use Rattle.std.specs.Prelude.{Bool, false}
+use Rattle.std.specs.Prelude.{Bool, false, Option, Some, None}
 use Rattle.hmc_entries.specs.declared.entry.Entry.{Entry}
 use Rattle.hmc_entries.specs.declared.entry.Entry.TheVariants.{Gave, Sent, Landed, Shifted, Dropped, Spread, Executed, Lifted, Took, Discarded, Through, Unlocked, Retired, Passed, Idle}
+use Rattle.hmc_entries.specs.declared.event.Event.{Event}
+use Rattle.hmc_entries.specs.declared.event.Event.TheVariants as events
 use Rattle.hmc_session.specs.declared.stops.Stops.{Stops}
 
 -- the entry is of a kind that is among these
@@ -21,6 +23,17 @@ is_stop stops (Unlocked direction) = stops.unlocked
 is_stop stops (Retired slot) = stops.retired
 is_stop stops (Passed direction flit) = stops.passed
 is_stop stops (Idle step cause) = stops.idle
+
+-- the same of an entry that is counted as this event, where that tells
+abbrev pub event_stop : Stops → Event → Option Bool
+event_stop stops (events.Gave host) = Some stops.gave
+event_stop stops (events.Sent direction) = Some stops.sent
+event_stop stops (events.Landed direction outcome) = Some stops.landed
+event_stop stops (events.Unlocked direction) = Some stops.unlocked
+event_stop stops (events.Took host) = Some stops.took
+event_stop stops (events.Executed unit) = Some stops.executed
+event_stop stops (events.Dropped cube) = Some stops.dropped
+event_stop stops events.Other = None
 
 -- no kind
 abbrev pub no_stops : Stops

@@ -94,10 +94,10 @@ impl<B: Workbench> Session<B> {
         ensures finished { self.new.finished ≡ self.old.finished }
         ensures plan { self.new.plan ≡ self.old.plan }
     {
-        match &laid.take() {
-            Some(step) => self.step_on(step),
-            None => Ok(None),
-        }
+        let Some(step) = laid.take() else {
+            return Ok(None);
+        };
+        self.step_on(&step)
     }
 
     // Takes a step, if nothing refuses it.

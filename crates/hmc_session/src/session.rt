@@ -70,6 +70,17 @@ fn has_passed(went: Went) -> bool
     matches!(went, Went::Passed)
 }
 
+// Notes whether a step is a landing that passed, where none did before. Other steps write nothing.
+#[inline(always)]
+fn note_passed(passed: &mut bool, went: Went)
+    requires { passed.old ≡ false }
+    ensures { (entry : Entry) → went ≡ went_of entry → passed.new ≡ is_passed entry }
+{
+    if has_passed(went) {
+        *passed = true;
+    }
+}
+
 // Why a step isn't taken where none may follow. It is out of the way of steps that are taken.
 #[inline(never)]
 fn over_refusal(plan: &Plan, step: &Step) -> NotTaken
@@ -293,7 +304,7 @@ impl<B: Workbench> Session<B> {
     {
         has_flit(step);
         let went = self.network.step(step);
-        self.passed = has_passed(went);
+        note_passed(&mut self.passed, went);
         self.taken += 1;
         went
     }

@@ -1,10 +1,10 @@
 //! What a session shows: its latest entry, the line of it, and the final lines.
 
-ghost use Rattle.std.specs.Prelude.{◌≡◌, ◌++◌, [], List, false, OnOk, option_map, string_bytes};
+ghost use Rattle.std.specs.Prelude.{◌≡◌, ◌++◌, [], List, false, OnErr, OnOk, option_map, string_bytes};
 ghost use Rattle.hmc_entries.specs.declared.entry.Entry.{Entry};
 ghost use Rattle.hmc_journal.specs.Final.{values_of};
 ghost use Rattle.hmc_journal.specs.Setup.{Setup};
-ghost use Rattle.hmc_report.specs.Final.{final_text};
+ghost use Rattle.hmc_report.specs.Final.{AppendsSome, final_text, lines_from};
 ghost use Rattle.hmc_session.specs.Session.{session_of, StandsIn};
 ghost use Rattle.hmc_session.specs.Showing.{latest, latest_line};
 
@@ -46,10 +46,14 @@ impl<B: Workbench> Session<B> {
     /// landing that passed, when a report has none, it says nothing. `Memory` if out of memory:
     /// then the first of the lines have been appended, each of them whole.
     pub fn final_lines(&self, alloc: Global, from: Part, into: &mut String) -> Result<(), Memory>
-        ensures { (setup : Setup) (past : List Entry) →
+        ensures text { (setup : Setup) (past : List Entry) →
             StandsIn (session_of B.slots self.now) setup past → self.now.passed ≡ false →
             OnOk result (string_bytes into.new
             ≡ string_bytes into.old ++ final_text from (values_of setup past)) }
+        ensures some { (setup : Setup) (past : List Entry) →
+            StandsIn (session_of B.slots self.now) setup past → self.now.passed ≡ false →
+            OnErr result (AppendsSome (string_bytes into.old) (string_bytes into.new)
+            (lines_from from (values_of setup past))) }
     {
         let network = self.network();
         network.shows_journal();

@@ -2,9 +2,9 @@
 
 ghost use Rattle.std.specs.Prelude.{◌≡◌, false};
 ghost use Rattle.hmc_net.specs.Went.{went_of};
-ghost use Rattle.hmc_session.specs.Stops.{is_stop, no_stops};
+ghost use Rattle.hmc_session.specs.Stops.{event_stop, is_stop, no_stops};
 
-use hmc_entries::{Entry, LastEntry};
+use hmc_entries::{Entry, Event, LastEntry};
 use hmc_net::Went;
 
 /// Kinds of entries at which a run stops: those of the fields that are set.
@@ -92,6 +92,44 @@ fn is_stop(stops: &Stops, entry: &Entry) -> bool
     }
 }
 
+// Whether the entry is of one of the kinds, which is looked at whole. It is out of the way, since
+// an entry is large.
+#[inline(never)]
+fn stops_at_entry(stops: &Stops, last: &LastEntry) -> bool
+    ensures { result ≡ is_stop stops.now last.now }
+{
+    is_stop(stops, &last.entry())
+}
+
+// Whether an entry that is counted as this one is of one of the kinds, where the count tells.
+#[inline(always)]
+fn event_stop(stops: &Stops, event: Event) -> Option<bool>
+    ensures { result ≡ event_stop stops.now event }
+{
+    match event {
+        Event::Gave { .. } => Some(stops.gave),
+        Event::Sent { .. } => Some(stops.sent),
+        Event::Landed { .. } => Some(stops.landed),
+        Event::Unlocked { .. } => Some(stops.unlocked),
+        Event::Took { .. } => Some(stops.took),
+        Event::Executed { .. } => Some(stops.executed),
+        Event::Dropped { .. } => Some(stops.dropped),
+        Event::Other => None,
+    }
+}
+
+// Whether the entry is of one of the kinds. Most are told without a copy of it.
+#[tactic(auto, using(crate::proofs::Known::told_stop))]
+#[inline(always)]
+fn stops_at_event(stops: &Stops, last: &LastEntry) -> bool
+    ensures { result ≡ is_stop stops.now last.now }
+{
+    match event_stop(stops, last.event()) {
+        Some(told) => told,
+        None => stops_at_entry(stops, last),
+    }
+}
+
 /// Whether the entry of a step that went so is of one of the kinds. Most steps do nothing, and of
 /// these the entry isn't looked at.
 #[tactic(auto, using(crate::proofs::Known::idle_stop))]
@@ -103,7 +141,7 @@ pub fn stops_after(stops: &Stops, went: Went, last: &LastEntry) -> bool
     if let Went::Idle(_) = went {
         return stops.idle;
     }
-    is_stop(stops, &last.entry())
+    stops_at_event(stops, last)
 }
 
 /// Whether the latest entry is of one of the kinds. Most steps of a schedule do nothing, so these
@@ -115,5 +153,5 @@ pub fn stops_at(stops: &Stops, last: &LastEntry) -> bool
     if let Some(_) = last.cause() {
         return stops.idle;
     }
-    is_stop(stops, &last.entry())
+    stops_at_event(stops, last)
 }

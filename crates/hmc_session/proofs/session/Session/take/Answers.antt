@@ -32,7 +32,7 @@ invariant_of-self g c =
     let due = next_is s setup past c.args.step.now keeps may keeps.stands in
     keeps_with s _ setup (with_step setup c.args.step.now) past _ keeps keeps.stands
     (stands_next s _ setup past c.args.step.now keeps may keeps.stands (c.step-went.ensures.stands (with_step setup c.args.step.now) past due) refl
-    (c.has_passed-self-inside.ensures (next (with_step setup c.args.step.now) past c.args.step.now) (c.step-went.ensures.went (with_step setup c.args.step.now) past due)) refl (c.step-went.ensures.last (with_step setup c.args.step.now) past due)) refl refl refl
+    (c.note_passed.ensures (next (with_step setup c.args.step.now) past c.args.step.now) (c.step-went.ensures.went (with_step setup c.args.step.now) past due)) refl (c.step-went.ensures.last (with_step setup c.args.step.now) past due)) refl refl refl
 
 pub returns-clause-stands : goal.returns-clause-stands
 returns-clause-stands g c = λ setup past is.
@@ -44,7 +44,7 @@ returns-clause-stands g c = λ setup past is.
     let before : StandsIn s setup past = subst (λ (x : SessionFields). StandsIn x setup past) (sym same) is in
     let due = next_is s setup past c.args.step.now c.self.invariant may before in
     stands_next s _ setup past c.args.step.now c.self.invariant may before (c.step-went.ensures.stands (with_step setup c.args.step.now) past due) refl
-    (c.has_passed-self-inside.ensures (next (with_step setup c.args.step.now) past c.args.step.now) (c.step-went.ensures.went (with_step setup c.args.step.now) past due)) refl (c.step-went.ensures.last (with_step setup c.args.step.now) past due)
+    (c.note_passed.ensures (next (with_step setup c.args.step.now) past c.args.step.now) (c.step-went.ensures.went (with_step setup c.args.step.now) past due)) refl (c.step-went.ensures.last (with_step setup c.args.step.now) past due)
 
 pub returns-clause-went : goal.returns-clause-went
 returns-clause-went g c = λ setup past is.
