@@ -44,16 +44,13 @@ next_waiting before now (step ∷ rest) left result is says setup past tape =
     (step, ap (λ (l : List Step). step ∷ l) (sym s.0), s.1.waits setup past tape refl, s.1.same)
 
 -- there is no room for it
-pub next_lacking : (before now : TapedFields) (laid left : List Step) (result : Result (Option Went) NotTaped) → result ≡ Err causes.Memory → NextSays before now laid left result → (step : Step) × (rest : List Step) × (left ≡ step ∷ rest) × (laid ≡ left) × (now ≡ before)
+pub next_lacking : (before now : TapedFields) (laid left : List Step) (result : Result (Option Went) NotTaped) → result ≡ Err causes.Memory → NextSays before now laid left result → (step : Step) × (rest : List Step) × (left ≡ step ∷ rest) × (laid ≡ left) × (now ≡ before) × (step_refusal before.session step ≡ None)
 next_lacking before now [] left result is says = let nothing = (says.0 refl).none in absurd cc
 next_lacking before now (step ∷ rest) left result is says =
     let s = subst (λ (r : Result (Option Went) NotTaped). TapesNext before now step rest left r) is (says.1 step rest refl) in
-    (step, rest, s.0, sym s.0, s.1.same)
+    (step, rest, s.0, sym s.0, s.1.same, s.1.refused)
 
 -- none was left
 pub next_none : (before now : TapedFields) (laid left : List Step) (result : Result (Option Went) NotTaped) → result ≡ Ok None → NextSays before now laid left result → (laid ≡ []) × (left ≡ []) × (now ≡ before)
 next_none before now [] left result is says = (refl, (says.0 refl).nothing_left, (says.0 refl).same)
 next_none before now (step ∷ rest) left result is says = absurd (subst (λ (r : Result (Option Went) NotTaped). TapesNext before now step rest left r) is (says.1 step rest refl))
-
-pub some_left : (left rest : List Step) (step : Step) → left ≡ step ∷ rest → left ≡ [] → ⊥
-some_left left rest step is none = let no : [] ≡ step ∷ rest = sym none ∙ is in absurd cc

@@ -1,5 +1,5 @@
 -- What the calls of a taped session leave and return.
-use Rattle.std.specs.Prelude.{◌≡◌, ◌≢◌, ◌<◌, ℕ, false, List, [], ◌∷◌, Option, Some, None, Result, Ok, Err, OnOk, OnErr, IfOk, IfErr}
+use Rattle.std.specs.Prelude.{◌≡◌, ◌<◌, ℕ, false, List, [], ◌∷◌, Option, Some, None, Result, Ok, Err, OnOk, OnErr, IfOk, IfErr}
 use Rattle.hmc_codes.specs.declared.memory.Memory.{Memory}
 use Rattle.hmc_script.specs.Items.{ItemFields}
 use Rattle.hmc_schedule.specs.declared.step.Step.{Step}
@@ -20,6 +20,7 @@ use Rattle.hmc_session.specs.declared.stops.Stops.{Stops}
 use Rattle.hmc_tape.specs.declared.taped.NotTaped.{NotTaped}
 use Rattle.hmc_tape.specs.declared.taped.NotTaped.TheVariants as causes
 use Rattle.hmc_tape.specs.Tape.{TapedFields, IsTapeOf}
+use Rattle.hmc_tape.specs.Tries.{HasFreeNext}
 
 -- why the session refuses the step: for no cause where the tape is out of memory
 abbrev pub refusal_of : NotTaped → Option NotTaken
@@ -71,11 +72,11 @@ pub record TapesAsked (before now : TapedFields) (setup : Setup) (past : List En
 
 -- A run that tries at most so many steps ended so, or the tape was out of memory. Then the steps
 -- before were taken or waited, and the one that the tape has no room for is the first of those that
--- are left.
+-- are left; nothing else refuses it.
 abbrev pub TapesRun : Result Ran Memory → TapedFields → Setup → List Entry →
     (laid left : List Step) → Stops → (most : ℕ) → Type 0
 TapesRun (Ok ran) now setup past laid left stops most =
     RunsBy (IsTapeOf now) ran now.session setup past laid left stops most
 TapesRun (Err memory) now setup past laid left stops most =
-    (count : ℕ) × (count < most) × (left ≢ [])
+    (count : ℕ) × (count < most) × HasFreeNext now.session left
     × RunsOn (IsTapeOf now) now.session.finished setup past laid left stops count false

@@ -2,6 +2,7 @@
 
 ghost use Rattle.std.specs.Prelude.{◌≡◌, ◌<◌, ◌≤◌, [], ◌∷◌, List, length, true, false, replicate, slice_set, Some, None, Ok, IfOk, IfErr, IfSome, OnOk, OnErr};
 ghost use Rattle.std.specs.Option.{unwrap_or};
+ghost use Rattle.hmc_case.specs.Plan.{plan_of};
 ghost use Rattle.hmc_codes.specs.Limits.{most_hosts, most_requests, most_steps};
 ghost use Rattle.hmc_entries.specs.declared.entry.Entry.{Entry};
 ghost use Rattle.hmc_growing.specs.Growing.{with_item};
@@ -68,6 +69,7 @@ impl<B: Workbench> Taped<B> {
             (begun case.now (B.slots bench)) []) }
         ensures open { IfOk result
             (λ taped. taped.session.finished ≡ replicate most_hosts false) }
+        ensures plan { IfOk result (λ taped. taped.session.plan ≡ plan_of case.now.net) }
     {
         case.invariant();
         let script = case.script().print(alloc)?;

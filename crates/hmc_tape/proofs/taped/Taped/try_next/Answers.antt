@@ -1,12 +1,13 @@
 -- What the next step makes is what one try makes.
 use Rattle.std.proofs.Common.{◌≡◌, ◌∙◌, Ok, Err, ap, sym, subst}
+use Rattle.hmc_session.specs.Refusals.{step_refusal}
 use Rattle.hmc_session.specs.Running.{stopped_at}
 use Rattle.hmc_session.specs.Session.{SessionFields, IsWaiting, session_of}
 use Rattle.hmc_session.specs.declared.refusal.NotTaken.TheVariants.{Unknown, Over}
 use Rattle.hmc_session.proofs.Runs.{runs_none, runs_wait, tries_taken, tries_refused, tries_ended}
 use Rattle.hmc_tape.specs.declared.taped.NotTaped.TheVariants as causes
 use Rattle.hmc_tape.specs.Tape.{TapedFields, IsTapeOf, taped_of}
-use Rattle.hmc_tape.proofs.Tries.{NextSays, some_left, next_taken, next_refused, next_waiting, next_lacking, next_none}
+use Rattle.hmc_tape.proofs.Tries.{NextSays, next_taken, next_refused, next_waiting, next_lacking, next_none}
 use Rattle.hmc_tape.proofs.taped.Taped.try_next.Goals as goal
 
 pub returns-in-Ok-Some-clause-tries : goal.returns-in-Ok-Some-clause-tries
@@ -65,4 +66,4 @@ returns-in-Err-Memory-clause-tries g c = λ setup past tape.
     let now : TapedFields = taped_of slots c.next.new.self in
     let says : NextSays before now c.args.laid.now c.next.new.laid c.next.result = (c.next.ensures.none, c.next.ensures.steps) in
     let t = next_lacking before now c.args.laid.now c.next.new.laid c.next.result (c.in-Err-Memory.is ∙ ap Err c.in-Err-Memory.field-0-is) says in
-    (some_left c.next.new.laid t.1 t.0 t.2, runs_none (IsTapeOf now) now.session.finished setup past c.args.laid.now c.next.new.laid c.args.stops.now (subst (λ (x : TapedFields). IsTapeOf x setup past) (sym t.4) tape) t.3)
+    (record { step = t.0; rest = t.1; left_is = t.2; free = ap (λ (x : TapedFields). step_refusal x.session t.0) t.4 ∙ t.5 }, runs_none (IsTapeOf now) now.session.finished setup past c.args.laid.now c.next.new.laid c.args.stops.now (subst (λ (x : TapedFields). IsTapeOf x setup past) (sym t.4) tape) t.3)
