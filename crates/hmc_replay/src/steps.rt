@@ -89,7 +89,9 @@ pub fn write_entry<O: Sink>(sink: &mut O, entry: &LastEntry) -> Result<(), Faile
 }
 
 // Takes the steps of the round at hand, and writes the line of each before the next one. Returns
-// whether a landing passed: then none is taken after it.
+// whether a landing passed: then none is taken after it. It stands in its caller's loop, so that
+// what a round begins with is done once.
+#[inline(always)]
 fn write_round<O: Sink, B: Workbench>(
     sink: &mut O,
     network: &mut Network<B>,
