@@ -8,15 +8,17 @@ use Rattle.hmc_codes.specs.declared.counts.HostCounts.{HostCounts}
 use Rattle.hmc_codes.specs.declared.counts.TokenRow.{TokenRow}
 use Rattle.hmc_entries.specs.declared.entry.Entry.{Entry}
 use Rattle.hmc_journal.specs.Final.{values_of}
+use Rattle.hmc_journal.specs.Lawful.{has_passed}
 use Rattle.hmc_journal.specs.Setup.{Setup}
 use Rattle.hmc_net.proofs.FinalStands.{alike}
 use Rattle.hmc_report.specs.Final.{FinalValues}
-use Rattle.hmc_session.specs.Session.{StandsIn}
+use Rattle.hmc_session.specs.Session.{SessionFields, StandsIn}
 use Rattle.hmc_tally.proofs.Alike.{AreAlike}
 use Rattle.hmc_c.specs.Handles.{shown}
-use Rattle.hmc_c.specs.Status.{none, ok}
+use Rattle.hmc_c.specs.Shows.{ShowsLeft}
 use Rattle.hmc_c.specs.Values.{LeftShown, ValueShown, block_in, block_of, counters_in, counters_out, cube_in, cube_out, host_in, host_out, register_in, tokens_in, tokens_out, values_in, where_below}
 use Rattle.hmc_c.specs.declared.held.Held.{Held}
+use Rattle.hmc_c.proofs.KeptLemmas.{stands_in}
 
 where_by : {X : Type 0} (number n : ℕ) (b : Bool) (a c : Option X) → nat_lt number n ≡ b →
     (number < n → a ≡ c) → (if b then a else None) ≡ (if b then c else None)
@@ -70,14 +72,34 @@ cube_alike v w cube are =
 
 -- ---- what is shown
 
-pub some_shown : {X : Type 0} (passed : Bool) (result value : Option X) (old found : X) →
-    passed ≡ false → result ≡ value → result ≡ Some found → LeftShown ok passed value old found
-some_shown {X = X} passed result value old found is same some =
-    subst (λ (b : Bool). LeftShown ok b value old found) (sym is)
-    (subst (λ (v : Option X). ValueShown ok v old found) (sym some ∙ same) (refl, refl))
+by_passed : {X : Type 0} (passed : Bool) (status : ℕ) (found value : Option X) (old new : X) →
+    (passed ≡ false → found ≡ value) → LeftShown status passed found old new →
+    LeftShown status passed value old new
+by_passed true status found value old new same shows = shows
+by_passed {X = X} false status found value old new same shows =
+    subst (λ (v : Option X). ValueShown status v old new) (same refl) shows
 
-pub none_shown : {X : Type 0} (passed : Bool) (result value : Option X) (out : X) →
-    passed ≡ false → result ≡ value → result ≡ None → LeftShown none passed value out out
-none_shown {X = X} passed result value out is same without =
-    subst (λ (b : Bool). LeftShown none b value out out) (sym is)
-    (subst (λ (v : Option X). ValueShown none v out out) (sym without ∙ same) (refl, refl))
+-- what was found while no landing had passed is shown where none has
+pub left_shown : {X : Type 0} (session : SessionFields) (setup : Setup) (past : List Entry)
+    (status : ℕ) (found value : Option X) (old new : X) → StandsIn session setup past →
+    (session.passed ≡ false → found ≡ value) → LeftShown status session.passed found old new →
+    LeftShown status (has_passed past) value old new
+left_shown {X = X} session setup past status found value old new stands same shows =
+    subst (λ (b : Bool). LeftShown status b value old new) stands.passed
+    (by_passed session.passed status found value old new same shows)
+
+-- a handle that was open shows it
+pub shows_left : {X : Type 0} (value : Setup → List Entry → Option X) (status : ℕ)
+    (before after : Option Held) (held : Held) (found : Option X) (old new : X) →
+    before ≡ Some held → after ≡ Some held →
+    ((setup : Setup) (past : List Entry) → StandsIn (shown held) setup past →
+    (shown held).passed ≡ false → found ≡ value setup past) →
+    LeftShown status (shown held).passed found old new →
+    ShowsLeft value status before after old new
+shows_left value status before after held found old new was is same shows =
+    subst (λ (handle : Option Held). ShowsLeft value status handle after old new) (sym was) (
+      is,
+      λ setup past stands.
+          let of = stands_in held.kept setup past stands in
+          left_shown (shown held) setup past status found (value setup past) old new of (same setup past of) shows,
+    )

@@ -5,5 +5,8 @@ pub mod NextStep
 pub mod KeptLemmas
 pub mod LeftAlike
 pub mod Named
+pub mod Known
 mod Worked
 mod WorkedCalls
+mod WorkedEntries
+mod WorkedNo

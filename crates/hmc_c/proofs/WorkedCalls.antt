@@ -93,6 +93,10 @@ unit-cube : unit_named (a_unit 0 8 0) ≡ None
 unfolding a_unit
 unit-cube = refl
 
+unit-code : unit_named (a_unit 0 0 8) ≡ None
+unfolding a_unit
+unit-code = refl
+
 units-none : are_units [] ≡ true
 units-none = refl
 

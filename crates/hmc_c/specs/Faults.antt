@@ -5,6 +5,8 @@ use Rattle.hmc_codes.specs.Bytes.{padded_bytes}
 use Rattle.hmc_script.specs.Items.{ItemFields}
 use Rattle.hmc_script.specs.Kind.{kind_word as script_word}
 use Rattle.hmc_schedule.specs.Kind.{kind_word as schedule_word}
+use Rattle.hmc_schedule.specs.Plan.{PlanFields}
+use Rattle.hmc_schedule.specs.Schedule.{schedule_of}
 use Rattle.hmc_schedule.specs.declared.fault.ScheduleKind.{ScheduleKind}
 use Rattle.hmc_schedule.specs.declared.step.Step.{Step}
 use Rattle.hmc_case.specs.Case.{CaseFields}
@@ -12,10 +14,13 @@ use Rattle.hmc_case.specs.Kind.{kind_word}
 use Rattle.hmc_case.specs.Reading.{Fault}
 use Rattle.hmc_case.specs.declared.fault.Section.{Section}
 use Rattle.hmc_case.specs.declared.fault.Section.TheVariants as sections
+use Rattle.hmc_session.specs.Asking.{item_in}
 use Rattle.hmc_session.specs.declared.refusal.LineNotAsked.{LineNotAsked}
 use Rattle.hmc_session.specs.declared.refusal.LineNotAsked.TheVariants as lines
 use Rattle.hmc_c.specs.Status.{memory, none, ok}
 use Rattle.hmc_c.specs.declared.faults.FaultOut.{FaultOut}
+use Rattle.hmc_c.specs.declared.faults.Stated.{Stated}
+use Rattle.hmc_c.specs.declared.faults.Stated.TheVariants as stated
 
 -- the number of a section
 abbrev pub section_number : Section → ℕ
@@ -52,6 +57,15 @@ request_fault (Err (lines.Refused refusal)) = None
 abbrev pub steps_fault : Result (List Step) (ℕ × ScheduleKind) → Option FaultOut
 steps_fault (Ok steps) = None
 steps_fault (Err fault) = Some (fault_with sections.Schedule fault.0 (schedule_word fault.1))
+
+-- the section of a text that is to state this, and its first fault for these parts
+abbrev pub section_of : Stated → Section
+section_of stated.Request = sections.Script
+section_of stated.Steps = sections.Schedule
+
+abbrev pub stated_fault : Stated → PlanFields → (text : List ℕ) → Option FaultOut
+stated_fault stated.Request plan text = request_fault (item_in plan text)
+stated_fault stated.Steps plan text = steps_fault (schedule_of plan text)
 
 -- it is written, or there is none, or out of memory
 abbrev pub FaultShown : (status : ℕ) → Option FaultOut → (old new : FaultOut) → Type 0

@@ -1,15 +1,19 @@
 -- What a handle shows, and what it stands for.
-use Rattle.std.specs.Prelude.{◌≡◌, ◌⊎◌, ℕ, Bool, false, List, [], Option, Some, None, Result, Ok, Err}
+use Rattle.std.specs.Prelude.{◌≡◌, ◌⊎◌, ℕ, Bool, false, List, [], replicate, Option, Some, None, Result, Ok, Err}
+use Rattle.std.specs.List.{All}
+use Rattle.hmc_codes.specs.Limits.{most_hosts}
 use Rattle.hmc_units.specs.Unit.{UnitFields}
 use Rattle.hmc_text.specs.InTurn.{ReportsBy}
+use Rattle.hmc_schedule.specs.Plan.{IsStepOf}
 use Rattle.hmc_schedule.specs.declared.step.Step.{Step}
 use Rattle.hmc_case.specs.Case.{CaseFields}
+use Rattle.hmc_case.specs.Plan.{plan_of}
 use Rattle.hmc_case.specs.Reading.{Fault, fault_of}
 use Rattle.hmc_case.specs.declared.fault.CaseFault.{CaseFault}
 use Rattle.hmc_entries.specs.declared.entry.Entry.{Entry}
 use Rattle.hmc_journal.specs.Setup.{Setup}
 use Rattle.hmc_session.specs.Session.{SessionFields, begun}
-use Rattle.hmc_c.specs.Kept.{KeptStands, fields_in, has_tape}
+use Rattle.hmc_c.specs.Kept.{KeepsParts, KeptStands, fields_in, has_tape}
 use Rattle.hmc_c.specs.Status.{bad, memory, ok}
 use Rattle.hmc_c.specs.declared.held.Held.{Held}
 
@@ -26,23 +30,37 @@ abbrev pub HandleStands : Option Held → Setup → List Entry → Type 0
 HandleStands None setup past = ⊥
 HandleStands (Some held) setup past = Stands held setup past
 
--- it is open on a session with a tape
-abbrev pub is_taped : Option Held → Bool
-is_taped None = false
-is_taped (Some held) = has_tape held.kept
-
 -- the steps of a handle that are laid down: a closed one has none
 abbrev pub laid_in : Option Held → List Step
 laid_in None = []
 laid_in (Some held) = held.laid
 
+-- each step that is laid down is known: it names parts that steps may name
+abbrev pub KnowsSteps : Held → Type 0
+KnowsSteps held = All (IsStepOf (shown held).plan) held.laid
+
+abbrev pub KnowsLaid : Option Held → Type 0
+KnowsLaid None = Unit {0}
+KnowsLaid (Some held) = KnowsSteps held
+
+-- The same hosts of a handle are finished, steps may name the same parts, and it has a tape as
+-- before. It is open where it was open, and closed where it was closed.
+abbrev pub HandleKeepsParts : (old new : Option Held) → Type 0
+HandleKeepsParts None None = Unit {0}
+HandleKeepsParts (Some old) (Some new) = KeepsParts old.kept new.kept
+HandleKeepsParts old new = ⊥
+
 -- a session of a case with these logic units, before its first step, with a tape or without, and
--- the steps of the case laid down
+-- the steps of the case laid down, each of them known; its hosts are open, and steps may name the
+-- parts of the case
 pub record IsHeld (held : Held) (tape : Bool) (case : CaseFields)
     (slots : List (Option UnitFields)) : Type 0 where
   pub stands : Stands held (begun case slots) []
   pub tape_is : has_tape held.kept ≡ tape
   pub laid : held.laid ≡ case.schedule
+  pub unfinished : (shown held).finished ≡ replicate most_hosts false
+  pub plan : (shown held).plan ≡ plan_of case.net
+  pub known : KnowsSteps held
 
 -- a handle is open on such a session
 abbrev pub IsOpen : Option Held → (tape : Bool) → CaseFields →

@@ -1,5 +1,5 @@
 -- What a handle keeps: a session, with a tape or without.
-use Rattle.std.specs.Prelude.{Bool, true, false, List}
+use Rattle.std.specs.Prelude.{◌≡◌, Bool, true, false, List}
 use Rattle.hmc_units.specs.Kinds.{unit_of}
 use Rattle.hmc_units.specs.Slots.{units_in}
 use Rattle.hmc_units.specs.declared.shipped.Shipped.{Shipped}
@@ -31,6 +31,12 @@ fields_in kept = plain_fields (session_in kept)
 abbrev pub has_tape : Kept → Bool
 has_tape (Untaped session) = false
 has_tape (OnTape taped) = true
+
+-- the same hosts are finished, steps may name the same parts, and it has a tape as before
+pub record KeepsParts (old new : Kept) : Type 0 where
+  pub finished : (fields_in new).finished ≡ (fields_in old).finished
+  pub plan : (fields_in new).plan ≡ (fields_in old).plan
+  pub tape : has_tape new ≡ has_tape old
 
 -- It stands for the case and the journal of its session. A tape has the requests and the steps of
 -- this case.

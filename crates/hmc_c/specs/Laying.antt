@@ -1,5 +1,5 @@
 -- Steps that are laid down, and taken one after another.
-use Rattle.std.specs.Prelude.{◌≡◌, ◌≢◌, ◌<◌, ◌⊎◌, ◌==◌, ◌-◌, ◌/◌, ◌%◌, ℕ, Bool, true, false, List, [], ◌∷◌, Option, Some, None, Result, Ok, Err}
+use Rattle.std.specs.Prelude.{◌≡◌, ◌<◌, ◌⊎◌, ◌==◌, ◌-◌, ◌/◌, ◌%◌, ℕ, Bool, true, false, List, [], ◌∷◌, Option, Some, None, Result, Ok, Err}
 use Rattle.std.specs.Prelude.{IsUtf8}
 use Rattle.hmc_schedule.specs.Schedule.{schedule_of}
 use Rattle.hmc_schedule.specs.declared.fault.ScheduleKind.{ScheduleKind}
@@ -14,6 +14,7 @@ use Rattle.hmc_session.specs.declared.refusal.NotTaken.{NotTaken}
 use Rattle.hmc_session.specs.declared.run.Ran.{Ran}
 use Rattle.hmc_session.specs.declared.run.Ran.TheVariants.{Stopped, Tried, Ended, Unknown, Over}
 use Rattle.hmc_session.specs.declared.stops.Stops.{Stops}
+use Rattle.hmc_tape.specs.Tries.{HasFreeNext}
 use Rattle.hmc_c.specs.Handles.{Stands, shown}
 use Rattle.hmc_c.specs.Kept.{has_tape}
 use Rattle.hmc_c.specs.Status.{bad, memory, none, ok, over, refused_status, taken_status}
@@ -105,8 +106,8 @@ pub record RanBy (status : ℕ) (stands_for : Setup → List Entry → Type 0) (
   pub ended : status ≡ ran_status ran
   pub runs : RunsBy stands_for ran now setup past laid left stops most
 
--- there is a tape, and no memory on it for the first of the steps that are left; those before were
--- taken or waited
+-- there is a tape, and no memory on it for the first of the steps that are left, which nothing
+-- refuses; those before were taken or waited
 pub record IsCutShort (status : ℕ) (tape : Bool) (stands_for : Setup → List Entry → Type 0)
     (now : SessionFields) (setup : Setup) (past : List Entry) (laid left : List Step)
     (stops : Stops) (most : ℕ) : Type 0 where
@@ -114,7 +115,7 @@ pub record IsCutShort (status : ℕ) (tape : Bool) (stands_for : Setup → List 
   pub lacks : status ≡ memory
   pub count : ℕ
   pub few : count < most
-  pub some_left : left ≢ []
+  pub next : HasFreeNext now left
   pub runs : RunsOn stands_for now.finished setup past laid left stops count false
 
 -- one or the other

@@ -4,6 +4,7 @@ pub mod Kept
 pub mod Handles
 pub mod Units
 pub mod Lines
+pub mod Tape
 pub mod Codec
 pub mod Values
 pub mod Steps
@@ -13,5 +14,6 @@ pub mod Words
 pub mod Laying
 pub mod Faults
 pub mod Entries
+pub mod Shows
 pub mod Report
 pub mod Reports

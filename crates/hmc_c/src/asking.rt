@@ -3,14 +3,14 @@
 ghost use Rattle.std.specs.Prelude.{◌≡◌, List, None};
 ghost use Rattle.hmc_entries.specs.declared.entry.Entry.{Entry};
 ghost use Rattle.hmc_journal.specs.Setup.{Setup};
-ghost use Rattle.hmc_c.specs.Handles.{HandleStands, Stands, is_taped, laid_in};
-ghost use Rattle.hmc_c.specs.Kept.{has_tape};
+ghost use Rattle.hmc_c.specs.Handles.{HandleKeepsParts, HandleStands, Stands, laid_in};
+ghost use Rattle.hmc_c.specs.Kept.{KeepsParts};
 ghost use Rattle.hmc_c.specs.Status.{closed};
 ghost use Rattle.hmc_c.specs.Words.{BytesAsked, IsLineAsked};
 
-use crate::handle::{Handle, put, taken};
+use crate::handle::Handle;
 use crate::held::Held;
-use crate::status::{BAD, CLOSED};
+use crate::status::BAD;
 use std::alloc::Global;
 
 // Asks for the one request that these bytes state, which may be no text.
@@ -18,7 +18,7 @@ fn ask_bytes(held: &mut Held, alloc: Global, bytes: &[u8]) -> u8
     ensures stands { (setup : Setup) (past : List Entry) → Stands held.old setup past →
         BytesAsked result held.old held.new setup past bytes.now }
     ensures laid { held.new.laid ≡ held.old.laid }
-    ensures tape { has_tape held.new.kept ≡ has_tape held.old.kept }
+    ensures parts { KeepsParts held.old.kept held.new.kept }
 {
     match str::from_utf8(bytes) {
         Ok(text) => held.kept.ask_text(alloc, text),
@@ -39,14 +39,7 @@ pub extern "C" fn hmc_ask(alloc: Global, handle: &mut Handle, text: &[u8]) -> u8
         IsLineAsked result handle.old.value handle.new.value setup past text.now }
     ensures laid { laid_in handle.new.value ≡ laid_in handle.old.value }
     ensures closed { handle.old.value ≡ None → result ≡ closed }
-    ensures stays { handle.old.value ≡ None → handle.new.value ≡ None }
-    ensures tape { is_taped handle.new.value ≡ is_taped handle.old.value }
+    ensures parts { HandleKeepsParts handle.old.value handle.new.value }
 {
-    let Some(held) = taken(alloc, handle) else {
-        return CLOSED;
-    };
-    let mut held = held;
-    let status = ask_bytes(&mut held, alloc, text);
-    put(handle, held);
-    status
+    with_held!(alloc, handle, |held| ask_bytes(&mut held, alloc, text))
 }

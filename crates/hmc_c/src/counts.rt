@@ -11,7 +11,7 @@ use hmc_codes::{Counters, CubeCounts, HostCounts, TokenRow};
 pub struct TokensOut {
     /// Tokens that its sender may still spend.
     pub held: u32,
-    /// Flits of packets that were begun and are not accepted yet.
+    /// Flits of requests and responses that were begun and are not accepted yet.
     pub transit: u32,
     /// Flits of packets in the receiving buffer.
     pub used: u32,

@@ -8,9 +8,9 @@ ghost use Rattle.hmc_session.specs.Session.{StandsIn};
 ghost use Rattle.hmc_c.specs.Handles.{HandleStands, shown};
 ghost use Rattle.hmc_c.specs.Status.{closed, none, ok};
 
-use crate::handle::{Handle, put, taken};
+use crate::handle::Handle;
 use crate::held::Held;
-use crate::status::{CLOSED, NONE, OK};
+use crate::status::{NONE, OK};
 use hmc_codes::{Answer, Flit, Lift, Request, Unit};
 use hmc_entries::{Cause, Entry, Goal};
 use hmc_packet::{Bad, Kind, Outcome, What};
@@ -391,13 +391,8 @@ pub extern "C" fn hmc_entry(alloc: Global, handle: &mut Handle, out: &mut EntryO
         (result ≡ ok) × (out.new ≡ shown_entry entry) }
     ensures none { (setup : Setup) → HandleStands handle.old.value setup [] →
         (result ≡ none) × (out.new ≡ out.old) }
-    ensures closed { handle.old.value ≡ None → result ≡ closed }
+    ensures closed { handle.old.value ≡ None → (result ≡ closed) × (out.new ≡ out.old) }
     ensures stays { handle.new.value ≡ handle.old.value }
 {
-    let Some(held) = taken(alloc, handle) else {
-        return CLOSED;
-    };
-    let status = show_last(&held, out);
-    put(handle, held);
-    status
+    with_held!(alloc, handle, |held| show_last(&held, out))
 }

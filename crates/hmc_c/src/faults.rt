@@ -1,20 +1,18 @@
 //! The first fault of a text.
 
 ghost use Rattle.std.specs.Prelude.{◌≡◌, ◌≤◌, Ok, length};
-ghost use Rattle.std.specs.Option.{MatchOption};
 ghost use Rattle.hmc_codes.specs.Bytes.{padded_bytes};
 ghost use Rattle.hmc_codes.specs.Limits.{most_cubes, most_hosts};
 ghost use Rattle.hmc_schedule.specs.Schedule.{schedule_of};
 ghost use Rattle.hmc_case.specs.Case.{case_of};
-ghost use Rattle.hmc_case.specs.declared.fault.Section.TheVariants as sections;
 ghost use Rattle.hmc_session.specs.Asking.{item_in, item_read};
-ghost use Rattle.hmc_c.specs.Faults.{BytesFault, FaultShown, case_fault, fault_with, request_fault, section_number, steps_fault};
+ghost use Rattle.hmc_c.specs.Faults.{BytesFault, FaultShown, case_fault, fault_with, request_fault, section_number, section_of, stated_fault, steps_fault};
 ghost use Rattle.hmc_c.specs.Handles.{shown};
-ghost use Rattle.hmc_c.specs.Status.{closed};
+ghost use Rattle.hmc_c.specs.Shows.{ShowsFault};
 
-use crate::handle::{Handle, put, taken};
+use crate::handle::Handle;
 use crate::held::Held;
-use crate::status::{CLOSED, MEMORY, NONE, OK};
+use crate::status::{MEMORY, NONE, OK};
 use hmc_case::{Case, CaseFault, CaseKind, Section};
 use hmc_schedule::{Plan, Schedule, ScheduleFault};
 use hmc_script::{Script, ScriptFault};
@@ -31,6 +29,25 @@ pub struct FaultOut {
     pub section: u8,
     /// What is wrong there: at most 8 letters, and zeros after them.
     pub word: [u8; 16],
+}
+
+/// What a text is to state for a session.
+#[derive(Clone, Copy)]
+pub enum Stated {
+    /// One request, in the words of a script.
+    Request,
+    /// Steps, in those of a schedule.
+    Steps,
+}
+
+// The section of a text that is to state this.
+fn section_of(stated: Stated) -> Section
+    ensures { result ≡ section_of stated }
+{
+    match stated {
+        Stated::Request => Section::Script,
+        Stated::Steps => Section::Schedule,
+    }
 }
 
 // The number of a section.
@@ -135,15 +152,39 @@ fn show_request(plan: &Plan, alloc: Global, text: &str, out: &mut FaultOut) -> u
     }
 }
 
+// Shows the fault of a text that is no schedule for these parts.
+fn show_steps(plan: &Plan, alloc: Global, text: &str, out: &mut FaultOut) -> u8
+    ensures { FaultShown result (steps_fault (schedule_of plan.now text.now)) out.old out.new }
+{
+    match Schedule::parse(alloc, text, plan) {
+        Ok(_) => NONE,
+        Err(ScheduleFault::Memory) => MEMORY,
+        Err(ScheduleFault::Fault { line, kind }) => {
+            *out = fault_with(Section::Schedule, line, CaseKind::Schedule(kind).word());
+            OK
+        }
+    }
+}
+
+// Shows the fault of a text that is to state this for these parts.
+fn show_stated(stated: Stated, plan: &Plan, alloc: Global, text: &str, out: &mut FaultOut) -> u8
+    ensures { FaultShown result (stated_fault stated plan.now text.now) out.old out.new }
+{
+    match stated {
+        Stated::Request => show_request(plan, alloc, text, out),
+        Stated::Steps => show_steps(plan, alloc, text, out),
+    }
+}
+
 // The same of bytes, which may be no text.
-fn show_request_bytes(held: &Held, alloc: Global, bytes: &[u8], out: &mut FaultOut) -> u8
-    ensures { BytesFault result sections.Script
-        (request_fault (item_in (shown held.now).plan bytes.now)) bytes.now out.old out.new }
+fn show_bytes(stated: Stated, held: &Held, alloc: Global, bytes: &[u8], out: &mut FaultOut) -> u8
+    ensures { BytesFault result (section_of stated)
+        (stated_fault stated (shown held.now).plan bytes.now) bytes.now out.old out.new }
 {
     match str::from_utf8(bytes) {
-        Ok(text) => show_request(held.kept.session().plan(), alloc, text, out),
+        Ok(text) => show_stated(stated, held.kept.session().plan(), alloc, text, out),
         Err(_) => {
-            *out = fault_with(Section::Script, 0, "utf8");
+            *out = fault_with(section_of(stated), 0, "utf8");
             OK
         }
     }
@@ -162,45 +203,12 @@ pub extern "C" fn hmc_ask_fault(
     text: &[u8],
     out: &mut FaultOut,
 ) -> u8
-    ensures fault { MatchOption handle.old.value ((result ≡ closed) × (out.new ≡ out.old))
-        (λ held. BytesFault result sections.Script
-        (request_fault (item_in (shown held).plan text.now)) text.now out.old out.new) }
-    ensures stays { handle.new.value ≡ handle.old.value }
+    ensures { ShowsFault Stated.Request result handle.old.value handle.new.value text.now
+        out.old out.new }
 {
-    let Some(held) = taken(alloc, handle) else {
-        return CLOSED;
-    };
-    let status = show_request_bytes(&held, alloc, text, out);
-    put(handle, held);
-    status
-}
-
-// Shows the fault of a text that is no schedule for these parts.
-fn show_steps(plan: &Plan, alloc: Global, text: &str, out: &mut FaultOut) -> u8
-    ensures { FaultShown result (steps_fault (schedule_of plan.now text.now)) out.old out.new }
-{
-    match Schedule::parse(alloc, text, plan) {
-        Ok(_) => NONE,
-        Err(ScheduleFault::Memory) => MEMORY,
-        Err(ScheduleFault::Fault { line, kind }) => {
-            *out = fault_with(Section::Schedule, line, CaseKind::Schedule(kind).word());
-            OK
-        }
-    }
-}
-
-// The same of bytes, which may be no text.
-fn show_steps_bytes(held: &Held, alloc: Global, bytes: &[u8], out: &mut FaultOut) -> u8
-    ensures { BytesFault result sections.Schedule
-        (steps_fault (schedule_of (shown held.now).plan bytes.now)) bytes.now out.old out.new }
-{
-    match str::from_utf8(bytes) {
-        Ok(text) => show_steps(held.kept.session().plan(), alloc, text, out),
-        Err(_) => {
-            *out = fault_with(Section::Schedule, 0, "utf8");
-            OK
-        }
-    }
+    with_held!(alloc, handle, |held| {
+        show_bytes(Stated::Request, &held, alloc, text, out)
+    })
 }
 
 /// Shows the first fault of a text that is no schedule for the parts of the session: of section
@@ -215,15 +223,10 @@ pub extern "C" fn hmc_lay_fault(
     text: &[u8],
     out: &mut FaultOut,
 ) -> u8
-    ensures fault { MatchOption handle.old.value ((result ≡ closed) × (out.new ≡ out.old))
-        (λ held. BytesFault result sections.Schedule
-        (steps_fault (schedule_of (shown held).plan text.now)) text.now out.old out.new) }
-    ensures stays { handle.new.value ≡ handle.old.value }
+    ensures { ShowsFault Stated.Steps result handle.old.value handle.new.value text.now
+        out.old out.new }
 {
-    let Some(held) = taken(alloc, handle) else {
-        return CLOSED;
-    };
-    let status = show_steps_bytes(&held, alloc, text, out);
-    put(handle, held);
-    status
+    with_held!(alloc, handle, |held| {
+        show_bytes(Stated::Steps, &held, alloc, text, out)
+    })
 }

@@ -1,14 +1,10 @@
 //! The final lines of a report of the steps so far.
 
-ghost use Rattle.std.specs.Prelude.{◌≡◌, List, None, option_map, slice_get};
-ghost use Rattle.hmc_entries.specs.declared.entry.Entry.{Entry};
+ghost use Rattle.std.specs.Prelude.{◌≡◌, option_map, slice_get};
 ghost use Rattle.hmc_journal.specs.Final.{final_lines_of};
-ghost use Rattle.hmc_journal.specs.Lawful.{has_passed};
-ghost use Rattle.hmc_journal.specs.Setup.{Setup};
 ghost use Rattle.hmc_report.specs.Final.{final_lines};
-ghost use Rattle.hmc_c.specs.Handles.{HandleStands};
-ghost use Rattle.hmc_c.specs.Status.{closed};
-ghost use Rattle.hmc_c.specs.Values.{LeftLineShown, values_in};
+ghost use Rattle.hmc_c.specs.Shows.{ShowsLeftLine};
+ghost use Rattle.hmc_c.specs.Values.{values_in};
 
 use crate::handle::Handle;
 use crate::held::Held;
@@ -76,13 +72,8 @@ pub extern "C" fn hmc_final_line(
     out: &mut [u8],
     written: &mut usize,
 ) -> u8
-    ensures line { (setup : Setup) (past : List Entry) →
-        HandleStands handle.old.value setup past →
-        LeftLineShown result written.new (has_passed past)
-        (slice_get (final_lines_of setup past) number) out.old out.new }
-    ensures closed { handle.old.value ≡ None →
-        (result ≡ closed) × (written.new ≡ 0) × (out.new ≡ out.old) }
-    ensures stays { handle.new.value ≡ handle.old.value }
+    ensures { ShowsLeftLine (λ setup past. slice_get (final_lines_of setup past) number) result
+        written.new handle.old.value handle.new.value out.old out.new }
 {
     write(alloc, handle, &FinalLine { number }, out, written)
 }

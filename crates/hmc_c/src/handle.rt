@@ -64,6 +64,7 @@ fn opens(handle: Handle) -> Option<Loose<Held, Global>>
 }
 
 /// Takes out what a handle has; the handle is closed then.
+#[inline(always)]
 pub(crate) fn taken(alloc: Global, handle: &mut Handle) -> Option<Box<Held>>
     ensures closed { handle.new.value ≡ None }
     ensures value { MatchOption result (handle.old.value ≡ None)
@@ -76,15 +77,23 @@ pub(crate) fn taken(alloc: Global, handle: &mut Handle) -> Option<Box<Held>>
     }
 }
 
+// Drops what was held. It is out of the way of steps, which drop nothing.
+#[inline(never)]
+fn drop_held(held: Box<Held>) {
+    drop(held);
+}
+
 // Drops what a handle has.
+#[inline(always)]
 fn let_go(handle: Handle) {
     match opens(handle) {
-        Some(loose) => drop(loose.into_box()),
+        Some(loose) => drop_held(loose.into_box()),
         None => {}
     }
 }
 
 /// Puts this into a handle; what was there is dropped.
+#[inline(always)]
 pub(crate) fn put(handle: &mut Handle, held: Box<Held>)
     ensures { handle.new.value ≡ Some held.value }
 {

@@ -1,8 +1,9 @@
 //! What a handle keeps: a session, with a tape or without.
 
-ghost use Rattle.std.specs.Prelude.{◌≡◌, ◌<◌, [], List, IfOk, false, true};
+ghost use Rattle.std.specs.Prelude.{◌≡◌, ◌<◌, [], List, replicate, IfOk, false, true};
 ghost use Rattle.std.specs.Option.{MatchOption};
 ghost use Rattle.hmc_codes.specs.Limits.{most_hosts};
+ghost use Rattle.hmc_case.specs.Plan.{plan_of};
 ghost use Rattle.hmc_entries.specs.declared.entry.Entry.{Entry};
 ghost use Rattle.hmc_journal.specs.Setup.{Setup};
 ghost use Rattle.hmc_net.specs.Asked.{item_with};
@@ -12,7 +13,7 @@ ghost use Rattle.hmc_tape.specs.Tape.{IsTapeOf};
 ghost use Rattle.hmc_units.specs.Kinds.{unit_of};
 ghost use Rattle.hmc_units.specs.Slots.{units_in};
 ghost use Rattle.hmc_c.specs.Asks.{AsksBy};
-ghost use Rattle.hmc_c.specs.Kept.{KeptStands, fields_in, has_tape, plain_fields, session_in, tape_fields};
+ghost use Rattle.hmc_c.specs.Kept.{KeepsParts, KeptStands, fields_in, has_tape, plain_fields, session_in, tape_fields};
 ghost use Rattle.hmc_c.specs.Laying.{NextBy, RunBy};
 ghost use Rattle.hmc_c.specs.Steps.{StepsBy, kept_finished};
 ghost use Rattle.hmc_c.specs.Words.{TextAsked};
@@ -49,6 +50,8 @@ fn step_plain(session: &mut Plain, step: &Step) -> u8
         StandsIn (plain_fields session.old) setup past →
         StepsBy result false (step_refusal (plain_fields session.old) step.now)
         (StandsIn (plain_fields session.new)) setup past step.now }
+    ensures finished { session.new.finished ≡ session.old.finished }
+    ensures plan { session.new.plan ≡ session.old.plan }
 {
     match session.step(step) {
         Ok(went) => taken_status(went),
@@ -62,6 +65,8 @@ fn step_taped(taped: &mut WithTape, step: &Step) -> u8
         IsTapeOf (tape_fields taped.old) setup past →
         StepsBy result true (step_refusal (plain_fields taped.old.session) step.now)
         (IsTapeOf (tape_fields taped.new)) setup past step.now }
+    ensures finished { taped.new.session.finished ≡ taped.old.session.finished }
+    ensures plan { taped.new.session.plan ≡ taped.old.session.plan }
 {
     match taped.step(step) {
         Ok(went) => taken_status(went),
@@ -72,11 +77,13 @@ fn step_taped(taped: &mut WithTape, step: &Step) -> u8
 
 // Asks a host of a session for one request more, if nothing refuses it.
 fn ask_plain(session: &mut Plain, host: u8, fenced: bool, poisoned: bool, request: &Request) -> u8
-    ensures { (setup : Setup) (past : List Entry) →
+    ensures does { (setup : Setup) (past : List Entry) →
         StandsIn (plain_fields session.old) setup past →
         AsksBy result (ask_refusal (plain_fields session.old) host request.now.cube)
         (StandsIn (plain_fields session.new)) setup past
         (item_with host fenced poisoned request.now) }
+    ensures finished { session.new.finished ≡ session.old.finished }
+    ensures plan { session.new.plan ≡ session.old.plan }
 {
     match session.ask(host, fenced, poisoned, request) {
         Ok(()) => OK,
@@ -86,11 +93,13 @@ fn ask_plain(session: &mut Plain, host: u8, fenced: bool, poisoned: bool, reques
 
 // The same with a tape.
 fn ask_taped(taped: &mut WithTape, host: u8, fenced: bool, poisoned: bool, request: &Request) -> u8
-    ensures { (setup : Setup) (past : List Entry) →
+    ensures does { (setup : Setup) (past : List Entry) →
         IsTapeOf (tape_fields taped.old) setup past →
         AsksBy result (ask_refusal (plain_fields taped.old.session) host request.now.cube)
         (IsTapeOf (tape_fields taped.new)) setup past
         (item_with host fenced poisoned request.now) }
+    ensures finished { taped.new.session.finished ≡ taped.old.session.finished }
+    ensures plan { taped.new.session.plan ≡ taped.old.session.plan }
 {
     match taped.ask(host, fenced, poisoned, request) {
         Ok(()) => OK,
@@ -100,10 +109,12 @@ fn ask_taped(taped: &mut WithTape, host: u8, fenced: bool, poisoned: bool, reque
 
 // Asks for the one request that a text states, if nothing refuses it.
 fn ask_text_plain(session: &mut Plain, alloc: Global, text: &str) -> u8
-    ensures { (setup : Setup) (past : List Entry) →
+    ensures does { (setup : Setup) (past : List Entry) →
         StandsIn (plain_fields session.old) setup past →
         TextAsked result (plain_fields session.old) (StandsIn (plain_fields session.new)) setup
         past text.now }
+    ensures finished { session.new.finished ≡ session.old.finished }
+    ensures plan { session.new.plan ≡ session.old.plan }
 {
     match session.ask_line(alloc, text) {
         Ok(()) => OK,
@@ -113,10 +124,12 @@ fn ask_text_plain(session: &mut Plain, alloc: Global, text: &str) -> u8
 
 // The same with a tape.
 fn ask_text_taped(taped: &mut WithTape, alloc: Global, text: &str) -> u8
-    ensures { (setup : Setup) (past : List Entry) →
+    ensures does { (setup : Setup) (past : List Entry) →
         IsTapeOf (tape_fields taped.old) setup past →
         TextAsked result (plain_fields taped.old.session) (IsTapeOf (tape_fields taped.new)) setup
         past text.now }
+    ensures finished { taped.new.session.finished ≡ taped.old.session.finished }
+    ensures plan { taped.new.session.plan ≡ taped.old.session.plan }
 {
     match taped.ask_line(alloc, text) {
         Ok(()) => OK,
@@ -126,20 +139,24 @@ fn ask_text_taped(taped: &mut WithTape, alloc: Global, text: &str) -> u8
 
 // Takes the next of the steps that are laid down.
 fn next_plain(session: &mut Plain, laid: &mut Laid) -> u8
-    ensures { (setup : Setup) (past : List Entry) →
+    ensures does { (setup : Setup) (past : List Entry) →
         StandsIn (plain_fields session.old) setup past →
         NextBy result false (plain_fields session.old) (StandsIn (plain_fields session.new)) setup
         past laid.old laid.new }
+    ensures finished { session.new.finished ≡ session.old.finished }
+    ensures plan { session.new.plan ≡ session.old.plan }
 {
     next_status(session.next(laid))
 }
 
 // The same with a tape.
 fn next_taped(taped: &mut WithTape, laid: &mut Laid) -> u8
-    ensures { (setup : Setup) (past : List Entry) →
+    ensures does { (setup : Setup) (past : List Entry) →
         IsTapeOf (tape_fields taped.old) setup past →
         NextBy result true (plain_fields taped.old.session) (IsTapeOf (tape_fields taped.new)) setup
         past laid.old laid.new }
+    ensures finished { taped.new.session.finished ≡ taped.old.session.finished }
+    ensures plan { taped.new.session.plan ≡ taped.old.session.plan }
 {
     match taped.next(laid) {
         Ok(went) => next_status(Ok(went)),
@@ -150,20 +167,24 @@ fn next_taped(taped: &mut WithTape, laid: &mut Laid) -> u8
 
 // Takes steps that are laid down up to an entry of a chosen kind, and tries at most so many.
 fn run_plain(session: &mut Plain, laid: &mut Laid, most: u32, stops: &Stops) -> u8
-    ensures { (setup : Setup) (past : List Entry) →
+    ensures does { (setup : Setup) (past : List Entry) →
         StandsIn (plain_fields session.old) setup past →
         RunBy result false (StandsIn (plain_fields session.new)) (plain_fields session.new) setup
         past laid.old laid.new stops.now most }
+    ensures finished { session.new.finished ≡ session.old.finished }
+    ensures plan { session.new.plan ≡ session.old.plan }
 {
     ran_status(session.run(laid, most, stops))
 }
 
 // The same with a tape.
 fn run_taped(taped: &mut WithTape, laid: &mut Laid, most: u32, stops: &Stops) -> u8
-    ensures { (setup : Setup) (past : List Entry) →
+    ensures does { (setup : Setup) (past : List Entry) →
         IsTapeOf (tape_fields taped.old) setup past →
         RunBy result true (IsTapeOf (tape_fields taped.new)) (plain_fields taped.new.session) setup
         past laid.old laid.new stops.now most }
+    ensures finished { taped.new.session.finished ≡ taped.old.session.finished }
+    ensures plan { taped.new.session.plan ≡ taped.old.session.plan }
 {
     match taped.run(laid, most, stops) {
         Ok(ran) => ran_status(ran),
@@ -183,6 +204,9 @@ impl Kept {
         ensures stands { IfOk result (λ kept.
             KeptStands kept (begun case.now (units_in unit_of bench)) []) }
         ensures tape { IfOk result (λ kept. has_tape kept ≡ tape) }
+        ensures unfinished { IfOk result (λ kept.
+            (fields_in kept).finished ≡ replicate most_hosts false) }
+        ensures plan { IfOk result (λ kept. (fields_in kept).plan ≡ plan_of case.now.net) }
     {
         if tape {
             return Ok(Kept::OnTape(Taped::begin(alloc, case, bench)?));
@@ -216,7 +240,7 @@ impl Kept {
         ensures does { (setup : Setup) (past : List Entry) → KeptStands self.old setup past →
             StepsBy result (has_tape self.old) (step_refusal (fields_in self.old) step.now)
             (KeptStands self.new) setup past step.now }
-        ensures tape { has_tape self.new ≡ has_tape self.old }
+        ensures parts { KeepsParts self.old self.new }
     {
         match self {
             Kept::Untaped(session) => step_plain(session, step),
@@ -229,7 +253,7 @@ impl Kept {
         ensures does { (setup : Setup) (past : List Entry) → KeptStands self.old setup past →
             AsksBy result (ask_refusal (fields_in self.old) host request.now.cube)
             (KeptStands self.new) setup past (item_with host fenced poisoned request.now) }
-        ensures tape { has_tape self.new ≡ has_tape self.old }
+        ensures parts { KeepsParts self.old self.new }
     {
         match self {
             Kept::Untaped(session) => ask_plain(session, host, fenced, poisoned, request),
@@ -241,7 +265,7 @@ impl Kept {
     pub(crate) fn ask_text(&mut self, alloc: Global, text: &str) -> u8
         ensures does { (setup : Setup) (past : List Entry) → KeptStands self.old setup past →
             TextAsked result (fields_in self.old) (KeptStands self.new) setup past text.now }
-        ensures tape { has_tape self.new ≡ has_tape self.old }
+        ensures parts { KeepsParts self.old self.new }
     {
         match self {
             Kept::Untaped(session) => ask_text_plain(session, alloc, text),
@@ -254,7 +278,7 @@ impl Kept {
         ensures does { (setup : Setup) (past : List Entry) → KeptStands self.old setup past →
             NextBy result (has_tape self.old) (fields_in self.old) (KeptStands self.new) setup past
             laid.old laid.new }
-        ensures tape { has_tape self.new ≡ has_tape self.old }
+        ensures parts { KeepsParts self.old self.new }
     {
         match self {
             Kept::Untaped(session) => next_plain(session, laid),
@@ -267,7 +291,7 @@ impl Kept {
         ensures does { (setup : Setup) (past : List Entry) → KeptStands self.old setup past →
             RunBy result (has_tape self.old) (KeptStands self.new) (fields_in self.new) setup past
             laid.old laid.new stops.now most }
-        ensures tape { has_tape self.new ≡ has_tape self.old }
+        ensures parts { KeepsParts self.old self.new }
     {
         match self {
             Kept::Untaped(session) => run_plain(session, laid, most, stops),

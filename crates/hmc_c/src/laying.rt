@@ -5,14 +5,14 @@ ghost use Rattle.std.specs.Option.{MatchOption};
 ghost use Rattle.hmc_entries.specs.declared.entry.Entry.{Entry};
 ghost use Rattle.hmc_journal.specs.Setup.{Setup};
 ghost use Rattle.hmc_schedule.specs.Schedule.{schedule_of};
-ghost use Rattle.hmc_c.specs.Handles.{HandleStands, Stands, is_taped, shown};
-ghost use Rattle.hmc_c.specs.Kept.{has_tape};
+ghost use Rattle.hmc_c.specs.Handles.{HandleKeepsParts, HandleStands, KnowsLaid, KnowsSteps, Stands, shown};
+ghost use Rattle.hmc_c.specs.Kept.{KeepsParts, has_tape};
 ghost use Rattle.hmc_c.specs.Laying.{BytesLaid, IsLaid, IsNexted, IsRun, LaidBy, NextBy, RunBy, has_bit, stops_of};
 ghost use Rattle.hmc_c.specs.Status.{closed};
 
-use crate::handle::{Handle, put, taken};
+use crate::handle::Handle;
 use crate::held::Held;
-use crate::status::{BAD, CLOSED, MEMORY, OK};
+use crate::status::{BAD, MEMORY, OK};
 use hmc_schedule::ScheduleFault;
 use hmc_session::Stops;
 use std::alloc::Global;
@@ -22,6 +22,7 @@ fn lay_text(held: &mut Held, alloc: Global, text: &str) -> u8
     ensures laid { LaidBy result (schedule_of (shown held.old).plan text.now)
         held.old.laid held.new.laid }
     ensures kept { held.new.kept ≡ held.old.kept }
+    ensures known { KnowsSteps held.old → KnowsSteps held.new }
 {
     match held.kept.session().lay(alloc, text) {
         Ok(laid) => {
@@ -35,7 +36,8 @@ fn lay_text(held: &mut Held, alloc: Global, text: &str) -> u8
 
 // The same of bytes, which may be no text.
 fn lay_bytes(held: &mut Held, alloc: Global, bytes: &[u8]) -> u8
-    ensures { BytesLaid result held.old held.new bytes.now }
+    ensures laid { BytesLaid result held.old held.new bytes.now }
+    ensures known { KnowsSteps held.old → KnowsSteps held.new }
 {
     match str::from_utf8(bytes) {
         Ok(text) => lay_text(held, alloc, text),
@@ -54,15 +56,10 @@ pub extern "C" fn hmc_lay(alloc: Global, handle: &mut Handle, text: &[u8]) -> u8
         (λ held. IsLaid result (Some held) handle.new.value text.now) }
     ensures stands { (setup : Setup) (past : List Entry) →
         HandleStands handle.old.value setup past → HandleStands handle.new.value setup past }
+    ensures known { KnowsLaid handle.old.value → KnowsLaid handle.new.value }
     ensures stays { handle.old.value ≡ None → handle.new.value ≡ None }
 {
-    let Some(held) = taken(alloc, handle) else {
-        return CLOSED;
-    };
-    let mut held = held;
-    let status = lay_bytes(&mut held, alloc, text);
-    put(handle, held);
-    status
+    with_held!(alloc, handle, |held| lay_bytes(&mut held, alloc, text))
 }
 
 // Takes the next of the steps that are laid down.
@@ -70,7 +67,7 @@ fn take_next(held: &mut Held) -> u8
     ensures does { (setup : Setup) (past : List Entry) → Stands held.old setup past →
         NextBy result (has_tape held.old.kept) (shown held.old) (Stands held.new) setup past
         held.old.laid held.new.laid }
-    ensures tape { has_tape held.new.kept ≡ has_tape held.old.kept }
+    ensures parts { KeepsParts held.old.kept held.new.kept }
 {
     held.kept.next(&mut held.laid)
 }
@@ -88,16 +85,9 @@ pub extern "C" fn hmc_next(alloc: Global, handle: &mut Handle) -> u8
         HandleStands handle.old.value setup past →
         IsNexted result handle.old.value handle.new.value setup past }
     ensures closed { handle.old.value ≡ None → result ≡ closed }
-    ensures stays { handle.old.value ≡ None → handle.new.value ≡ None }
-    ensures tape { is_taped handle.new.value ≡ is_taped handle.old.value }
+    ensures parts { HandleKeepsParts handle.old.value handle.new.value }
 {
-    let Some(held) = taken(alloc, handle) else {
-        return CLOSED;
-    };
-    let mut held = held;
-    let status = take_next(&mut held);
-    put(handle, held);
-    status
+    with_held!(alloc, handle, |held| take_next(&mut held))
 }
 
 // Whether a number has this power of two.
@@ -138,7 +128,7 @@ fn run_on(held: &mut Held, most: u32, stops: &Stops, steps: &mut u32) -> u8
         RunBy result (has_tape held.old.kept) (Stands held.new) (shown held.new) setup past
         held.old.laid held.new.laid stops.now most }
     ensures steps { steps.new ≡ (shown held.new).taken - (shown held.old).taken }
-    ensures tape { has_tape held.new.kept ≡ has_tape held.old.kept }
+    ensures parts { KeepsParts held.old.kept held.new.kept }
 {
     let before = held.kept.session().taken();
     let status = held.kept.run(&mut held.laid, most, stops);
@@ -165,15 +155,10 @@ pub extern "C" fn hmc_run(
         HandleStands handle.old.value setup past →
         IsRun result handle.old.value handle.new.value setup past (stops_of stops) most steps.new }
     ensures closed { handle.old.value ≡ None → (result ≡ closed) × (steps.new ≡ 0) }
-    ensures stays { handle.old.value ≡ None → handle.new.value ≡ None }
-    ensures tape { is_taped handle.new.value ≡ is_taped handle.old.value }
+    ensures parts { HandleKeepsParts handle.old.value handle.new.value }
 {
     *steps = 0;
-    let Some(held) = taken(alloc, handle) else {
-        return CLOSED;
-    };
-    let mut held = held;
-    let status = run_on(&mut held, most, &stops_of(stops), steps);
-    put(handle, held);
-    status
+    with_held!(alloc, handle, |held| {
+        run_on(&mut held, most, &stops_of(stops), steps)
+    })
 }

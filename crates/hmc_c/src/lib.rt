@@ -5,6 +5,19 @@
 //! error changes nothing. No call keeps a pointer of the caller's, and nothing is global.
 #![tactic(auto)]
 
+// Does something with what a handle has, and puts it back; what is done says the status. A closed
+// handle has nothing.
+macro_rules! with_held {
+    ($alloc:expr, $handle:expr, |$held:ident| $status:expr) => {{
+        let Some(mut $held) = $crate::handle::taken($alloc, $handle) else {
+            return $crate::status::CLOSED;
+        };
+        let status = $status;
+        $crate::handle::put($handle, $held);
+        status
+    }};
+}
+
 mod asking;
 mod away;
 mod codec;
@@ -15,6 +28,7 @@ mod final_lines;
 mod handle;
 mod held;
 mod kept;
+mod laws;
 mod laying;
 mod left;
 mod lines;
@@ -37,6 +51,7 @@ pub use entry::{EntryOut, hmc_entry};
 pub use faults::{FaultOut, hmc_ask_fault, hmc_fault, hmc_lay_fault};
 pub use final_lines::hmc_final_line;
 pub use handle::Handle;
+pub use laws::a_laid_step_is_known;
 pub use laying::{hmc_lay, hmc_next, hmc_run};
 pub use left::{hmc_block, hmc_counters, hmc_cube, hmc_host, hmc_register, hmc_tokens};
 pub use lines::hmc_line;

@@ -1,13 +1,10 @@
 //! The line of the latest entry.
 
-ghost use Rattle.std.specs.Prelude.{◌≡◌, List, None, option_map};
+ghost use Rattle.std.specs.Prelude.{option_map};
 ghost use Rattle.hmc_entries.specs.Lines.{line_of};
-ghost use Rattle.hmc_entries.specs.declared.entry.Entry.{Entry};
-ghost use Rattle.hmc_journal.specs.Setup.{Setup};
 ghost use Rattle.hmc_session.specs.Showing.{latest};
-ghost use Rattle.hmc_c.specs.Handles.{HandleStands};
-ghost use Rattle.hmc_c.specs.Lines.{IsWritten, LineShown, TextShown};
-ghost use Rattle.hmc_c.specs.Status.{closed};
+ghost use Rattle.hmc_c.specs.Lines.{IsWritten, TextShown};
+ghost use Rattle.hmc_c.specs.Shows.{ShowsLine};
 
 use crate::handle::Handle;
 use crate::held::Held;
@@ -79,12 +76,8 @@ pub extern "C" fn hmc_line(
     out: &mut [u8],
     written: &mut usize,
 ) -> u8
-    ensures line { (setup : Setup) (past : List Entry) →
-        HandleStands handle.old.value setup past →
-        LineShown result written.new (option_map line_of (latest past)) out.old out.new }
-    ensures closed { handle.old.value ≡ None →
-        (result ≡ closed) × (written.new ≡ 0) × (out.new ≡ out.old) }
-    ensures stays { handle.new.value ≡ handle.old.value }
+    ensures { ShowsLine (λ setup past. option_map line_of (latest past)) result written.new
+        handle.old.value handle.new.value out.old out.new }
 {
     write(alloc, handle, &LastLine, out, written)
 }

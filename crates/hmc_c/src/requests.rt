@@ -7,14 +7,14 @@ ghost use Rattle.hmc_entries.specs.declared.entry.Entry.{Entry};
 ghost use Rattle.hmc_journal.specs.Setup.{Setup};
 ghost use Rattle.hmc_script.specs.Payload.{IsPayload};
 ghost use Rattle.hmc_c.specs.Asks.{Asked, IsAsked};
-ghost use Rattle.hmc_c.specs.Handles.{HandleStands, Stands, is_taped, laid_in};
+ghost use Rattle.hmc_c.specs.Handles.{HandleKeepsParts, HandleStands, Stands, laid_in};
 ghost use Rattle.hmc_c.specs.Requests.{payload_by, request_named, request_with};
-ghost use Rattle.hmc_c.specs.Kept.{has_tape};
+ghost use Rattle.hmc_c.specs.Kept.{KeepsParts};
 ghost use Rattle.hmc_c.specs.Status.{closed};
 
-use crate::handle::{Handle, put, taken};
+use crate::handle::Handle;
 use crate::held::Held;
-use crate::status::{BAD, CLOSED};
+use crate::status::BAD;
 use hmc_codes::{Command, Family, MOST_CUBES, Payload, Request};
 use std::alloc::Global;
 
@@ -85,7 +85,7 @@ fn ask(held: &mut Held, host: u8, fenced: bool, poisoned: bool, request: Option<
     ensures stands { (setup : Setup) (past : List Entry) → Stands held.old setup past →
         Asked result held.old held.new setup past host fenced poisoned request }
     ensures laid { held.new.laid ≡ held.old.laid }
-    ensures tape { has_tape held.new.kept ≡ has_tape held.old.kept }
+    ensures parts { KeepsParts held.old.kept held.new.kept }
 {
     let Some(request) = request else {
         return BAD;
@@ -119,15 +119,10 @@ pub extern "C" fn hmc_request(
         (request_named code cube address payload.now) }
     ensures laid { laid_in handle.new.value ≡ laid_in handle.old.value }
     ensures closed { handle.old.value ≡ None → result ≡ closed }
-    ensures stays { handle.old.value ≡ None → handle.new.value ≡ None }
-    ensures tape { is_taped handle.new.value ≡ is_taped handle.old.value }
+    ensures parts { HandleKeepsParts handle.old.value handle.new.value }
 {
-    let Some(held) = taken(alloc, handle) else {
-        return CLOSED;
-    };
-    let mut held = held;
-    let request = request_named(code, cube, address, payload);
-    let status = ask(&mut held, host, fenced, poisoned, request);
-    put(handle, held);
-    status
+    with_held!(alloc, handle, |held| {
+        let request = request_named(code, cube, address, payload);
+        ask(&mut held, host, fenced, poisoned, request)
+    })
 }

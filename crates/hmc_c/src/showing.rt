@@ -1,66 +1,33 @@
 //! What an open handle shows: parts by number, and texts.
 
-ghost use Rattle.std.specs.Prelude.{◌≡◌, false, ℕ, Bool, List, Option, None};
+ghost use Rattle.std.specs.Prelude.{ℕ, Bool, List};
 ghost use Rattle.hmc_entries.specs.declared.entry.Entry.{Entry};
-ghost use Rattle.hmc_journal.specs.Lawful.{has_passed};
 ghost use Rattle.hmc_journal.specs.Setup.{Setup};
 ghost use Rattle.hmc_session.specs.Session.{StandsIn};
-ghost use Rattle.hmc_c.specs.Handles.{HandleStands, Stands, is_taped, shown};
+ghost use Rattle.hmc_c.specs.Handles.{Stands, shown};
 ghost use Rattle.hmc_c.specs.Kept.{has_tape};
-ghost use Rattle.hmc_c.specs.Status.{closed};
+ghost use Rattle.hmc_c.specs.Shows.{ShowsText};
 ghost use Rattle.hmc_c.specs.Values.{LeftShown};
 
-use crate::handle::{Handle, put, taken};
+use crate::handle::Handle;
 use crate::held::Held;
-use crate::status::{CLOSED, NONE, OK, OVER};
+use crate::status::{NONE, OK, OVER};
 use std::alloc::Global;
 
-/// A part of a network, of which a session shows a value while no landing has passed.
-pub(crate) trait Part {
-    /// The value as C sees it.
-    type Out: Drop;
-
-    /// The value that the steps leave, where the part is there.
-    ghost value: { Self → Setup → List Entry → Option Self.Out };
-
-    /// The value, where the part is there. It is of use while no landing has passed.
-    fn find(&self, held: &Held) -> Option<Self::Out>
-        ensures { (setup : Setup) (past : List Entry) → StandsIn (shown held.now) setup past →
-            (shown held.now).passed ≡ false → result ≡ value self.now setup past };
-}
-
-// Shows the value of a part, if there is one, and no landing passed.
-fn show_part<P: Part>(held: &Held, part: &P, out: &mut P::Out) -> u8
-    ensures { (setup : Setup) (past : List Entry) → StandsIn (shown held.now) setup past →
-        LeftShown result (has_passed past) (P.value part.now setup past) out.old out.new }
+/// Shows what was found of a part, if it is there, and no landing passed.
+pub(crate) fn show<X: Drop>(held: &Held, found: Option<X>, out: &mut X) -> u8
+    ensures { LeftShown result (shown held.now).passed found out.old out.new }
 {
     if held.kept.session().has_passed() {
         return OVER;
     }
-    match part.find(held) {
+    match found {
         Some(found) => {
             *out = found;
             OK
         }
         None => NONE,
     }
-}
-
-/// Shows the value of a part of what a handle has.
-#[tactic(auto, using(crate::proofs::KeptLemmas::stands_in))]
-pub(crate) fn show<P: Part>(alloc: Global, handle: &mut Handle, part: &P, out: &mut P::Out) -> u8
-    ensures value { (setup : Setup) (past : List Entry) →
-        HandleStands handle.old.value setup past → LeftShown result (has_passed past)
-        (P.value part.now setup past) out.old out.new }
-    ensures closed { handle.old.value ≡ None → (result ≡ closed) × (out.new ≡ out.old) }
-    ensures stays { handle.new.value ≡ handle.old.value }
-{
-    let Some(held) = taken(alloc, handle) else {
-        return CLOSED;
-    };
-    let status = show_part(&held, part, out);
-    put(handle, held);
-    status
 }
 
 /// A text that a session shows.
@@ -86,19 +53,9 @@ pub(crate) fn write<T: Text>(
     out: &mut [u8],
     written: &mut usize,
 ) -> u8
-    ensures text { (setup : Setup) (past : List Entry) →
-        HandleStands handle.old.value setup past →
-        T.shows text.now (is_taped handle.old.value) setup past result written.new
+    ensures { ShowsText (T.shows text.now) result written.new handle.old.value handle.new.value
         out.old out.new }
-    ensures closed { handle.old.value ≡ None →
-        (result ≡ closed) × (written.new ≡ 0) × (out.new ≡ out.old) }
-    ensures stays { handle.new.value ≡ handle.old.value }
 {
     *written = 0;
-    let Some(held) = taken(alloc, handle) else {
-        return CLOSED;
-    };
-    let status = text.write(&held, out, written);
-    put(handle, held);
-    status
+    with_held!(alloc, handle, |held| text.write(&held, out, written))
 }

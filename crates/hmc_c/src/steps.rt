@@ -5,15 +5,15 @@ ghost use Rattle.std.specs.Option.{MatchOption};
 ghost use Rattle.hmc_entries.specs.declared.entry.Entry.{Entry};
 ghost use Rattle.hmc_journal.specs.Setup.{Setup};
 ghost use Rattle.hmc_session.specs.Numbers.{step_named};
-ghost use Rattle.hmc_c.specs.Handles.{HandleStands, Stands, is_taped, laid_in, shown};
+ghost use Rattle.hmc_c.specs.Handles.{HandleKeepsParts, HandleStands, Stands, laid_in, shown};
 ghost use Rattle.hmc_c.specs.Steps.{IsStepped, Stepped, after_finish, finish_status};
-ghost use Rattle.hmc_c.specs.Kept.{has_tape};
+ghost use Rattle.hmc_c.specs.Kept.{KeepsParts};
 ghost use Rattle.hmc_c.specs.Status.{closed};
 
 use crate::faults::host_count;
-use crate::handle::{Handle, put, taken};
+use crate::handle::Handle;
 use crate::held::Held;
-use crate::status::{CLOSED, NO_HOST, NONE, OK};
+use crate::status::{NO_HOST, NONE, OK};
 use hmc_codes::Flit;
 use hmc_session::step_named;
 use std::alloc::Global;
@@ -23,7 +23,7 @@ fn step_by(held: &mut Held, kind: u8, a: u8, b: u8, c: u8, mask: &Flit) -> u8
     ensures stands { (setup : Setup) (past : List Entry) → Stands held.old setup past →
         Stepped result held.old held.new setup past (step_named kind a b c mask.now) }
     ensures laid { held.new.laid ≡ held.old.laid }
-    ensures tape { has_tape held.new.kept ≡ has_tape held.old.kept }
+    ensures parts { KeepsParts held.old.kept held.new.kept }
 {
     let Some(step) = step_named(kind, a, b, c, mask) else {
         return NONE;
@@ -56,16 +56,11 @@ pub extern "C" fn hmc_step(
         (step_named kind a b c mask.now) }
     ensures laid { laid_in handle.new.value ≡ laid_in handle.old.value }
     ensures closed { handle.old.value ≡ None → result ≡ closed }
-    ensures stays { handle.old.value ≡ None → handle.new.value ≡ None }
-    ensures tape { is_taped handle.new.value ≡ is_taped handle.old.value }
+    ensures parts { HandleKeepsParts handle.old.value handle.new.value }
 {
-    let Some(held) = taken(alloc, handle) else {
-        return CLOSED;
-    };
-    let mut held = held;
-    let status = step_by(&mut held, kind, a, b, c, mask);
-    put(handle, held);
-    status
+    with_held!(alloc, handle, |held| {
+        step_by(&mut held, kind, a, b, c, mask)
+    })
 }
 
 // Asks a host for nothing more, if it is there.
@@ -94,11 +89,5 @@ pub extern "C" fn hmc_finish(alloc: Global, handle: &mut Handle, host: u8) -> u8
     ensures stands { (setup : Setup) (past : List Entry) →
         HandleStands handle.old.value setup past → HandleStands handle.new.value setup past }
 {
-    let Some(held) = taken(alloc, handle) else {
-        return CLOSED;
-    };
-    let mut held = held;
-    let status = finish(&mut held, host);
-    put(handle, held);
-    status
+    with_held!(alloc, handle, |held| finish(&mut held, host))
 }

@@ -1,13 +1,8 @@
 //! The tape of a session: its requests as a script, and its steps as a schedule.
 
-ghost use Rattle.std.specs.Prelude.{◌≡◌, List, None};
-ghost use Rattle.hmc_entries.specs.declared.entry.Entry.{Entry};
-ghost use Rattle.hmc_journal.specs.Setup.{Setup};
 ghost use Rattle.hmc_script.specs.Text.{script_text};
 ghost use Rattle.hmc_step_text.specs.Text.{schedule_text};
-ghost use Rattle.hmc_c.specs.Handles.{HandleStands, is_taped};
-ghost use Rattle.hmc_c.specs.Lines.{TapeShown};
-ghost use Rattle.hmc_c.specs.Status.{closed};
+ghost use Rattle.hmc_c.specs.Shows.{ShowsTape};
 
 use crate::handle::Handle;
 use crate::held::Held;
@@ -16,22 +11,30 @@ use crate::showing::{Text, write};
 use crate::status::{NONE, OK};
 use std::alloc::Global;
 
-// The requests so far, as a script.
+/// A text of a tape.
 #[derive(Drop)]
-struct TapeScript;
+pub(crate) enum TapeText {
+    /// The requests so far, as a script.
+    Script,
+    /// The steps so far, as a schedule.
+    Schedule,
+}
 
-impl Text for TapeScript {
-    ghost use Rattle.hmc_script.specs.Text.{script_text};
+impl Text for TapeText {
     ghost use Rattle.hmc_c.specs.Lines.{TapeShown};
+    ghost use Rattle.hmc_c.specs.Tape.{tape_text};
 
-    ghost shows = { λ text tape setup past status written old new.
-        TapeShown status written tape (script_text setup.script) old new };
+    ghost shows = { λ part tape setup past status count old new.
+        TapeShown status count tape (tape_text part setup) old new };
 
-    fn write(&self, held: &Held, out: &mut [u8], written: &mut usize) -> u8 {
-        *written = 0;
-        match held.kept.tape() {
-            Some(taped) => write_text(OK, taped.script().as_bytes(), out, written),
-            None => NONE,
+    fn write(&self, held: &Held, out: &mut [u8], count: &mut usize) -> u8 {
+        *count = 0;
+        let Some(taped) = held.kept.tape() else {
+            return NONE;
+        };
+        match self {
+            TapeText::Script => write_text(OK, taped.script().as_bytes(), out, count),
+            TapeText::Schedule => write_text(OK, taped.schedule().as_bytes(), out, count),
         }
     }
 }
@@ -48,35 +51,10 @@ pub extern "C" fn hmc_tape_script(
     out: &mut [u8],
     length: &mut usize,
 ) -> u8
-    ensures text { (setup : Setup) (past : List Entry) →
-        HandleStands handle.old.value setup past →
-        TapeShown result length.new (is_taped handle.old.value) (script_text setup.script)
-        out.old out.new }
-    ensures closed { handle.old.value ≡ None →
-        (result ≡ closed) × (length.new ≡ 0) × (out.new ≡ out.old) }
-    ensures stays { handle.new.value ≡ handle.old.value }
+    ensures { ShowsTape (λ setup. script_text setup.script) result length.new
+        handle.old.value handle.new.value out.old out.new }
 {
-    write(alloc, handle, &TapeScript, out, length)
-}
-
-// The steps so far, as a schedule.
-#[derive(Drop)]
-struct TapeSchedule;
-
-impl Text for TapeSchedule {
-    ghost use Rattle.hmc_step_text.specs.Text.{schedule_text};
-    ghost use Rattle.hmc_c.specs.Lines.{TapeShown};
-
-    ghost shows = { λ text tape setup past status written old new.
-        TapeShown status written tape (schedule_text setup.schedule) old new };
-
-    fn write(&self, held: &Held, out: &mut [u8], written: &mut usize) -> u8 {
-        *written = 0;
-        match held.kept.tape() {
-            Some(taped) => write_text(OK, taped.schedule().as_bytes(), out, written),
-            None => NONE,
-        }
-    }
+    write(alloc, handle, &TapeText::Script, out, length)
 }
 
 /// Writes the steps that were taken so far as a schedule (docs/schedule.md) to the front of `out`,
@@ -91,13 +69,8 @@ pub extern "C" fn hmc_tape_schedule(
     out: &mut [u8],
     length: &mut usize,
 ) -> u8
-    ensures text { (setup : Setup) (past : List Entry) →
-        HandleStands handle.old.value setup past →
-        TapeShown result length.new (is_taped handle.old.value) (schedule_text setup.schedule)
-        out.old out.new }
-    ensures closed { handle.old.value ≡ None →
-        (result ≡ closed) × (length.new ≡ 0) × (out.new ≡ out.old) }
-    ensures stays { handle.new.value ≡ handle.old.value }
+    ensures { ShowsTape (λ setup. schedule_text setup.schedule) result length.new
+        handle.old.value handle.new.value out.old out.new }
 {
-    write(alloc, handle, &TapeSchedule, out, length)
+    write(alloc, handle, &TapeText::Schedule, out, length)
 }

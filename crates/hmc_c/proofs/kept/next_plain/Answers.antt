@@ -6,8 +6,8 @@ use Rattle.hmc_c.specs.Laying.{NextBy}
 use Rattle.hmc_c.proofs.NextStep.{next_by}
 use Rattle.hmc_c.proofs.kept.next_plain.Goals as goal
 
-pub returns : goal.returns
-returns c = λ setup past stands.
+pub returns-clause-does : goal.returns-clause-does
+returns-clause-does c = λ setup past stands.
     let before = plain_fields c.args.session.now in
     let now = plain_fields c.next.new.self in
     subst (λ (status : ℕ). NextBy status false before (StandsIn now) setup past c.args.laid.now c.next.new.laid) (sym c.next_status.ensures)

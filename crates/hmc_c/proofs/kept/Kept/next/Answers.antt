@@ -11,4 +11,4 @@ use Rattle.hmc_c.proofs.kept.Kept.next.Goals as goal
 pub returns-in-OnTape-clause-does : goal.returns-in-OnTape-clause-does
 returns-in-OnTape-clause-does c =
     subst (λ (kept : Kept). (setup : Setup) (past : List Entry) → KeptStands kept setup past → NextBy c.next_taped.result (has_tape kept) (fields_in kept) (KeptStands (OnTape c.next_taped.new.taped)) setup past c.args.laid.now c.next_taped.new.laid)
-    (sym c.in-OnTape.is) c.next_taped.ensures
+    (sym c.in-OnTape.is) c.next_taped.ensures.does

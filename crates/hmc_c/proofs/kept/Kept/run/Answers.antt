@@ -11,4 +11,4 @@ use Rattle.hmc_c.proofs.kept.Kept.run.Goals as goal
 pub returns-in-OnTape-clause-does : goal.returns-in-OnTape-clause-does
 returns-in-OnTape-clause-does c =
     subst (λ (kept : Kept). (setup : Setup) (past : List Entry) → KeptStands kept setup past → RunBy c.run_taped.result (has_tape kept) (KeptStands (OnTape c.run_taped.new.taped)) (fields_in (OnTape c.run_taped.new.taped)) setup past c.args.laid.now c.run_taped.new.laid c.args.stops.now c.args.most)
-    (sym c.in-OnTape.is) c.run_taped.ensures
+    (sym c.in-OnTape.is) c.run_taped.ensures.does

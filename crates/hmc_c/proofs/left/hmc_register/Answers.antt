@@ -1,0 +1,18 @@
+-- What the network shows is what the journal leaves.
+use Rattle.std.proofs.Common.{◌≡◌, ◌∙◌, ap, subst}
+use Rattle.hmc_journal.specs.Final.{values_of}
+use Rattle.hmc_c.specs.Handles.{shown}
+use Rattle.hmc_c.specs.Values.{LeftShown, register_in, values_in}
+use Rattle.hmc_c.specs.declared.held.Held.{Held}
+use Rattle.hmc_c.proofs.LeftAlike.{register_alike, shows_left, values_alike}
+use Rattle.hmc_c.proofs.left.hmc_register.Goals as goal
+
+pub returns : goal.returns
+returns c =
+    let held = c.in-Some.held.value in
+    let found : c.find_register.result ≡ register_in (values_in held) c.args.cube c.args.number =
+    c.find_register.ensures ∙ ap (λ (h : Held). register_in (values_in h) c.args.cube c.args.number) c.deref-2.ensures in
+    let shows : LeftShown c.show-status.result (shown held).passed c.find_register.result c.args.out.now c.show-status.new.out =
+    subst (λ (h : Held). LeftShown c.show-status.result (shown h).passed c.find_register.result c.args.out.now c.show-status.new.out) c.deref.ensures c.show-status.ensures in
+    shows_left (λ setup past. register_in (values_of setup past) c.args.cube c.args.number) c.show-status.result c.args.handle.now.value c.put.new.handle.value held c.find_register.result c.args.out.now c.show-status.new.out c.in-Some.ensures.value c.put.ensures
+    (λ setup past stands on. found ∙ register_alike (values_in held) (values_of setup past) c.args.cube c.args.number (values_alike held setup past stands on)) shows
