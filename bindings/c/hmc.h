@@ -5,10 +5,11 @@
  * nothing. No call keeps a pointer, ends the program, or writes a global variable. Memory comes
  * from malloc, realloc and free; after hmc_open only calls whose comment has HMC_MEMORY take any.
  *
- * What a call returns is its status; its comment has those that it can return. With one that says
- * why it did nothing, nothing changed (but that a laid step may be off its list), and what it would
- * write through a pointer isn't written, except that `written` and `steps` are 0, and a length as is
- * said. No pointer may be null, also where a length is 0.
+ * What a call returns is its status; its comment has those that it can return. With a status other
+ * than HMC_OK, HMC_PASSED and HMC_UNLAWFUL it did nothing, except that hmc_next and hmc_run take a
+ * step that is refused off the list, and that hmc_run may have taken steps before: `steps` counts
+ * them. What a call would write through a pointer isn't written then, except that `written` is 0,
+ * and a length as is said. No pointer may be null, also where a length is 0.
  * Numbers of hosts, cubes, ports, vaults, banks and directions begin with 0. docs/c-library.md says
  * more.
  *
@@ -45,8 +46,8 @@ enum {
                           request */
     HMC_PASSED = 7,    /* the step was taken, and a check succeeded over flits that masks changed:
                           no step may follow */
-    HMC_NONE = 8,      /* there is no such step or part, no step is left, there is no entry, or no
-                          room for a line */
+    HMC_NONE = 8,      /* there is no such step or part, no step is left, or there is no entry, no
+                          tape, no fault, no such logic unit, or no room */
     HMC_CLOSED = 9,    /* the handle is closed */
     HMC_WAITS = 10,    /* a give of a host that gave all of its requests and may be asked for more:
                           it isn't taken */
@@ -180,7 +181,8 @@ typedef struct {
     uint32_t line;    /* of a cube or a link its number, from 0; of a script or a schedule its line,
                          from 1; else 0 */
     uint8_t section;  /* 0 toml, 1 top, 2 cube, 3 net, 4 link, 5 script, 6 schedule */
-    uint8_t word[16]; /* what is wrong, as docs/case.md has it: at most 8 letters, then zeros */
+    uint8_t word[16]; /* what is wrong: a kind of docs/case.md, docs/script.md or docs/schedule.md,
+                         or "one" or "utf8"; at most 8 letters, then zeros */
 } hmc_fault_t;
 
 /* The tokens of a direction; their sum is what its receiving end advertises. */
@@ -200,8 +202,8 @@ typedef struct {
     uint32_t changed;  /* of these, flits that a mask changed */
     uint32_t accepted; /* packets accepted, poisoned ones and returns of tokens included */
     uint32_t repeats;  /* packets that had been accepted before */
-    uint32_t aborts;   /* landings after which the receiver waited to be cleared, and unlocks of a
-                          receiver that took packets */
+    uint32_t aborts;   /* landings with an error (outcome 7 to 11), and unlocks of a receiver that
+                          accepted packets */
 } hmc_counters_t;
 
 /* The counts of a host. */
@@ -220,11 +222,11 @@ typedef struct {
 /* ---- A handle ---- */
 
 /* Opens a handle on a session of a case (docs/case.md) with no logic units: with the requests of
- * its script asked, the steps of its schedule laid down, and none of them taken. What the handle
- * had is dropped. HMC_OK, HMC_MEMORY, HMC_BAD. */
+ * its script asked, the steps of its schedule laid down, and none of them taken. With HMC_OK what
+ * the handle had is dropped; else the handle is as it was. HMC_OK, HMC_MEMORY, HMC_BAD. */
 uint8_t hmc_open(const uint8_t *text, size_t length, hmc_session *s);
 /* The same with at most 8 logic units: the one at place i is in slot i. HMC_NONE: there are more,
- * or one is none. HMC_OK, HMC_MEMORY, HMC_BAD, HMC_NONE. */
+ * or the numbers of one name no unit. HMC_OK, HMC_MEMORY, HMC_BAD, HMC_NONE. */
 uint8_t hmc_open_with(const uint8_t *text, size_t length, const hmc_unit_t *units, size_t count,
                       hmc_session *s);
 /* The same with a tape: the requests and the steps are kept as a script and a schedule, which
@@ -248,17 +250,20 @@ uint8_t hmc_ask(hmc_session *s, const uint8_t *text, size_t length);
  * HMC_OK, HMC_MEMORY, HMC_BAD, HMC_CLOSED, HMC_NO_HOST to HMC_FULL. */
 uint8_t hmc_request(hmc_session *s, uint8_t host, bool fenced, bool poisoned, uint8_t code,
                     uint8_t cube, uint64_t address, const uint8_t *payload, size_t length);
-/* Asks a host for nothing more from now on. HMC_OK, HMC_CLOSED, HMC_NO_HOST. */
+/* From now on the host is asked for nothing more: a request for it is refused, and where it has
+ * given all of its requests a give of it is taken, and does nothing. HMC_OK, HMC_CLOSED,
+ * HMC_NO_HOST. */
 uint8_t hmc_finish(hmc_session *s, uint8_t host);
 /* The first fault of a text that hmc_ask finds bad: of section script; where it states no request,
- * or more than one, its line is 0 and its word "one". HMC_OK, HMC_MEMORY, HMC_CLOSED, HMC_NONE (it
- * states one request). */
+ * or more than one, its line is 0 and its word "one"; where it isn't UTF-8, 0 and "utf8". HMC_OK,
+ * HMC_MEMORY, HMC_CLOSED, HMC_NONE (it states one request). */
 uint8_t hmc_ask_fault(hmc_session *s, const uint8_t *text, size_t length, hmc_fault_t *out);
 
 /* ---- Steps ---- */
 
-/* Takes a step. HMC_MEMORY: the tape is out of memory. HMC_OK, HMC_MEMORY, HMC_PASSED, HMC_NONE,
- * HMC_CLOSED, HMC_WAITS, HMC_OVER. */
+/* Takes the step of this kind (HMC_GIVE ..) with these numbers; of a landing with this mask, which
+ * the other kinds don't read. HMC_MEMORY: the tape is out of memory. HMC_NONE: the network has no
+ * such part. HMC_OK, HMC_MEMORY, HMC_PASSED, HMC_NONE, HMC_CLOSED, HMC_WAITS, HMC_OVER. */
 uint8_t hmc_step(hmc_session *s, uint8_t kind, uint8_t a, uint8_t b, uint8_t c,
                  const uint8_t mask[16]);
 /* Lays down steps, in the words of a schedule (docs/schedule.md), as "round 100", in place of those
@@ -271,11 +276,11 @@ uint8_t hmc_next(hmc_session *s);
 /* Takes steps that are laid down, and tries at most so many, up to an entry whose kind k has the
  * bit k set in `stops`, as 1u << HMC_TOOK; one that waits is passed over. `steps` is how many were
  * taken. HMC_OK (the latest entry is of such a kind, or so many were tried), HMC_MEMORY (the tape
- * is out of memory for the next one, which stays), HMC_NONE (none is left), HMC_CLOSED, HMC_OVER
- * (the next step may not be taken; it is off the list). */
+ * is out of memory for the next one, which stays), HMC_NONE (none is left, and fewer were tried),
+ * HMC_CLOSED, HMC_OVER (the next step may not be taken; it is off the list). */
 uint8_t hmc_run(hmc_session *s, uint32_t most, uint32_t stops, uint32_t *steps);
-/* The first fault of a text that hmc_lay finds bad: of section schedule. HMC_OK, HMC_MEMORY,
- * HMC_CLOSED, HMC_NONE (it is a schedule). */
+/* The first fault of a text that hmc_lay finds bad: of section schedule; where it isn't UTF-8, its
+ * line is 0 and its word "utf8". HMC_OK, HMC_MEMORY, HMC_CLOSED, HMC_NONE (it is a schedule). */
 uint8_t hmc_lay_fault(hmc_session *s, const uint8_t *text, size_t length, hmc_fault_t *out);
 
 /* ---- What it shows ---- */
@@ -301,7 +306,8 @@ uint8_t hmc_tape_schedule(hmc_session *s, uint8_t *out, size_t room, size_t *len
 uint8_t hmc_block(hmc_session *s, uint8_t cube, uint64_t address, uint8_t out[16]);
 /* A register of a cube, 0 to 15. HMC_OK, HMC_NONE, HMC_CLOSED, HMC_OVER. */
 uint8_t hmc_register(hmc_session *s, uint8_t cube, uint8_t number, uint32_t *out);
-/* The tokens and the counts of a direction. HMC_OK, HMC_NONE, HMC_CLOSED, HMC_OVER. */
+/* The tokens and the counts of a direction. Link i has the directions 2i, from its end a to its end
+ * b, and 2i + 1. HMC_OK, HMC_NONE, HMC_CLOSED, HMC_OVER. */
 uint8_t hmc_tokens(hmc_session *s, uint8_t direction, hmc_tokens_t *out);
 uint8_t hmc_counters(hmc_session *s, uint8_t direction, hmc_counters_t *out);
 /* The counts of a host, and of a cube. HMC_OK, HMC_NONE, HMC_CLOSED, HMC_OVER. */
@@ -316,8 +322,8 @@ uint8_t hmc_under_way(hmc_session *s, uint32_t *out);
  * HMC_OK, HMC_NONE, HMC_CLOSED, HMC_OVER. */
 uint8_t hmc_final_line(hmc_session *s, uint32_t number, uint8_t *out, size_t room,
                        size_t *written);
-/* So many rounds without noise drain a network of one cube and one link. HMC_OK, HMC_CLOSED,
- * HMC_OVER. */
+/* So many rounds without noise drain a network of one cube and one link; of another network the
+ * number says nothing. HMC_OK, HMC_CLOSED, HMC_OVER. */
 uint8_t hmc_drain_bound(hmc_session *s, uint64_t *out);
 
 /* ---- Without a session ---- */

@@ -40,18 +40,20 @@ uint32_t hmc_driver_steps_of_round(const hmc_driver *d);
 uint64_t hmc_driver_waiting(const hmc_driver *d);
 
 /* Asks a host for a request, as hmc_request does, without a fence or poison; `id` is any number.
- * The statuses are those of hmc_request. */
+ * `payload` may be NULL where `length` is 0. The statuses are those of hmc_request. */
 uint8_t hmc_driver_request(hmc_driver *d, uint8_t host, uint8_t code, uint8_t cube,
                            uint64_t address, const uint8_t *payload, size_t length, uint64_t id);
-/* Takes the next steps of the round, up to one that does a request.
+/* Takes the next steps of the round, up to one with which a request is done: it is answered, or, if
+ * posted, given.
  * HMC_OK: a request is done. `id` is its number, and `entry` its answer (kind HMC_TOOK), or of a
  * posted request what was given (kind HMC_GAVE).
  * HMC_NONE: the round has ended, and the next call begins another.
  * HMC_PASSED: a landing passed, of a packet whose flits a mask had changed.
  * HMC_OVER: no step may be taken any more. */
 uint8_t hmc_driver_go(hmc_driver *d, uint64_t *id, hmc_entry_t *entry);
-/* Takes a step of the caller's own, with its place in the round unchanged. The statuses are those
- * of hmc_step. `is_done` says whether the step did a request; `id` and `entry` are written then. */
+/* Takes a step of the caller's own; the driver's round goes on afterwards where it was. The statuses
+ * are those of hmc_step. `is_done` says whether the step did a request: only then do `id` and `entry`
+ * mean something. */
 uint8_t hmc_driver_step(hmc_driver *d, uint8_t kind, uint8_t a, uint8_t b, uint8_t c,
                         const uint8_t mask[16], bool *is_done, uint64_t *id, hmc_entry_t *entry);
 

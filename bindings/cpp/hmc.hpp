@@ -1,8 +1,9 @@
-// The library for C++: sessions that close themselves, and a memory that answers by callbacks.
+// The library for C++: sessions that close themselves, a memory that answers by callbacks, and
+// reports of whole cases.
 //
 // A header over hmc.h and hmc_driver.h; no proof covers it. C++17, and std::span where there is
-// one. Each class is for one thread at a time, can be moved and not copied. What goes wrong is an
-// exception of the class hmc::Error, which has the status.
+// one. Each class is for one thread at a time, can be moved and not copied. What goes wrong throws
+// hmc::Error, which has the status, and out of memory std::bad_alloc.
 #ifndef HMC_HPP
 #define HMC_HPP
 
@@ -69,8 +70,35 @@ inline void require(const char *call, std::uint8_t status) {
         throw Error(call, status);
 }
 
+// The bytes of a text. The calls want a pointer also where there are none.
 inline const std::uint8_t *bytes_of(std::string_view text) {
-    return reinterpret_cast<const std::uint8_t *>(text.data());
+    return reinterpret_cast<const std::uint8_t *>(text.empty() ? "" : text.data());
+}
+
+// Logic units (docs/units.md) that never worked, at most 8: the one at place i is in slot i.
+using Units = std::vector<hmc_unit_t>;
+
+inline const hmc_unit_t *units_at(const Units &units) {
+    static const hmc_unit_t none{};
+    return units.empty() ? &none : units.data();
+}
+
+// A text that a call writes into a room of so many bytes, with its length also where it doesn't
+// fit: then there is a second call. The status is left to be judged.
+template <class Write>
+std::string written(std::uint8_t &status, std::size_t room, Write write) {
+    std::string text(room, '\0');
+    std::size_t length = 0;
+    const auto into = [&] {
+        return write(reinterpret_cast<std::uint8_t *>(&text[0]), text.size(), &length);
+    };
+    status = into();
+    if (status == HMC_NONE && length > text.size()) {
+        text.resize(length);
+        status = into();
+    }
+    text.resize(length);
+    return text;
 }
 
 // A request: the code of its command (docs/packets.md), its cube, an address below 2^34, and as
@@ -103,8 +131,16 @@ inline std::uint8_t write_code(std::size_t size) {
 // A session of a case (docs/case.md).
 class Session {
 public:
-    explicit Session(std::string_view text) {
-        require("open", hmc_open(bytes_of(text), text.size(), &handle_));
+    explicit Session(std::string_view text, const Units &units = {}) {
+        require("open", hmc_open_with(bytes_of(text), text.size(), units_at(units), units.size(),
+                                      &handle_));
+    }
+    // The same with a tape.
+    static Session taped(std::string_view text, const Units &units = {}) {
+        Session session;
+        require("open", hmc_open_taped(bytes_of(text), text.size(), units_at(units), units.size(),
+                                       &session.handle_));
+        return session;
     }
     ~Session() { hmc_close(&handle_); }
     Session(const Session &) = delete;
@@ -123,6 +159,10 @@ public:
         require("request", hmc_request(&handle_, host, fenced, poisoned, asked.code, asked.cube,
                                        asked.address, payload, asked.payload.size()));
     }
+    // Asks for the one request that a text states, in the words of a script (docs/script.md).
+    void ask(std::string_view text) {
+        require("ask", hmc_ask(&handle_, bytes_of(text), text.size()));
+    }
     // Asks a host for nothing more from now on.
     void finish(std::uint8_t host) { require("finish", hmc_finish(&handle_, host)); }
     // Takes a step. Returns HMC_OK, HMC_PASSED or HMC_WAITS, and throws where there is no such step
@@ -133,6 +173,21 @@ public:
         if (status != HMC_PASSED && status != HMC_WAITS)
             require("step", status);
         return status;
+    }
+    // Lays down the steps that a text states, in the words of a schedule (docs/schedule.md), in
+    // place of those that are left.
+    void lay(std::string_view text) {
+        require("lay", hmc_lay(&handle_, bytes_of(text), text.size()));
+    }
+    // Takes laid steps, and tries at most so many, up to an entry whose kind k has the bit k set in
+    // `stops`. Returns how many were taken; throws where a step may not be taken any more, also
+    // after it took steps.
+    std::uint32_t run(std::uint32_t most, std::uint32_t stops = 0) {
+        std::uint32_t steps = 0;
+        const std::uint8_t status = hmc_run(&handle_, most, stops, &steps);
+        if (status != HMC_NONE)
+            require("run", status);
+        return steps;
     }
     // The latest entry; throws before the first step.
     hmc_entry_t entry() {
@@ -147,12 +202,70 @@ public:
         require("line", hmc_line(&handle_, text.data(), text.size(), &length));
         return std::string(text.begin(), text.begin() + static_cast<std::ptrdiff_t>(length));
     }
+    // The tape: the requests as a script, and the steps as a schedule; throws where there is none.
+    std::string tape_script() {
+        return tape_text([this](std::uint8_t *out, std::size_t room, std::size_t *length) {
+            return hmc_tape_script(&handle_, out, room, length);
+        });
+    }
+    std::string tape_schedule() {
+        return tape_text([this](std::uint8_t *out, std::size_t room, std::size_t *length) {
+            return hmc_tape_schedule(&handle_, out, room, length);
+        });
+    }
     // The handle, for the calls of hmc.h.
     hmc_session *handle() { return &handle_; }
 
 private:
+    Session() = default;
+    template <class Write> static std::string tape_text(Write write) {
+        std::uint8_t status = HMC_OK;
+        std::string text = written(status, 4096, write);
+        require("the tape", status);
+        return text;
+    }
+
     hmc_session handle_{};
 };
+
+// A report (docs/report.md), and whether it ends with a landing that passed.
+struct Report {
+    std::string text;
+    bool passed;
+};
+
+// The report of a case; throws where the text is no case or there is no such unit.
+inline Report run_case(std::string_view text, const Units &units = {}) {
+    std::uint8_t status = HMC_OK;
+    Report made{written(status, 1 << 20,
+                        [&](std::uint8_t *out, std::size_t room, std::size_t *length) {
+                            return hmc_run_case(bytes_of(text), text.size(), units_at(units),
+                                                units.size(), out, room, length);
+                        }),
+                false};
+    made.passed = status == HMC_PASSED;
+    if (!made.passed)
+        require("run_case", status);
+    return made;
+}
+
+// Whether a report is that of a case. Where it is, `number` is how many entries it has, else the
+// first line, from 1, that shows that it isn't.
+struct Verdict {
+    bool lawful;
+    std::uint32_t number;
+};
+
+inline Verdict check(std::string_view text, std::string_view report, const Units &units = {}) {
+    Verdict verdict{false, 0};
+    const std::uint8_t status =
+        hmc_check(bytes_of(text), text.size(), bytes_of(report), report.size(), units_at(units),
+                  units.size(), &verdict.number);
+    verdict.lawful = status == HMC_OK;
+    if (status != HMC_UNLAWFUL)
+        require("check", status);
+    return verdict;
+}
 
 // A network that is asked by functions: each request has one, which is called once with its answer,
 // or for a posted request with what was given. It is stepped in rounds.

@@ -1,6 +1,8 @@
-// Misuse, moves, and writes and reads that are answered by callbacks. Ends with 0 if all is well.
+// Misuse, moves, writes and reads that are answered by callbacks, tapes, logic units and reports.
+// Ends with 0 if all is well.
 #include "hmc.hpp"
 
+#include <algorithm>
 #include <cstdio>
 #include <cstdlib>
 #include <fstream>
@@ -38,6 +40,15 @@ static void misuse(const std::string &text) {
     want(second.step(HMC_TAKE, 0) == HMC_OK && second.line() == "idle take 0 empty\n",
          "the line of a take");
     want_error(HMC_BAD, "a read of 24 bytes", [] { hmc::read_code(24); });
+    want_error(HMC_BAD, "no text", [] { hmc::Session(std::string_view()); });
+    want_error(HMC_BAD, "words that are no request", [&] { second.ask("0 rd17 0 0"); });
+    want_error(HMC_BAD, "words that are no steps", [&] { second.lay("round"); });
+    want_error(HMC_NONE, "no tape", [&] { second.tape_script(); });
+    want_error(HMC_NONE, "nine units", [&] { hmc::Session(text, hmc::Units(9)); });
+    want_error(HMC_NONE, "no unit", [&] { hmc::run_case(text, {{2, 0, 0}}); });
+    want_error(HMC_NONE, "no unit", [&] { hmc::check(text, "", {{HMC_STAMP, 8, 0}}); });
+    want_error(HMC_BAD, "the report of no case", [] { hmc::run_case("no case"); });
+    want_error(HMC_BAD, "a check by no case", [] { hmc::check("no case", ""); });
 }
 
 static void run_until_idle(hmc::Memory &memory) {
@@ -75,6 +86,42 @@ static void answers(const std::string &text) {
     want(memory.is_idle(), "a request that was refused isn't waited for");
 }
 
+// The text with another one in the place of the first of its kind.
+static std::string with(std::string text, const std::string &old, const std::string &text_new) {
+    const std::size_t at = text.find(old);
+    want(at != std::string::npos, "a text that is there");
+    return text.replace(at, old.size(), text_new);
+}
+
+// A session with a tape and a unit that reverses blocks. The case with its tape has its lines.
+static void tapes(const std::string &text) {
+    const hmc::Units units{{HMC_REVERSE, 1, 3}};
+    hmc::Session session = hmc::Session::taped(text, units);
+    want(session.tape_script().empty() && session.tape_schedule().empty(), "an empty tape");
+    session.ask("0 unit3 1 0x40 000102030405060708090a0b0c0d0e0f");
+    session.finish(0);
+    session.lay("round 1000");
+    std::string lines;
+    while (lines.find("\ntook ") == std::string::npos && session.run(1) == 1)
+        lines += session.line();
+    want(session.entry().kind == HMC_TOOK && session.entry().answer == 2, "the answer of a unit");
+    const std::string script = session.tape_script();
+    want(script == "0 unit3 1 0x40 000102030405060708090a0b0c0d0e0f\n", "the tape's script");
+    const std::string schedule = session.tape_schedule();
+    want(schedule.size() > 4096 && schedule.compare(0, 7, "give 0\n") == 0, "a long schedule");
+    std::string tape = with(text, "script = ''", "script = '''\n" + script + "'''");
+    tape = with(tape, "schedule = ''", "schedule = '''\n" + schedule + "'''");
+    hmc::Report report = hmc::run_case(tape, units);
+    want(!report.passed && report.text.compare(0, lines.size(), lines) == 0, "the lines of the tape");
+    hmc::Verdict verdict = hmc::check(tape, report.text, units);
+    const auto entries = static_cast<std::size_t>(std::count(lines.begin(), lines.end(), '\n'));
+    want(verdict.lawful && verdict.number == entries, "a lawful report");
+    want(!hmc::check(tape, report.text).lawful, "a report without the unit");
+    report.text[0] ^= 1;
+    verdict = hmc::check(tape, report.text, units);
+    want(!verdict.lawful && verdict.number == 1, "a changed report");
+}
+
 int main(int count, char **words) {
     if (count != 2)
         return 2;
@@ -83,6 +130,7 @@ int main(int count, char **words) {
     text << file.rdbuf();
     misuse(text.str());
     answers(text.str());
+    tapes(text.str());
     std::puts("cpp: ok");
     return 0;
 }

@@ -19,6 +19,9 @@ CASE = Path(sys.argv[1]).read_text(encoding="utf-8")
 WORKERS = 8
 COUNT = 100
 DIVISOR = 0x1741B8CD7
+# It reverses blocks of cube 1.
+REVERSE = hmc.Unit(0, 1, 3)
+REQUEST = "0 unit3 1 0x40 000102030405060708090a0b0c0d0e0f"
 
 
 def remainder_of(data: bytes) -> int:
@@ -82,6 +85,55 @@ class Sessions(unittest.TestCase):
             self.refused(Status.NONE, lambda: s.block(2, 0))
             self.refused(Status.NONE, lambda: s.block(0, 1024))
             self.refused(Status.FINISHED, lambda: s.request(0, "rd16", 0, 0))
+
+    def test_units(self) -> None:
+        calls: tuple[Callable[..., object], ...] = (Session, hmc.run_case)
+        for call in calls:
+            self.refused(Status.NONE, lambda: call(CASE, [hmc.Unit(2, 0, 0)]))
+            self.refused(Status.NONE, lambda: call(CASE, [hmc.Unit(0, 8, 0)]))
+            self.refused(Status.NONE, lambda: call(CASE, [REVERSE] * 9))
+            self.refused(Status.BAD, lambda: call(CASE, [hmc.Unit(0, 256, 0)]))
+            self.refused(Status.BAD, lambda: call("no case"))
+        self.refused(Status.NONE, lambda: hmc.check(CASE, "", [hmc.Unit(0, 0, 8)]))
+        self.refused(Status.BAD, lambda: hmc.check("no case", ""))
+
+    def test_tapes(self) -> None:
+        with Session(CASE, [REVERSE], tape=True) as s:
+            self.assertEqual((s.tape_script, s.tape_schedule), ("", ""))
+            s.ask(REQUEST)
+            s.finish(0)
+            s.lay("round 1000")
+            lines = ""
+            while "\ntook " not in lines and s.run(1) == 1:
+                lines += s.line or ""
+            self.assertEqual(s.tape_script, f"{REQUEST}\n")
+            schedule = s.tape_schedule
+            self.assertGreater(len(schedule), 4096)
+            self.refused(Status.BAD, lambda: s.ask("0 rd17 0 0"))
+            self.refused(Status.BAD, lambda: s.lay("round"))
+        tape = CASE.replace("script = ''", f"script = '''\n{REQUEST}\n'''")
+        tape = tape.replace("schedule = ''", f"schedule = '''\n{schedule}'''")
+        report = hmc.run_case(tape, [REVERSE])
+        self.assertFalse(report.passed)
+        self.assertTrue(report.text.startswith(lines))
+        verdict = hmc.check(tape, report.text, [REVERSE])
+        self.assertEqual(verdict, hmc.Verdict(True, lines.count("\n")))
+        self.assertFalse(hmc.check(tape, report.text).lawful)
+        changed = report.text.replace("gave", "give", 1)
+        self.assertEqual(hmc.check(tape, changed, [REVERSE]), hmc.Verdict(False, 1))
+
+    def test_run(self) -> None:
+        with Session(CASE) as s:
+            s.ask("0 rd16 1 0x40")
+            s.finish(0)
+            s.lay("round 1000")
+            taken = s.run(1_000_000, [hmc.EntryKind.TOOK])
+            entry = s.entry
+            assert entry is not None
+            self.assertEqual((entry.kind, entry.answer.data), (hmc.EntryKind.TOOK, bytes(16)))
+            self.assertEqual(taken + s.run(1_000_000), 33 * 1000)
+            self.assertEqual(s.run(1), 0)
+            self.refused(Status.NONE, lambda: s.tape_script)
 
     def test_crc(self) -> None:
         rng = random.Random(1)

@@ -40,6 +40,14 @@ SVDPI = Path("/usr/share/verilator/include/vltstd")
 # A block of a page: its language, and what it has.
 BLOCK = re.compile(r"^```(\w*)\n(.*?)^```$", re.MULTILINE | re.DOTALL)
 
+# What a page's block in C++ needs around it.
+IN_CPP = """\
+#include "hmc.hpp"
+void bench(const std::string &text);
+void bench(const std::string &text) {{
+{}}}
+"""
+
 
 class Failed(Exception):
     """A test that failed, with why."""
@@ -202,8 +210,13 @@ def test_threads(room: Path) -> str:
 
 
 def test_cpp(room: Path) -> str:
-    """The header for C++, with and without std::span."""
+    """The header for C++, with and without std::span, and the page's block."""
     require("g++", "g++")
+    blocks = BLOCK.findall((TOP / "docs" / "co-simulation.md").read_text(encoding="utf-8"))
+    (code,) = [code for word, code in blocks if word == "cpp"]
+    block = room / "block.cpp"
+    block.write_text(IN_CPP.format(code), encoding="utf-8")
+    run("g++", "-std=c++20", *STRICT, *INCLUDES, "-fsyntax-only", block)
     source, program = BINDINGS / "cpp" / "test.cpp", room / "cpp"
     run("g++", "-std=c++17", *STRICT, *INCLUDES, "-fsyntax-only", source)
     words = ["g++", "-std=c++20", *STRICT, *SANITIZED, *INCLUDES, "-o", program]

@@ -122,19 +122,31 @@ _DRIVER = ctypes.c_void_p
 # Each call: what it returns, and what it takes.
 _REQUEST = (_BYTE, _BYTE, ctypes.c_uint64, _BYTES, _SIZE)
 _STEP = (_BYTE, _BYTE, _BYTE, _BYTE, _BYTES)
+_TEXT = (_BYTES, _SIZE)
+_UNITS = (ctypes.POINTER(RawUnit), _SIZE)
+_ROOM = (_BYTES, _SIZE, ctypes.POINTER(_SIZE))
+_NUMBER = ctypes.POINTER(ctypes.c_uint32)
 CALLS = {
-    "hmc_open": (_BYTE, (_BYTES, _SIZE, _HANDLE)),
-    "hmc_open_with": (_BYTE, (_BYTES, _SIZE, ctypes.POINTER(RawUnit), _SIZE, _HANDLE)),
+    "hmc_open": (_BYTE, (*_TEXT, _HANDLE)),
+    "hmc_open_with": (_BYTE, (*_TEXT, *_UNITS, _HANDLE)),
+    "hmc_open_taped": (_BYTE, (*_TEXT, *_UNITS, _HANDLE)),
+    "hmc_ask": (_BYTE, (_HANDLE, *_TEXT)),
+    "hmc_lay": (_BYTE, (_HANDLE, *_TEXT)),
+    "hmc_run": (_BYTE, (_HANDLE, ctypes.c_uint32, ctypes.c_uint32, _NUMBER)),
+    "hmc_tape_script": (_BYTE, (_HANDLE, *_ROOM)),
+    "hmc_tape_schedule": (_BYTE, (_HANDLE, *_ROOM)),
+    "hmc_run_case": (_BYTE, (*_TEXT, *_UNITS, *_ROOM)),
+    "hmc_check": (_BYTE, (*_TEXT, *_TEXT, *_UNITS, _NUMBER)),
     "hmc_block": (_BYTE, (_HANDLE, _BYTE, ctypes.c_uint64, _BYTES)),
     "hmc_close": (None, (_HANDLE,)),
     "hmc_request": (_BYTE, (_HANDLE, _BYTE, _BOOL, _BOOL, *_REQUEST)),
     "hmc_finish": (_BYTE, (_HANDLE, _BYTE)),
     "hmc_step": (_BYTE, (_HANDLE, *_STEP)),
     "hmc_entry": (_BYTE, (_HANDLE, _ENTRY)),
-    "hmc_line": (_BYTE, (_HANDLE, _BYTES, _SIZE, ctypes.POINTER(_SIZE))),
-    "hmc_crc": (ctypes.c_uint32, (_BYTES, _SIZE)),
+    "hmc_line": (_BYTE, (_HANDLE, *_ROOM)),
+    "hmc_crc": (ctypes.c_uint32, _TEXT),
     "hmc_version": (ctypes.c_uint32, ()),
-    "hmc_driver_open": (_DRIVER, (_BYTES, _SIZE, ctypes.POINTER(_BYTE))),
+    "hmc_driver_open": (_DRIVER, (*_TEXT, ctypes.POINTER(_BYTE))),
     "hmc_driver_close": (None, (_DRIVER,)),
     "hmc_driver_session": (_HANDLE, (_DRIVER,)),
     "hmc_driver_hosts": (_BYTE, (_DRIVER,)),

@@ -3,46 +3,30 @@
 from __future__ import annotations
 
 import ctypes
-from collections.abc import Sequence
-from dataclasses import dataclass
+from collections.abc import Callable, Sequence
 from types import TracebackType
 
-from hmc.calls import Error, Handle, RawEntry, RawUnit, Status, check_number, library
+from hmc.calls import Error, Handle, RawEntry, Status, check_number, library
 from hmc.commands import command_of
-from hmc.entry import Entry, Step
+from hmc.entry import Entry, EntryKind, Step
+from hmc.report import Unit, raw_units, written
 
 NO_MASK = bytes(16)
 LINE_BYTES = 2048
-
-
-@dataclass(frozen=True)
-class Unit:
-    """A logic unit of a shipped kind (docs/units.md) that never worked: kind 0 reverses blocks, and
-    1 numbers them; it does the command `unit` with the number `code` of a cube."""
-
-    kind: int
-    cube: int
-    code: int
-
-
-# The units of the program, in their slots.
-PROGRAM_UNITS = (Unit(0, 0, 0), Unit(1, 0, 1))
+# The first room for a text of a tape. A longer one takes a second call.
+TAPE_ROOM = 4096
 
 
 class Session:
     """A session of a case (docs/case.md), for one thread at a time. Close it, or use `with`. The
-    unit at place i is in slot i; there are at most 8."""
+    unit at place i is in slot i; there are at most 8. With a tape it keeps its requests and steps,
+    which `tape_script` and `tape_schedule` have."""
 
-    def __init__(self, case: str, units: Sequence[Unit] = ()) -> None:
+    def __init__(self, case: str, units: Sequence[Unit] = (), *, tape: bool = False) -> None:
         text = case.encode()
         self._handle = Handle()
-        for unit in units:
-            for number in (unit.kind, unit.cube, unit.code):
-                check_number("unit", number, 8)
-        raw = (RawUnit * max(1, len(units)))(
-            *(RawUnit(it.kind, it.cube, it.code) for it in units)
-        )
-        status = library.hmc_open_with(text, len(text), raw, len(units), self._handle)
+        call = library.hmc_open_taped if tape else library.hmc_open_with
+        status = call(text, len(text), raw_units(units), len(units), self._handle)
         if status:
             raise Error("open", status)
 
@@ -86,6 +70,13 @@ class Session:
         if status:
             raise Error(f"request {word}", status)
 
+    def ask(self, words: str) -> None:
+        """Asks for the one request that a text states, in the words of a script (docs/script.md)."""
+        text = words.encode()
+        status = library.hmc_ask(self._handle, text, len(text))
+        if status:
+            raise Error(f"ask {words!r}", status)
+
     def finish(self, host: int) -> None:
         """Asks a host for nothing more from now on."""
         status = library.hmc_finish(self._handle, check_number("host", host, 8))
@@ -102,6 +93,24 @@ class Session:
         if status not in (Status.OK, Status.PASSED, Status.WAITS):
             raise Error(f"step {kind.name.lower()} {a} {b} {c}", status)
         return Status(status)
+
+    def lay(self, words: str) -> None:
+        """Lays down the steps that a text states, in the words of a schedule (docs/schedule.md), in
+        place of those that are left."""
+        text = words.encode()
+        status = library.hmc_lay(self._handle, text, len(text))
+        if status:
+            raise Error("lay", status)
+
+    def run(self, most: int, stops: Sequence[EntryKind] = ()) -> int:
+        """Takes laid steps, and tries at most so many, up to an entry of one of these kinds. The
+        result is how many were taken. An `Error` may come after steps were taken."""
+        steps = ctypes.c_uint32()
+        bits = sum(1 << kind for kind in set(stops))
+        status = library.hmc_run(self._handle, check_number("run", most, 32), bits, steps)
+        if status not in (Status.OK, Status.NONE):
+            raise Error("run", status)
+        return steps.value
 
     def block(self, cube: int, address: int) -> bytes:
         """The 16 bytes of a cube at an address, a multiple of 16."""
@@ -131,3 +140,21 @@ class Session:
         if status == Status.CLOSED:
             raise Error("line", status)
         return text.raw[: length.value].decode() if status == Status.OK else None
+
+    @property
+    def tape_script(self) -> str:
+        """The requests so far, as a script."""
+        return self._tape(library.hmc_tape_script)
+
+    @property
+    def tape_schedule(self) -> str:
+        """The steps so far, as a schedule."""
+        return self._tape(library.hmc_tape_schedule)
+
+    def _tape(self, call: Callable[..., int]) -> str:
+        status, text = written(
+            TAPE_ROOM, lambda out, room, length: call(self._handle, out, room, length)
+        )
+        if status:
+            raise Error("the tape", status)
+        return text

@@ -1,8 +1,10 @@
 //! A proved model of a network of Hybrid Memory Cubes, for benches in Rust.
 //!
 //! A [`Session`] is asked and stepped call by call, as bindings/c/hmc.h has it. A [`Memory`] is
-//! stepped in rounds, and tells which requests are done. Both can be moved to another thread, and
-//! are for one thread at a time. What can't be done is an [`Error`], and changes nothing.
+//! stepped in rounds, and returns which requests are done. Both can be moved to another thread, and
+//! are for one thread at a time. [`run_case`] has the report of a whole case, and [`check`] says
+//! whether a report is that of a case. What can't be done is an [`Error`], and changes nothing,
+//! except that [`Session::run`] may have taken steps before.
 //!
 //! ```no_run
 //! let case = std::fs::read_to_string("case.toml").unwrap();
@@ -19,7 +21,7 @@
 
 mod raw;
 
-pub use raw::Entry;
+pub use raw::{Entry, Unit};
 
 use std::fmt;
 use std::ptr::null_mut;
@@ -39,7 +41,11 @@ const OK: u8 = 0;
 const PASSED: u8 = 7;
 const NONE: u8 = 8;
 const WAITS: u8 = 10;
+const UNLAWFUL: u8 = 20;
 const LINE_BYTES: usize = 2048;
+/// The first room for a text of a tape, and for a report. A longer one takes a second call.
+const TAPE_ROOM: usize = 4096;
+const REPORT_ROOM: usize = 1 << 20;
 
 /// Kinds of steps, each with the numbers that name its part.
 #[derive(Clone, Copy, Debug, PartialEq, Eq)]
@@ -95,9 +101,9 @@ pub mod kind {
 pub enum Error {
     /// Out of memory.
     Memory,
-    /// The text is no case, or the numbers are no request.
+    /// The text is no case, no request or no schedule, or the numbers are no request.
     Bad,
-    /// There is no such step, or no entry.
+    /// There is no such step, or a logic unit is none.
     None,
     /// A check succeeded over flits that masks changed: no step may follow.
     Passed,
@@ -134,8 +140,8 @@ impl fmt::Display for Error {
     fn fmt(&self, f: &mut fmt::Formatter<'_>) -> fmt::Result {
         match self {
             Error::Memory => f.write_str("out of memory"),
-            Error::Bad => f.write_str("no case, or no request"),
-            Error::None => f.write_str("no such step, or no entry"),
+            Error::Bad => f.write_str("no case, no request or no schedule"),
+            Error::None => f.write_str("no such step, or no logic unit"),
             Error::Passed => f.write_str("a changed flit passed"),
             Error::Over => f.write_str("no step may be taken any more"),
             Error::NoHost => f.write_str("no such host"),
@@ -177,6 +183,20 @@ pub struct Manner {
     pub is_poisoned: bool,
 }
 
+/// A text that a call writes into a room, with its length also where it doesn't fit: then there is
+/// a second call. The status is left to be judged.
+fn written(room: usize, mut write: impl FnMut(*mut u8, usize, &mut usize) -> u8) -> (u8, String) {
+    let mut text = vec![0; room];
+    let mut length = 0;
+    let mut status = write(text.as_mut_ptr(), text.len(), &mut length);
+    if status == NONE && length > text.len() {
+        text.resize(length, 0);
+        status = write(text.as_mut_ptr(), text.len(), &mut length);
+    }
+    text.truncate(length);
+    (status, String::from_utf8_lossy(&text).into_owned())
+}
+
 /// A session of a case (docs/case.md), closed when it is dropped.
 pub struct Session(raw::Handle);
 
@@ -186,10 +206,54 @@ unsafe impl Send for Session {}
 impl Session {
     /// Opens a session of the case that the text is.
     pub fn open(case: &str) -> Result<Session, Error> {
+        Session::open_with(case, &[])
+    }
+
+    /// The same with at most 8 logic units: the one at place i is in slot i.
+    pub fn open_with(case: &str, units: &[Unit]) -> Result<Session, Error> {
         let mut session = Session(raw::Handle { at: null_mut() });
-        // SAFETY: the text has so many bytes, and the handle is closed.
-        checked(unsafe { raw::hmc_open(case.as_ptr(), case.len(), &mut session.0) })?;
+        let (text, length) = (case.as_ptr(), case.len());
+        // SAFETY: the text has so many bytes, there are so many units, and the handle is closed.
+        checked(unsafe {
+            raw::hmc_open_with(text, length, units.as_ptr(), units.len(), &mut session.0)
+        })?;
         Ok(session)
+    }
+
+    /// The same with a tape, which [`tape_script`](Session::tape_script) and
+    /// [`tape_schedule`](Session::tape_schedule) have.
+    pub fn open_taped(case: &str, units: &[Unit]) -> Result<Session, Error> {
+        let mut session = Session(raw::Handle { at: null_mut() });
+        let (text, length) = (case.as_ptr(), case.len());
+        // SAFETY: the text has so many bytes, there are so many units, and the handle is closed.
+        checked(unsafe {
+            raw::hmc_open_taped(text, length, units.as_ptr(), units.len(), &mut session.0)
+        })?;
+        Ok(session)
+    }
+
+    /// Asks for the one request that a text states, in the words of a script (docs/script.md).
+    pub fn ask(&mut self, text: &str) -> Result<(), Error> {
+        // SAFETY: the text has so many bytes.
+        checked(unsafe { raw::hmc_ask(&mut self.0, text.as_ptr(), text.len()) })
+    }
+
+    /// Lays down the steps that a text states, in the words of a schedule (docs/schedule.md), in
+    /// place of those that are left.
+    pub fn lay(&mut self, text: &str) -> Result<(), Error> {
+        // SAFETY: the text has so many bytes.
+        checked(unsafe { raw::hmc_lay(&mut self.0, text.as_ptr(), text.len()) })
+    }
+
+    /// Takes laid steps, and tries at most so many, up to an entry whose [`kind`] k has the bit k
+    /// set in `stops`. Returns how many were taken; an error may come after steps were taken.
+    pub fn run(&mut self, most: u32, stops: u32) -> Result<u32, Error> {
+        let mut steps = 0;
+        // SAFETY: the handle is open.
+        match unsafe { raw::hmc_run(&mut self.0, most, stops, &mut steps) } {
+            OK | NONE => Ok(steps),
+            status => Err(Error::of(status)),
+        }
     }
 
     /// Asks a host for one request more: the code of its command (docs/packets.md), its cube, an
@@ -273,6 +337,24 @@ impl Session {
         text.truncate(length);
         (status == OK).then(|| String::from_utf8_lossy(&text).into_owned())
     }
+
+    /// The requests so far, as a script, if the session has a tape.
+    pub fn tape_script(&mut self) -> Option<String> {
+        // SAFETY: there is room for so many bytes.
+        let (status, text) = written(TAPE_ROOM, |out, room, length| unsafe {
+            raw::hmc_tape_script(&mut self.0, out, room, length)
+        });
+        (status == OK).then_some(text)
+    }
+
+    /// The steps so far, as a schedule, if the session has a tape.
+    pub fn tape_schedule(&mut self) -> Option<String> {
+        // SAFETY: there is room for so many bytes.
+        let (status, text) = written(TAPE_ROOM, |out, room, length| unsafe {
+            raw::hmc_tape_schedule(&mut self.0, out, room, length)
+        });
+        (status == OK).then_some(text)
+    }
 }
 
 impl Drop for Session {
@@ -289,7 +371,7 @@ pub struct Done {
     pub entry: Entry,
 }
 
-/// A network that is stepped in rounds and tells which requests are done.
+/// A network that is stepped in rounds and returns which requests are done.
 pub struct Memory(*mut raw::Driver);
 
 // A memory shares nothing with another one, and has no thread of its own.
@@ -369,6 +451,60 @@ impl Drop for Memory {
     fn drop(&mut self) {
         // SAFETY: the driver is this one's own.
         unsafe { raw::hmc_driver_close(self.0) }
+    }
+}
+
+/// A report (docs/report.md), and whether it ends with a landing that passed.
+#[derive(Clone, Debug, PartialEq, Eq)]
+pub struct Report {
+    pub text: String,
+    pub passed: bool,
+}
+
+/// The report of a case with at most 8 logic units.
+pub fn run_case(case: &str, units: &[Unit]) -> Result<Report, Error> {
+    let (status, text) = written(REPORT_ROOM, |out, room, length| {
+        let (at, count) = (units.as_ptr(), units.len());
+        // SAFETY: the text has so many bytes, there are so many units, and room for so many bytes.
+        unsafe { raw::hmc_run_case(case.as_ptr(), case.len(), at, count, out, room, length) }
+    });
+    match status {
+        OK | PASSED => Ok(Report {
+            text,
+            passed: status == PASSED,
+        }),
+        status => Err(Error::of(status)),
+    }
+}
+
+/// What a check says of a report.
+#[derive(Clone, Copy, Debug, PartialEq, Eq)]
+pub enum Verdict {
+    /// It is that of the case, and has so many entries.
+    Lawful(u32),
+    /// It isn't: this line, from 1, is the first that shows it.
+    Unlawful(u32),
+}
+
+/// Whether a report is that of a case with at most 8 logic units.
+pub fn check(case: &str, report: &str, units: &[Unit]) -> Result<Verdict, Error> {
+    let mut number = 0;
+    // SAFETY: both texts have so many bytes, and there are so many units.
+    let status = unsafe {
+        raw::hmc_check(
+            case.as_ptr(),
+            case.len(),
+            report.as_ptr(),
+            report.len(),
+            units.as_ptr(),
+            units.len(),
+            &mut number,
+        )
+    };
+    match status {
+        OK => Ok(Verdict::Lawful(number)),
+        UNLAWFUL => Ok(Verdict::Unlawful(number)),
+        status => Err(Error::of(status)),
     }
 }
 

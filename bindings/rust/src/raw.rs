@@ -8,6 +8,18 @@ pub struct Handle {
     pub at: *mut c_void,
 }
 
+/// A logic unit (docs/units.md) that never worked: kind 0 reverses blocks, and 1 numbers them; it
+/// does the command `unit` with the number `code` of a cube.
+#[repr(C)]
+#[derive(Clone, Copy, Debug, PartialEq, Eq)]
+pub struct Unit {
+    pub kind: u8,
+    /// Below 8.
+    pub cube: u8,
+    /// Below 8.
+    pub code: u8,
+}
+
 /// A driver.
 #[repr(C)]
 pub struct Driver {
@@ -97,8 +109,44 @@ impl Entry {
 
 #[link(name = "hmc", kind = "static")]
 extern "C" {
-    pub fn hmc_open(text: *const u8, length: usize, s: *mut Handle) -> u8;
+    pub fn hmc_open_with(
+        text: *const u8,
+        length: usize,
+        units: *const Unit,
+        count: usize,
+        s: *mut Handle,
+    ) -> u8;
+    pub fn hmc_open_taped(
+        text: *const u8,
+        length: usize,
+        units: *const Unit,
+        count: usize,
+        s: *mut Handle,
+    ) -> u8;
     pub fn hmc_close(s: *mut Handle);
+    pub fn hmc_ask(s: *mut Handle, text: *const u8, length: usize) -> u8;
+    pub fn hmc_lay(s: *mut Handle, text: *const u8, length: usize) -> u8;
+    pub fn hmc_run(s: *mut Handle, most: u32, stops: u32, steps: *mut u32) -> u8;
+    pub fn hmc_tape_script(s: *mut Handle, out: *mut u8, room: usize, length: *mut usize) -> u8;
+    pub fn hmc_tape_schedule(s: *mut Handle, out: *mut u8, room: usize, length: *mut usize) -> u8;
+    pub fn hmc_run_case(
+        text: *const u8,
+        length: usize,
+        units: *const Unit,
+        count: usize,
+        out: *mut u8,
+        room: usize,
+        report_length: *mut usize,
+    ) -> u8;
+    pub fn hmc_check(
+        text: *const u8,
+        length: usize,
+        report: *const u8,
+        report_length: usize,
+        units: *const Unit,
+        count: usize,
+        number: *mut u32,
+    ) -> u8;
     pub fn hmc_request(
         s: *mut Handle,
         host: u8,

@@ -1,13 +1,20 @@
-//! Misuse of each call, and two threads with a network each, whose answers are compared with a plain
-//! copy of the memory. The case is that of HMC_TEST_CASE: two cubes of 1,024 bytes, no requests.
+//! Misuse of each call, tapes, logic units and reports, and two threads with a network each, whose
+//! answers are compared with a plain copy of the memory. The case is that of HMC_TEST_CASE: two cubes of 1,024 bytes, no requests.
 
-use hmc::{kind, Error, Manner, Memory, Session, Step, Went};
+use hmc::{kind, Error, Manner, Memory, Session, Step, Unit, Verdict, Went};
 use std::collections::HashMap;
 
 const NO_MASK: [u8; 16] = [0; 16];
 const COUNT: u64 = 2000;
 const CUBES: u64 = 2;
 const BLOCKS: u64 = 64;
+/// It reverses blocks of cube 1.
+const REVERSE: Unit = Unit {
+    kind: 0,
+    cube: 1,
+    code: 3,
+};
+const REQUEST: &str = "0 unit3 1 0x40 000102030405060708090a0b0c0d0e0f";
 
 fn case() -> String {
     let path = std::env::var("HMC_TEST_CASE").expect("HMC_TEST_CASE names a case");
@@ -56,8 +63,63 @@ fn misuse() {
         session.request(0, hmc::RD16, 0, 0, &[]),
         Err(Error::Finished)
     );
+    assert_eq!(session.ask("0 rd17 0 0"), Err(Error::Bad));
+    assert_eq!(session.lay("round"), Err(Error::Bad));
+    assert_eq!(session.tape_script(), None);
+    assert_eq!(session.tape_schedule(), None);
     assert_eq!(Memory::open("no case").err(), Some(Error::Bad));
+    let no_unit = [Unit {
+        kind: 2,
+        cube: 0,
+        code: 0,
+    }];
+    assert_eq!(
+        Session::open_with(&case(), &no_unit).err(),
+        Some(Error::None)
+    );
+    assert_eq!(
+        Session::open_taped(&case(), &[REVERSE; 9]).err(),
+        Some(Error::None)
+    );
+    assert_eq!(hmc::run_case(&case(), &no_unit), Err(Error::None));
+    assert_eq!(hmc::run_case("no case", &[]), Err(Error::Bad));
+    assert_eq!(hmc::check(&case(), "", &no_unit), Err(Error::None));
+    assert_eq!(hmc::check("no case", "", &[]), Err(Error::Bad));
     assert_eq!(hmc::crc(&[]), 0);
+}
+
+/// A session with a tape and a unit. The case with its tape has its lines.
+#[test]
+fn tapes() {
+    let units = [REVERSE];
+    let mut session = Session::open_taped(&case(), &units).unwrap();
+    assert_eq!(session.tape_schedule().unwrap(), "");
+    session.ask(REQUEST).unwrap();
+    session.finish(0).unwrap();
+    session.lay("round 1000").unwrap();
+    let mut lines = String::new();
+    while !lines.contains("\ntook ") && session.run(1, 0).unwrap() == 1 {
+        lines += &session.line().unwrap();
+    }
+    let script = session.tape_script().unwrap();
+    assert_eq!(script, format!("{REQUEST}\n"));
+    let schedule = session.tape_schedule().unwrap();
+    assert!(schedule.len() > 4096 && schedule.starts_with("give 0\n"));
+    let tape = case()
+        .replace("script = ''", &format!("script = '''\n{script}'''"))
+        .replace("schedule = ''", &format!("schedule = '''\n{schedule}'''"));
+    let report = hmc::run_case(&tape, &units).unwrap();
+    assert!(!report.passed && report.text.starts_with(&lines));
+    let entries = lines.lines().count() as u32;
+    let verdict = hmc::check(&tape, &report.text, &units);
+    assert_eq!(verdict, Ok(Verdict::Lawful(entries)));
+    let verdict = hmc::check(&tape, &report.text, &[]).unwrap();
+    assert!(matches!(verdict, Verdict::Unlawful(_)));
+    let changed = report.text.replacen("gave", "give", 1);
+    assert_eq!(
+        hmc::check(&tape, &changed, &units),
+        Ok(Verdict::Unlawful(1))
+    );
 }
 
 /// Requests at random places, no place used twice at once, and the number of steps.
