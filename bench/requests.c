@@ -1,6 +1,7 @@
 /* Steps and requests from C, for bench/c: prints nanoseconds a step by hmc_step, by hmc_step and
- * hmc_line, and a request of a driver with eight at once, with its steps.
- * Usage: requests CASE WHAT COUNT; WHAT is step, line or request. */
+ * hmc_line, a call of hmc_step that names no step, and a request of a driver with eight at once, with
+ * its steps.
+ * Usage: requests CASE WHAT COUNT; WHAT is step, line, none or request. */
 #include "hmc_driver.h"
 
 #include <stdio.h>
@@ -44,6 +45,20 @@ static void steps(long count, bool with_lines) {
     hmc_close(&s);
 }
 
+/* Calls that name no step: they look the handle's session up and leave it. */
+static void none(long count) {
+    static const uint8_t no_mask[16] = {0};
+    hmc_session s = {0};
+    if (hmc_open(text, length, &s))
+        exit(1);
+    double start = now();
+    for (long i = 0; i < count; i++)
+        if (hmc_step(&s, HMC_RETIRE + 1, 0, 0, 0, no_mask) != HMC_NONE)
+            exit(1);
+    printf("%.1f\n", (now() - start) / (double)count);
+    hmc_close(&s);
+}
+
 static void requests(long count) {
     uint8_t status, bytes[16] = {1};
     uint64_t id, rounds = 0;
@@ -76,6 +91,8 @@ int main(int count, char **words) {
     fclose(file);
     if (strcmp(words[2], "request") == 0)
         requests(atol(words[3]));
+    else if (strcmp(words[2], "none") == 0)
+        none(atol(words[3]));
     else
         steps(atol(words[3]), strcmp(words[2], "line") == 0);
     return 0;
