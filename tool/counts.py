@@ -17,7 +17,7 @@ from tool.touched import named_table, section_table
 
 CRATES = TOP / "crates"
 # What only tests, beside the crates hmc_tests_.
-ONLY_TEST = ("hmc_examples", "hmc_faults", "hmc_traces", "hmc_packets")
+ONLY_TEST = ("hmc_examples", "hmc_random_sessions", "hmc_faults", "hmc_traces", "hmc_packets")
 ROW = re.compile(r"^[^ -].*= refl$", re.MULTILINE)
 
 

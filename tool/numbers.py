@@ -15,6 +15,11 @@ from tool.kit import TOP
 from tool.texts import CubeParts, Plan
 
 Value = Callable[[], str]
+# Numbers that a page may spell, each at its own place.
+SPELLED = (
+    "zero one two three four five six seven eight nine ten eleven twelve thirteen fourteen "
+    "fifteen sixteen seventeen eighteen nineteen twenty"
+).split()
 
 
 class Number(NamedTuple):
@@ -27,7 +32,8 @@ class Number(NamedTuple):
     def pattern(self) -> re.Pattern[str]:
         """The words, with any number and wherever the line ends."""
         before, after = (spaced(part) for part in self.words.split("{}"))
-        return re.compile(rf"({before})([0-9][0-9,.]*[0-9]|[0-9])({after})")
+        spelled_out = "|".join(f"{it}|{it.capitalize()}" for it in SPELLED)
+        return re.compile(rf"({before})([0-9][0-9,.]*[0-9]|[0-9]|{spelled_out})({after})")
 
 
 def spaced(words: str) -> str:
@@ -55,6 +61,16 @@ def named(path: str, pattern: str) -> Value:
         return shown(numbers.pop())
 
     return value
+
+
+def spelled(value: Value, less: int = 0, each: int = 1) -> Value:
+    """A small number in letters: what is left of it without so many, by so many."""
+    return lambda: SPELLED[(int(value()) - less) // each]
+
+
+def capital(value: Value) -> Value:
+    """A number in letters at the beginning of a sentence."""
+    return lambda: value().capitalize()
 
 
 def limit(name: str) -> Value:
@@ -159,26 +175,116 @@ SETTLED = named("crates/hmc_bound/specs/Bound.antt", r"= [0-9]+ \+ ")
 TO_SETTLE = named("crates/hmc_bound/specs/Bound.antt", "drain_bound topology past = ")
 WEIGHT = named(STAGES, "weight s ≤ ")
 BEGIN = named("crates/hmc_link_state/specs/State.antt", "each begin ")
+def functions(crate: str) -> Value:
+    """How many functions a crate has, in letters."""
+    pattern = re.compile(r"^ *pub fn ", re.MULTILINE)
+    files_of = f"crates/{crate}/src/**/*.rt"
+    return spelled(lambda: shown(sum(len(pattern.findall(text)) for text in texts_of(files_of))))
+
+
+def texts_of(pattern: str) -> list[str]:
+    """The content of each file with such a path."""
+    return [path.read_text(encoding="utf-8") for path in TOP.glob(pattern)]
+
+
+def lines_of_laws() -> str:
+    """The lines of the two crates that have the laws of a link."""
+    found = 0
+    for crate in ("hmc_numbers", "hmc_wire"):
+        for part in ("src", "specs", "proofs"):
+            found += sum(it.count("\n") for it in texts_of(f"crates/{crate}/{part}/**/*.*t"))
+    return shown(found)
+
+
+def most_mutants() -> str:
+    """How many mutants the crate has that has most."""
+    folders = TOP.glob("crates/*/must-fail")
+    return shown(max(len(list(it.glob("*.edit"))) for it in folders))
+
+
+def crates_of_tests() -> str:
+    """How many crates have tests in their code, beside hmc_make."""
+    paths = TOP.glob("crates/*/src/**/*.rt")
+    with_tests = [it for it in paths if "#[test]" in it.read_text(encoding="utf-8")]
+    return shown(len({it.relative_to(TOP / "crates").parts[0] for it in with_tests} - {"hmc_make"}))
+
+
+def rounds_of_training() -> str:
+    """The rounds before the one in which the host's end first returns tokens: it has trained."""
+    return shown(round_of(f"{FIRST}.report", "^sent 0 tret ") - 1)
+
+
+def kibibytes(value: Value) -> Value:
+    """A number of bytes in KiB."""
+    return lambda: shown(int(value().replace(",", "")) >> 10)
+
+
+def round_of(path: str, pattern: str) -> int:
+    """The round, from 1, of the first line that has this pattern: twelve lines are a round."""
+    return (int(place(path, pattern)().replace(",", "")) + 11) // 12
+
+
 DRAWN = named("crates/hmc_make/src/items.rt", "const REQUESTS: u32 = ")
 NOISY = named("crates/hmc_make/src/steps.rt", r"rounds\(&plan, (?=[0-9]+, Some)")
 QUIET = named("crates/hmc_make/src/steps.rt", r"rounds\(&plan, (?=[0-9]+, None)")
 TEXT = "crates/hmc_codes/src/text.rt"
 PIECES = "crates/hmc_codes/src/pieces.rt"
+TEXT_BYTES = kibibytes(named(PIECES, "Gathered = ArrayString<"))
+LINE_BYTES = named("crates/hmc_schedule/src/written.rt", r"size_of::<Segment>\(\) == ")
+SINK = "crates/hmc_outside/src/std_sink.rt"
+CHANGES = "crates/hmc_examples/src/checks.rt"
+PROGRAMS = spelled(files("crates/hmc_prog*/args"))
+UNITS = spelled(lines("crates/hmc_units/src/shipped.rt", r"    [A-Z][a-z]+\([A-Z][a-z]+\),$"))
+SEND_ROWS = "crates/hmc_send/specs/SendRows.antt"
+ROWS_OF_SENDS = spelled(lines(SEND_ROWS, r"abbrev pub [a-z]+ : .*SendView → (Option )?Sent$"))
 MEANING = "crates/hmc_trace/src/meaning.rt"
 BENCH = "bindings/verilator/test.sv"
 BAD_CASES = lines(f"{DATA}/bad-cases.txt", "= ")
+LONG_RUNS = lines("tool/tests/test_long.py", "    def test_")
+# Crates that have laws alone, each with the words of its row.
+LAWS = tuple(
+    Number(f"| {title} | nothing of code: its {{}} functions", functions(crate))
+    for crate, title in {
+        "hmc_numbers": "why a link that retries is a list, by numbers alone",
+        "hmc_wire": "the laws of a link",
+        "hmc_link_laws": "what a link promises of its list",
+        "hmc_copies": "copies of forwarded packets",
+        "hmc_growing": "cases that grow",
+        "hmc_promises": "what is promised of a journal after each step",
+        "hmc_texts": "the text of a report",
+    }.items()
+)
 NUMBERS: dict[str, tuple[Number, ...]] = {
+    "CHANGES.md": (Number("single steps takes {} bytes a line", LINE_BYTES),),
     "README.md": (Number("the report has {} lines", lines(f"{FIRST}.report")),),
     "CONTRIBUTING.md": (
         Number("the script have at most {} lines", named("tool/pylintrc", "max-module-lines=")),
     ),
+    "docs/ARCHITECTURE.md": (
+        Number("The crates are on {} floors", spelled(lines("docs/ARCHITECTURE.md", "## Floor "))),
+        Number("| the {} shipped units, Reverse and Stamp", UNITS),
+        Number("what a send sees, and the {} cases; the same", ROWS_OF_SENDS),
+        Number("the same as {} rows in a list", ROWS_OF_SENDS),
+        Number("So a crate has at most {} mutants", spelled(most_mutants)),
+        Number("those of hmc_make are in {} crates that", spelled(crates_of_tests)),
+    ),
     "docs/DECISIONS.md": (
+        Number("so a line with one step takes {} bytes", LINE_BYTES),
+        Number("so `StdSink` gathers {} KiB in", kibibytes(named(SINK, "HELD: usize = "))),
+        Number("after another in a text of {} KiB", TEXT_BYTES),
+        Number("is tried without their {} lines, and", lines_of_laws),
+        Number("Nor have the {} programs: their", PROGRAMS),
         Number("of hmc_codes), {} where", named(PIECES, "Gathered = ArrayString<")),
         Number("`Finished::capacity` is at most {}**", largest_shape),
     ),
     "docs/PROOFS.md": (
         Number("of at most {} and 519 bytes", named(TEXT, "last word. It has at most ")),
         Number("of at most 562 and {} bytes", named(TEXT, "decimal. It has at most ")),
+        *LAWS,
+        Number("says the same of the {} rows of a send", ROWS_OF_SENDS),
+        Number("The program around `run_program`, by {} stored runs", PROGRAMS),
+        Number("unchanged and with {} changes", spelled(named(CHANGES, r"\[Change; "), less=1)),
+        Number("{} longer reports, one of", capital(spelled(LONG_RUNS))),
         Number("its {} requests by draws", DRAWN),
         Number("(`under_way`). {} * (k + 1) whole rounds", SETTLED),
         Number("(`AreSettled`), and {} more from any state", TO_SETTLE),
@@ -192,8 +298,13 @@ NUMBERS: dict[str, tuple[Number, ...]] = {
         Number("before them, {} (k + 1) rounds are enough", SETTLED),
         Number("a settled link, and {} + 2,000 (k + 1)", TO_SETTLE),
     ),
-    "docs/case.md": (Number("has {} examples, each a change", BAD_CASES),),
+    "docs/case.md": (
+        Number("has {} examples, each a change", BAD_CASES),
+        Number("A link trains for about {} rounds", rounds_of_training),
+    ),
+    "docs/check.md": (Number("in a text of {} KiB", TEXT_BYTES),),
     "docs/co-simulation.md": (
+        Number("Links train first, for about {} rounds", rounds_of_training),
         Number("A round of the largest network has {} steps", largest_round),
         Number("a random drive of {} choices", named("bindings/tests/run.py", "CHOICES = ")),
     ),
@@ -202,15 +313,20 @@ NUMBERS: dict[str, tuple[Number, ...]] = {
         Number("| in any state | {} + 2,000 * (k + 1) |", TO_SETTLE),
         Number("It has {} lines of steps", bound_lines),
         Number("| {} | `LeavesTrain`", stage("LeavesTrain")),
+        Number("| {} | `Cleans`", stage("Cleans")),
         Number("| {} | `BecomesGood`", stage("BecomesGood")),
         Number("| {} | `Settles`", stage("Settles")),
         Number("| {} | `SettlesInAll`", stage("SettlesInAll")),
         Number("| {} | `CatchesUp`", stage("CatchesUp")),
         Number("| {} | `Arrives`", stage("Arrives")),
         Number("| {} | `Begins`", stage("Begins")),
+        Number("| {} | `MovesOrRests`", named(STAGES, "    Leads p c ")),
         Number("A request has at most {} rounds before it", WEIGHT),
         Number("begin and acceptance ({} and 100), shift", BEGIN),
         Number("its bound is {},", named("examples/bound-two-requests.bound", "bound ")),
+    ),
+    "docs/observations.md": (
+        Number("directions, {} times until both", named("tool/convert.py", "TRAINING = ")),
     ),
     "docs/report.md": (
         Number("Host 0 has {} requests", DRAWN),
@@ -224,13 +340,19 @@ NUMBERS: dict[str, tuple[Number, ...]] = {
     "docs/speed.md": (
         Number("The first workload is {} steps", steps_of(f"{FIRST}.toml", 18000)),
         Number("steps: {} instructions a step", instructions_a_step),
+        Number("`step` takes {} times the instructions of", measured("session", "step")),
+        Number("`next` takes {} times as many, and", measured("session", "next")),
+        Number("times as many, and `run` {} times", measured("session", "run")),
         Number("it takes {} times the instructions of", measured("check", "a write and a read")),
         Number("write and a read, {} for writes", measured("check", "writes of 16 bytes")),
         Number("and {} for a chain of eight", measured("check", "chain of eight cubes")),
+        Number("gathers its lines in a text of {} KiB", TEXT_BYTES),
     ),
+    "docs/status.md": (Number("handed in, of which the program has {}", UNITS),),
     "docs/through.md": (Number("there are {} sends and", trained),),
     "docs/tool.md": (Number("Each has {} rounds", named("examples/make-3.report", "counters 0 ")),),
     "docs/trace.md": (Number("of 1 to {} bytes", named(MEANING, "MOST: usize = ")),),
+    "docs/units.md": (Number("the program hands in the {} [shipped ones]", UNITS),),
     "docs/verilator.md": (Number("with {} requests of", named(BENCH, "COUNT = ")),),
     "crates/hmc_make/CALLING.md": (
         Number("{} requests of one host", DRAWN),
