@@ -35,7 +35,7 @@ pub struct CountersOut {
     pub accepted: u32,
     /// Packets that had been accepted before.
     pub repeats: u32,
-    /// Landings after which the receiver waited to be cleared, unlocks in Good included.
+    /// Landings with an error, and unlocks of a receiver that was in Good.
     pub aborts: u32,
 }
 

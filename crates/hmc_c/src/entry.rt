@@ -54,7 +54,7 @@ pub struct EntryOut {
     pub what: u8,
     /// What a landing was, 1 to 13.
     pub outcome: u8,
-    /// The flag of an answer.
+    /// The flag of an answer; of a shift, whether the packet went to a port.
     pub flag: bool,
     /// Whether a request is poisoned.
     pub poisoned: bool,

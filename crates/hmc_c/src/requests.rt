@@ -94,7 +94,7 @@ fn ask(held: &mut Held, host: u8, fenced: bool, poisoned: bool, request: Option<
 }
 
 /// Asks a host for one request, which it gives after its others: the code of its command (docs/
-/// commands.md), the number of its cube, an address below 2^34, and as many payload bytes as the
+/// packets.md), the number of its cube, an address below 2^34, and as many payload bytes as the
 /// command has. Of the 16 bytes of an `mdwr` the first four count. Where it is fenced, the host
 /// waits before it until none of its tags is out; where it is poisoned, its packet is.
 ///

@@ -12,7 +12,7 @@ use hmc_session::{LineNotAsked, NotAsked, NotTaken, Ran};
 pub(crate) const OK: u8 = 0;
 /// Out of memory: nothing changed.
 pub(crate) const MEMORY: u8 = 1;
-/// The text is none that is read here: nothing changed.
+/// The text is no case, request or schedule, or the numbers no request or packet: nothing changed.
 pub(crate) const BAD: u8 = 6;
 /// The step was taken, and its landing passed: none may follow.
 pub(crate) const PASSED: u8 = 7;
