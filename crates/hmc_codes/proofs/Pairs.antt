@@ -1,10 +1,9 @@
--- The table of the digits of all bytes, and digits that are written two by two.
+-- The digits of a byte by sums, and digits that are written two by two.
 use Rattle.std.proofs.Common.{◌≡◌, ◌∙◌, ◌<◌, ◌+◌, ◌*◌, ◌/◌, ◌%◌, ℕ, zero, suc, List, [], ◌∷◌, ◌++◌, length, take, drop, refl, sym, ap, arith}
-use Rattle.std.specs.Prelude.{slice_set, slice_index, map, get_or}
+use Rattle.std.specs.Prelude.{slice_set, slice_index, map, get_or, bit_and}
 use Rattle.std.specs.List.{range_with_len}
 use Rattle.std.proofs.lemmas.List.FromFn.{get_or-map-range_with_len}
 use Rattle.hex.specs.Hex.{encode_lower, encode_with, lower_digits}
-use Rattle.hmc_codes.specs.declared.pieces.TheConstants.{PAIRS}
 
 -- an even number, in a form that computes
 abbrev twice : ℕ → ℕ
@@ -21,24 +20,29 @@ high byte = slice_index lower_digits (byte / 16)
 abbrev low : ℕ → ℕ
 low byte = slice_index lower_digits (byte % 16)
 
--- every pair of the table, computed
-high_right : map (λ byte. slice_index PAIRS (twice byte)) (range_with_len 0 256) ≡ map high (range_with_len 0 256)
-high_right = refl
+-- two digits of their numbers, the second in the higher bits
+abbrev pub pair_of : ℕ → ℕ → ℕ
+pair_of first second = first + 256 * second + 12336 + 39 * bit_and ((first + 256 * second + 1542) / 16) 257
 
-low_right : map (λ byte. slice_index PAIRS (suc (twice byte))) (range_with_len 0 256) ≡ map low (range_with_len 0 256)
-low_right = refl
+abbrev pub pair : ℕ → ℕ
+pair byte = pair_of (byte / 16) (byte % 16)
+
+-- the pair of every byte, computed
+first_right : map (λ byte. pair byte % 256) (range_with_len 0 256) ≡ map high (range_with_len 0 256)
+first_right = refl
+
+second_right : map (λ byte. pair byte / 256) (range_with_len 0 256) ≡ map low (range_with_len 0 256)
+second_right = refl
 
 at_byte : (f g : ℕ → ℕ) (byte : ℕ) → map f (range_with_len 0 256) ≡ map g (range_with_len 0 256) → byte < 256 → f byte ≡ g byte
 at_byte f g byte same small =
     sym (get_or-map-range_with_len f 0 256 byte byte 0 small (omega arith)) ∙ ap (λ (l : List ℕ). get_or l byte 0) same ∙ get_or-map-range_with_len g 0 256 byte byte 0 small (omega arith)
 
-pub high_is_right : (byte : ℕ) → byte < 256 → slice_index PAIRS (2 * byte) ≡ slice_index lower_digits (byte / 16)
-high_is_right byte small = ap (slice_index PAIRS) (sym (twice_is byte)) ∙ at_byte (λ b. slice_index PAIRS (twice b)) high byte high_right small
+pub first_is_right : (byte : ℕ) → byte < 256 → pair byte % 256 ≡ slice_index lower_digits (byte / 16)
+first_is_right byte small = at_byte (λ b. pair b % 256) high byte first_right small
 
-pub low_is_right : (byte : ℕ) → byte < 256 → slice_index PAIRS (2 * byte + 1) ≡ slice_index lower_digits (byte % 16)
-low_is_right byte small =
-    let e : 2 * byte + 1 ≡ suc (twice byte) = omega (arith, twice_is byte) in
-    ap (slice_index PAIRS) e ∙ at_byte (λ b. slice_index PAIRS (suc (twice b))) low byte low_right small
+pub second_is_right : (byte : ℕ) → byte < 256 → pair byte / 256 ≡ slice_index lower_digits (byte % 16)
+second_is_right byte small = at_byte (λ b. pair b / 256) low byte second_right small
 
 -- the digits of a byte come after those of the bytes before it
 next_pair : (bytes digits : List ℕ) (at : ℕ) → at < length bytes → length digits ≡ twice (length bytes) →

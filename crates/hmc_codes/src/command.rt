@@ -124,6 +124,7 @@ impl Command {
     }
 
     /// The family: flow packets, requests or responses.
+    #[inline(always)]
     pub fn family(self) -> Family
         ensures { result ≡ family_of self }
     {

@@ -101,13 +101,18 @@ fn hex_digits(number: u64) -> Digits
     digits
 }
 
-/// Appends a number in decimal: at most 20 digits.
+/// Appends a number in decimal: at most 20 digits. Most numbers have one.
+#[tactic(auto, using(crate::proofs::Digits::decimal_last))]
 pub fn append_decimal<const N: usize>(into: &mut ArrayString<N>, number: u64)
     requires room { length into.old.bytes + 20 ≤ N }
     ensures text { into.new.bytes ≡ into.old.bytes ++ decimal number }
     ensures few { length into.new.bytes ≤ length into.old.bytes + 20 }
 {
-    into.push_str(decimal_digits(number).as_str());
+    if number < 10 {
+        into.push_str(digit_word(number));
+    } else {
+        into.push_str(decimal_digits(number).as_str());
+    }
 }
 
 /// A space and a digit, from 0 to 9.
@@ -149,6 +154,38 @@ pub fn append_spaced<const N: usize>(into: &mut ArrayString<N>, number: u64)
     }
 }
 
+// Appends one or two digits.
+#[inline(always)]
+fn push_hex_two<const N: usize>(into: &mut ArrayString<N>, number: u64)
+    requires small { number < 256 }
+    requires room { length into.old.bytes + 2 ≤ N }
+    ensures text { into.new.bytes ≡ into.old.bytes ++ digits 16 false number }
+    ensures few { length into.new.bytes ≤ length into.old.bytes + 2 }
+{
+    if number < 16 {
+        into.push_str(digit_word(number));
+    } else {
+        into.push_str(digit_word(number / 16));
+        into.push_str(digit_word(number % 16));
+    }
+}
+
+// Appends one to three digits.
+#[inline(always)]
+fn push_hex_three<const N: usize>(into: &mut ArrayString<N>, number: u64)
+    requires small { number < 4096 }
+    requires room { length into.old.bytes + 3 ≤ N }
+    ensures text { into.new.bytes ≡ into.old.bytes ++ digits 16 false number }
+    ensures few { length into.new.bytes ≤ length into.old.bytes + 3 }
+{
+    if number < 16 {
+        into.push_str(digit_word(number));
+    } else {
+        push_hex_two(into, number / 16);
+        into.push_str(digit_word(number % 16));
+    }
+}
+
 /// Appends `0x` and a number in lower-case hexadecimal without leading zeros: at most 18 bytes.
 pub fn append_hex_number<const N: usize>(into: &mut ArrayString<N>, number: u64)
     requires room { length into.old.bytes + 18 ≤ N }
@@ -156,29 +193,25 @@ pub fn append_hex_number<const N: usize>(into: &mut ArrayString<N>, number: u64)
     ensures few { length into.new.bytes ≤ length into.old.bytes + 18 }
 {
     into.push_str("0x");
-    into.push_str(hex_digits(number).as_str());
+    if number < 4096 {
+        push_hex_three(into, number);
+    } else {
+        into.push_str(hex_digits(number).as_str());
+    }
 }
 
-// The two digits of each byte.
-const PAIRS: [u8; 512] = *b"000102030405060708090a0b0c0d0e0f101112131415161718191a1b1c1d1e1f\
-      202122232425262728292a2b2c2d2e2f303132333435363738393a3b3c3d3e3f\
-      404142434445464748494a4b4c4d4e4f505152535455565758595a5b5c5d5e5f\
-      606162636465666768696a6b6c6d6e6f707172737475767778797a7b7c7d7e7f\
-      808182838485868788898a8b8c8d8e8f909192939495969798999a9b9c9d9e9f\
-      a0a1a2a3a4a5a6a7a8a9aaabacadaeafb0b1b2b3b4b5b6b7b8b9babbbcbdbebf\
-      c0c1c2c3c4c5c6c7c8c9cacbcccdcecfd0d1d2d3d4d5d6d7d8d9dadbdcdddedf\
-      e0e1e2e3e4e5e6e7e8e9eaebecedeeeff0f1f2f3f4f5f6f7f8f9fafbfcfdfeff";
-
-fn high_digit(byte: u8) -> u8
-    ensures { result ≡ slice_index lower_digits (byte / 16) }
+// The two digits of a byte, in lower case: the first in the low eight bits, the second above them.
+//
+// No table is read and nothing is branched on, so that many bytes are done at once. Digits from ten
+// on are letters: 'a' has the code 97, which is ten and the code of '0' and 39 more.
+#[inline(always)]
+fn digit_pair(byte: u8) -> u16
+    ensures first { result % 256 ≡ slice_index lower_digits (byte / 16) }
+    ensures second { result / 256 ≡ slice_index lower_digits (byte % 16) }
 {
-    PAIRS[2 * usize::from(byte)]
-}
-
-fn low_digit(byte: u8) -> u8
-    ensures { result ≡ slice_index lower_digits (byte % 16) }
-{
-    PAIRS[2 * usize::from(byte) + 1]
+    let halves = u16::from(byte / 16) + 256 * u16::from(byte % 16);
+    let letters = (halves + 0x0606) / 16 & 0x0101;
+    halves + 0x3030 + 39 * letters
 }
 
 // Writes two digits for each byte.
@@ -187,12 +220,9 @@ fn encode(bytes: &[u8], digits: &mut [u8])
     ensures { digits.new ≡ encode_lower bytes.now }
 {
     'bytes: for at in 0..bytes.len() {
-        let byte = bytes[at];
-        // Both are read before one is written, so that two bytes move at once.
-        let high = high_digit(byte);
-        let low = low_digit(byte);
-        digits[2 * at] = high;
-        digits[2 * at + 1] = low;
+        let pair = digit_pair(bytes[at]);
+        digits[2 * at] = (pair % 256) as u8;
+        digits[2 * at + 1] = (pair / 256) as u8;
     }
 }
 
@@ -206,15 +236,45 @@ fn push_digits<const N: usize>(into: &mut ArrayString<N>, bytes: &[u8], digits: 
     into.push_str(unsafe { str::from_utf8_unchecked(digits) });
 }
 
-/// Appends at most 256 bytes in lower-case hexadecimal, two digits for each.
+// Appends the digits of sixteen bytes.
+#[inline(always)]
+fn append_block<const N: usize>(into: &mut ArrayString<N>, bytes: &[u8])
+    requires bytes { length bytes.now ≡ 16 }
+    requires room { length into.old.bytes + 32 ≤ N }
+    ensures text { into.new.bytes ≡ into.old.bytes ++ encode_lower bytes.now }
+    ensures len { length into.new.bytes ≡ length into.old.bytes + 32 }
+{
+    let mut digits = [0; 32];
+    push_digits(into, bytes, &mut digits);
+}
+
+// Appends the digits of fewer bytes. Mostly there are none.
+#[inline(always)]
+fn append_few<const N: usize>(into: &mut ArrayString<N>, bytes: &[u8])
+    requires bytes { length bytes.now < 16 }
+    requires room { length into.old.bytes + 2 * length bytes.now ≤ N }
+    ensures text { into.new.bytes ≡ into.old.bytes ++ encode_lower bytes.now }
+    ensures len { length into.new.bytes ≡ length into.old.bytes + 2 * length bytes.now }
+{
+    if bytes.is_empty() {
+        return;
+    }
+    let mut digits = [0; 32];
+    push_digits(into, bytes, &mut digits[..2 * bytes.len()]);
+}
+
+/// Appends at most 256 bytes in lower-case hexadecimal, two digits for each: sixteen bytes after
+/// sixteen, and then the rest.
 pub fn append_bytes<const N: usize>(into: &mut ArrayString<N>, bytes: &[u8])
     requires bytes { length bytes.now ≤ 256 }
     requires room { length into.old.bytes + 2 * length bytes.now ≤ N }
     ensures text { into.new.bytes ≡ into.old.bytes ++ encode_lower bytes.now }
     ensures len { length into.new.bytes ≡ length into.old.bytes + 2 * length bytes.now }
 {
-    let mut digits = [0; 512];
-    push_digits(into, bytes, &mut digits[..2 * bytes.len()]);
+    'sixteens: for block in 0..bytes.len() / 16 {
+        append_block(into, &bytes[16 * block..][..16]);
+    }
+    append_few(into, &bytes[bytes.len() / 16 * 16..]);
 }
 
 /// Appends sixteen bytes, a flit or a block, in 32 lower-case hexadecimal digits.
@@ -223,6 +283,5 @@ pub fn append_sixteen<const N: usize>(into: &mut ArrayString<N>, bytes: &[u8; 16
     ensures text { into.new.bytes ≡ into.old.bytes ++ encode_lower bytes.now }
     ensures len { length into.new.bytes ≡ length into.old.bytes + 32 }
 {
-    let mut digits = [0; 32];
-    push_digits(into, bytes, &mut digits);
+    append_block(into, bytes);
 }

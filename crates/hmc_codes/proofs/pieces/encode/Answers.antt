@@ -9,5 +9,5 @@ bytes-init c = nothing_written c.args.digits.now
 
 pub bytes-preserved : goal.bytes-preserved
 bytes-preserved c =
-    (λ i. slice_set (slice_set (c.bytes.invariant i) (2 * c.bytes.at) (c.high_digit-high.ensures i)) (2 * c.bytes.at + 1) (c.low_digit-low.ensures i))
+    (λ i. slice_set (slice_set (c.bytes.invariant i) (2 * c.bytes.at) (c.digit_pair-pair.ensures.first i)) (2 * c.bytes.at + 1) (c.digit_pair-pair.ensures.second i))
     ∙ pair_more c.args.bytes.now c.args.digits.now c.bytes.at c.bytes-test.true c.requires
