@@ -1,5 +1,8 @@
 pub mod InOrder
 mod ZeroDigits
+mod TwoDigits
+mod IdleLines
+mod IdleWords
 mod WorkedLines
 pub mod ParseLines
 pub mod ParseText

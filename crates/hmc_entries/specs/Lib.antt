@@ -2,6 +2,7 @@ pub mod Lines
 pub mod Text
 pub mod Journal
 pub mod Event
+pub mod IdleStep
 pub mod LastEntry
 pub mod ParseWords
 pub mod Parse

@@ -1,8 +1,9 @@
 //! The entry of the latest step, in one place.
 //!
-//! A step writes over the entry of the one before, so that nothing large is moved. The short parts
-//! are one enum. A step, a flit, a request and an answer each have a field of their own: where the
-//! entry has no such part, the field keeps old content, which no contract sees.
+//! A step writes over the entry of the one before, so that nothing large is moved. Four bytes say
+//! which entry it is, and have the parts that most entries have: each step writes these. Every
+//! other part has a field of its own: where the entry has no such part, the field keeps old
+//! content, which no contract sees.
 
 ghost use Rattle.std.specs.Prelude.{◌≡◌, ◌<◌, ◌≤◌, ◌+◌, ◌++◌, [], length};
 ghost use Rattle.hmc_codes.specs.Flit.{zero_flit};
@@ -11,10 +12,11 @@ ghost use Rattle.hmc_entries.specs.Event.{event_of, cause_of, is_passed, IsLongF
 ghost use Rattle.hmc_entries.specs.Lines.{line_of};
 ghost use Rattle.hmc_schedule.specs.declared.step.Step.{Step};
 
+use crate::idle_line::idle_line;
+use crate::idle_step::{IdleStep, with_mask};
 use crate::line::{
-    discarded_line, dropped_line, executed_line, gave_line, idle_line, landed_line, lifted_line,
-    passed_line, retired_line, sent_line, shifted_line, spread_line, through_line, took_line,
-    unlocked_line,
+    discarded_line, dropped_line, executed_line, gave_line, landed_line, lifted_line, passed_line,
+    retired_line, sent_line, shifted_line, spread_line, through_line, took_line, unlocked_line,
 };
 use crate::{Cause, Entry, Event, Goal};
 use arrayvec::ArrayString;
@@ -25,89 +27,62 @@ use hmc_packet::{Outcome, What};
 use hmc_schedule::Step;
 use std::marker::Model;
 
-// The variant of an entry, with its short parts.
+// The variant of an entry, with its short parts: four bytes.
 #[derive(Clone, Copy)]
 pub(crate) enum Short {
-    Gave {
-        host: u8,
-        tag: Option<u16>,
-        poisoned: bool,
-    },
-    Sent {
-        direction: u8,
-        what: What,
-    },
-    Landed {
-        direction: u8,
-        outcome: Outcome,
-    },
-    Shifted {
-        cube: u8,
-        port: u8,
-        goal: Goal,
-    },
-    Dropped {
-        cube: u8,
-        port: u8,
-    },
-    Spread {
-        cube: u8,
-        vault: u8,
-        bank: u8,
-    },
-    Executed {
-        unit: Unit,
-        host: u8,
-        tag: Option<u16>,
-    },
-    Lifted {
-        cube: u8,
-        from: Lift,
-        port: u8,
-    },
-    Took {
-        host: u8,
-        tag: u16,
-    },
-    Discarded {
-        host: u8,
-    },
-    Through {
-        cube: u8,
-        port: u8,
-        direction: u8,
-    },
-    Unlocked {
-        direction: u8,
-    },
-    Retired {
-        slot: u8,
-    },
-    Passed {
-        direction: u8,
-    },
-    Idle {
-        cause: Cause,
-    },
+    Gave { host: u8, poisoned: bool },
+    Sent { direction: u8, what: What },
+    Landed { direction: u8, outcome: Outcome },
+    Shifted { cube: u8, port: u8 },
+    Dropped { cube: u8, port: u8 },
+    Spread { cube: u8, vault: u8, bank: u8 },
+    Executed { host: u8 },
+    Lifted { cube: u8, port: u8 },
+    Took { host: u8 },
+    Discarded { host: u8 },
+    Through { cube: u8, port: u8, direction: u8 },
+    Unlocked { direction: u8 },
+    Retired { slot: u8 },
+    Passed { direction: u8 },
+    Idle { cause: Cause },
 }
 
 /// The entry of the latest step. Contracts see it as an `Entry`.
 #[derive(Drop)]
 pub struct LastEntry {
     short: Short,
-    step: Step,
+    // A step that did nothing, and its mask if it was a landing.
+    step: IdleStep,
+    mask: Flit,
     flit: Flit,
+    // The tag of what was given or executed, and that of an answer that was taken.
+    tag: Option<u16>,
+    taken: u16,
+    unit: Unit,
+    goal: Goal,
+    from: Lift,
     request: Request,
     answer: Answer,
 }
 
 impl Model for LastEntry {
     ghost use Rattle.hmc_entries.specs.declared.entry.Entry.{Entry};
+    ghost use Rattle.hmc_entries.specs.IdleStep.{step_of};
     ghost use Rattle.hmc_entries.specs.LastEntry.{entry_of};
 
     ghost Value = { Entry };
 
-    ghost view = { λ e. entry_of e.short e.step e.flit e.request e.answer };
+    ghost view = { λ e. entry_of e.short (record {
+      step = step_of e.step e.mask;
+      flit = e.flit;
+      tag = e.tag;
+      taken = e.taken;
+      unit = e.unit;
+      goal = e.goal;
+      from = e.from;
+      request = e.request;
+      answer = e.answer;
+    }) };
 }
 
 impl LastEntry {
@@ -119,8 +94,14 @@ impl LastEntry {
             short: Short::Idle {
                 cause: Cause::Empty,
             },
-            step: Step::Give(0),
+            step: IdleStep::Give(0),
+            mask: ZERO_FLIT,
             flit: ZERO_FLIT,
+            tag: None,
+            taken: 0,
+            unit: Unit::Registers { cube: 0 },
+            goal: Goal::Registers,
+            from: Lift::Registers,
             request: Request {
                 command: Command::Rd16,
                 cube: 0,
@@ -135,11 +116,8 @@ impl LastEntry {
     pub fn gave(&mut self, host: u8, tag: Option<u16>, poisoned: bool, request: &Request)
         ensures { self.new ≡ Entry.Gave host tag poisoned request.now }
     {
-        self.short = Short::Gave {
-            host,
-            tag,
-            poisoned,
-        };
+        self.short = Short::Gave { host, poisoned };
+        self.tag = tag;
         self.request = *request;
     }
 
@@ -163,7 +141,8 @@ impl LastEntry {
     pub fn shifted(&mut self, cube: u8, port: u8, goal: Goal)
         ensures { self.new ≡ Entry.Shifted cube port goal }
     {
-        self.short = Short::Shifted { cube, port, goal };
+        self.short = Short::Shifted { cube, port };
+        self.goal = goal;
     }
 
     /// The front of a port's buffer was poisoned, and was dropped.
@@ -191,7 +170,9 @@ impl LastEntry {
     )
         ensures { self.new ≡ Entry.Executed unit host tag request.now answer.now }
     {
-        self.short = Short::Executed { unit, host, tag };
+        self.short = Short::Executed { host };
+        self.unit = unit;
+        self.tag = tag;
         self.request = *request;
         self.answer = *answer;
     }
@@ -200,14 +181,16 @@ impl LastEntry {
     pub fn lifted(&mut self, cube: u8, from: Lift, port: u8)
         ensures { self.new ≡ Entry.Lifted cube from port }
     {
-        self.short = Short::Lifted { cube, from, port };
+        self.short = Short::Lifted { cube, port };
+        self.from = from;
     }
 
     /// A host took an answer.
     pub fn took(&mut self, host: u8, tag: u16, answer: &Answer)
         ensures { self.new ≡ Entry.Took host tag answer.now }
     {
-        self.short = Short::Took { host, tag };
+        self.short = Short::Took { host };
+        self.taken = tag;
         self.answer = *answer;
     }
 
@@ -257,7 +240,23 @@ impl LastEntry {
         ensures { self.new ≡ Entry.Idle step.now cause }
     {
         self.short = Short::Idle { cause };
-        self.step = *step;
+        match step {
+            Step::Give(host) => self.step = IdleStep::Give(*host),
+            Step::Send(direction) => self.step = IdleStep::Send(*direction),
+            Step::Land(direction, mask) => {
+                self.step = IdleStep::Land(*direction);
+                self.mask = *mask;
+            }
+            Step::Shift(cube, port) => self.step = IdleStep::Shift(*cube, *port),
+            Step::Spread(cube, vault) => self.step = IdleStep::Spread(*cube, *vault),
+            Step::Bank(cube, vault, bank) => self.step = IdleStep::Bank(*cube, *vault, *bank),
+            Step::Registers(cube) => self.step = IdleStep::Registers(*cube),
+            Step::Lift(cube, from) => self.step = IdleStep::Lift(*cube, *from),
+            Step::Take(host) => self.step = IdleStep::Take(*host),
+            Step::Through(cube, port) => self.step = IdleStep::Through(*cube, *port),
+            Step::Unlock(direction) => self.step = IdleStep::Unlock(*direction),
+            Step::Retire(slot) => self.step = IdleStep::Retire(*slot),
+        }
     }
 
     /// What the step is counted as.
@@ -270,7 +269,7 @@ impl LastEntry {
             Short::Landed { direction, outcome } => Event::Landed { direction, outcome },
             Short::Unlocked { direction } => Event::Unlocked { direction },
             Short::Took { host, .. } => Event::Took { host },
-            Short::Executed { unit, .. } => Event::Executed { unit },
+            Short::Executed { .. } => Event::Executed { unit: self.unit },
             Short::Dropped { cube, .. } => Event::Dropped { cube },
             _ => Event::Other,
         }
@@ -311,7 +310,7 @@ impl LastEntry {
     }
 
     // Appends the line.
-    #[tactic(auto, unfolding(crate::specs::Lines::line_of))]
+    #[tactic(auto, using(crate::proofs::IdleWords::words_of_step), unfolding(crate::specs::Lines::line_of))]
     #[inline(always)]
     fn append<const N: usize>(&self, into: &mut ArrayString<N>)
         requires room { length into.old.bytes + 2048 ≤ N }
@@ -319,23 +318,39 @@ impl LastEntry {
         ensures short { length into.new.bytes < length into.old.bytes + 2048 }
     {
         match self.short {
-            Short::Gave {
-                host,
-                tag,
-                poisoned,
-            } => gave_line(into, host, tag, poisoned, &self.request),
+            Short::Idle { cause } => idle_line(into, self.step, cause),
             Short::Sent { direction, what } => sent_line(into, direction, what, &self.flit),
             Short::Landed { direction, outcome } => {
                 landed_line(into, direction, &self.flit, outcome)
             }
-            Short::Shifted { cube, port, goal } => shifted_line(into, cube, port, goal),
+            _ => self.append_other(into),
+        }
+    }
+
+    // The same of any entry. It stands out of line, as most entries are of the kinds above.
+    #[tactic(auto, using(crate::proofs::IdleWords::words_of_step), unfolding(crate::specs::Lines::line_of))]
+    #[inline(never)]
+    fn append_other<const N: usize>(&self, into: &mut ArrayString<N>)
+        requires room { length into.old.bytes + 2048 ≤ N }
+        ensures text { into.new.bytes ≡ into.old.bytes ++ line_of self.now }
+        ensures short { length into.new.bytes < length into.old.bytes + 2048 }
+    {
+        match self.short {
+            Short::Gave { host, poisoned } => {
+                gave_line(into, host, self.tag, poisoned, &self.request)
+            }
+            Short::Sent { direction, what } => sent_line(into, direction, what, &self.flit),
+            Short::Landed { direction, outcome } => {
+                landed_line(into, direction, &self.flit, outcome)
+            }
+            Short::Shifted { cube, port } => shifted_line(into, cube, port, self.goal),
             Short::Dropped { cube, port } => dropped_line(into, cube, port),
             Short::Spread { cube, vault, bank } => spread_line(into, cube, vault, bank),
-            Short::Executed { unit, host, tag } => {
-                executed_line(into, unit, host, tag, &self.request, &self.answer)
+            Short::Executed { host } => {
+                executed_line(into, self.unit, host, self.tag, &self.request, &self.answer)
             }
-            Short::Lifted { cube, from, port } => lifted_line(into, cube, from, port),
-            Short::Took { host, tag } => took_line(into, host, tag, &self.answer),
+            Short::Lifted { cube, port } => lifted_line(into, cube, self.from, port),
+            Short::Took { host } => took_line(into, host, self.taken, &self.answer),
             Short::Discarded { host } => discarded_line(into, host),
             Short::Through {
                 cube,
@@ -345,7 +360,7 @@ impl LastEntry {
             Short::Unlocked { direction } => unlocked_line(into, direction),
             Short::Retired { slot } => retired_line(into, slot),
             Short::Passed { direction } => passed_line(into, direction, &self.flit),
-            Short::Idle { cause } => idle_line(into, &self.step, cause),
+            Short::Idle { cause } => idle_line(into, self.step, cause),
         }
     }
 
@@ -354,13 +369,9 @@ impl LastEntry {
         ensures { result ≡ self.now }
     {
         match self.short {
-            Short::Gave {
+            Short::Gave { host, poisoned } => Entry::Gave {
                 host,
-                tag,
-                poisoned,
-            } => Entry::Gave {
-                host,
-                tag,
+                tag: self.tag,
                 poisoned,
                 request: self.request,
             },
@@ -374,20 +385,28 @@ impl LastEntry {
                 flit: self.flit,
                 outcome,
             },
-            Short::Shifted { cube, port, goal } => Entry::Shifted { cube, port, goal },
+            Short::Shifted { cube, port } => Entry::Shifted {
+                cube,
+                port,
+                goal: self.goal,
+            },
             Short::Dropped { cube, port } => Entry::Dropped { cube, port },
             Short::Spread { cube, vault, bank } => Entry::Spread { cube, vault, bank },
-            Short::Executed { unit, host, tag } => Entry::Executed {
-                unit,
+            Short::Executed { host } => Entry::Executed {
+                unit: self.unit,
                 host,
-                tag,
+                tag: self.tag,
                 request: self.request,
                 answer: self.answer,
             },
-            Short::Lifted { cube, from, port } => Entry::Lifted { cube, from, port },
-            Short::Took { host, tag } => Entry::Took {
+            Short::Lifted { cube, port } => Entry::Lifted {
+                cube,
+                from: self.from,
+                port,
+            },
+            Short::Took { host } => Entry::Took {
                 host,
-                tag,
+                tag: self.taken,
                 answer: self.answer,
             },
             Short::Discarded { host } => Entry::Discarded { host },
@@ -407,7 +426,7 @@ impl LastEntry {
                 flit: self.flit,
             },
             Short::Idle { cause } => Entry::Idle {
-                step: self.step,
+                step: with_mask(self.step, self.mask),
                 cause,
             },
         }

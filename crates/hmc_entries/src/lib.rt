@@ -8,7 +8,10 @@
 mod entry;
 mod event;
 mod fits;
+mod flit_words;
 mod head;
+mod idle_line;
+mod idle_step;
 mod journal;
 mod last_entry;
 mod laws;
@@ -17,6 +20,7 @@ mod outcome;
 mod parse;
 mod parse_parts;
 mod parse_words;
+mod pieces;
 
 pub use entry::Entry;
 pub use event::Event;
