@@ -5,6 +5,7 @@ ghost use Rattle.std.specs.List.{position_or_len};
 ghost use Rattle.hmc_text.specs.Lines.{is_line_feed, without_return, lines_of, lines_left, lines_after};
 ghost use Rattle.hmc_text.specs.InTurn.{IsNextLine};
 
+use memchr::memchr;
 use std::marker::Model;
 
 // The number of bytes before the first line feed.
@@ -12,7 +13,7 @@ fn line_len(text: &[u8]) -> usize
     ensures length { result ≡ position_or_len is_line_feed text.now }
     ensures few { result ≤ length text.now }
 {
-    text.iter().take_while(|byte| **byte != b'\n').count()
+    memchr(b'\n', text).unwrap_or(text.len())
 }
 
 fn without_return(line: &[u8]) -> &[u8]

@@ -4,6 +4,8 @@ ghost use Rattle.std.specs.Prelude.{◌≡◌, ◌≤◌, length, option_map};
 ghost use Rattle.std.specs.List.{prefix_len, position_or_len};
 ghost use Rattle.hmc_text.specs.Words.{is_blank, words_of, first_word, is_passed_over};
 
+use memchr::memchr2;
+
 fn is_blank(byte: u8) -> bool
     ensures { result ≡ is_blank byte }
 {
@@ -23,7 +25,7 @@ fn letters(line: &[u8]) -> usize
     ensures length { result ≡ position_or_len is_blank line.now }
     ensures few { result ≤ length line.now }
 {
-    line.iter().take_while(|byte| !is_blank(**byte)).count()
+    memchr2(b' ', b'\t', line).unwrap_or(line.len())
 }
 
 /// The first word and the rest of the line, if there is a word.
