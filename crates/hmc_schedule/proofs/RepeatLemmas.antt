@@ -8,12 +8,13 @@ use Rattle.std.proofs.Math.Nat.{add-mod_left, mod-eq_of_lt, mod-lt, mul-add-mod_
 use Rattle.std.proofs.lemmas.Nat.{div-add-mod'}
 use Rattle.hmc_schedule.specs.declared.step.Step.{Step}
 use Rattle.hmc_schedule.specs.declared.step.Step.TheVariants.{Give}
+use Rattle.hmc_schedule.specs.declared.steps_left.Hand.{Hand}
 use Rattle.hmc_schedule.specs.declared.written.Held.TheVariants as holds
 use Rattle.hmc_schedule.specs.declared.written.Repeats.{Repeats}
 use Rattle.hmc_schedule.specs.declared.written.Rounds.{Rounds}
 use Rattle.hmc_schedule.specs.declared.written.Segment.{Segment}
 use Rattle.hmc_schedule.specs.declared.written.Stretch.TheVariants.{Many}
-use Rattle.hmc_schedule.specs.StepsLeft.{AreRepeated, HoldRepeats}
+use Rattle.hmc_schedule.specs.StepsLeft.{AreRepeated, HoldRepeats, IsHand, TakesKept, next_at}
 use Rattle.hmc_schedule.specs.Written.{WrittenFields, Kept, IsRounds, IsWritten, held_steps, steps_in, stretch_of}
 use Rattle.hmc_schedule.proofs.WrittenLemmas.{in_order, in_round, place_at, quiet_place, start_few}
 
@@ -56,6 +57,56 @@ pass-next w at r more is = record {
       ap (slice_get w.steps) step
       ∙ is.each (k + 1) (omega (arith, below))
       ∙ ap (λ i. slice_get w.kept (r.from + i % is.len)) turn;
+}
+
+-- what is at hand of steps that repeat, up to the end of the round
+pub hand_taken : (w : WrittenFields) (at len : ℕ) (r : Repeats) → at < r.until → at + len ≤ r.until → len ≤ r.end - r.next → (at + len < r.until → len ≡ r.end - r.next) → AreRepeated w at r
+    → IsHand w (record { place = r.next; end = r.next + len; until = at + len; later = record { from = r.from; next = r.from; end = r.end; until = r.until } })
+hand_taken w at len r more few turn whole is =
+    let first : (at + len) - ((r.next + len) - r.next) ≡ at = omega arith in
+    record {
+      near = omega arith;
+      ahead = omega arith;
+      inside = omega (arith, is.inside, is.end_is, is.next_is, is.small, turn);
+      each = λ k below.
+          let small : is.place + k < is.len = omega (arith, is.next_is, is.end_is, turn, below) in
+          let place : r.from + (is.place + k) ≡ r.next + k = omega (arith, is.next_is) in
+          ap (λ i. slice_get w.steps (i + k)) first
+          ∙ is.each k (omega (arith, few, below))
+          ∙ ap (λ i. slice_get w.kept (r.from + i)) (mod-eq_of_lt small)
+          ∙ ap (slice_get w.kept) place;
+      later = λ again. turned w at len r again (whole again) is;
+    } where
+      turned : (w : WrittenFields) (at len : ℕ) (r : Repeats) → at + len < r.until → len ≡ r.end - r.next → AreRepeated w at r → AreRepeated w (at + len) (record { from = r.from; next = r.from; end = r.end; until = r.until })
+      turned w at len r again full is =
+          let ends : is.place + len ≡ is.len = omega (arith, full, is.next_is, is.end_is, is.small) in
+          record {
+            len = is.len;
+            place = 0;
+            next_is = omega arith;
+            end_is = is.end_is;
+            small = omega (arith, is.small);
+            inside = is.inside;
+            few = is.few;
+            each = λ k below.
+                let step : (at + len) + k ≡ at + (len + k) = omega arith in
+                let turn : is.place + (len + k) ≡ is.len + k = omega (arith, ends) in
+                let first : k ≡ 0 + k = omega arith in
+                ap (slice_get w.steps) step
+                ∙ is.each (len + k) (omega (arith, below))
+                ∙ ap (λ i. slice_get w.kept (r.from + i % is.len)) turn
+                ∙ ap (λ i. slice_get w.kept (r.from + i)) (add-mod_left is.len k)
+                ∙ ap (λ i. slice_get w.kept (r.from + i % is.len)) first;
+          }
+
+-- none is
+pub hand_empty : (w : WrittenFields) (at : ℕ) → IsHand w (record { place = 0; end = 0; until = at; later = record { from = 0; next = 0; end = 0; until = 0 } })
+hand_empty w at = record {
+  near = omega arith;
+  ahead = omega arith;
+  inside = omega arith;
+  each = λ k below. absurd (omega (arith, below));
+  later = λ more. absurd (omega (arith, more));
 }
 
 -- a remainder and more have the same remainder as the whole
@@ -142,22 +193,6 @@ repeated_at kept again segments looked len at n until w s r is view within same 
           place.is x held ∙ sym value ∙ ap (λ (l : List Step). slice_get l i) kept_is;
     }
 
--- the step at a place is the one that comes next
-pub first_repeated : (w : WrittenFields) (at : ℕ) (r : Repeats) (step : Step) → at < r.until → AreRepeated w at r → slice_get w.kept r.next ≡ Some step → slice_get w.steps at ≡ Some step
-first_repeated w at r step more is found =
-    let here : at ≡ at + 0 = omega arith in
-    let turn : is.place + 0 ≡ is.place = omega arith in
-    ap (slice_get w.steps) here
-    ∙ is.each 0 (omega (arith, more))
-    ∙ ap (λ i. slice_get w.kept (r.from + i % is.len)) turn
-    ∙ ap (λ i. slice_get w.kept (r.from + i)) (mod-eq_of_lt is.small)
-    ∙ ap (slice_get w.kept) (sym is.next_is)
-    ∙ found
-
--- it is kept, in the round at hand
-pub next_kept : (w : WrittenFields) (at : ℕ) (r : Repeats) → AreRepeated w at r → r.next < length w.kept
-next_kept w at r is = omega (arith, is.next_is, is.end_is, is.small, is.inside)
-
 pub next_in_round : (w : WrittenFields) (at : ℕ) (r : Repeats) → AreRepeated w at r → r.next < r.end
 next_in_round w at r is = omega (arith, is.next_is, is.end_is, is.small)
 
@@ -169,3 +204,34 @@ pub drop_first : (steps : List Step) (at : ℕ) (step : Step) → slice_get step
 drop_first [] at step is = absurd cc
 drop_first (x ∷ steps) zero step is = ap (λ (o : Option Step). unwrap_or o x ∷ steps) is
 drop_first (x ∷ steps) (suc k) step is = drop_first steps k step is ∙ ap (λ (n : ℕ). step ∷ drop n (x ∷ steps)) (sym (one_further k))
+
+-- the hand without its first step
+pub hand_passed : (w : WrittenFields) (hand : Hand) → hand.place < hand.end → IsHand w hand → IsHand w (record hand { place = hand.place + 1 })
+hand_passed w hand more is = record {
+  near = omega (arith, more);
+  ahead = omega (arith, is.ahead);
+  inside = is.inside;
+  each = λ k below.
+      let at : (hand.until - (hand.end - (hand.place + 1))) + k ≡ next_at hand + (k + 1) = omega (arith, more, is.ahead) in
+      let place : hand.place + (k + 1) ≡ (hand.place + 1) + k = omega arith in
+      ap (slice_get w.steps) at ∙ is.each (k + 1) (omega (arith, below)) ∙ ap (slice_get w.kept) place;
+  later = is.later;
+}
+
+-- the step at hand is taken off a list
+pub hand_off : (w old : WrittenFields) (hand : Hand) → hand.place < hand.end → IsHand w hand → record { kept = w.kept; steps = drop (next_at hand) w.steps } ≡ old → TakesKept old hand.place (record { kept = w.kept; steps = drop (next_at (record hand { place = hand.place + 1 })) w.steps })
+hand_off w old hand more is view =
+    let small : hand.place < length w.kept = omega (arith, more, is.inside) in
+    let step = get_or w.kept hand.place (Give 0) in
+    let found : slice_get w.kept hand.place ≡ Some step = slice_get-get_or w.kept hand.place (Give 0) small in
+    let at : next_at hand ≡ next_at hand + 0 = omega arith in
+    let place : hand.place + 0 ≡ hand.place = omega arith in
+    let first : slice_get w.steps (next_at hand) ≡ Some step = ap (slice_get w.steps) at ∙ is.each 0 (omega (arith, more)) ∙ ap (slice_get w.kept) place ∙ found in
+    let further : next_at hand + 1 ≡ next_at (record hand { place = hand.place + 1 }) = omega (arith, more, is.ahead) in
+    record {
+      step = step;
+      is = found;
+      small = small;
+      first = ap (λ (v : WrittenFields). v.steps) (sym view) ∙ drop_first w.steps (next_at hand) step first ∙ ap (λ (n : ℕ). step ∷ drop n w.steps) further;
+      kept = ap (λ (v : WrittenFields). v.kept) view;
+    }

@@ -1,5 +1,5 @@
 -- Noise: each n-th landing that rounds make has a mask.
-use Rattle.std.specs.Prelude.{◌≡◌, ◌≤◌, ◌+◌, ◌%◌, ◌==◌, ℕ, Bool, true, false, List, [], ◌∷◌, length, map, filter, Option, Some, None, if◌then◌else◌}
+use Rattle.std.specs.Prelude.{◌≤◌, ◌+◌, ◌%◌, ◌==◌, ℕ, Bool, true, false, List, [], ◌∷◌, length, map, filter, Option, Some, None, if◌then◌else◌}
 use Rattle.hmc_codes.specs.Flit.{zero_flit, IsFlit}
 use Rattle.hmc_codes.specs.Numbers.{upto}
 use Rattle.hmc_schedule.specs.declared.noise.Noise.{Noise}

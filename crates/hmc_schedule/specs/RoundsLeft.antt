@@ -1,5 +1,5 @@
 -- The steps that are left of a schedule that is gone through in its order.
-use Rattle.std.specs.Prelude.{◌≡◌, ◌<◌, ◌≤◌, ◌-◌, ◌+◌, ℕ, List, [], ◌∷◌, ◌++◌, Option, Some, None, IfSome, slice_get}
+use Rattle.std.specs.Prelude.{◌≤◌, ◌-◌, ◌+◌, ℕ, List, [], ◌∷◌, ◌++◌, Option, Some, None, IfSome, slice_get}
 use Rattle.std.specs.List.{All}
 use Rattle.std.specs.Option.{option_map_or}
 use Rattle.hmc_schedule.specs.Noise.{noisy_if}

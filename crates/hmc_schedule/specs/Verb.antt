@@ -1,5 +1,5 @@
 -- The first words of lines that name one step.
-use Rattle.std.specs.Prelude.{ℕ, List, [], ◌∷◌, find, codes, Option, Some, None}
+use Rattle.std.specs.Prelude.{ℕ, List, [], ◌∷◌, find, codes, Option}
 use Rattle.std.specs.Str.{bytes_eq}
 use Rattle.hmc_schedule.specs.declared.verb.Verb.{Verb}
 use Rattle.hmc_schedule.specs.declared.verb.Verb.TheVariants.{Give, Send, Land, Shift, Spread, Bank, Registers, Lift, Take, Through, Unlock, Retire}

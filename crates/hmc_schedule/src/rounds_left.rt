@@ -225,6 +225,7 @@ impl<'a> RoundsLeft<'a> {
         ensures some { IfSome result
             (λ round. steps_left self.old [] ≡ steps_left self.new round.now) }
         ensures none { IfNone result (steps_left self.old [] ≡ []) }
+        ensures ended { IfNone result (steps_left self.new [] ≡ []) }
         ensures fewer { IfSome result (λ _. self.new.rounds < self.old.rounds) }
     {
         'lines: while self.count == 0 {

@@ -101,7 +101,7 @@ impl Schedule {
 
     /// All steps in their order, to be taken off one after another.
     pub fn into_steps(self) -> StepsLeft
-        ensures { result ≡ self }
+        ensures { result.steps ≡ self }
     {
         let Schedule { alloc: _, written } = self;
         StepsLeft::of(written)

@@ -329,11 +329,11 @@ impl Written {
 
     /// The kept step at this place, counted from 0.
     #[inline(always)]
-    pub fn kept_step(&self, at: usize) -> Step
-        requires { at < length self.now.kept }
-        ensures { slice_get self.now.kept at ≡ Some result }
+    pub fn kept_step(&self, place: usize) -> &Step
+        requires { place < length self.now.kept }
+        ensures { slice_get self.now.kept place ≡ Some result.now }
     {
-        self.kept[at]
+        &self.kept[place]
     }
 
     /// All rounds, in their order.
