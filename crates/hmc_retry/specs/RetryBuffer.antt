@@ -40,6 +40,10 @@ after_put packet buffer = record buffer {
   position = if buffer.position == length buffer.kept then suc buffer.position else buffer.position;
 }
 
+-- a packet with these numbers
+abbrev pub numbered : (rtc seq frp : ℕ) → PacketFields → PacketFields
+numbered rtc seq frp packet = record packet { rtc = rtc; seq = seq; frp = frp }
+
 -- how many packets a return pointer acknowledges: none by the base, and all up to the packet whose
 -- pointer it is
 abbrev pub place_after : Option ℕ → Option ℕ

@@ -1,10 +1,10 @@
 //! The retry buffer of a sender.
 
-ghost use Rattle.std.specs.Prelude.{◌≡◌, ◌≤◌, ◌<◌, ◌-◌, ◌^◌, ◌==◌, suc, if◌then◌else◌, Some, [], ◌∷◌, ◌++◌, IfOk, length, slice_get, position};
+ghost use Rattle.std.specs.Prelude.{◌≡◌, ◌≤◌, ◌<◌, ◌-◌, ◌^◌, ◌==◌, ◌↔◌, suc, if◌then◌else◌, Some, List, [], ◌∷◌, ◌++◌, IfOk, IsNone, length, slice_get, position, option_map};
 ghost use Rattle.hmc_codes.specs.Limits.{least_flits};
 ghost use Rattle.hmc_codes.specs.Profile.{most_retry};
-ghost use Rattle.hmc_packet.specs.Packet.{flits_of};
-ghost use Rattle.hmc_retry.specs.RetryBuffer.{IsRetryBuffer, room_of, next_pointer, opening_buffer, after_put, acknowledged_by, acknowledgement, after_acknowledge, after_next, are_all_sent, packet_at};
+ghost use Rattle.hmc_packet.specs.Packet.{PacketFields, IsPacket, flits_of};
+ghost use Rattle.hmc_retry.specs.RetryBuffer.{IsRetryBuffer, room_of, next_pointer, opening_buffer, after_put, acknowledged_by, acknowledgement, after_acknowledge, after_next, are_all_sent, packet_at, numbered};
 
 use crate::Stray;
 use circular_buffer::HeapCircularBuffer;
@@ -97,6 +97,34 @@ impl RetryBuffer {
         append(&mut self.kept, *packet);
     }
 
+    /// Keeps a copy of a packet that gets these numbers: the code of the tokens that it returns,
+    /// below 8, its sequence number, below 8, and its pointer. They are put in where it is kept, so
+    /// that the packet is copied once.
+    pub fn keep_with(&mut self, packet: &Packet, rtc: u8, seq: u8, frp: u16)
+        requires packet { IsPacket (numbered rtc seq frp packet.now) }
+        requires room { flits_of packet.now ≤ room_of self.old }
+        requires pointer { frp ≡ next_pointer self.old (flits_of packet.now) }
+        ensures { self.new ≡ after_put (numbered rtc seq frp packet.now) self.old }
+    {
+        let flits = u16::from(packet.flits());
+        self.position = position_after_put(self.position, self.kept.len());
+        self.used += flits;
+        append_numbered(&mut self.kept, packet, rtc, seq, frp);
+    }
+
+    /// The packet that was kept last, lent; `None` exactly where none is kept.
+    pub fn latest(&self) -> Option<&Packet>
+        ensures some { (before : List PacketFields) (packet : PacketFields) →
+            self.now.kept ≡ before ++ packet ∷ [] →
+            option_map (λ kept. kept.now) result ≡ Some packet }
+        ensures none { IsNone result ↔ (self.now.kept ≡ []) }
+    {
+        if self.kept.is_empty() {
+            return None;
+        }
+        self.kept.get(self.kept.len() - 1)
+    }
+
     /// The same, with the packet by value.
     pub fn put(&mut self, packet: Packet)
         requires room { flits_of packet ≤ room_of self.old }
@@ -175,6 +203,36 @@ impl RetryBuffer {
         self.position += 1;
         self.kept.get(place).copied()
     }
+}
+
+// Appends a copy of a packet, which gets its numbers where it lies.
+fn append_numbered(
+    ring: &mut HeapCircularBuffer<Packet>,
+    packet: &Packet,
+    rtc: u8,
+    seq: u8,
+    frp: u16,
+)
+    requires packet { IsPacket (numbered rtc seq frp packet.now) }
+    requires room { length ring.old.items < ring.old.capacity }
+    ensures items { ring.new.items ≡ ring.old.items ++ numbered rtc seq frp packet.now ∷ [] }
+    ensures capacity { ring.new.capacity ≡ ring.old.capacity }
+{
+    let place = ring.len();
+    append(ring, *packet);
+    if let Some(kept) = ring.get_mut(place) {
+        renumber(kept, rtc, seq, frp);
+    }
+}
+
+// A packet gets its numbers.
+fn renumber(packet: &mut Packet, rtc: u8, seq: u8, frp: u16)
+    requires { IsPacket (numbered rtc seq frp packet.old) }
+    ensures { packet.new ≡ numbered rtc seq frp packet.old }
+{
+    packet.rtc = rtc;
+    packet.seq = seq;
+    packet.frp = frp;
 }
 
 // A position at the end stays at the end when a packet is kept.

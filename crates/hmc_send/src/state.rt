@@ -8,9 +8,9 @@ ghost use Rattle.hmc_packet.specs.Parts.{lng_of};
 ghost use Rattle.hmc_irtry.specs.Burst.{next_of};
 ghost use Rattle.hmc_send.specs.declared.sent.Sent.TheVariants.{Out};
 ghost use Rattle.hmc_send.specs.Choice.{irtry_due, irtry_sent, what_of, is_train};
-ghost use Rattle.hmc_send.specs.Entries.{enough_others, part_after};
+ghost use Rattle.hmc_send.specs.Entries.{enough_others, part_after, with_place};
 ghost use Rattle.hmc_send.specs.Kept.{AreNumbers, CanBeSent};
-ghost use Rattle.hmc_send.specs.Places.{flit_of, numbers_after, tret_packet, pret_packet};
+ghost use Rattle.hmc_send.specs.Places.{Place, flit_of, numbers_after, tret_packet, pret_packet};
 ghost use Rattle.hmc_send.specs.Sender.{with_irtry, others_after};
 
 use crate::under_way::first_flit;
@@ -157,8 +157,7 @@ impl State {
         }
     }
 
-    // The first flit of a packet was sent, where nothing was under way. A packet of one flit has
-    // ended with it: then nothing is written but numbers.
+    // The first flit of a packet was sent, where nothing was under way.
     fn begin(&mut self, packet: &Packet, draft: Draft, again: bool, flit: Flit, rrp: u16)
         requires nothing { self.old.under_way ≡ None }
         requires draft { draft ≡ draft_of packet.now }
@@ -167,11 +166,15 @@ impl State {
         ensures { self.new ≡ with_begun packet.now again rrp flit self.old }
     {
         self.count_other();
-        if packet.flits() == 1 {
-            self.shown = rrp;
-            return;
-        }
-        self.under_way.begin(packet, draft, again, flit);
+        begin_part(
+            &mut self.under_way,
+            &mut self.shown,
+            packet,
+            draft,
+            again,
+            flit,
+            rrp,
+        );
     }
 
     /// Begins the packet at the position again; `None` where all were sent.
@@ -228,7 +231,7 @@ impl State {
         }
     }
 
-    // Begins a packet for the first time, with its numbers. It is kept, and its first flit is sent.
+    // Begins a packet for the first time. It is kept with its numbers, and its first flit is sent.
     #[inline(never)]
     fn begin_new(&mut self, packet: &Packet, rtc: u8, rrp: u16) -> Flit
         requires sender { IsSender self.old }
@@ -246,28 +249,47 @@ impl State {
             result self.old }
     {
         packet.invariant();
-        let numbers = self.next_numbers(packet.flits(), rtc);
-        let packet = Packet {
-            command: packet.command,
-            tag: packet.tag,
-            address: packet.address,
-            cube: packet.cube,
-            slid: packet.slid,
-            flag: packet.flag,
-            errstat: packet.errstat,
-            rtc: numbers.rtc,
-            seq: numbers.seq,
-            frp: numbers.frp,
-            poisoned: packet.poisoned,
-            payload: packet.payload,
+        let next = self.next_numbers(packet.flits(), rtc);
+        self.pointer = next.frp;
+        self.number = next.seq;
+        self.retry.keep_with(packet, next.rtc, next.seq, next.frp);
+        let Some(kept) = self.retry.latest() else {
+            unreachable!()
         };
-        self.pointer = packet.frp;
-        self.number = packet.seq;
-        self.retry.keep(&packet);
-        let draft = Draft::of(&packet);
-        let flit = first_flit(self.profile, &packet, &draft, rrp);
-        self.begin(&packet, draft, false, flit, rrp);
+        let draft = Draft::of(kept);
+        let flit = first_flit(self.profile, kept, &draft, rrp);
+        begin_part(
+            &mut self.under_way,
+            &mut self.shown,
+            kept,
+            draft,
+            false,
+            flit,
+            rrp,
+        );
+        self.count_other();
         flit
+    }
+
+    // The copy that is complete with what is fed is kept. Most packets are not passed on: for these
+    // none is made.
+    fn keep_copy(&mut self, feed: &Feed)
+        requires sender { IsSender self.old }
+        requires feed { IsFed self.old.under_way feed.now }
+        ensures { self.new ≡ record self.old {
+          retry = retry_with self.old.profile self.old.under_way feed.now self.old.retry;
+        } }
+    {
+        let Some(begun) = self.under_way.get() else {
+            return;
+        };
+        begun.invariant();
+        if begun.open_flits() == 0 {
+            return;
+        }
+        if let Some(copy) = begun.copy(self.profile, feed) {
+            self.retry.keep(&copy);
+        }
     }
 
     // The last flit of the packet under way was sent: a copy is complete, and kept.
@@ -280,12 +302,7 @@ impl State {
           shown = rrp;
         } }
     {
-        if let Some(begun) = self.under_way.get() {
-            begun.invariant();
-            if let Some(copy) = begun.copy(self.profile, feed) {
-                self.retry.keep(&copy);
-            }
-        }
+        self.keep_copy(feed);
         self.under_way.end();
         self.shown = rrp;
     }
@@ -542,6 +559,32 @@ pub fn is_train(mode: Mode) -> bool
         Mode::Train => true,
         _ => false,
     }
+}
+
+// A packet is under way, of which the first flit was sent. A packet of one flit has ended with it:
+// then nothing is written but the return pointer that it showed.
+fn begin_part(
+    under_way: &mut Unfinished,
+    shown: &mut u16,
+    packet: &Packet,
+    draft: Draft,
+    again: bool,
+    flit: Flit,
+    rrp: u16,
+)
+    requires nothing { under_way.old ≡ None }
+    requires draft { draft ≡ draft_of packet.now }
+    requires lng { lng_of flit ≡ flits_of packet.now }
+    ensures begun { under_way.new
+        ≡ with_place (Place.known packet.now) (part_after again flit None) }
+    ensures shown { shown.new
+        ≡ (if is_none (part_after again flit None) then rrp else shown.old) }
+{
+    if packet.flits() == 1 {
+        *shown = rrp;
+        return;
+    }
+    under_way.begin(packet, draft, again, flit);
 }
 
 // The packet that returns tokens alone.

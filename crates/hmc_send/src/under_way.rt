@@ -13,39 +13,31 @@ ghost use Rattle.hmc_send.specs.Places.{flit_of, Place};
 use crate::Numbers;
 use crate::copy::{copies_fit, copy_of};
 use arrayvec::ArrayVec;
-use hmc_codes::{Flit, Profile};
+use hmc_codes::{Flit, Profile, ZERO_FLIT};
 use hmc_packet::{
     Draft, Feed, Packet, What, first_flit_names_length_and_command,
     spelling_is_as_long_as_its_packet,
 };
 use std::marker::Model;
 
-/// What is known of the packet of a place.
-#[derive(Clone, Copy)]
-pub enum Content {
-    /// The packet, with its numbers, and its draft.
-    Known {
-        /// The packet.
-        packet: Packet,
-        /// What is spelled of it once.
-        draft: Draft,
-    },
-    /// The head and the numbers of a packet that is passed on before it has come whole.
-    Awaited {
-        /// Its first flit.
-        head: Flit,
-        /// Its numbers in this direction.
-        numbers: Numbers,
-    },
-}
-
 /// A packet that is begun and has flits left, with its place.
+///
+/// The packet and its draft have places of their own, into which one after another is written: while
+/// a packet is passed on, of which the head and the numbers are known, they are old content, which
+/// no contract sees.
 #[derive(Drop)]
 pub struct UnderWay {
     again: bool,
     flits: u8,
     sent: ArrayVec<Flit, 17>,
-    content: Content,
+    // Whether the packet is known; else it is passed on before it has come whole.
+    is_known: bool,
+    // The packet, with its numbers, and what is spelled of it once.
+    packet: Packet,
+    draft: Draft,
+    // The first flit of a packet that is passed on, and its numbers in this direction.
+    head: Flit,
+    numbers: Numbers,
 }
 
 impl Model for UnderWay {
@@ -56,11 +48,13 @@ impl Model for UnderWay {
 
     ghost view = { λ u. record {
       part = record { again = u.again; flits = u.flits; sent = u.sent.items };
-      place = place_of u.flits u.content;
+      place = place_of u.is_known u.flits u.packet u.head u.numbers;
     } };
 
     ghost invariant = { λ u. IsUnderWay
-        (record { again = u.again; flits = u.flits; sent = u.sent.items }) u.content };
+        (record { again = u.again; flits = u.flits; sent = u.sent.items })
+        (place_of u.is_known u.flits u.packet u.head u.numbers)
+        u.packet u.draft };
 }
 
 // A flit of a packet, from 0, by its draft.
@@ -108,7 +102,15 @@ impl UnderWay {
             again: false,
             flits: 1,
             sent: ArrayVec::new(),
-            content: Content::Known { packet, draft },
+            is_known: true,
+            packet,
+            draft,
+            head: ZERO_FLIT,
+            numbers: Numbers {
+                frp: 0,
+                seq: 0,
+                rtc: 0,
+            },
         }
     }
 
@@ -123,29 +125,28 @@ impl UnderWay {
         self.flits = packet.flits();
         self.sent.clear();
         self.sent.push(flit);
-        self.content = Content::Known {
-            packet: *packet,
-            draft,
-        };
+        self.is_known = true;
+        self.packet = *packet;
+        self.draft = draft;
     }
 
-    /// A packet that is passed on, of which nothing was sent.
-    pub fn through(head: Flit, flits: u8, numbers: Numbers) -> Self
+    /// It becomes a packet that is passed on, of which nothing was sent.
+    pub fn begin_through(&mut self, head: Flit, flits: u8, numbers: Numbers)
         requires some { 2 ≤ flits }
         requires few { flits ≤ 17 }
         requires head { IsHead head flits }
         requires numbers { AreNumbers numbers }
-        ensures { result ≡ record {
+        ensures { self.new ≡ record {
           part = record { again = false; flits = flits; sent = [] };
           place = Place.awaited head flits numbers;
         } }
     {
-        UnderWay {
-            again: false,
-            flits,
-            sent: ArrayVec::new(),
-            content: Content::Awaited { head, numbers },
-        }
+        self.again = false;
+        self.flits = flits;
+        self.sent.clear();
+        self.is_known = false;
+        self.head = head;
+        self.numbers = numbers;
     }
 
     /// Does nothing. Its contract is what every packet under way keeps.
@@ -173,9 +174,10 @@ impl UnderWay {
     pub fn through_at(&self) -> Option<u8>
         ensures { result ≡ flits_through self.now.place self.now.part }
     {
-        match &self.content {
-            Content::Known { .. } => None,
-            Content::Awaited { .. } => Some(self.sent.len() as u8),
+        if self.is_known {
+            None
+        } else {
+            Some(self.sent.len() as u8)
         }
     }
 
@@ -183,10 +185,7 @@ impl UnderWay {
     pub fn open_flits(&self) -> u8
         ensures { result ≡ open_flits_at self.now.place }
     {
-        match &self.content {
-            Content::Known { .. } => 0,
-            Content::Awaited { .. } => self.flits,
-        }
+        if self.is_known { 0 } else { self.flits }
     }
 
     // The next flit of a packet that is passed on, with these numbers.
@@ -221,12 +220,11 @@ impl UnderWay {
         requires feed { IsFedFor self.now.part self.now.place feed.now }
         ensures { result ≡ next_flit profile rrp feed.now self.now.place self.now.part }
     {
-        match &self.content {
-            Content::Known { packet, draft } => {
-                let at = self.sent.len() as u8;
-                Some(drafted_flit(profile, packet, draft, rrp, at))
-            }
-            Content::Awaited { numbers, .. } => self.fed_flit(profile, *numbers, rrp, feed),
+        if self.is_known {
+            let at = self.sent.len() as u8;
+            Some(drafted_flit(profile, &self.packet, &self.draft, rrp, at))
+        } else {
+            self.fed_flit(profile, self.numbers, rrp, feed)
         }
     }
 
@@ -238,18 +236,19 @@ impl UnderWay {
         ensures flits { IfSome result (λ copy. flits_of copy ≡ self.now.part.flits) }
         ensures fits { IfSome result (λ copy. CanBeSent profile copy) }
     {
-        match (&self.content, feed) {
-            (
-                Content::Awaited { numbers, .. },
-                Feed::Last {
-                    half,
-                    slid,
-                    errstat,
-                    good,
-                },
-            ) => {
+        if self.is_known {
+            return None;
+        }
+        match feed {
+            Feed::Last {
+                half,
+                slid,
+                errstat,
+                good,
+            } => {
                 let sent = self.sent.as_slice();
-                Some(copy_of(profile, sent, half, *slid, *errstat, *good, *numbers))
+                let numbers = self.numbers;
+                Some(copy_of(profile, sent, half, *slid, *errstat, *good, numbers))
             }
             _ => None,
         }
@@ -261,10 +260,11 @@ impl UnderWay {
         ensures { (profile : Profile) →
             FitsPlace profile self.now.part self.now.place feed.now }
     {
-        match (&self.content, feed) {
-            (Content::Awaited { .. }, Feed::Last { half, .. }) => {
-                copies_fit(self.sent.as_slice(), half);
-            }
+        if self.is_known {
+            return;
+        }
+        match feed {
+            Feed::Last { half, .. } => copies_fit(self.sent.as_slice(), half),
             _ => {}
         }
     }

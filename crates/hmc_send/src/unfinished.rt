@@ -86,7 +86,7 @@ impl Unfinished {
           place = Place.awaited head flits numbers;
         }) }
     {
-        self.latest = UnderWay::through(head, flits, numbers);
+        self.latest.begin_through(head, flits, numbers);
         self.is_begun = true;
     }
 

@@ -1,6 +1,6 @@
 use Rattle.std.proofs.Common.{◌≡◌, Some, sym}
 use Rattle.hmc_send.proofs.KeptLemmas.{fed-pointer}
-use Rattle.hmc_send.proofs.state.State.end.Goals as goal
+use Rattle.hmc_send.proofs.state.State.keep_copy.Goals as goal
 
 pub keep-requires-clause-pointer : goal.keep-requires-clause-pointer
 keep-requires-clause-pointer c =
