@@ -24,6 +24,7 @@ pub enum To {
 }
 
 // A request that is in its cube goes to a unit, and another to the port towards its cube.
+#[inline(always)]
 fn request_goal(routes: &Routes, shape: Shape, cube: u8, packet: &Packet) -> To
     requires cube { cube < routes.now.cubes }
     requires goal { packet.now.cube < routes.now.cubes }
@@ -48,6 +49,7 @@ fn request_goal(routes: &Routes, shape: Shape, cube: u8, packet: &Packet) -> To
 ///
 /// The cube is one of the graph from which the routes were built, and so is the cube of a request
 /// or the host of an answer, unless the packet is poisoned.
+#[inline(always)]
 pub fn way_of(routes: &Routes, shape: Shape, cube: u8, packet: &Packet) -> To
     requires cube { cube < routes.now.cubes }
     requires way { HasWay routes.now packet.now packet.now.poisoned }

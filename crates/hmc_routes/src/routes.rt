@@ -94,6 +94,7 @@ impl Routes {
 
     /// The port of the cube `at` through which the route to `cube` leaves: the lowest whose
     /// neighbour is one hop nearer. None exactly at the cube itself.
+    #[inline(always)]
     pub fn to_cube(&self, at: u8, cube: u8) -> Option<u8>
         requires at { at < self.now.cubes }
         requires cube { cube < self.now.cubes }
@@ -102,7 +103,7 @@ impl Routes {
         ensures real { IfSome result (λ port. port < ports) }
         ensures nearer { IfSome result (λ port. is_nearer self.now cube at port ≡ true) }
     {
-        let table = self.tables[usize::from(cube)];
+        let table = &self.tables[usize::from(cube)];
         table.ports[usize::from(at)]
     }
 
@@ -120,6 +121,7 @@ impl Routes {
 
     /// The port of the cube `at` through which the route to the host leaves: at the host's own cube
     /// the port that it is joined to, elsewhere the one towards its cube.
+    #[inline(always)]
     pub fn to_host(&self, at: u8, host: u8) -> u8
         requires at { at < self.now.cubes }
         requires host { is_host_of self.now host ≡ true }

@@ -111,6 +111,7 @@ impl Wiring {
     }
 
     /// Where a packet goes from a port of a cube.
+    #[inline(always)]
     pub fn goal(&self, cube: u8, packet: &Packet) -> To
         requires cube { cube < cubes_in self.now }
         requires way { HasWay (graph_of self.now) packet.now packet.now.poisoned }
