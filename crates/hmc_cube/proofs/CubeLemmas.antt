@@ -14,7 +14,7 @@ use Rattle.hmc_codes.specs.declared.family.Family.TheVariants as families
 use Rattle.hmc_memory.specs.Banks.{BanksFields}
 use Rattle.hmc_packet.specs.Packet.{PacketFields}
 use Rattle.hmc_tokens.specs.declared.queue.Queue.{Queue}
-use Rattle.hmc_tokens.specs.Queue.{packets_of, size_of, one, all_cost_one, within_size}
+use Rattle.hmc_tokens.specs.Queue.{packets_of, size_of, one, all_cost_one}
 use Rattle.hmc_vault.specs.Packets.{CarriesRequest}
 use Rattle.hmc_vault.specs.Vault.{VaultFields, opening_vault}
 use Rattle.hmc_registers.specs.Registers.{opening_registers}

@@ -19,7 +19,7 @@ use hmc_packet::Packet;
 use hmc_registers::Registers;
 use hmc_tokens::{Intake, Queue};
 use hmc_units::Workbench;
-use hmc_vault::{Executed, Spread, Vault, execute_front};
+use hmc_vault::{Executed, Execution, Spread, Vault, execute_front_in};
 use std::alloc::Global;
 use std::marker::Model;
 
@@ -145,9 +145,32 @@ impl Cube {
         vault.spread(shape)
     }
 
-    /// Performs the request at the front of a bank's queue. Only a unit command asks the bench of
-    /// logic units.
+    /// Performs the request at the front of a bank's queue, and writes what was done into a place
+    /// for it. Only a unit command asks the bench of logic units.
     #[inline(always)]
+    pub fn execute_in<B: Workbench>(
+        &mut self,
+        vault: u8,
+        bank: u8,
+        bench: &mut B,
+        execution: &mut Execution,
+    )
+        requires vault { vault < 2 ^ self.old.state.shape.vault_bits }
+        requires bank { bank < 2 ^ self.old.state.shape.bank_bits }
+        ensures answer { execution.new ≡ bank_says self.old (B.slots bench.old) vault bank }
+        ensures leaves { self.new
+            ≡ after_execute vault bank execution.new (B.slots bench.old) self.old }
+        ensures slots { B.slots bench.new
+            ≡ slots_after execution.new self.old.state (B.slots bench.old) }
+        ensures shape { self.new.state.shape ≡ self.old.state.shape }
+        ensures empty { (execution.new ≡ Executed.Empty)
+            ↔ (bank_at (vault_at self.old vault) bank ≡ []) }
+    {
+        let vault = &mut self.vaults[usize::from(vault)];
+        vault.execute_in(bank, &mut self.banks, &mut self.registers, bench, execution)
+    }
+
+    /// The same, which returns what was done.
     pub fn execute<B: Workbench>(&mut self, vault: u8, bank: u8, bench: &mut B) -> Executed
         requires vault { vault < 2 ^ self.old.state.shape.vault_bits }
         requires bank { bank < 2 ^ self.old.state.shape.bank_bits }
@@ -158,8 +181,9 @@ impl Cube {
         ensures shape { self.new.state.shape ≡ self.old.state.shape }
         ensures empty { (result ≡ Executed.Empty) ↔ (bank_at (vault_at self.old vault) bank ≡ []) }
     {
-        let vault = &mut self.vaults[usize::from(vault)];
-        vault.execute(bank, &mut self.banks, &mut self.registers, bench)
+        let mut execution = Execution::new();
+        self.execute_in(vault, bank, bench, &mut execution);
+        execution.executed()
     }
 
     /// Whether the queue of a bank is empty, and an execution by it would do nothing.
@@ -189,8 +213,28 @@ impl Cube {
         self.register_queue.is_empty()
     }
 
-    /// Performs the request at the front of the registers' queue.
+    /// Performs the request at the front of the registers' queue, and writes what was done into a
+    /// place for it.
     #[inline(always)]
+    pub fn registers_in<B: Workbench>(&mut self, bench: &mut B, execution: &mut Execution)
+        ensures answer { execution.new ≡ registers_say self.old (B.slots bench.old) }
+        ensures leaves { self.new ≡ after_registers execution.new (B.slots bench.old) self.old }
+        ensures slots { B.slots bench.new
+            ≡ slots_after execution.new self.old.state (B.slots bench.old) }
+        ensures shape { self.new.state.shape ≡ self.old.state.shape }
+        ensures empty { (execution.new ≡ Executed.Empty) ↔ (self.old.register_queue ≡ []) }
+    {
+        execute_front_in(
+            &mut self.register_queue,
+            &mut self.answers,
+            &mut self.banks,
+            &mut self.registers,
+            bench,
+            execution,
+        )
+    }
+
+    /// The same, which returns what was done.
     pub fn registers<B: Workbench>(&mut self, bench: &mut B) -> Executed
         ensures answer { result ≡ registers_say self.old (B.slots bench.old) }
         ensures leaves { self.new ≡ after_registers result (B.slots bench.old) self.old }
@@ -199,13 +243,9 @@ impl Cube {
         ensures shape { self.new.state.shape ≡ self.old.state.shape }
         ensures empty { (result ≡ Executed.Empty) ↔ (self.old.register_queue ≡ []) }
     {
-        execute_front(
-            &mut self.register_queue,
-            &mut self.answers,
-            &mut self.banks,
-            &mut self.registers,
-            bench,
-        )
+        let mut execution = Execution::new();
+        self.registers_in(bench, &mut execution);
+        execution.executed()
     }
 
     /// Whether there are no answers of a vault, or of the registers.

@@ -12,4 +12,4 @@ mod cube;
 
 pub use cube::Cube;
 pub use hmc_codes::Lift;
-pub use hmc_vault::{Executed, Spread};
+pub use hmc_vault::{Executed, Execution, ExecutionKind, Spread};

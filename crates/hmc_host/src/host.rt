@@ -146,11 +146,10 @@ impl Host {
         if packet.poisoned {
             return Settled::Discarded;
         }
-        let answer = answer_of(packet).unwrap();
         self.tags.free(packet.tag);
         Settled::Took {
             tag: packet.tag,
-            answer,
+            answer: answer_of(packet).unwrap(),
         }
     }
 

@@ -20,12 +20,6 @@ room_in vault_queue banks answers now view room =
     let sized : size_of vault_queue ≡ now.size = ap (λ (v : VaultFields). v.size) view in
     omega (arith, all_cost_one (packets_of vault_queue))
 
--- its test
-pub has_room : (vault_queue : Queue) (banks : List Queue) (answers : Queue) (now : VaultFields) (used size : ℕ) → vault_of_queues vault_queue banks answers ≡ now → used ≡ sum_by one (packets_of vault_queue) → size ≡ size_of vault_queue →
-    (used ≡ length now.vault_queue) × (size ≡ now.size)
-has_room vault_queue banks answers now used size view cost is =
-    (cost ∙ all_cost_one (packets_of vault_queue) ∙ ap (λ (v : VaultFields). length v.vault_queue) view, is ∙ ap (λ (v : VaultFields). v.size) view)
-
 -- where there is no front there is nothing
 pub no_front : (packets : List PacketFields) → slice_get packets 0 ≡ None → packets ≡ []
 no_front [] is = refl

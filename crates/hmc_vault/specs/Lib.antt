@@ -2,4 +2,5 @@ pub mod Packets
 pub mod Vault
 pub mod Spread
 pub mod Execute
+pub mod Execution
 pub mod Kept

@@ -4,8 +4,6 @@ use Rattle.hmc_codes.specs.Shape.{ShapeFields, bank_of}
 use Rattle.hmc_packet.specs.Packet.{PacketFields}
 use Rattle.hmc_vault.specs.declared.spread.Spread.{Spread}
 use Rattle.hmc_vault.specs.declared.spread.Spread.TheVariants.{Empty, Full, Moved}
-use Rattle.hmc_tokens.specs.declared.moving.Shift.{Shift}
-use Rattle.hmc_tokens.specs.declared.moving.Shift.TheVariants as shifts
 use Rattle.hmc_vault.specs.Vault.{VaultFields, bank_at}
 
 -- a packet goes to the queue of a bank if that has room
@@ -29,9 +27,3 @@ spread_gives (Moved bank) vault =
       banks = slice_set vault.banks bank (bank_at vault bank ++ take 1 vault.vault_queue);
     }
 spread_gives _ vault = vault
-
--- the spread that is this move of a packet to the queue of a bank
-abbrev pub spread_of_shift : Shift → (bank : ℕ) → Spread
-spread_of_shift shifts.Empty bank = Empty
-spread_of_shift shifts.Full bank = Full
-spread_of_shift shifts.Done bank = Moved bank

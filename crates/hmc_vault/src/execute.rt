@@ -10,6 +10,7 @@ ghost use Rattle.hmc_tokens.specs.Queue.{packets_of, size_of};
 ghost use Rattle.hmc_vault.specs.Packets.{CarriesRequest};
 ghost use Rattle.hmc_vault.specs.Execute.{must_wait, command_waits, front_waits, execute_says, replies_to, waiting_after, answers_after, cube_after, slots_after};
 
+use crate::{Execution, ExecutionKind};
 use hmc_codes::{Answer, Command, Request};
 use hmc_memory::Banks;
 use hmc_packet::{Packet, reply, request_of};
@@ -36,9 +37,55 @@ pub enum Executed {
     },
 }
 
-/// Performs the request at the front of a queue. Only a unit command asks the bench of logic units.
-/// Unless the request is posted, the reply enters an answers queue.
+/// Performs the request at the front of a queue, and writes what was done into a place for it. Only
+/// a unit command asks the bench of logic units. Unless the request is posted, the reply enters an
+/// answers queue.
 #[inline(always)]
+pub fn execute_front_in<B: Workbench>(
+    waiting: &mut Queue,
+    answers: &mut Queue,
+    banks: &mut Banks,
+    registers: &mut Registers,
+    bench: &mut B,
+    execution: &mut Execution,
+)
+    requires { ForSome (slice_get (packets_of waiting.old) 0) CarriesRequest }
+    ensures answer { execution.new ≡ execute_says (packets_of waiting.old) (packets_of answers.old)
+        (size_of answers.old) (cube_state_of banks.old registers.old) (B.slots bench.old) }
+    ensures empty { (execution.new ≡ Executed.Empty) ↔ (packets_of waiting.old ≡ []) }
+    ensures cube { cube_state_of banks.new registers.new
+        ≡ cube_after execution.new (cube_state_of banks.old registers.old) (B.slots bench.old) }
+    ensures slots { B.slots bench.new
+        ≡ slots_after execution.new (cube_state_of banks.old registers.old) (B.slots bench.old) }
+    ensures shape { banks.new.shape ≡ banks.old.shape }
+    ensures waiting { packets_of waiting.new
+        ≡ waiting_after execution.new (packets_of waiting.old) }
+    ensures answers { packets_of answers.new
+        ≡ answers_after execution.new (packets_of answers.old) }
+
+    // The sizes stay.
+    ensures waiting_size { size_of waiting.new ≡ size_of waiting.old }
+    ensures answers_size { size_of answers.new ≡ size_of answers.old }
+{
+    let Some(front) = waiting.front_ref() else {
+        execution.kind = ExecutionKind::Empty;
+        return;
+    };
+    if command_waits(front.command, answers) {
+        execution.kind = ExecutionKind::Full;
+        return;
+    }
+    execution.kind = ExecutionKind::Ran {
+        host: front.slid,
+        tag: front.tag,
+    };
+    execution.request = request_of(front).unwrap();
+    execution.answer = answer_to(&execution.request, banks, registers, bench);
+    put_reply(answers, front, &execution.request, &execution.answer);
+    waiting.drop_front();
+}
+
+/// The same, which returns what was done.
 pub fn execute_front<B: Workbench>(
     waiting: &mut Queue,
     answers: &mut Queue,
@@ -62,24 +109,9 @@ pub fn execute_front<B: Workbench>(
     ensures waiting_size { size_of waiting.new ≡ size_of waiting.old }
     ensures answers_size { size_of answers.new ≡ size_of answers.old }
 {
-    let Some(front) = waiting.front_ref() else {
-        return Executed::Empty;
-    };
-    if command_waits(front.command, answers) {
-        return Executed::Full;
-    }
-    let request = request_of(front).unwrap();
-    let answer = answer_to(&request, banks, registers, bench);
-    put_reply(answers, front, &request, &answer);
-    let host = front.slid;
-    let tag = front.tag;
-    waiting.drop_front();
-    Executed::Ran {
-        host,
-        tag,
-        request,
-        answer,
-    }
+    let mut execution = Execution::new();
+    execute_front_in(waiting, answers, banks, registers, bench, &mut execution);
+    execution.executed()
 }
 
 /// Whether the front of a queue has an answer for which there is no room, and its execution would

@@ -10,14 +10,17 @@
 //! execution performs the front's request as `perform_on` of the plain machine, on the memory and
 //! the registers of the whole cube. The layers above cite these definitions.
 //!
-//! [`execute_front`] is the execution by any unit: the registers of a cube have a queue of requests
-//! and one of answers too.
+//! [`execute_front_in`] is the execution by any unit: the registers of a cube have a queue of
+//! requests and one of answers too. What it did is written into an [`Execution`], a place for one
+//! after another, of which contracts see an [`Executed`]. [`execute_front`] returns that.
 #![tactic(auto)]
 
 mod execute;
+mod execution;
 mod spread;
 mod vault;
 
-pub use execute::{Executed, execute_front, front_waits};
+pub use execute::{Executed, execute_front, execute_front_in, front_waits};
+pub use execution::{Execution, ExecutionKind};
 pub use spread::Spread;
 pub use vault::Vault;

@@ -1,6 +1,6 @@
 //! One vault.
 
-ghost use Rattle.std.specs.Prelude.{◌≡◌, ◌≤◌, ◌<◌, ◌^◌, ◌↔◌, List, [], ◌∷◌, ◌++◌, Option, All, IsTrue, IfOk, length, drop, map, replicate, slice_get, option_map};
+ghost use Rattle.std.specs.Prelude.{◌≡◌, ◌≢◌, ◌≤◌, ◌<◌, ◌^◌, ◌↔◌, List, [], ◌∷◌, ◌++◌, Option, All, IsTrue, IfOk, nat_lt, length, drop, map, replicate, slice_get, option_map};
 ghost use Rattle.hmc_codes.specs.Limits.{most_bank_bits};
 ghost use Rattle.hmc_serial.specs.Cube.{CubeState, cube_state_of};
 ghost use Rattle.hmc_units.specs.Unit.{UnitFields};
@@ -8,15 +8,15 @@ ghost use Rattle.hmc_tokens.specs.Queue.{packets_of, size_of};
 ghost use Rattle.hmc_vault.specs.Packets.{IsForBanks};
 ghost use Rattle.hmc_vault.specs.Kept.{IsOpening, held_in};
 ghost use Rattle.hmc_vault.specs.Vault.{IsVault, opening_vault, bank_at, held_by};
-ghost use Rattle.hmc_vault.specs.Spread.{spread_says, spread_gives, spread_of_shift};
+ghost use Rattle.hmc_vault.specs.Spread.{spread_says, spread_gives};
 ghost use Rattle.hmc_vault.specs.Execute.{execute_says, execute_gives, cube_after, slots_after};
 
-use crate::{Executed, Spread, execute_front, front_waits};
+use crate::{Executed, Execution, Spread, execute_front_in, front_waits};
 use hmc_codes::{Memory, Shape};
 use hmc_memory::Banks;
 use hmc_packet::Packet;
 use hmc_registers::Registers;
-use hmc_tokens::{Intake, Queue, Shift, shift_one};
+use hmc_tokens::{Intake, Queue, shift_one};
 use hmc_units::Workbench;
 use std::alloc::Global;
 use std::marker::Model;
@@ -68,7 +68,7 @@ impl Vault {
     pub fn enter_room(&self) -> bool
         ensures { IsTrue result ↔ (length self.now.vault_queue < self.now.size) }
     {
-        self.vault_queue.used() < self.vault_queue.size()
+        has_room(&self.vault_queue)
     }
 
     /// Appends a request to a bank to the vault queue.
@@ -109,28 +109,77 @@ impl Vault {
         self.spread_front(shape)
     }
 
-    // The same. Where the queue is empty no packet is to be looked at.
+    // The same, where a packet is there to be moved.
     #[inline(never)]
     fn spread_front(&mut self, shape: Shape) -> Spread
-        requires { length self.old.banks ≡ 2 ^ shape.bank_bits }
+        requires some { self.old.vault_queue ≢ [] }
+        requires sized { length self.old.banks ≡ 2 ^ shape.bank_bits }
         ensures answer { result ≡ spread_says self.old shape }
         ensures gives { self.new ≡ spread_gives result self.old }
         ensures banks { length self.new.banks ≡ length self.old.banks }
         ensures size { self.new.size ≡ self.old.size }
     {
         let Some(front) = self.vault_queue.front_ref() else {
-            return Spread::Empty;
+            unreachable!()
         };
         let bank = shape.spot(front.address).bank;
-        spread_of_shift(
-            shift_one(&mut self.vault_queue, &mut self.banks[usize::from(bank)]),
-            bank,
-        )
+        if !has_room(&self.banks[usize::from(bank)]) {
+            return Spread::Full;
+        }
+        self.move_front(bank)
+    }
+
+    // Moves the front of the vault queue to the queue of a bank, which has room for it.
+    #[inline(never)]
+    fn move_front(&mut self, bank: u8) -> Spread
+        requires there { bank < length self.old.banks }
+        requires room { length (bank_at self.old bank) < self.old.size }
+        ensures answer { result ≡ Spread.Moved bank }
+        ensures gives { self.new ≡ spread_gives (Spread.Moved bank) self.old }
+    {
+        let _ = shift_one(&mut self.vault_queue, &mut self.banks[usize::from(bank)]);
+        Spread::Moved { bank }
     }
 
     /// Performs the request at the front of a bank's queue on the memory and the registers of the
-    /// cube. Only a unit command asks the bench of logic units.
+    /// cube, and writes what was done into a place for it. Only a unit command asks the bench of
+    /// logic units.
     #[inline(always)]
+    pub fn execute_in<B: Workbench>(
+        &mut self,
+        bank: u8,
+        banks: &mut Banks,
+        registers: &mut Registers,
+        bench: &mut B,
+        execution: &mut Execution,
+    )
+        requires { bank < length self.old.banks }
+        ensures answer { execution.new ≡ execute_says (bank_at self.old bank) self.old.answers
+            self.old.size (cube_state_of banks.old registers.old) (B.slots bench.old) }
+        ensures gives { self.new ≡ execute_gives bank execution.new self.old }
+        ensures cube { cube_state_of banks.new registers.new
+            ≡ cube_after execution.new (cube_state_of banks.old registers.old) (B.slots bench.old) }
+        ensures slots { B.slots bench.new ≡ slots_after execution.new
+            (cube_state_of banks.old registers.old) (B.slots bench.old) }
+        ensures shape { banks.new.shape ≡ banks.old.shape }
+        ensures empty { (execution.new ≡ Executed.Empty) ↔ (bank_at self.old bank ≡ []) }
+
+        // The number of banks and the size stay.
+        ensures banks { length self.new.banks ≡ length self.old.banks }
+        ensures size { self.new.size ≡ self.old.size }
+    {
+        let waiting = &mut self.banks[usize::from(bank)];
+        execute_front_in(
+            waiting,
+            &mut self.answers,
+            banks,
+            registers,
+            bench,
+            execution,
+        )
+    }
+
+    /// The same, which returns what was done.
     pub fn execute<B: Workbench>(
         &mut self,
         bank: u8,
@@ -153,8 +202,9 @@ impl Vault {
         ensures banks { length self.new.banks ≡ length self.old.banks }
         ensures size { self.new.size ≡ self.old.size }
     {
-        let waiting = &mut self.banks[usize::from(bank)];
-        execute_front(waiting, &mut self.answers, banks, registers, bench)
+        let mut execution = Execution::new();
+        self.execute_in(bank, banks, registers, bench, &mut execution);
+        execution.executed()
     }
 
     /// Whether the queue of a bank is empty, and an execution by it would do nothing.
@@ -223,15 +273,11 @@ impl Vault {
     }
 }
 
-// The spread that is this move of a packet to the queue of a bank.
-fn spread_of_shift(shift: Shift, bank: u8) -> Spread
-    ensures { result ≡ spread_of_shift shift bank }
+// Whether a queue has room for a packet.
+fn has_room(queue: &Queue) -> bool
+    ensures { result ≡ nat_lt (length (packets_of queue.now)) (size_of queue.now) }
 {
-    match shift {
-        Shift::Empty => Spread::Empty,
-        Shift::Full => Spread::Full,
-        Shift::Done => Spread::Moved { bank },
-    }
+    queue.used() < queue.size()
 }
 
 // This number of empty queues of a size.

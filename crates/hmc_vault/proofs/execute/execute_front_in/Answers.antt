@@ -7,7 +7,7 @@ use Rattle.hmc_tokens.specs.Queue.{packets_of, size_of}
 use Rattle.hmc_vault.specs.Execute.{command_waits}
 use Rattle.hmc_vault.proofs.VaultLemmas.{no_front}
 use Rattle.hmc_vault.proofs.WaitLemmas.{full_where_waits, waits_by_command, command_carried}
-use Rattle.hmc_vault.proofs.execute.execute_front.Goals as goal
+use Rattle.hmc_vault.proofs.execute.execute_front_in.Goals as goal
 
 pub returns-in_default-clause-empty : goal.returns-in_default-clause-empty
 returns-in_default-clause-empty g c = (λ _. no_front (packets_of c.args.waiting.now) (sym c.front_ref.ensures ∙ ap (option_map (λ (p : Bor PacketFields). p.now)) c.in_default.is), λ _. refl)
@@ -22,5 +22,5 @@ returns-then-command_waits-clause-answer g c =
 pub put_reply-requires-clause-room : goal.put_reply-requires-clause-room
 put_reply-requires-clause-room g c =
     ap (λ (k : Command). command_waits k (packets_of c.args.answers.now) (size_of c.args.answers.now))
-    (sym (ap (λ (p : PacketFields). p.command) c.front.view_is ∙ command_carried c.in-Some.front.now c.unwrap-request.result (sym c.request_of.ensures.exact ∙ c.unwrap-request.ensures)))
+    (sym (ap (λ (p : PacketFields). p.command) c.front.view_is ∙ command_carried c.in-Some.front.now c.unwrap-execution-inside.result (sym c.request_of.ensures.exact ∙ c.unwrap-execution-inside.ensures)))
     ∙ sym c.command_waits.ensures ∙ c.if-command_waits.false
