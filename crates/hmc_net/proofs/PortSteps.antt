@@ -145,6 +145,13 @@ shifting_again net cube port direction goal found ready leaving again =
     let same : leaving.front ≡ found = cc in
     subst (λ (f : PacketFields). IsShifting net cube port direction f goal) same leaving.shifting
 
+-- where there is a front, none isn't what is found
+pub one_front : (net : NetState) (direction : ℕ) (front : PacketFields) → IsReady net
+    → IsFrontAt net.links direction (Some front) → IsFrontAt net.links direction None → ⊥
+one_front net direction front ready some none =
+    let is = front_again net direction front None ready some none in
+    cc
+
 pub some_leaving : (net : NetState) (cube port direction : ℕ) (goal : Goal) → IsReady net
     → IsLeaving net cube port direction goal → IsFrontAt net.links direction None → ⊥
 some_leaving net cube port direction goal ready leaving none =

@@ -1,10 +1,12 @@
 -- What a shift and a lift know of the packet that they move.
-use Rattle.std.specs.Prelude.{◌≡◌, ℕ, is_none, Option, Some, slice_get}
+use Rattle.std.specs.Prelude.{◌≡◌, ◌<◌, ℕ, length, is_none, Option, Some, slice_get}
 use Rattle.hmc_codes.specs.declared.lift.Lift.{Lift}
 use Rattle.hmc_codes.specs.declared.place.Place.TheVariants as places
 use Rattle.hmc_packet.specs.Packet.{PacketFields}
 use Rattle.hmc_crossbar.specs.To.{where_to}
-use Rattle.hmc_cube.specs.Places.{answers_at}
+use Rattle.hmc_crossbar.specs.declared.to.To.{To}
+use Rattle.hmc_cube.specs.Cube.{CubeFields}
+use Rattle.hmc_cube.specs.Places.{answers_at, entrance}
 use Rattle.hmc_entries.specs.declared.outcome.Goal.{Goal}
 use Rattle.hmc_journal.specs.Links.{direction_to}
 use Rattle.hmc_journal.specs.Next.{goal_at, lacks_room}
@@ -28,6 +30,10 @@ pub record IsShifting (net : NetState) (cube port direction : ℕ) (front : Pack
 pub record IsLeaving (net : NetState) (cube port direction : ℕ) (goal : Goal) : Type 0 where
   pub front : PacketFields
   pub shifting : IsShifting net cube port direction front goal
+
+-- a vault's queue, or the queue of the registers, has room for a packet
+abbrev pub HasEntrance : CubeFields → To → Type 0
+HasEntrance cube to = length (entrance cube to) < cube.size
 
 -- this is the direction that starts at a port, where its output queue has room
 pub record IsWayOut (net : NetState) (cube port : ℕ) (found : Option ℕ) : Type 0 where

@@ -30,7 +30,7 @@ use crate::Went;
 use hmc_bound::{drains, under_way_by_parts};
 use hmc_case::Case;
 use hmc_codes::{Memory, TokenRow};
-use hmc_cube::Cube;
+use hmc_cube::{Cube, Execution};
 use hmc_entries::LastEntry;
 use hmc_host::Host;
 use hmc_kept::{Parts, Pipes};
@@ -67,6 +67,8 @@ pub struct Network<B: Workbench> {
     piped: Pipes,
     tally: Tally,
     last: LastEntry,
+    // What the latest execution did: one after another is written here.
+    execution: Execution,
 }
 
 impl<B: Workbench> Model for Network<B> {
@@ -105,6 +107,7 @@ impl<B: Workbench> Network<B> {
             piped: parts.piped,
             tally: parts.tally,
             last: LastEntry::new(),
+            execution: Execution::new(),
         })
     }
 
@@ -190,6 +193,7 @@ impl<B: Workbench> Network<B> {
             piped: _,
             tally: _,
             last: _,
+            execution: _,
         } = self;
         bench
     }

@@ -19,6 +19,7 @@ pub enum Went {
 }
 
 /// The last entry becomes that of a step that did nothing, for this cause.
+#[inline(always)]
 pub fn idle(last: &mut LastEntry, step: &Step, cause: Cause) -> Went
     ensures last { last.new ≡ entries.Idle step.now cause }
     ensures went { result ≡ wents.Idle cause }

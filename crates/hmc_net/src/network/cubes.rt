@@ -14,7 +14,7 @@ ghost use Rattle.hmc_net.specs.Went.{went_of};
 use crate::went::idle;
 use crate::{Network, Went};
 use hmc_codes::{Command, Unit};
-use hmc_cube::{Executed, Spread};
+use hmc_cube::{Executed, Execution, ExecutionKind, Spread};
 use hmc_entries::{Cause, LastEntry};
 use hmc_schedule::Step;
 use hmc_units::Workbench;
@@ -79,8 +79,9 @@ impl<B: Workbench> Network<B> {
         let unit = Unit::Bank { cube, vault, bank };
         let owner = &mut self.cubes[usize::from(cube)];
         owner.invariant();
-        let ran = owner.execute(vault, bank, &mut self.bench);
-        note_ran(&mut self.last, unit, &Step::Bank(cube, vault, bank), &ran)
+        owner.execute_in(vault, bank, &mut self.bench, &mut self.execution);
+        let step = Step::Bank(cube, vault, bank);
+        note_ran(&mut self.last, unit, &step, &self.execution)
     }
 
     // The registers execute the front of their queue.
@@ -109,8 +110,9 @@ impl<B: Workbench> Network<B> {
     {
         let unit = Unit::Registers { cube };
         let owner = &mut self.cubes[usize::from(cube)];
-        let ran = owner.registers(&mut self.bench);
-        note_ran(&mut self.last, unit, &Step::Registers(cube), &ran)
+        owner.registers_in(&mut self.bench, &mut self.execution);
+        let step = Step::Registers(cube);
+        note_ran(&mut self.last, unit, &step, &self.execution)
     }
 }
 
@@ -131,21 +133,17 @@ fn note_spread(last: &mut LastEntry, cube: u8, vault: u8, spread: Spread) -> Wen
 
 // The last entry becomes that of an execution.
 #[inline(always)]
-fn note_ran(last: &mut LastEntry, unit: Unit, step: &Step, ran: &Executed) -> Went
-    ensures entry { last.new ≡ ran_entry unit step.now ran.now }
+fn note_ran(last: &mut LastEntry, unit: Unit, step: &Step, execution: &Execution) -> Went
+    ensures entry { last.new ≡ ran_entry unit step.now execution.now }
     ensures went { result ≡ went_of last.new }
 {
-    match ran {
-        Executed::Empty => idle(last, step, Cause::Empty),
-        Executed::Full => idle(last, step, Cause::Full),
-        Executed::Ran {
-            host,
-            tag,
-            request,
-            answer,
-        } => {
-            let tag = tag_of(request.command, *tag);
-            last.executed(unit, *host, tag, request, answer);
+    match execution.kind() {
+        ExecutionKind::Empty => idle(last, step, Cause::Empty),
+        ExecutionKind::Full => idle(last, step, Cause::Full),
+        ExecutionKind::Ran { host, tag } => {
+            let request = execution.request();
+            let tag = tag_of(request.command, tag);
+            last.executed(unit, host, tag, request, execution.answer());
             Went::Done
         }
     }

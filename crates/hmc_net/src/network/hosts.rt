@@ -5,6 +5,7 @@ ghost use Rattle.hmc_case.specs.declared.setup.LinkRow.{LinkRow};
 ghost use Rattle.hmc_codes.specs.declared.place.Place.TheVariants as places;
 ghost use Rattle.hmc_host.specs.Settle.{IsAwaited, after_settle, settle_says};
 ghost use Rattle.hmc_journal.specs.Answers.{gave_entry, took_entry};
+ghost use Rattle.hmc_entries.specs.declared.entry.Entry.{Entry};
 ghost use Rattle.hmc_entries.specs.Event.{cause_of};
 ghost use Rattle.hmc_journal.specs.Setup.{hosts_in, direction_from};
 ghost use Rattle.hmc_send.specs.LinkEntries.{LinkEntry};
@@ -18,6 +19,7 @@ ghost use Rattle.hmc_net.specs.Went.{went_of};
 
 use crate::went::idle;
 use crate::{Network, Went};
+use hmc_codes::Answer;
 use hmc_entries::{Cause, LastEntry};
 use hmc_host::{Given, Hindrance, Host, Settled};
 use hmc_links::LinkList;
@@ -157,7 +159,23 @@ fn note_settled(last: &mut LastEntry, host: u8, settled: &Settled) -> Went
 {
     match settled {
         Settled::Discarded => last.discarded(host),
-        Settled::Took { tag, answer } => last.took(host, *tag, answer),
+        Settled::Took { tag, answer } => note_answer(last, host, *tag, answer),
     }
     Went::Done
+}
+
+// The last entry becomes that of an answer that was taken. Each kind is written by itself: the
+// compiler then copies the bytes of an answer that has some, and none of another.
+#[inline(always)]
+fn note_answer(last: &mut LastEntry, host: u8, tag: u16, answer: &Answer)
+    ensures { last.new ≡ Entry.Took host tag answer.now }
+{
+    match answer {
+        Answer::Silent => last.took(host, tag, &Answer::Silent),
+        Answer::Done { flag } => last.took(host, tag, &Answer::Done { flag: *flag }),
+        Answer::Read { .. } => last.took(host, tag, answer),
+        Answer::Register { value } => last.took(host, tag, &Answer::Register { value: *value }),
+        Answer::Stored => last.took(host, tag, &Answer::Stored),
+        Answer::Refused { errstat } => last.took(host, tag, &Answer::Refused { errstat: *errstat }),
+    }
 }

@@ -28,7 +28,8 @@ use hmc_units::Workbench;
 
 impl<B: Workbench> Network<B> {
     // A flit is sent in a direction.
-    #[inline(always)]
+    // It stands by itself: the steps together are more than is put into the loop over them.
+    #[inline(never)]
     pub(crate) fn send(&mut self, direction: u8) -> Went
         requires there { direction < directions_in self.old.topology }
         requires ready { IsReady (net_of B.slots self.old) }
@@ -44,7 +45,8 @@ impl<B: Workbench> Network<B> {
     }
 
     // The next flit of a direction lands under a mask.
-    #[inline(always)]
+    // It stands by itself, as a send does.
+    #[inline(never)]
     pub(crate) fn land(&mut self, direction: u8, mask: &Flit) -> Went
         requires there { IsLandingIn self.old.topology direction (length mask.now) }
         requires ready { IsReady (net_of B.slots self.old) }

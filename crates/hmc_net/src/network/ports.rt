@@ -1,11 +1,14 @@
 //! The steps at the ports of cubes: shift and lift.
 
-ghost use Rattle.std.specs.Prelude.{◌≡◌, ◌<◌};
+ghost use Rattle.std.specs.Prelude.{◌≡◌, ◌<◌, Some, None};
+ghost use Rattle.hmc_codes.specs.declared.place.Place.TheVariants as places;
+ghost use Rattle.hmc_journal.specs.Links.{direction_to};
 ghost use Rattle.hmc_journal.specs.Setup.{cubes_in};
 ghost use Rattle.hmc_net.specs.Apply.{DoesStep, to_of};
-ghost use Rattle.hmc_net.specs.Ports.{IsLeaving, IsLifting, IsWayOut};
+ghost use Rattle.hmc_net.specs.Ports.{HasEntrance, IsLeaving, IsLifting, IsWayOut};
 ghost use Rattle.hmc_kept.specs.Ways.{IsInner};
-ghost use Rattle.hmc_net.specs.NetState.{net_of};
+ghost use Rattle.hmc_links.specs.LinkList.{IsFrontAt};
+ghost use Rattle.hmc_net.specs.NetState.{net_of, cube_in};
 ghost use Rattle.hmc_wiring.specs.Ready.{IsPortIn, IsLiftIn};
 ghost use Rattle.hmc_net.specs.Sees.{IsReady};
 ghost use Rattle.hmc_net.specs.Went.{went_of};
@@ -29,8 +32,27 @@ impl<B: Workbench> Network<B> {
         ensures went { result ≡ went_of self.new.last }
     {
         let direction = self.wiring.to_port(cube, port);
-        let Some(front) = self.links.front_ref(direction) else {
+        let Some(_) = self.links.front_ref(direction) else {
             return idle(&mut self.last, &Step::Shift(cube, port), Cause::Empty);
+        };
+        self.shift_front(cube, port, direction)
+    }
+
+    // The same, of the front of the buffer at the end of this direction. It is out of the way of
+    // steps that find none.
+    #[inline(never)]
+    fn shift_front(&mut self, cube: u8, port: u8, direction: u8) -> Went
+        requires there { IsPortIn self.old.topology cube port }
+        requires ready { IsReady (net_of B.slots self.old) }
+        requires ends { direction_to (net_of B.slots self.old).topology (places.Port cube port)
+            ≡ Some direction }
+        requires some { IsFrontAt (net_of B.slots self.old).links direction None → ⊥ }
+        ensures does { DoesStep (net_of B.slots self.old) (net_of B.slots self.new)
+            (Step.Shift cube port) }
+        ensures went { result ≡ went_of self.new.last }
+    {
+        let Some(front) = self.links.front_ref(direction) else {
+            unreachable!()
         };
         let to = self.wiring.goal(cube, front);
         match to {
@@ -46,7 +68,7 @@ impl<B: Workbench> Network<B> {
     }
 
     // The front of a port's buffer goes into the cube, to this goal.
-    #[inline(never)]
+    #[inline(always)]
     fn shift_in(&mut self, cube: u8, port: u8, direction: u8, goal: Goal) -> Went
         requires there { IsPortIn self.old.topology cube port }
         requires ready { IsReady (net_of B.slots self.old) }
@@ -56,10 +78,25 @@ impl<B: Workbench> Network<B> {
             (Step.Shift cube port) }
         ensures went { result ≡ went_of self.new.last }
     {
-        let to = to_of(goal);
-        if !self.cubes[usize::from(cube)].room(to) {
+        if !self.cubes[usize::from(cube)].room(to_of(goal)) {
             return idle(&mut self.last, &Step::Shift(cube, port), Cause::Full);
         }
+        self.move_in(cube, port, direction, goal)
+    }
+
+    // The same, where there is room for it.
+    #[inline(never)]
+    fn move_in(&mut self, cube: u8, port: u8, direction: u8, goal: Goal) -> Went
+        requires there { IsPortIn self.old.topology cube port }
+        requires ready { IsReady (net_of B.slots self.old) }
+        requires leaving { IsLeaving (net_of B.slots self.old) cube port direction goal }
+        requires inner { IsInner goal }
+        requires room { HasEntrance (cube_in (net_of B.slots self.old).cubes cube) (to_of goal) }
+        ensures does { DoesStep (net_of B.slots self.old) (net_of B.slots self.new)
+            (Step.Shift cube port) }
+        ensures went { result ≡ went_of self.new.last }
+    {
+        let to = to_of(goal);
         let Some(front) = self.links.front_ref(direction) else {
             unreachable!()
         };
@@ -72,7 +109,7 @@ impl<B: Workbench> Network<B> {
     }
 
     // The front of a port's buffer goes on through another port.
-    #[inline(never)]
+    #[inline(always)]
     fn shift_out(&mut self, cube: u8, port: u8, direction: u8, out: u8) -> Went
         requires there { IsPortIn self.old.topology cube port }
         requires ready { IsReady (net_of B.slots self.old) }
@@ -85,6 +122,21 @@ impl<B: Workbench> Network<B> {
         let Some(onward) = self.room_through(cube, out) else {
             return idle(&mut self.last, &Step::Shift(cube, port), Cause::Full);
         };
+        self.move_out(cube, port, direction, out, onward)
+    }
+
+    // The same, onto the direction that starts there and has room for it.
+    #[inline(never)]
+    fn move_out(&mut self, cube: u8, port: u8, direction: u8, out: u8, onward: u8) -> Went
+        requires there { IsPortIn self.old.topology cube port }
+        requires ready { IsReady (net_of B.slots self.old) }
+        requires leaving { IsLeaving (net_of B.slots self.old) cube port direction
+            (Goal.Port out) }
+        requires way { IsWayOut (net_of B.slots self.old) cube out (Some onward) }
+        ensures does { DoesStep (net_of B.slots self.old) (net_of B.slots self.new)
+            (Step.Shift cube port) }
+        ensures went { result ≡ went_of self.new.last }
+    {
         let Some(front) = self.links.front(direction) else {
             unreachable!()
         };

@@ -13,9 +13,9 @@ use Rattle.hmc_net.proofs.network.Network.bank_front.Goals as goal
 pub returns-clause-does : goal.returns-clause-does
 returns-clause-does g c =
     let found = cube_found c.self.inside.cubes.items (net_of g.B.Workbench.slots c.args.self.now) c.from.result c.args.cube c.index_mut-owner.result.now (ap (λ (n : NetState). n.cubes) (ap (net_of g.B.Workbench.slots) c.self.view_is)) c.from.ensures c.index_mut-owner.ensures.value c.requires.ready.sized c.requires.there.some_vault.some_cube in
-    bank_does (net_of g.B.Workbench.slots c.args.self.now) _ c.args.cube c.args.vault c.args.bank c.execute-ran.result c.requires.ready c.requires.there (subst AreParts found c.invariant.ensures)
-    (c.execute-ran.ensures.answer ∙ ap₂ (λ (x : CubeFields) (s : List (Option UnitFields)). bank_says x s c.args.vault c.args.bank) found (ap (λ (n : NetState). n.slots) (ap (net_of g.B.Workbench.slots) c.self.view_is)))
-    (subst (λ (n : NetState). (after_execute c.args.vault c.args.bank c.execute-ran.result n.slots (cube_in (net_of g.B.Workbench.slots c.args.self.now).cubes c.args.cube)).state.shape ≡ (cube_in (net_of g.B.Workbench.slots c.args.self.now).cubes c.args.cube).state.shape) (ap (net_of g.B.Workbench.slots) c.self.view_is)
-    (subst (λ (x : CubeFields). (after_execute c.args.vault c.args.bank c.execute-ran.result (g.B.Workbench.slots c.self.inside.bench) x).state.shape ≡ x.state.shape) found (ap (λ (x : CubeFields). x.state.shape) (sym c.execute-ran.ensures.leaves) ∙ c.execute-ran.ensures.shape)))
-    (cube_ran _ (net_of g.B.Workbench.slots c.args.self.now) c.self.inside.cubes.items c.from.result c.args.cube c.index_mut-owner.result.now c.execute-ran.new.self (λ (s : List (Option UnitFields)). after_execute c.args.vault c.args.bank c.execute-ran.result s) _
-    (g.B.Workbench.slots c.self.inside.bench) (g.B.Workbench.slots c.execute-ran.new.bench) (units_left c.execute-ran.result) _ _ c.note_ran.new.last _ (ap (net_of g.B.Workbench.slots) c.self.view_is) c.from.ensures found c.execute-ran.ensures.leaves c.execute-ran.ensures.slots c.note_ran.ensures.entry)
+    bank_does (net_of g.B.Workbench.slots c.args.self.now) _ c.args.cube c.args.vault c.args.bank c.execute_in.new.execution c.requires.ready c.requires.there (subst AreParts found c.invariant.ensures)
+    (c.execute_in.ensures.answer ∙ ap₂ (λ (x : CubeFields) (s : List (Option UnitFields)). bank_says x s c.args.vault c.args.bank) found (ap (λ (n : NetState). n.slots) (ap (net_of g.B.Workbench.slots) c.self.view_is)))
+    (subst (λ (n : NetState). (after_execute c.args.vault c.args.bank c.execute_in.new.execution n.slots (cube_in (net_of g.B.Workbench.slots c.args.self.now).cubes c.args.cube)).state.shape ≡ (cube_in (net_of g.B.Workbench.slots c.args.self.now).cubes c.args.cube).state.shape) (ap (net_of g.B.Workbench.slots) c.self.view_is)
+    (subst (λ (x : CubeFields). (after_execute c.args.vault c.args.bank c.execute_in.new.execution (g.B.Workbench.slots c.self.inside.bench) x).state.shape ≡ x.state.shape) found (ap (λ (x : CubeFields). x.state.shape) (sym c.execute_in.ensures.leaves) ∙ c.execute_in.ensures.shape)))
+    (cube_ran _ (net_of g.B.Workbench.slots c.args.self.now) c.self.inside.cubes.items c.from.result c.args.cube c.index_mut-owner.result.now c.execute_in.new.self (λ (s : List (Option UnitFields)). after_execute c.args.vault c.args.bank c.execute_in.new.execution s) _
+    (g.B.Workbench.slots c.self.inside.bench) (g.B.Workbench.slots c.execute_in.new.bench) (units_left c.execute_in.new.execution) _ _ c.note_ran.new.last _ (ap (net_of g.B.Workbench.slots) c.self.view_is) c.from.ensures found c.execute_in.ensures.leaves c.execute_in.ensures.slots c.note_ran.ensures.entry)
