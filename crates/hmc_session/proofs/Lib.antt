@@ -1,3 +1,4 @@
+pub mod There
 pub mod Standing
 pub mod Beginning
 pub mod Running

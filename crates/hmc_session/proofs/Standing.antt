@@ -21,8 +21,9 @@ use Rattle.hmc_kept.proofs.Elements.{changed_at}
 use Rattle.hmc_wiring.specs.Ready.{IsStepFor}
 use Rattle.hmc_net.specs.Stands.{StandsFor, IsNext}
 use Rattle.hmc_net.proofs.Growing.{next_with_step}
+use Rattle.hmc_session.specs.declared.refusal.NotTaken.{NotTaken}
 use Rattle.hmc_session.specs.declared.refusal.NotTaken.TheVariants.{Unknown, Over, Waits}
-use Rattle.hmc_session.specs.Refusals.{has_step, step_refusal}
+use Rattle.hmc_session.specs.Refusals.{has_step, refusal_in, step_refusal}
 use Rattle.hmc_session.specs.Session.{SessionFields, StandsIn, IsSession, IsLast, IsWaiting, MayAsk, is_finished, waits}
 
 -- ---- a step
@@ -45,6 +46,26 @@ by_refusal false over wait free = absurd cc
 by_refusal true true wait free = absurd cc
 by_refusal true false true free = absurd cc
 by_refusal true false false free = (refl, refl)
+
+-- what refuses a step where one may follow refuses it
+due_refuses : (known over wait : Bool) (due : Option NotTaken) (refusal : NotTaken) → over ≡ false → due ≡ (if not known then Some Unknown else if wait then Some Waits else None) → due ≡ Some refusal → (if not known then Some Unknown else if over then Some Over else if wait then Some Waits else None) ≡ Some refusal
+due_refuses known true wait due refusal on is refused = absurd cc
+due_refuses false false wait due refusal on is refused = cc
+due_refuses true false wait due refusal on is refused = cc
+
+pub refused_now : (s : SessionFields) (step : Step) (over : Bool) (due : Option NotTaken) (refusal : NotTaken) → over ≡ (s.passed || nat_le most_taken s.taken) → over ≡ false → due ≡ refusal_in s.plan s.finished s.net.hosts step → due ≡ Some refusal → step_refusal s step ≡ Some refusal
+refused_now s step over due refusal is on value refused =
+    due_refuses (has_step s.plan step) (s.passed || nat_le most_taken s.taken) (waits s step) due refusal (sym is ∙ on) value refused
+
+none_refuses : (known over wait : Bool) (due : Option NotTaken) → over ≡ false → due ≡ (if not known then Some Unknown else if wait then Some Waits else None) → due ≡ None → (if not known then Some Unknown else if over then Some Over else if wait then Some Waits else None) ≡ None
+none_refuses known true wait due on is none = absurd cc
+none_refuses false false wait due on is none = absurd cc
+none_refuses true false wait due on is none = cc
+
+-- where nothing refuses it then, nothing does
+pub free_now : (s : SessionFields) (step : Step) (over : Bool) (due : Option NotTaken) → over ≡ (s.passed || nat_le most_taken s.taken) → over ≡ false → due ≡ refusal_in s.plan s.finished s.net.hosts step → due ≡ None → step_refusal s step ≡ None
+free_now s step over due is on value none =
+    none_refuses (has_step s.plan step) (s.passed || nat_le most_taken s.taken) (waits s step) due (sym is ∙ on) value none
 
 -- a step may be taken that nothing refuses
 pub may_take : (s : SessionFields) (step : Step) → IsStepOf s.plan step → HasFlit step → step_refusal s step ≡ None → MayTake s step

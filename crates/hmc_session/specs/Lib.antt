@@ -1,3 +1,4 @@
+pub mod Count
 pub mod Session
 pub mod Refusals
 pub mod Numbers

@@ -1,7 +1,7 @@
 -- Why a session doesn't take a step, and why it doesn't ask a host.
-use Rattle.std.specs.Prelude.{ℕ, ◌||◌, ◌&&◌, not, if◌then◌else◌, nat_lt, nat_le, Bool, length, Option, Some, None}
+use Rattle.std.specs.Prelude.{ℕ, ◌||◌, ◌&&◌, not, if◌then◌else◌, nat_lt, nat_le, Bool, List, length, Option, Some, None}
 use Rattle.hmc_codes.specs.Limits.{most_asked, most_taken, ports}
-use Rattle.hmc_host.specs.Host.{asked_count}
+use Rattle.hmc_host.specs.Host.{HostFields, asked_count}
 use Rattle.hmc_codes.specs.declared.lift.Lift.{Lift}
 use Rattle.hmc_codes.specs.declared.lift.Lift.TheVariants as lifts
 use Rattle.hmc_schedule.specs.declared.step.Step.{Step}
@@ -12,7 +12,7 @@ use Rattle.hmc_session.specs.declared.refusal.NotTaken.{NotTaken}
 use Rattle.hmc_session.specs.declared.refusal.NotTaken.TheVariants.{Unknown, Over, Waits}
 use Rattle.hmc_session.specs.declared.refusal.NotAsked.{NotAsked}
 use Rattle.hmc_session.specs.declared.refusal.NotAsked.TheVariants.{NoHost, NoCube, Finished, Full}
-use Rattle.hmc_session.specs.Session.{SessionFields, is_finished, waits}
+use Rattle.hmc_session.specs.Session.{SessionFields, is_finished, waits, waits_in}
 
 -- a plan has the cube
 abbrev pub has_cube : PlanFields → (cube : ℕ) → Bool
@@ -47,6 +47,13 @@ has_step plan (steps.Take host) = nat_lt host plan.hosts
 has_step plan (steps.Through cube port) = has_port plan cube port
 has_step plan (steps.Unlock direction) = nat_lt direction plan.directions
 has_step plan (steps.Retire slot) = nat_lt slot slots
+
+-- why a step isn't taken where one may follow, if it isn't
+abbrev pub refusal_in : PlanFields → (finished : List Bool) → (hosts : List HostFields) → Step →
+    Option NotTaken
+refusal_in plan finished hosts step =
+    (if not (has_step plan step) then Some Unknown else
+    if waits_in finished hosts step then Some Waits else None)
 
 -- why a step isn't taken, if it isn't: it is none of the plan, none may follow, or it waits
 abbrev pub step_refusal : SessionFields → Step → Option NotTaken

@@ -5,7 +5,7 @@ use Rattle.hmc_units.specs.Unit.{UnitFields}
 use Rattle.hmc_schedule.specs.declared.step.Step.{Step}
 use Rattle.hmc_schedule.specs.declared.step.Step.TheVariants as steps
 use Rattle.hmc_schedule.specs.Plan.{PlanFields, IsStepOf, HasFlit}
-use Rattle.hmc_host.specs.Host.{asked_count}
+use Rattle.hmc_host.specs.Host.{HostFields, asked_count}
 use Rattle.hmc_host.specs.Give.{is_at_end}
 use Rattle.hmc_case.specs.Case.{CaseFields}
 use Rattle.hmc_entries.specs.declared.entry.Entry.{Entry}
@@ -76,10 +76,18 @@ pub record IsSession (session : SessionFields) : Type 0 where
   pub stands : StandsIn session case journal
 
 -- a give of a host that has given all of its requests and isn't finished
+abbrev pub waits_in : (finished : List Bool) → (hosts : List HostFields) → Step → Bool
+waits_in finished hosts (steps.Give host) =
+    not (slice_index_or finished host true) && is_at_end (host_in hosts host)
+waits_in finished hosts _ = false
+
 abbrev pub waits : SessionFields → Step → Bool
-waits session (steps.Give host) =
-    not (is_finished session host) && is_at_end (host_in session.net.hosts host)
-waits session _ = false
+waits session step = waits_in session.finished session.net.hosts step
+
+-- the host of a give is one of so many
+abbrev pub IsHostOf : (hosts : ℕ) → Step → Type 0
+IsHostOf hosts (steps.Give host) = host < hosts
+IsHostOf hosts _ = Unit {0}
 
 -- a step waits: it is a give of a host that isn't finished, and no request of the host is left
 pub record IsWaiting (finished : List Bool) (setup : Setup) (past : List Entry) (step : Step)

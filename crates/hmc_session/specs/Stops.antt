@@ -1,5 +1,5 @@
 -- The kinds of entries at which a run of laid steps stops.
-use Rattle.std.specs.Prelude.{Bool, false, Option, Some, None}
+use Rattle.std.specs.Prelude.{◌≡◌, Bool, false, true, Option, Some, None}
 use Rattle.hmc_entries.specs.declared.entry.Entry.{Entry}
 use Rattle.hmc_entries.specs.declared.entry.Entry.TheVariants.{Gave, Sent, Landed, Shifted, Dropped, Spread, Executed, Lifted, Took, Discarded, Through, Unlocked, Retired, Passed, Idle}
 use Rattle.hmc_entries.specs.declared.event.Event.{Event}
@@ -24,7 +24,11 @@ is_stop stops (Retired slot) = stops.retired
 is_stop stops (Passed direction flit) = stops.passed
 is_stop stops (Idle step cause) = stops.idle
 
--- the same of an entry that is counted as this event, where that tells
+-- if so, no entry is of a kind that is among these
+abbrev pub IsQuiet : (quiet : Bool) → Stops → Type 0
+IsQuiet quiet stops = quiet ≡ true → (entry : Entry) → is_stop stops entry ≡ false
+
+-- whether an entry is, which is counted as this event, where that tells
 abbrev pub event_stop : Stops → Event → Option Bool
 event_stop stops (events.Gave host) = Some stops.gave
 event_stop stops (events.Sent direction) = Some stops.sent

@@ -30,7 +30,7 @@ impl Model for Laid {
 
     ghost Value = { List Step };
 
-    ghost view = { λ l. l.left };
+    ghost view = { λ l. l.left.steps };
 }
 
 impl Laid {
@@ -86,6 +86,25 @@ impl<B: Workbench> Session<B> {
             (session_of B.slots self.old) (session_of B.slots self.new) laid.new }
 
         // A step is taken or refused as by `step`.
+        ensures steps { (step : Step) (rest : List Step) → laid.old ≡ step ∷ rest →
+            (laid.new ≡ rest) × StepsBy
+            (session_of B.slots self.old) (session_of B.slots self.new) step result }
+        ensures last { IfOk result (λ taken. IfSome taken (λ went.
+            went ≡ went_of self.new.network.last)) }
+        ensures finished { self.new.finished ≡ self.old.finished }
+        ensures plan { self.new.plan ≡ self.old.plan }
+    {
+        if let Some(place) = laid.left.take_kept() {
+            return self.step_on(laid.left.kept_step(place));
+        }
+        self.next_found(laid)
+    }
+
+    // The same, out of the way of steps that are at hand.
+    #[inline(never)]
+    fn next_found(&mut self, laid: &mut Laid) -> Result<Option<Went>, NotTaken>
+        ensures none { laid.old ≡ [] → IsWithoutStep result
+            (session_of B.slots self.old) (session_of B.slots self.new) laid.new }
         ensures steps { (step : Step) (rest : List Step) → laid.old ≡ step ∷ rest →
             (laid.new ≡ rest) × StepsBy
             (session_of B.slots self.old) (session_of B.slots self.new) step result }

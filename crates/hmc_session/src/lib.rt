@@ -10,6 +10,7 @@
 
 mod ahead;
 mod asking;
+mod count;
 mod laws;
 mod numbers;
 mod parts;

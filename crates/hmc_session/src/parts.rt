@@ -38,7 +38,7 @@ fn has_port(plan: &Plan, cube: u8, port: u8) -> bool
     ensures value { result ≡ has_port plan.now cube port }
     ensures means { IsTrue result → IsPortOf plan.now cube port }
 {
-    has_cube(plan, cube) && port < PORTS && plan.is_joined(cube, port)
+    port < PORTS && plan.is_joined(cube, port)
 }
 
 #[inline(always)]
@@ -46,7 +46,7 @@ fn has_vault(plan: &Plan, cube: u8, vault: u8) -> bool
     ensures value { result ≡ has_vault plan.now cube vault }
     ensures means { IsTrue result → IsVaultOf plan.now cube vault }
 {
-    has_cube(plan, cube) && vault < plan.vaults(cube)
+    vault < plan.vaults(cube)
 }
 
 #[inline(always)]

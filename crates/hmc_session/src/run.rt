@@ -6,8 +6,9 @@ ghost use Rattle.hmc_journal.specs.Setup.{Setup};
 ghost use Rattle.hmc_net.specs.Went.{went_of};
 ghost use Rattle.hmc_session.specs.Running.{RunsTo, TriesBy, stopped_at};
 ghost use Rattle.hmc_session.specs.Session.{session_of, StandsIn};
+ghost use Rattle.hmc_session.specs.Stops.{IsQuiet};
 
-use crate::stops::{stops_after, stops_at};
+use crate::stops::{is_quiet, stops_after, stops_at};
 use crate::{Laid, NotTaken, Session, Stops};
 use hmc_net::Went;
 use hmc_units::Workbench;
@@ -42,8 +43,24 @@ impl<B: Workbench> Session<B> {
         ensures finished { self.new.finished ≡ self.old.finished }
         ensures plan { self.new.plan ≡ self.old.plan }
     {
+        if is_quiet(stops) {
+            return self.run_on::<true>(laid, most, stops);
+        }
+        self.run_on::<false>(laid, most, stops)
+    }
+
+    // The same, which is told whether no kind is chosen: then no entry is looked at.
+    fn run_on<const QUIET: bool>(&mut self, laid: &mut Laid, most: u32, stops: &Stops) -> Ran
+        requires { IsQuiet QUIET stops.now }
+        ensures stands { (setup : Setup) (past : List Entry) →
+            StandsIn (session_of B.slots self.old) setup past →
+            RunsTo result (session_of B.slots self.new) setup past laid.old laid.new
+            stops.now most }
+        ensures finished { self.new.finished ≡ self.old.finished }
+        ensures plan { self.new.plan ≡ self.old.plan }
+    {
         'steps: for at in 0..most {
-            if let Some(ran) = self.try_next(laid, stops) {
+            if let Some(ran) = self.try_next::<QUIET>(laid, stops) {
                 return ran;
             }
         }
@@ -52,7 +69,8 @@ impl<B: Workbench> Session<B> {
 
     // Takes the next laid step, unless it waits. `Some` where a run ends with it.
     #[inline(always)]
-    fn try_next(&mut self, laid: &mut Laid, stops: &Stops) -> Option<Ran>
+    fn try_next<const QUIET: bool>(&mut self, laid: &mut Laid, stops: &Stops) -> Option<Ran>
+        requires { IsQuiet QUIET stops.now }
         ensures tries { (setup : Setup) (past : List Entry) →
             StandsIn (session_of B.slots self.old) setup past →
             TriesBy (StandsIn (session_of B.slots self.new)) result (session_of B.slots self.new)
@@ -61,7 +79,7 @@ impl<B: Workbench> Session<B> {
         ensures plan { self.new.plan ≡ self.old.plan }
     {
         match self.next(laid) {
-            Ok(Some(went)) => self.stopped_after(went, stops),
+            Ok(Some(went)) => self.stopped_after::<QUIET>(went, stops),
             Ok(None) => Some(Ran::Ended),
             Err(NotTaken::Waits) => None,
             Err(NotTaken::Unknown) => Some(Ran::Unknown),
@@ -71,10 +89,14 @@ impl<B: Workbench> Session<B> {
 
     // The same after a step that went so.
     #[inline(always)]
-    fn stopped_after(&self, went: Went, stops: &Stops) -> Option<Ran>
-        requires { went ≡ went_of self.now.network.last }
+    fn stopped_after<const QUIET: bool>(&self, went: Went, stops: &Stops) -> Option<Ran>
+        requires went { went ≡ went_of self.now.network.last }
+        requires quiet { IsQuiet QUIET stops.now }
         ensures { result ≡ stopped_at stops.now (session_of B.slots self.now).net.last }
     {
+        if QUIET {
+            return None;
+        }
         if stops_after(stops, went, self.network().last()) {
             return Some(Ran::Stopped);
         }

@@ -1,25 +1,25 @@
 //! Sessions.
 
-ghost use Rattle.std.specs.Prelude.{◌≡◌, ◌<◌, [], ◌∷◌, not, if◌then◌else◌, List, Some, None, Err, true, false, replicate, slice_set, IfOk, IfErr, OnOk, OnErr};
+ghost use Rattle.std.specs.Prelude.{◌≡◌, ◌<◌, ℕ, [], ◌∷◌, length, not, slice_index_or, if◌then◌else◌, List, Some, None, Err, true, false, replicate, slice_set, IfOk, IfErr, OnOk, OnErr};
 ghost use Rattle.std.specs.Option.{unwrap_or};
 ghost use Rattle.hmc_codes.specs.Limits.{most_hosts};
 ghost use Rattle.hmc_schedule.specs.Plan.{IsStepOf};
 ghost use Rattle.hmc_case.specs.Plan.{plan_of};
-ghost use Rattle.hmc_entries.specs.Event.{is_passed};
 ghost use Rattle.hmc_entries.specs.declared.entry.Entry.{Entry};
 ghost use Rattle.hmc_journal.specs.Next.{next};
 ghost use Rattle.hmc_journal.specs.Setup.{Setup};
 ghost use Rattle.hmc_growing.specs.Growing.{with_step, with_item};
 ghost use Rattle.hmc_net.specs.Asked.{item_with};
 ghost use Rattle.hmc_net.specs.Went.{went_of};
-ghost use Rattle.hmc_session.specs.Session.{session_of, StandsIn, IsWaiting, MayAsk, begun, waits, is_finished};
-ghost use Rattle.hmc_session.specs.Refusals.{step_refusal, ask_refusal, has_step};
+ghost use Rattle.hmc_session.specs.Session.{session_of, StandsIn, IsHostOf, IsWaiting, MayAsk, begun, is_finished, waits_in};
+ghost use Rattle.hmc_session.specs.Refusals.{step_refusal, ask_refusal, has_step, refusal_in};
 ghost use Rattle.hmc_session.specs.declared.refusal.NotTaken.TheVariants.{Unknown, Over};
 
+use crate::count::StepCount;
 use crate::parts::{has_flit, has_step, host_count};
 use crate::{NotAsked, NotTaken};
 use hmc_case::Case;
-use hmc_codes::{MOST_ASKED, MOST_HOSTS, MOST_TAKEN, Memory, Request};
+use hmc_codes::{MOST_ASKED, MOST_HOSTS, Memory, Request};
 use hmc_net::{Network, Went};
 use hmc_schedule::{Plan, Step};
 use hmc_units::Workbench;
@@ -36,8 +36,7 @@ pub struct Session<B: Workbench> {
     network: Network<B>,
     plan: Plan,
     finished: [bool; MOST_HOSTS as usize],
-    taken: u32,
-    passed: bool,
+    count: StepCount,
 }
 
 impl<B: Workbench> Model for Session<B> {
@@ -49,36 +48,17 @@ impl<B: Workbench> Model for Session<B> {
       network = s.network;
       plan = s.plan;
       finished = s.finished;
-      taken = s.taken;
-      passed = s.passed;
+      taken = s.count.taken;
+      passed = s.count.passed;
     } };
 
     ghost invariant = { λ s. IsSession (session_of B.slots (record {
       network = s.network;
       plan = s.plan;
       finished = s.finished;
-      taken = s.taken;
-      passed = s.passed;
+      taken = s.count.taken;
+      passed = s.count.passed;
     })) };
-}
-
-// Whether a step is a landing that passed.
-#[inline(always)]
-fn has_passed(went: Went) -> bool
-    ensures { (entry : Entry) → went ≡ went_of entry → result ≡ is_passed entry }
-{
-    matches!(went, Went::Passed)
-}
-
-// Notes whether a step is a landing that passed, where none did before. Other steps write nothing.
-#[inline(always)]
-fn note_passed(passed: &mut bool, went: Went)
-    requires { passed.old ≡ false }
-    ensures { (entry : Entry) → went ≡ went_of entry → passed.new ≡ is_passed entry }
-{
-    if has_passed(went) {
-        *passed = true;
-    }
 }
 
 // Why a step isn't taken where none may follow. It is out of the way of steps that are taken.
@@ -90,6 +70,55 @@ fn over_refusal(plan: &Plan, step: &Step) -> NotTaken
         return NotTaken::Unknown;
     }
     NotTaken::Over
+}
+
+// Whether a host is finished. One that isn't there is.
+#[inline(always)]
+fn is_finished(finished: &[bool; MOST_HOSTS as usize], host: u8) -> bool
+    ensures { result ≡ slice_index_or finished.now host true }
+{
+    match finished.get(usize::from(host)) {
+        Some(finished) => *finished,
+        None => true,
+    }
+}
+
+// Whether the step is a give of a host that has given all of its requests and isn't finished.
+#[inline(always)]
+fn waits<B: Workbench>(
+    network: &Network<B>,
+    finished: &[bool; MOST_HOSTS as usize],
+    step: &Step,
+) -> bool
+    requires { IsHostOf (length network.now.hosts) step.now }
+    ensures { result ≡ waits_in finished.now network.now.hosts step.now }
+{
+    match step {
+        Step::Give(host) => !is_finished(finished, *host) && network.is_at_end(*host),
+        _ => false,
+    }
+}
+
+// Why a step isn't taken where one may follow, if it isn't: it is none of the plan, or it waits.
+#[inline(always)]
+fn due_refusal<B: Workbench>(
+    plan: &Plan,
+    network: &Network<B>,
+    finished: &[bool; MOST_HOSTS as usize],
+    step: &Step,
+) -> Option<NotTaken>
+    requires { (host : ℕ) → host < plan.now.hosts → host < length network.now.hosts }
+    ensures value { result ≡
+        refusal_in plan.now finished.now network.now.hosts step.now }
+    ensures within { result ≡ None → IsStepOf plan.now step.now }
+{
+    if !has_step(plan, step) {
+        return Some(NotTaken::Unknown);
+    }
+    if waits(network, finished, step) {
+        return Some(NotTaken::Waits);
+    }
+    None
 }
 
 impl<B: Workbench> Session<B> {
@@ -108,8 +137,7 @@ impl<B: Workbench> Session<B> {
             network,
             plan,
             finished: [false; MOST_HOSTS as usize],
-            taken: 0,
-            passed: false,
+            count: StepCount::new(),
         })
     }
 
@@ -132,14 +160,14 @@ impl<B: Workbench> Session<B> {
     pub fn taken(&self) -> u32
         ensures { result ≡ self.now.taken }
     {
-        self.taken
+        self.count.taken()
     }
 
     /// Whether a landing passed. Then no step may follow.
     pub fn has_passed(&self) -> bool
         ensures { result ≡ self.now.passed }
     {
-        self.passed
+        self.count.has_passed()
     }
 
     /// Takes a step. An error says why it isn't taken; then nothing changes.
@@ -170,10 +198,19 @@ impl<B: Workbench> Session<B> {
         ensures finished { self.new.finished ≡ self.old.finished }
         ensures plan { self.new.plan ≡ self.old.plan }
     {
-        if let Some(refusal) = self.step_refusal(step) {
+        if self.count.is_over() {
+            return Err(over_refusal(&self.plan, step));
+        }
+        // It is counted before it is looked at, so that what it is is told apart once.
+        self.count.add();
+        if let Some(refusal) = due_refusal(&self.plan, &self.network, &self.finished, step) {
+            self.count.take_back();
             return Err(refusal);
         }
-        Ok(self.take(step))
+        has_flit(step);
+        let went = self.network.step(step);
+        self.count.note(went);
+        Ok(went)
     }
 
     /// Asks a host for one request more, with a fence before it or without. An error says why it
@@ -231,16 +268,10 @@ impl<B: Workbench> Session<B> {
             StandsIn (session_of B.slots self.now) setup past → result ≡ Some NotTaken.Waits →
             IsWaiting self.now.finished setup past step.now }
     {
-        if self.passed || self.taken >= MOST_TAKEN {
+        if self.count.is_over() {
             return Some(over_refusal(&self.plan, step));
         }
-        if !has_step(&self.plan, step) {
-            return Some(NotTaken::Unknown);
-        }
-        if self.waits(step) {
-            return Some(NotTaken::Waits);
-        }
-        None
+        due_refusal(&self.plan, &self.network, &self.finished, step)
     }
 
     /// Why this host would not be asked for a request to this cube now, if it would not: out of
@@ -264,26 +295,11 @@ impl<B: Workbench> Session<B> {
         None
     }
 
-    // Whether the step is a give of a host that has given all of its requests and isn't finished.
-    #[inline(always)]
-    fn waits(&self, step: &Step) -> bool
-        requires { IsStepOf self.now.plan step.now }
-        ensures { result ≡ waits (session_of B.slots self.now) step.now }
-    {
-        match step {
-            Step::Give(host) => !self.is_finished(*host) && self.network.is_at_end(*host),
-            _ => false,
-        }
-    }
-
     /// Whether a host is asked for nothing more. One that isn't there is finished.
     pub fn is_finished(&self, host: u8) -> bool
         ensures { result ≡ is_finished (session_of B.slots self.now) host }
     {
-        match self.finished.get(usize::from(host)) {
-            Some(finished) => *finished,
-            None => true,
-        }
+        is_finished(&self.finished, host)
     }
 
     /// Takes a step that nothing refuses, which `step_refusal` says.
@@ -303,9 +319,9 @@ impl<B: Workbench> Session<B> {
         ensures plan { self.new.plan ≡ self.old.plan }
     {
         has_flit(step);
+        self.count.add();
         let went = self.network.step(step);
-        note_passed(&mut self.passed, went);
-        self.taken += 1;
+        self.count.note(went);
         went
     }
 }

@@ -2,7 +2,7 @@
 
 ghost use Rattle.std.specs.Prelude.{◌≡◌, false};
 ghost use Rattle.hmc_net.specs.Went.{went_of};
-ghost use Rattle.hmc_session.specs.Stops.{event_stop, is_stop, no_stops};
+ghost use Rattle.hmc_session.specs.Stops.{IsQuiet, event_stop, is_stop, no_stops};
 
 use hmc_entries::{Entry, Event, LastEntry};
 use hmc_net::Went;
@@ -67,6 +67,13 @@ pub fn no_stops() -> Stops
     ensures nowhere { (entry : Entry) → is_stop result entry ≡ false }
 {
     NO_STOPS
+}
+
+/// Whether no kind is chosen: then no entry is of one of the kinds.
+pub fn is_quiet(stops: &Stops) -> bool
+    ensures { IsQuiet result stops.now }
+{
+    *stops == NO_STOPS
 }
 
 // Whether the entry is of one of the kinds.

@@ -13,7 +13,7 @@ pub ask-requires-clause-there : goal.ask-requires-clause-there
 ask-requires-clause-there g c =
     let i = c.self.inside in
     let slots = g.B.Workbench.slots in
-    let s : SessionFields = session_of slots (record { network = i.network; plan = i.plan; finished = i.finished; taken = i.taken; passed = i.passed }) in
+    let s : SessionFields = session_of slots (record { network = i.network; plan = i.plan; finished = i.finished; taken = i.count.taken; passed = i.count.passed }) in
     let same : s ≡ session_of slots c.args.self.now = ap (session_of slots) c.self.view_is in
     host_there s c.args.host c.self.invariant (subst (λ (x : SessionFields). c.args.host < x.plan.hosts) (sym same) (c.in_default.ensures.may refl).some_host)
 
@@ -21,14 +21,14 @@ pub invariant_of-self : goal.invariant_of-self
 invariant_of-self g c =
     let i = c.self.inside in
     let slots = g.B.Workbench.slots in
-    let s : SessionFields = session_of slots (record { network = i.network; plan = i.plan; finished = i.finished; taken = i.taken; passed = i.passed }) in
+    let s : SessionFields = session_of slots (record { network = i.network; plan = i.plan; finished = i.finished; taken = i.count.taken; passed = i.count.passed }) in
     subst (λ (n : NetState). IsSession (record s { net = n })) (sym c.in_err-ask.ensures.err) c.self.invariant
 
 pub returns-clause-stands : goal.returns-clause-stands
 returns-clause-stands g c = λ setup past is.
     let i = c.self.inside in
     let slots = g.B.Workbench.slots in
-    let s : SessionFields = session_of slots (record { network = i.network; plan = i.plan; finished = i.finished; taken = i.taken; passed = i.passed }) in
+    let s : SessionFields = session_of slots (record { network = i.network; plan = i.plan; finished = i.finished; taken = i.count.taken; passed = i.count.passed }) in
     let same : s ≡ session_of slots c.args.self.now = ap (session_of slots) c.self.view_is in
     let before : StandsIn s setup past = subst (λ (x : SessionFields). StandsIn x setup past) (sym same) is in
     let may = may_from s (session_of slots c.args.self.now) c.args.host _ same (c.in_default.ensures.may refl) in
@@ -40,7 +40,7 @@ pub invariant_of-self-2 : goal.invariant_of-self-2
 invariant_of-self-2 g c =
     let i = c.self.inside in
     let slots = g.B.Workbench.slots in
-    let s : SessionFields = session_of slots (record { network = i.network; plan = i.plan; finished = i.finished; taken = i.taken; passed = i.passed }) in
+    let s : SessionFields = session_of slots (record { network = i.network; plan = i.plan; finished = i.finished; taken = i.count.taken; passed = i.count.passed }) in
     let same : s ≡ session_of slots c.args.self.now = ap (session_of slots) c.self.view_is in
     let keeps = c.self.invariant in
     let before = keeps.stands in

@@ -14,7 +14,7 @@ pub step-went-requires : goal.step-went-requires
 step-went-requires g c =
     let i = c.self.inside in
     let slots = g.B.Workbench.slots in
-    let s : SessionFields = session_of slots (record { network = i.network; plan = i.plan; finished = i.finished; taken = i.taken; passed = i.passed }) in
+    let s : SessionFields = session_of slots (record { network = i.network; plan = i.plan; finished = i.finished; taken = i.count.taken; passed = i.count.passed }) in
     let same : s ≡ session_of slots c.args.self.now = ap (session_of slots) c.self.view_is in
     let may : MayTake s c.args.step.now = may_take s c.args.step.now (subst (λ (x : SessionFields). IsStepOf x.plan c.args.step.now) (sym same) c.requires.within) c.has_flit.ensures (subst (λ (x : SessionFields). step_refusal x c.args.step.now ≡ None) (sym same) c.requires.free) in
     some_next s c.args.step.now c.self.invariant may
@@ -23,7 +23,7 @@ pub invariant_of-self : goal.invariant_of-self
 invariant_of-self g c =
     let i = c.self.inside in
     let slots = g.B.Workbench.slots in
-    let s : SessionFields = session_of slots (record { network = i.network; plan = i.plan; finished = i.finished; taken = i.taken; passed = i.passed }) in
+    let s : SessionFields = session_of slots (record { network = i.network; plan = i.plan; finished = i.finished; taken = i.count.taken; passed = i.count.passed }) in
     let same : s ≡ session_of slots c.args.self.now = ap (session_of slots) c.self.view_is in
     let may : MayTake s c.args.step.now = may_take s c.args.step.now (subst (λ (x : SessionFields). IsStepOf x.plan c.args.step.now) (sym same) c.requires.within) c.has_flit.ensures (subst (λ (x : SessionFields). step_refusal x c.args.step.now ≡ None) (sym same) c.requires.free) in
     let keeps = c.self.invariant in
@@ -31,26 +31,26 @@ invariant_of-self g c =
     let past = keeps.journal in
     let due = next_is s setup past c.args.step.now keeps may keeps.stands in
     keeps_with s _ setup (with_step setup c.args.step.now) past _ keeps keeps.stands
-    (stands_next s _ setup past c.args.step.now keeps may keeps.stands (c.step-went.ensures.stands (with_step setup c.args.step.now) past due) refl
-    (c.note_passed.ensures (next (with_step setup c.args.step.now) past c.args.step.now) (c.step-went.ensures.went (with_step setup c.args.step.now) past due)) refl (c.step-went.ensures.last (with_step setup c.args.step.now) past due)) refl refl refl
+    (stands_next s _ setup past c.args.step.now keeps may keeps.stands (c.step-went.ensures.stands (with_step setup c.args.step.now) past due) (c.note.ensures.taken ∙ c.add.ensures.taken)
+    (c.note.ensures.passed (next (with_step setup c.args.step.now) past c.args.step.now) (c.step-went.ensures.went (with_step setup c.args.step.now) past due)) refl (c.step-went.ensures.last (with_step setup c.args.step.now) past due)) refl refl refl
 
 pub returns-clause-stands : goal.returns-clause-stands
 returns-clause-stands g c = λ setup past is.
     let i = c.self.inside in
     let slots = g.B.Workbench.slots in
-    let s : SessionFields = session_of slots (record { network = i.network; plan = i.plan; finished = i.finished; taken = i.taken; passed = i.passed }) in
+    let s : SessionFields = session_of slots (record { network = i.network; plan = i.plan; finished = i.finished; taken = i.count.taken; passed = i.count.passed }) in
     let same : s ≡ session_of slots c.args.self.now = ap (session_of slots) c.self.view_is in
     let may : MayTake s c.args.step.now = may_take s c.args.step.now (subst (λ (x : SessionFields). IsStepOf x.plan c.args.step.now) (sym same) c.requires.within) c.has_flit.ensures (subst (λ (x : SessionFields). step_refusal x c.args.step.now ≡ None) (sym same) c.requires.free) in
     let before : StandsIn s setup past = subst (λ (x : SessionFields). StandsIn x setup past) (sym same) is in
     let due = next_is s setup past c.args.step.now c.self.invariant may before in
-    stands_next s _ setup past c.args.step.now c.self.invariant may before (c.step-went.ensures.stands (with_step setup c.args.step.now) past due) refl
-    (c.note_passed.ensures (next (with_step setup c.args.step.now) past c.args.step.now) (c.step-went.ensures.went (with_step setup c.args.step.now) past due)) refl (c.step-went.ensures.last (with_step setup c.args.step.now) past due)
+    stands_next s _ setup past c.args.step.now c.self.invariant may before (c.step-went.ensures.stands (with_step setup c.args.step.now) past due) (c.note.ensures.taken ∙ c.add.ensures.taken)
+    (c.note.ensures.passed (next (with_step setup c.args.step.now) past c.args.step.now) (c.step-went.ensures.went (with_step setup c.args.step.now) past due)) refl (c.step-went.ensures.last (with_step setup c.args.step.now) past due)
 
 pub returns-clause-went : goal.returns-clause-went
 returns-clause-went g c = λ setup past is.
     let i = c.self.inside in
     let slots = g.B.Workbench.slots in
-    let s : SessionFields = session_of slots (record { network = i.network; plan = i.plan; finished = i.finished; taken = i.taken; passed = i.passed }) in
+    let s : SessionFields = session_of slots (record { network = i.network; plan = i.plan; finished = i.finished; taken = i.count.taken; passed = i.count.passed }) in
     let same : s ≡ session_of slots c.args.self.now = ap (session_of slots) c.self.view_is in
     let may : MayTake s c.args.step.now = may_take s c.args.step.now (subst (λ (x : SessionFields). IsStepOf x.plan c.args.step.now) (sym same) c.requires.within) c.has_flit.ensures (subst (λ (x : SessionFields). step_refusal x c.args.step.now ≡ None) (sym same) c.requires.free) in
     let before : StandsIn s setup past = subst (λ (x : SessionFields). StandsIn x setup past) (sym same) is in
@@ -60,7 +60,7 @@ pub returns-clause-last : goal.returns-clause-last
 returns-clause-last g c =
     let i = c.self.inside in
     let slots = g.B.Workbench.slots in
-    let s : SessionFields = session_of slots (record { network = i.network; plan = i.plan; finished = i.finished; taken = i.taken; passed = i.passed }) in
+    let s : SessionFields = session_of slots (record { network = i.network; plan = i.plan; finished = i.finished; taken = i.count.taken; passed = i.count.passed }) in
     let same : s ≡ session_of slots c.args.self.now = ap (session_of slots) c.self.view_is in
     let may : MayTake s c.args.step.now = may_take s c.args.step.now (subst (λ (x : SessionFields). IsStepOf x.plan c.args.step.now) (sym same) c.requires.within) c.has_flit.ensures (subst (λ (x : SessionFields). step_refusal x c.args.step.now ≡ None) (sym same) c.requires.free) in
     let due = some_next s c.args.step.now c.self.invariant may in

@@ -4,7 +4,7 @@ use Rattle.hmc_entries.specs.declared.entry.Entry.{Entry}
 use Rattle.hmc_journal.specs.Setup.{Setup}
 use Rattle.hmc_session.specs.Running.{RunsOn}
 use Rattle.hmc_session.specs.Session.{session_of, StandsIn}
-use Rattle.hmc_session.proofs.session.Session.run.Given as goal
+use Rattle.hmc_session.proofs.session.Session.run_on.Given as goal
 
 abbrev pub invariant-steps : goal.invariant-steps
 invariant-steps g l = record {

@@ -5,7 +5,7 @@ use Rattle.hmc_session.specs.Running.{with_steps, TriesBy}
 use Rattle.hmc_session.specs.Session.{SessionFields, StandsIn, session_of}
 use Rattle.hmc_session.specs.declared.run.Ran.{Ran}
 use Rattle.hmc_session.proofs.Runs.{runs_none, run_further, run_ends}
-use Rattle.hmc_session.proofs.session.Session.run.Goals as goal
+use Rattle.hmc_session.proofs.session.Session.run_on.Goals as goal
 
 pub steps-init : goal.steps-init
 steps-init g c = record {
