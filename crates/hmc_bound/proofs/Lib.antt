@@ -15,3 +15,4 @@ pub mod Given
 pub mod Appended
 pub mod Counts
 pub mod Few
+mod Worked
