@@ -1,372 +1,266 @@
-//! Replays each example case, runs the cases of some numbers, asks for the bounds of some cases,
-//! and compares each report with the one beside it. Those reports came from a model in another
-//! language, or were found by hand (docs/DECISIONS.md says which). Each report is checked, too, as
-//! it stands and changed, and each example runs as a session (`sessions`).
+//! Compares whole runs with what is stored of them: reports and bounds of cases. Sessions are
+//! driven by draws, and compared with what the program reports of the cases on their tapes.
+//!
+//! Each line of standard input is an order `WAY NET SEED COUNT`. NET names a case of the folder,
+//! NAME.toml.
+//!
+//! - `report` and `bound`: the words `run` and `bound` of the program, for a case. The text has to
+//!   be that of NAME.report or NAME.bound, and the status the count (`stored`).
+//! - `make`: the program makes the case of the seed, and NAME.report has its report.
+//! - `packets` and `values`: the rows of NAME.txt (`packets`, `values`).
+//! - `writes` and `reads`: sinks and sources fail at each of their calls (`failing`).
+//! - `stamp`: what a unit of the caller's bench does after a replay (`stamped`), whose report is
+//!   whole where the seed is not 0.
+//! - `built`: what a case has, and the network of it (`built`).
+//! - `made`: what the case of the seed has (`made`).
+//! - `draw`: so many turns of a session with a tape (`drawn`), of a case without requests and
+//!   steps. The seed decides all of it. At the end the program runs the case on the tape. Each line
+//!   that a caller of the session saw has to be the report's line of this step, and so have the
+//!   final lines.
+//! - `long`: so many pieces of a session that is asked whenever a host waits (`long`). As many
+//!   answers have to come as requests were asked, but for those under way at the end.
+//! - `steps`, `next`, `run` and `program`: so many rounds, for bench/session (`timed`). A round has
+//!   twelve steps.
+//!
+//! The counts say what was tried, and where two lines differ, both are printed. The stored output
+//! comes from a model in another language, which was driven by the same draws.
+//! bench/refused-sessions refuses each call that takes memory in turn.
 #![tactic(auto)]
 
-mod checks;
-mod sessions;
+mod begun;
+mod built;
+mod drawn;
+mod draws;
+mod failing;
+mod laid;
+mod long;
+mod made;
+mod packets;
+mod replayed;
+mod stamped;
+mod stored;
+mod texts;
+mod timed;
+mod values;
 
-use checks::print_checks;
-use hmc_outside::{MemorySink, MemorySource};
-use hmc_replay::replay;
-use hmc_units::{LogicUnit, Reverse, Stamp};
-use sessions::print_session;
-use std::alloc::Global;
+use built::is_as_written;
+use drawn::{Counts, drive};
+use failing::print_failing;
+use long::go_on;
+use made::is_as_worked;
+use packets::print_packets;
+use replayed::reported;
+use stamped::next_stamp;
 use std::rt::Files;
 use std::{fs, io};
+use stored::print_stored;
+use timed::{by_program, in_session};
+use values::print_values;
 
-/// The cases of this folder whose run ends, `NAME.toml` each, with their reports, `NAME.report`.
-const NAMES: [&str; 89] = [
-    "write-then-read",
-    "six-errors",
-    "posted-increments",
-    "poisoned-write",
-    "fence",
-    "full-queue",
-    "registers-full",
-    "registers-and-banks",
-    "each-kind-of-step",
-    "each-command",
-    "largest-sizes",
-    "changed-flit",
-    "changed-training-flit",
-    "each-way-to-abort",
-    "go-back-waits",
-    "no-pret-after-starts",
-    "no-requests",
-    "noise",
-    "null-ends-run",
-    "order-of-errors",
-    "pointers-of-clears",
-    "poisoned-then-read",
-    "repeats",
-    "run-of-one-kind",
-    "unlock-in-abort",
-    "unlock-in-train",
-    "unlock-when-quiet",
-    "unlock-within-packet",
-    "two-long-writes",
-    "changed-last-flit",
-    "changed-first-flit",
-    "changed-nulls",
-    "two-posted-increments",
-    "errors-and-rounds",
-    "poisoned-alone",
-    "chain-of-three",
-    "row-of-eight",
-    "ring-of-eight",
-    "star",
-    "two-joins",
-    "two-hosts-one-cube",
-    "two-hosts-two-cubes",
-    "three-hosts-one-cube",
-    "six-hosts-two-cubes",
-    "equal-tags",
-    "flood",
-    "masks-on-two-hops",
-    "masks-on-every-link",
-    "poisoned-at-first-hop",
-    "unlock-on-middle-link",
-    "two-profiles",
-    "profile-two",
-    "eight-largest",
-    "no-steps",
-    "stamped-twice",
-    "reversed-twice",
-    "retired-unit",
-    "retired-slots",
-    "units-left-alone",
-    "units-of-one-cube",
-    "counts-of-flits",
-    "tokens-on-the-way",
-    "through-two-cubes",
-    "through-one-to-two",
-    "through-two-to-one",
-    "through-two-to-two",
-    "through-poisoned",
-    "through-changed",
-    "through-unlocked",
-    "through-repeat",
-    "through-then-repeat",
-    "through-sent-again",
-    "through-changed-error",
-    "through-short-error",
-    "through-in-each-cube",
-    "through-no-packet",
-    "through-before-open",
-    "through-in-replay",
-    "through-while-asking",
-    "through-behind-another",
-    "through-few-tokens",
-    "through-little-room",
-    "bound-two-requests",
-    "bound-after-masks-one",
-    "bound-after-masks-three",
-    "bound-after-masks-five",
-    "bound-after-masks-six",
-    "bound-after-masks-nine",
-    "bound-after-masks-sixteen",
-];
+/// A line of the input.
+#[derive(Drop)]
+pub struct Order<'a> {
+    way: &'a str,
+    net: &'a str,
+    seed: u64,
+    count: u32,
+}
 
-/// The cases whose run ends at a landing that passed.
-const PASSED: [&str; 5] = [
-    "passed-in-abort",
-    "passed-in-training",
-    "passed-null",
-    "passed-pending-flit",
-    "passed-quiet",
-];
+// Whether the answer of an order is stored beside its case.
+fn is_of_stored(order: &Order<'_>) -> bool {
+    order.way == "report" || order.way == "bound" || order.way == "make"
+}
 
-/// The numbers whose cases are made and run, each with its report, `NAME.report`. Leading zeros
-/// change nothing.
-const MADE: [(&str, &str); 6] = [
-    ("0", "make-0"),
-    ("1", "make-1"),
-    ("2", "make-2"),
-    ("3", "make-3"),
-    ("00000000000000000001", "make-1"),
-    ("18446744073709551615", "make-greatest"),
-];
+// The order that a line states, if it states one.
+fn order_of(line: &str) -> Option<Order<'_>> {
+    let (way, rest) = line.split_once(' ')?;
+    let (net, rest) = rest.split_once(' ')?;
+    let (seed, count) = rest.split_once(' ')?;
+    Some(Order {
+        way,
+        net,
+        seed: seed.parse::<u64>().ok()?,
+        count: count.parse::<u32>().ok()?,
+    })
+}
 
-/// The cases whose bound is asked for, each with the status; `NAME.bound` has what is written.
-const BOUNDS: [(&str, u8); 10] = [
-    ("bound-two-requests", 0),
-    ("bound-after-masks-one", 0),
-    ("bound-after-masks-three", 0),
-    ("bound-after-masks-five", 0),
-    ("bound-after-masks-six", 0),
-    ("bound-after-masks-nine", 0),
-    ("bound-after-masks-sixteen", 0),
-    ("no-steps", 0),
-    ("row-of-eight", 6),
-    ("passed-null", 7),
-];
-
-/// More bytes than any of the reports has, but that of the rounds that a bound asks for.
-const ROOM: usize = 1 << 20;
-
-/// More bytes than that report has.
-const LONG_ROOM: usize = 1 << 23;
-
-/// The line of its schedule in whose place these rounds come.
-const NO_ROUND: &str = "# No round follows.\n";
-
-/// The lines of its steps.
-const LONG_STEPS: usize = 120_002;
-
-fn owned(alloc: Global, words: &[&str]) -> Result<Vec<String>, io::Error> {
-    let mut owned = Vec::new(alloc);
-    for word in words {
-        owned.push(String::from_str(alloc, word)?)?;
+// Prints what happened to a drawn session of this name and seed, which took so many steps.
+fn print_counts(
+    rt: &(impl Print + Eprint),
+    order: &Order<'_>,
+    counts: &Counts,
+    taken: u32,
+) -> Result<(), io::Error> {
+    let (name, seed) = (order.net, order.seed);
+    let (asked, not_asked) = (counts.asked, counts.not_asked);
+    let (waited, refused, memory) = (counts.waited, counts.refused, counts.memory);
+    println!(rt; "{name} {seed}: {asked} requests asked, {not_asked} not")?;
+    println!(rt; "  {taken} steps taken, {waited} waited, {refused} refused")?;
+    if memory > 0 {
+        eprintln!(rt; "out of memory: {memory}")?;
     }
-    Ok(owned)
+    Ok(())
 }
 
-// Whether the program of these words and the shipped units ends with this status and this report.
-fn has_report(
-    alloc: Global,
-    words: &[&str],
-    mut source: MemorySource,
-    wanted: u8,
-    report: &[u8],
-) -> Result<bool, io::Error> {
-    let words = owned(alloc, words)?;
-    let Ok(mut sink) = MemorySink::new(alloc, ROOM, &[]) else {
-        return Ok(false);
-    };
-    let mut units: Vec<Box<dyn LogicUnit>> = Vec::new(alloc);
-    units.push(Box::new(alloc, Reverse::new(0, 0))?)?;
-    units.push(Box::new(alloc, Stamp::new(0, 1))?)?;
-    let status = replay(alloc, &words, &mut source, &mut sink, units);
-    Ok(status == wanted && sink.as_slice() == report)
+// How many lines two texts have in common, from their beginnings on.
+fn common_lines(one: &[u8], other: &[u8]) -> usize {
+    let pairs = one.iter().zip(other.iter());
+    let common = pairs.take_while(|(a, b)| a == b).count();
+    let same = one.get(..common).unwrap_or(one);
+    same.iter().filter(|byte| **byte == b'\n').count()
 }
 
-// A file of the folder that the program runs in.
-fn file(rt: &(impl Files + AllocGlobal), name: &str) -> Result<String, io::Error> {
-    fs::read_to_string(rt, name)
+// Prints the line of a text before which it has so many.
+fn print_line(rt: &impl Print, text: &str, before: usize) -> Result<(), io::Error> {
+    let mut at = 0_usize;
+    for line in text.lines() {
+        if at == before {
+            return println!(rt; "  {line}");
+        }
+        at = at.saturating_add(1);
+    }
+    println!(rt; "  no line more")
 }
 
-// Whether the example ends with this status and the report beside it.
-fn example_is_reported(
-    rt: &(impl Files + AllocGlobal),
-    name: &str,
-    status: u8,
-) -> Result<bool, io::Error> {
+// Prints how many lines of a session are as reported, and the first that differs.
+fn print_compared(rt: &impl Print, seen: &str, reported: &str) -> Result<(), io::Error> {
+    let count = common_lines(seen.as_bytes(), reported.as_bytes());
+    println!(rt; "  {count} lines as run reports them")?;
+    if seen == reported {
+        return Ok(());
+    }
+    println!(rt; "  and then these two differ:")?;
+    print_line(rt, seen, count)?;
+    print_line(rt, reported, count)
+}
+
+// Drives a session, and prints what happened and how its lines compare.
+fn print_drawn(
+    rt: &(impl AllocGlobal + Print + Eprint),
+    order: &Order<'_>,
+    net: &str,
+) -> Result<(), io::Error> {
     let alloc = rt.alloc();
-    let case = file(rt, format!(in alloc; "{name}.toml")?.as_str())?;
-    let report = file(rt, format!(in alloc; "{name}.report")?.as_str())?;
-    let Ok(source) = MemorySource::new(alloc, case.as_bytes(), &[]) else {
-        return Ok(false);
-    };
-    has_report(alloc, &["run"], source, status, report.as_bytes())
+    let mut drawn = drive(alloc, net, order.seed, order.count)?;
+    let seen = drawn.all_lines(alloc)?;
+    let wanted = reported(alloc, net, &drawn)?;
+    print_counts(rt, order, &drawn.counts, drawn.session.session().taken())?;
+    print_compared(rt, seen.as_str(), wanted.as_str())
 }
 
-// Whether the case of a number is run to its end with this report. Its first read would fail, so
-// nothing is read.
-fn made_is_reported(
-    rt: &(impl Files + AllocGlobal),
-    number: &str,
-    name: &str,
-) -> Result<bool, io::Error> {
-    let alloc = rt.alloc();
-    let report = file(rt, format!(in alloc; "{name}.report")?.as_str())?;
-    let Ok(source) = MemorySource::new(alloc, &[], &[1]) else {
-        return Ok(false);
-    };
-    has_report(alloc, &["make", number], source, 0, report.as_bytes())
-}
-
-// Whether the bound of a case is what its file says, with this status.
-fn bound_is_reported(
-    rt: &(impl Files + AllocGlobal),
-    name: &str,
-    status: u8,
-) -> Result<bool, io::Error> {
-    let alloc = rt.alloc();
-    let case = file(rt, format!(in alloc; "{name}.toml")?.as_str())?;
-    let lines = file(rt, format!(in alloc; "{name}.bound")?.as_str())?;
-    let Ok(source) = MemorySource::new(alloc, case.as_bytes(), &[]) else {
-        return Ok(false);
-    };
-    has_report(alloc, &["bound"], source, status, lines.as_bytes())
-}
-
-// Whether a case has so many lines of steps, and ends with these lines.
-fn ends_with(alloc: Global, case: &str, steps: usize, ending: &str) -> Result<bool, io::Error> {
-    let Ok(mut source) = MemorySource::new(alloc, case.as_bytes(), &[]) else {
-        return Ok(false);
-    };
-    let Ok(mut sink) = MemorySink::new(alloc, LONG_ROOM, &[]) else {
-        return Ok(false);
-    };
-    let words = owned(alloc, &["run"])?;
-    let units: Vec<Box<dyn LogicUnit>> = Vec::new(alloc);
-    let status = replay(alloc, &words, &mut source, &mut sink, units);
-    let wanted = count_lines(ending.as_bytes()).saturating_add(steps);
-    let report = sink.as_slice();
-    Ok(status == 0 && count_lines(report) == wanted && report.ends_with(ending.as_bytes()))
-}
-
-// Whether the case of two requests is drained after as many rounds as its bound says.
-fn rounds_drain(rt: &(impl Files + AllocGlobal)) -> Result<bool, io::Error> {
-    let alloc = rt.alloc();
-    let case = file(rt, "bound-two-requests.toml")?;
-    let ending = file(rt, "bound-two-requests.final")?;
-    let Some((before, after)) = case.as_str().split_once(NO_ROUND) else {
-        return Ok(false);
-    };
-    let longer = format!(in alloc; "{before}round 10000\n{after}")?;
-    ends_with(alloc, longer.as_str(), LONG_STEPS, ending.as_str())
-}
-
-fn count_lines(text: &[u8]) -> usize {
-    text.iter().filter(|byte| **byte == b'\n').count()
-}
-
-// The words for an answer that is, or isn't, as its file says.
-fn verdict(same: bool) -> &'static str {
-    if same { "as reported" } else { "differs" }
-}
-
-// Prints whether an example ends with this status and the report beside it.
-fn print_example(
-    rt: &(impl Files + AllocGlobal + Print),
-    name: &str,
-    status: u8,
+// Goes on with a session, and prints what it did.
+fn print_long(
+    rt: &(impl AllocGlobal + Print),
+    order: &Order<'_>,
+    net: &str,
 ) -> Result<(), io::Error> {
-    let word = verdict(example_is_reported(rt, name, status)?);
-    println!(rt; "{name}: {word}")
+    let done = go_on(rt.alloc(), net, order.seed, order.count)?;
+    let (asked, answers, taken) = (done.asked, done.answers, done.taken);
+    println!(rt; "long: {asked} asked, {answers} answers, {taken} steps")
 }
 
-// Prints whether the case of a number has the report beside it.
-fn print_made(
-    rt: &(impl Files + AllocGlobal + Print),
-    number: &str,
-    name: &str,
+// Prints what a unit stamps next, after a replay.
+fn print_stamp(
+    rt: &(impl AllocGlobal + Print),
+    order: &Order<'_>,
+    net: &str,
 ) -> Result<(), io::Error> {
-    let word = verdict(made_is_reported(rt, number, name)?);
-    println!(rt; "make {number}: {word}")
+    let next = next_stamp(rt.alloc(), net, order.seed > 0)?;
+    println!(rt; "stamp after {}, {}: {next}", order.net, order.seed)
 }
 
-// Prints whether the bound of a case is as its file says.
-fn print_bound(
-    rt: &(impl Files + AllocGlobal + Print),
-    name: &str,
-    status: u8,
+// Prints whether a case is as its file says.
+fn print_built(
+    rt: &(impl AllocGlobal + Print),
+    order: &Order<'_>,
+    net: &str,
 ) -> Result<(), io::Error> {
-    let word = verdict(bound_is_reported(rt, name, status)?);
-    println!(rt; "bound of {name}: {word}")
-}
-
-// Prints whether each of these examples ends with this status and the report beside it.
-fn print_examples(
-    rt: &(impl Files + AllocGlobal + Print),
-    names: &[&str],
-    status: u8,
-) -> Result<(), io::Error> {
-    for name in names {
-        print_example(rt, name, status)?;
-    }
-    Ok(())
-}
-
-// Prints whether the case of each number has the report beside it.
-fn print_each_made(rt: &(impl Files + AllocGlobal + Print)) -> Result<(), io::Error> {
-    for (number, name) in MADE {
-        print_made(rt, number, name)?;
-    }
-    Ok(())
-}
-
-// Prints whether each bound is as its file says.
-fn print_bounds(rt: &(impl Files + AllocGlobal + Print)) -> Result<(), io::Error> {
-    for (name, status) in BOUNDS {
-        print_bound(rt, name, status)?;
-    }
-    Ok(())
-}
-
-// Prints how many changes of the report of each of these examples are judged as they should be.
-fn print_each_check(
-    rt: &(impl Files + AllocGlobal + Print),
-    names: &[&str],
-) -> Result<(), io::Error> {
-    for name in names {
-        print_checks(rt, name)?;
-    }
-    Ok(())
-}
-
-// Prints whether the session of each of these examples has the lines of the report beside it.
-fn print_sessions(
-    rt: &(impl Files + AllocGlobal + Print),
-    names: &[&str],
-) -> Result<(), io::Error> {
-    for name in names {
-        print_session(rt, name)?;
-    }
-    Ok(())
-}
-
-// Prints whether the case of two requests is drained after as many rounds as its bound says.
-fn print_rounds(rt: &(impl Files + AllocGlobal + Print)) -> Result<(), io::Error> {
-    let word = if rounds_drain(rt)? {
-        "drained"
+    let word = if is_as_written(rt.alloc(), net)? {
+        "as written"
     } else {
-        "not drained"
+        "differs"
     };
-    println!(rt; "10000 rounds after two requests: {word}")
+    println!(rt; "built of {}: {word}", order.net)
+}
+
+// Prints whether the case of a number is as it was worked out.
+fn print_made(rt: &(impl AllocGlobal + Print), number: u64) -> Result<(), io::Error> {
+    let word = if is_as_worked(rt.alloc(), number)? {
+        "as worked out"
+    } else {
+        "differs"
+    };
+    println!(rt; "made of {number}: {word}")
+}
+
+// Takes the rounds of an order, and prints what they came to.
+fn print_timed(
+    rt: &(impl AllocGlobal + Print),
+    order: &Order<'_>,
+    net: &str,
+) -> Result<(), io::Error> {
+    let (way, rounds) = (order.way, order.count);
+    let done = if way == "program" {
+        by_program(rt.alloc(), net, rounds)?
+    } else {
+        in_session(rt.alloc(), way, net, rounds)?
+    };
+    println!(rt; "{way}: {done}")
+}
+
+// Does what an order says to do with a session, or with a replay of a case.
+fn obey_with(
+    rt: &(impl AllocGlobal + Print + Eprint),
+    order: &Order<'_>,
+    net: &str,
+) -> Result<(), io::Error> {
+    let way = order.way;
+    if way == "draw" {
+        return print_drawn(rt, order, net);
+    }
+    if way == "long" {
+        return print_long(rt, order, net);
+    }
+    if way == "stamp" {
+        return print_stamp(rt, order, net);
+    }
+    if way == "built" {
+        return print_built(rt, order, net);
+    }
+    print_timed(rt, order, net)
+}
+
+// Does what an order says.
+fn obey(
+    rt: &(impl Files + AllocGlobal + Print + Eprint),
+    order: &Order<'_>,
+) -> Result<(), io::Error> {
+    let (way, name) = (order.way, order.net);
+    if is_of_stored(order) {
+        return print_stored(rt, order);
+    }
+    if way == "made" {
+        return print_made(rt, order.seed);
+    }
+    if way == "packets" {
+        return print_packets(rt, name);
+    }
+    if way == "values" {
+        return print_values(rt, name);
+    }
+    if way == "writes" || way == "reads" {
+        return print_failing(rt, order);
+    }
+    let net = fs::read_to_string(rt, format!(in rt.alloc(); "{name}.toml")?.as_str())?;
+    obey_with(rt, order, net.as_str())
 }
 
 fn main(rt: HostRuntime) -> Result<(), io::Error> {
-    print_examples(&rt, &NAMES, 0)?;
-    print_examples(&rt, &PASSED, 7)?;
-    print_each_made(&rt)?;
-    print_bounds(&rt)?;
-    print_each_check(&rt, &NAMES)?;
-    print_each_check(&rt, &PASSED)?;
-    print_sessions(&rt, &NAMES)?;
-    print_sessions(&rt, &PASSED)?;
-    print_rounds(&rt)
+    let orders = io::read_to_string(rt.alloc(), rt.reader())?;
+    for line in orders.as_str().lines() {
+        if let Some(order) = order_of(line) {
+            obey(&rt, &order)?;
+        }
+    }
+    Ok(())
 }

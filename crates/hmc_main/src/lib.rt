@@ -4,8 +4,7 @@
 //! [`words_of`] has the words after the program's name, and [`run_program`] replays by exactly
 //! these.
 //!
-//! `hmc_prog` is the program, which has standard input and output. A second program,
-//! `hmc_prog_refused`, does the same, and is there for a stored run that ends with another status.
+//! `hmc_prog` is the program, which has standard input and output.
 #![tactic(auto)]
 
 ghost use Rattle.std.specs.Prelude.{◌≡◌, ◌≢◌, drop, map, string_bytes, is_some, true, false, IsOk, IfOk, IfErr, OnErr, Err};

@@ -11,8 +11,6 @@ mod items;
 mod plan;
 mod request;
 mod steps;
-#[cfg(test)]
-mod tests;
 mod word;
 
 pub use case::make;

@@ -1,0 +1,63 @@
+//! What a case has, by its parts, and the network that is built of it. The case is that of
+//! `sessions/two-vaults.toml`.
+
+use crate::begun::{case_of, out_of_memory, units};
+use hmc_case::Case;
+use hmc_codes::{Join, LinkSetup, Place, Profile, Shape};
+use hmc_net::Net;
+use std::alloc::Global;
+use std::io;
+
+// Whether a case has that cube, with two vaults of four banks.
+fn has_the_cube(case: &Case) -> bool {
+    let shape = Shape {
+        vault_bits: 1,
+        bank_bits: 2,
+        rows: 4,
+        block: 256,
+    };
+    matches!(case.cubes(), [cube] if cube.shape == shape && cube.queue == 3)
+}
+
+// Whether a case has that link, from host 0 to port 2 of cube 0.
+fn has_the_link(case: &Case) -> bool {
+    let join = Join {
+        a: Place::Host(0),
+        b: Place::Port { cube: 0, port: 2 },
+    };
+    let setup = LinkSetup {
+        line: 8,
+        tokens: 34,
+        retry: 64,
+        output: 5,
+        profile: Profile::One,
+    };
+    matches!(case.links(), [link] if link.join == join && link.setup == setup)
+}
+
+// Whether a case has one host, two requests, and 22 steps. A round of that cube has 21: give, 2
+// sends, 2 landings, a shift, 2 spreads, 8 banks, the registers, 3 lifts and take.
+fn has_the_texts(case: &Case) -> bool {
+    case.hosts() == 1 && case.script().len() == 2 && case.schedule().len() == 22
+}
+
+// Whether nothing has happened in the network that is built of a case. Its cube 0 has 8,192 bytes.
+fn is_quiet(alloc: Global, text: &str) -> Result<bool, io::Error> {
+    let case = case_of(alloc, text)?;
+    let Ok(net) = Net::build(alloc, &case, units(alloc)?) else {
+        return Err(out_of_memory());
+    };
+    let is_new = net.journal().is_empty();
+    let tags = net.tags_out(0);
+    let bytes = net.cube(0).capacity();
+    let held = net.cube(0).held();
+    let is_drained = net.drained();
+    Ok(is_new && tags == 0 && bytes == 8192 && held == 0 && is_drained)
+}
+
+/// Whether the case of a text has these parts, and its network has done nothing.
+pub fn is_as_written(alloc: Global, net: &str) -> Result<bool, io::Error> {
+    let case = case_of(alloc, net)?;
+    let is_quiet = is_quiet(alloc, net)?;
+    Ok(is_quiet && has_the_cube(&case) && has_the_link(&case) && has_the_texts(&case))
+}
