@@ -21,6 +21,6 @@ cli finds the command that is called; verbs has a file for each command, and the
   count and quote
 
 What cases may have is in few places: the ranges at the top of case, STEPS of schedule, and LINES of
-report. The gate compares this reader with the program and with the tables of hmc_faults, so a limit
-that moves in one of them shows there.
+report. The gate compares this reader with the program and with the tables of faulty inputs, so a
+limit that moves in one of them shows there.
 """

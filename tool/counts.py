@@ -17,7 +17,7 @@ from tool.touched import named_table, section_table
 
 CRATES = TOP / "crates"
 # What only tests, beside the crates hmc_tests_.
-ONLY_TEST = ("hmc_examples", "hmc_random_sessions", "hmc_faults", "hmc_traces", "hmc_packets")
+ONLY_TEST = ("hmc_examples",)
 ROW = re.compile(r"^[^ -].*= refl$", re.MULTILINE)
 
 
@@ -45,11 +45,11 @@ def computed() -> Iterator[Path]:
 
 
 def faults() -> int:
-    """How many inputs are in the tables of hmc_faults, each with its first fault, if it has one.
+    """How many inputs are in the tables of faulty ones, each with its first fault, if it has one.
 
     Those of cases are in one table, where a line `= ..` ends each; in the others each has a line.
     """
-    tables = set((CRATES / "hmc_faults" / "data").glob("*.txt"))
+    tables = set((TOP / numbers.DATA).glob("*.txt"))
     cases = {it for it in tables if it.name == "bad-cases.txt"}
     tables -= cases | {it for it in tables if it.name == "trace-scripts.txt"}
     return found("^= ", texts(cases)) + found("^.* = ", texts(tables))
@@ -72,7 +72,7 @@ def counts() -> dict[str, int]:
         f"{mutants}, each refused by the checker": len(list(CRATES.glob("*/must-fail/*.edit"))),
         "tests": found(r"#\[test\]", code()),
         "cases with their reports, in `examples/`": len(list((TOP / "examples").glob("*.toml"))),
-        f"{firsts}, in `crates/hmc_faults/data`": faults(),
+        f"{firsts}, in `{numbers.DATA}`": faults(),
     }
 
 

@@ -83,9 +83,9 @@ def lines(path: str, pattern: str = "") -> Value:
     return lambda: shown(sum(bool(re.match(pattern, it)) for it in text_of(path).splitlines()))
 
 
-def files(pattern: str) -> Value:
-    """How many files have such a path."""
-    return lambda: shown(len(list(TOP.glob(pattern))))
+def files(*patterns: str) -> Value:
+    """How many files have a path of one of these forms."""
+    return lambda: shown(sum(len(list(TOP.glob(it))) for it in patterns))
 
 
 def place(path: str, pattern: str) -> Value:
@@ -118,7 +118,7 @@ def largest_round() -> str:
 
 
 LIMITS = "crates/hmc_codes/src/limits.rt"
-DATA = "crates/hmc_faults/data"
+DATA = "tool/tests/data/faults"
 STAGES = "crates/hmc_drain/specs/Stages.antt"
 CHANGED = "examples/changed-flit.report"
 FIRST = "examples/write-then-read"
@@ -202,11 +202,17 @@ def most_mutants() -> str:
     return shown(max(len(list(it.glob("*.edit"))) for it in folders))
 
 
+def usual_mutants() -> str:
+    """How many mutants a crate that has any has on average."""
+    counts = [len(list(it.glob("*.edit"))) for it in TOP.glob("crates/*/must-fail")]
+    return shown(round(sum(counts) / sum(it > 0 for it in counts)))
+
+
 def crates_of_tests() -> str:
-    """How many crates have tests in their code, beside hmc_make."""
+    """How many crates have tests in their code."""
     paths = TOP.glob("crates/*/src/**/*.rt")
     with_tests = [it for it in paths if "#[test]" in it.read_text(encoding="utf-8")]
-    return shown(len({it.relative_to(TOP / "crates").parts[0] for it in with_tests} - {"hmc_make"}))
+    return shown(len({it.relative_to(TOP / "crates").parts[0] for it in with_tests}))
 
 
 def rounds_of_training() -> str:
@@ -232,8 +238,9 @@ PIECES = "crates/hmc_codes/src/pieces.rt"
 TEXT_BYTES = kibibytes(named(PIECES, "Gathered = ArrayString<"))
 LINE_BYTES = named("crates/hmc_schedule/src/written.rt", r"size_of::<Segment>\(\) == ")
 SINK = "crates/hmc_outside/src/std_sink.rt"
-CHANGES = "crates/hmc_examples/src/checks.rt"
-PROGRAMS = spelled(files("crates/hmc_prog*/args"))
+CHANGES = lines("tool/tests/test_answers.py", r'        "[a-z ]+": ')
+# That of the crate, and those that a test of the script makes.
+RUNS = spelled(files("crates/hmc_prog/args", "tool/tests/data/runs/*/args"))
 UNITS = spelled(lines("crates/hmc_units/src/shipped.rt", r"    [A-Z][a-z]+\([A-Z][a-z]+\),$"))
 SEND_ROWS = "crates/hmc_send/specs/SendRows.antt"
 ROWS_OF_SENDS = spelled(lines(SEND_ROWS, r"abbrev pub [a-z]+ : .*SendView → (Option )?Sent$"))
@@ -266,14 +273,14 @@ NUMBERS: dict[str, tuple[Number, ...]] = {
         Number("what a send sees, and the {} cases; the same", ROWS_OF_SENDS),
         Number("the same as {} rows in a list", ROWS_OF_SENDS),
         Number("So a crate has at most {} mutants", spelled(most_mutants)),
-        Number("those of hmc_make are in {} crates that", spelled(crates_of_tests)),
+        Number("So all tests are in {} crates that", spelled(crates_of_tests)),
     ),
     "docs/DECISIONS.md": (
+        Number("Most libraries have about {} mutants", spelled(usual_mutants)),
         Number("so a line with one step takes {} bytes", LINE_BYTES),
         Number("so `StdSink` gathers {} KiB in", kibibytes(named(SINK, "HELD: usize = "))),
         Number("after another in a text of {} KiB", TEXT_BYTES),
         Number("is tried without their {} lines, and", lines_of_laws),
-        Number("Nor have the {} programs: their", PROGRAMS),
         Number("of hmc_codes), {} where", named(PIECES, "Gathered = ArrayString<")),
         Number("`Finished::capacity` is at most {}**", largest_shape),
     ),
@@ -282,8 +289,8 @@ NUMBERS: dict[str, tuple[Number, ...]] = {
         Number("of at most 562 and {} bytes", named(TEXT, "decimal. It has at most ")),
         *LAWS,
         Number("says the same of the {} rows of a send", ROWS_OF_SENDS),
-        Number("The program around `run_program`, by {} stored runs", PROGRAMS),
-        Number("unchanged and with {} changes", spelled(named(CHANGES, r"\[Change; "), less=1)),
+        Number("The program around `run_program`, by {} stored runs", RUNS),
+        Number("unchanged and with {} changes", spelled(CHANGES, less=1)),
         Number("{} longer reports, one of", capital(spelled(LONG_RUNS))),
         Number("its {} requests by draws", DRAWN),
         Number("(`under_way`). {} * (k + 1) whole rounds", SETTLED),

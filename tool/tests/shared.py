@@ -7,14 +7,15 @@ import subprocess
 import sys
 from contextlib import redirect_stdout
 from pathlib import Path
+from typing import BinaryIO
 
 from tool import build, cli
 
 TOP = Path(__file__).resolve().parent.parent.parent
 EXAMPLES = TOP / "examples"
-# Tables of faulty inputs, beside the program that reads them.
-FAULTS = TOP / "crates" / "hmc_faults" / "data"
 DATA = Path(__file__).resolve().parent / "data"
+# Tables of faulty inputs.
+FAULTS = DATA / "faults"
 # The cases of examples/ that have a report.
 CASES = sorted(path for path in EXAMPLES.glob("*.toml") if path.with_suffix(".report").exists())
 ESCAPES = {r"\n": "\n", r"\r": "\r", r"\t": "\t"}
@@ -30,6 +31,26 @@ def require_program() -> None:
     """Fails where the program of these sources is not built: a test must not build it."""
     if not build.is_current():
         raise AssertionError("the program of these sources is not built: ./zehimbado build")
+
+
+def builds() -> list[Path]:
+    """The program, and the build of it by Rattle's own compiler, where that stands beside it. One
+    that is older is of other sources."""
+    second = build.PROGRAM.with_suffix(".by-rattle")
+    newest = build.PROGRAM.stat().st_mtime_ns
+    has_second = second.is_file() and second.stat().st_mtime_ns >= newest
+    return [build.PROGRAM, second] if has_second else [build.PROGRAM]
+
+
+def answer(program: Path, words: list[str], given: bytes | BinaryIO) -> tuple[int, bytes, bytes]:
+    """The status of a program with these words, and what it wrote to standard output and error.
+    Standard input is these bytes, or this file."""
+    command: list[str | Path] = [program, *words]
+    data, source = (given, None) if isinstance(given, bytes) else (None, given)
+    ran = subprocess.run(
+        command, input=data, stdin=source, capture_output=True, check=False, timeout=60
+    )
+    return ran.returncode, ran.stdout, ran.stderr
 
 
 def output_of(*words: str) -> str:

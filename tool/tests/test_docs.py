@@ -124,9 +124,12 @@ class Docs(unittest.TestCase):
             self.assertRegex(path.read_text(encoding="utf-8"), r"(?m)^# [A-Z]", path.name)
 
     def test_only_cases_and_reports_are_examples(self) -> None:
-        """Beside them are the reports of cases that are made from a number."""
-        made = set(EXAMPLES.glob("make-*.report"))
-        names = {path.with_suffix(".toml").name for path in {*EXAMPLES.iterdir()} - made}
+        """Beside them are the reports of cases that are made from a number, and folders: cases that
+        sessions begin with, packets, and traces."""
+        folders = {it for it in EXAMPLES.iterdir() if it.is_dir()}
+        self.assertEqual({it.name for it in folders}, {"packets", "sessions", "traces"})
+        others = {*EXAMPLES.glob("make-*.report"), *folders}
+        names = {path.with_suffix(".toml").name for path in {*EXAMPLES.iterdir()} - others}
         self.assertEqual(names, {path.name for path in CASES})
 
     def test_a_profile_is_that_of_a_link(self) -> None:

@@ -155,7 +155,7 @@ class Lint(unittest.TestCase):
             self.assertIn(f"case.toml:{number}:", said)
 
     def test_the_first_fault_is_that_of_the_program(self) -> None:
-        """By the table of hmc_faults."""
+        """By the table of faulty cases."""
         for _, text, wanted in bad_cases():
             document, fault = case.document_of(text.encode())
             found = [fault] if fault else list(case.faults(document))

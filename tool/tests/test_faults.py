@@ -1,4 +1,4 @@
-"""Tests of faults. The expected ones are the tables of hmc_faults, which were found by hand."""
+"""Tests of faults. The expected ones are those of the tables in data/faults, found by hand."""
 
 import tempfile
 import unittest
@@ -9,7 +9,7 @@ from tool import case, explain_fault, schedule, script
 from tool.tests.shared import CASES, EXAMPLES, bad_cases, output_of, text_rows, tool
 from tool.texts import CubeParts, Plan
 
-TWO = Plan(2, 6, [CubeParts(2, 2, (0, 2)), CubeParts(1, 4, (1,))])
+TWO = Plan(2, 6, [CubeParts(2, 2, (0, 2)), CubeParts(1, 4, (1, 3))])
 ONE = Plan(1, 2, [CubeParts(1, 1, (0,))])
 
 

@@ -1,58 +1,83 @@
 """Tests that the numbers of the documents are those of these sources.
 
-A number of three digits or more is one that `tool.numbers` puts there, a limit of the one file of
-limits, a number of a block that the page shows, or one of what is listed below."""
+Each number of a page is one that `tool.numbers` puts there, or one that a row of data/phrases.txt
+compares with a quantity, or names what compares it; or it names one of several things, as `port 3`.
+"""
 
 import re
 import unittest
-from collections.abc import Iterator
-from pathlib import Path
 
-from tool import counts, numbers
-from tool.tests.shared import TOP
+from tool import numbers
+from tool.tests import phrases
+from tool.tests.shared import DATA, TOP
 
-# Sizes of blocks and payloads, the modulus of a pointer, and one more or less than these; room for
-# lines; the codes that docs/packets.md lists; a hundred.
-OF_FORMATS = {"100", "128", "255", "256", "257", "512", "1,024", "2,047", "2,048", "16,384"}
-# Numbers that something outside of this repository has: statuses of a process, codes of commands.
-OF_OTHERS = {
-    "docs/co-simulation.md": {"119"},
-    "docs/packets.md": set(map(str, range(100, 121))),
-    "docs/tool.md": {"129", "130", "141", "143"},
-}
-NUMBER = re.compile(r"(?<![\w.,])[0-9][0-9,]*[0-9](?![\w]|,[0-9])")
-# What is no sentence: blocks, code, targets of links.
-APART = re.compile(r"^```.*?^```$|^    [^\n]*$|`[^`]*`|\]\([^)]*\)", re.MULTILINE | re.DOTALL)
-FIRST = [TOP / name for name in ("README.md", "CONTRIBUTING.md", "CHANGES.md")]
-
-
-def sentences(page: Path) -> tuple[str, set[str]]:
-    """The text of a page without tables that a script writes, and the numbers of its blocks."""
-    text = page.read_text(encoding="utf-8")
-    for tables in counts.PAGES.get(str(page.relative_to(TOP)), ()):
-        text = counts.page_with(text, tables()[:2])
-    shown = set(NUMBER.findall(" ".join(APART.findall(text))))
-    return APART.sub(" ", text), shown
-
-
-def unknown(page: Path) -> Iterator[str]:
-    """Yields each number of a page of which no script knows."""
-    path = str(page.relative_to(TOP))
-    limits = re.findall(r"= ([0-9_]+);", numbers.text_of(numbers.LIMITS))
-    known = OF_FORMATS | OF_OTHERS.get(path, set()) | {f"{int(it):,}" for it in limits}
-    known |= {it.value() for it in numbers.NUMBERS.get(path, ())}
-    text, shown = sentences(page)
-    for found in NUMBER.findall(text):
-        if len(found.replace(",", "")) >= 3 and found not in known | shown:
-            yield found
+FIRST = ("README.md", "CONTRIBUTING.md", "CHANGES.md")
+MORE = ("docs/*.md", "crates/*/CALLING.md", "bindings/*.md")
+PAGES = sorted({*FIRST, *(str(it.relative_to(TOP)) for part in MORE for it in TOP.glob(part))})
+# What compares the numbers of a row: nothing, which is quantities; a test; or a reason in brackets.
+BY = re.compile(r"|test_\w+|table test_\w+(?: [1-9](?:, [1-9])*)?|\([a-z].*\)")
 
 
 class Numbers(unittest.TestCase):
     def test_each_number_is_known(self) -> None:
-        pages = [*FIRST, *TOP.glob("docs/*.md"), *TOP.glob("crates/*/CALLING.md")]
-        for page in sorted(pages):
-            with self.subTest(page=page.name):
-                self.assertEqual(list(unknown(page)), [])
+        said = "a row of tool/tests/data/phrases.txt has to say where these numbers come from"
+        for page in PAGES:
+            with self.subTest(page=page):
+                self.assertEqual(list(phrases.unknown(page)), [], said)
+
+    def test_each_number_is_the_quantity_of_its_row(self) -> None:
+        for row in phrases.rows():
+            if not row.by and row.page != phrases.EVERY:
+                with self.subTest(page=row.page, words=row.words):
+                    self.assertEqual(list(phrases.wrong(phrases.text_of(row.page), row)), [])
+
+    def test_names_have_their_limits(self) -> None:
+        """No page names a host, a port or a status that isn't there."""
+        for page in PAGES:
+            with self.subTest(page=page):
+                self.assertEqual(list(phrases.beyond(phrases.text_of(page))), [])
+
+    def test_lists_count_on(self) -> None:
+        """The numbers of a list begin at 1, and each is one more than the one before it."""
+        for page in PAGES:
+            last: dict[str, int] = {}
+            text = phrases.blanked(phrases.text_of(page), phrases.APART)
+            for indent, number in re.findall(r"^( *)([0-9]+)\. ", text, re.MULTILINE):
+                with self.subTest(page=page, number=number):
+                    self.assertIn(int(number), (1, last.get(indent, 0) + 1))
+                last[indent] = int(number)
+
+    def test_each_row_is_of_use(self) -> None:
+        """Its words are in its page, or in one of all."""
+        texts = {page: phrases.text_of(page) for page in PAGES}
+        for row in phrases.rows():
+            where = PAGES if row.page == phrases.EVERY else [row.page]
+            with self.subTest(page=row.page, words=row.words):
+                found = [it for page in where for it in phrases.spans(texts[page], row)]
+                self.assertGreater(max(found)[1], 0)
+
+    def test_what_compares_a_row_names_its_page(self) -> None:
+        """It is a test of that page; of a row of quantities each number has one."""
+        for row in phrases.rows():
+            with self.subTest(page=row.page, words=row.words):
+                self.assertRegex(row.by, f"^(?:{BY.pattern})$")
+                if "test_" in row.by:
+                    (name,) = re.findall(r"test_\w+", row.by)
+                    path = DATA.parent / f"{name}.py"
+                    self.assertIn(row.page.rpartition("/")[2], path.read_text(encoding="utf-8"))
+                if not row.by:
+                    self.assertNotIn("*", row.quantities)
+
+    def test_a_number_that_differs_is_found(self) -> None:
+        """In digits, in letters, as an ordinal, and where a line ends within the words."""
+        row = phrases.Row("a page", "", "sends {hmc_irtry/burst.BURST} Starts")
+        for number, count in (("32", 0), ("33\n", 1), ("ten", 1)):
+            found = list(phrases.wrong(f"sends {number} Starts", row))
+            self.assertEqual(len(found), count, number)
+        ordinal = phrases.Row("a page", "", "the {hmc_irtry/runs.RUN}th Start")
+        self.assertEqual(len(list(phrases.wrong("the 25th Start", ordinal))), 1)
+        self.assertEqual(list(phrases.beyond("port 3, hosts 0 and 7")), [])
+        self.assertEqual(list(phrases.beyond("ports 0 to 4")), ["ports 0 to 4"])
 
     def test_a_number_that_differs_is_put_right(self) -> None:
         """And only that number of the words."""

@@ -71,7 +71,7 @@ class Code(unittest.TestCase):
 
     def test_the_link(self) -> None:
         """The block of docs/link.md is code of the program whose lines it shows."""
-        code = pages.block_after(text_of("docs/link.md"), "whether it did not pass.\n")
+        code = pages.block_after(text_of("docs/link.md"), "where the landing passed.\n")
         indented = "".join(f"    {it}\n" for it in code.splitlines())
         self.assertIn(indented, text_of("bench/link-example"))
 
