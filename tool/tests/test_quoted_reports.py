@@ -206,7 +206,7 @@ class Commands(unittest.TestCase):
     def test_the_first_command(self) -> None:
         """README.md has all that it prints."""
         page = text_of("README.md")
-        command = pages.block_after(page, "`rt doc` names the kit's first page.\n").splitlines()[0]
+        command = pages.block_after(page, "packages as root.\n").splitlines()[0]
         block = pages.block_after(page, "The first command prints\n")
         self.assertIn("./zehimbado try", command)
         self.assertEqual(self.written(command), (0, block))
