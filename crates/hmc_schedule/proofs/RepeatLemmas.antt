@@ -14,7 +14,7 @@ use Rattle.hmc_schedule.specs.declared.written.Repeats.{Repeats}
 use Rattle.hmc_schedule.specs.declared.written.Rounds.{Rounds}
 use Rattle.hmc_schedule.specs.declared.written.Segment.{Segment}
 use Rattle.hmc_schedule.specs.declared.written.Stretch.TheVariants.{Many}
-use Rattle.hmc_schedule.specs.StepsLeft.{AreRepeated, HoldRepeats, IsHand, TakesKept, next_at}
+use Rattle.hmc_schedule.specs.StepsLeft.{AreRepeated, HoldRepeats, IsHand, IsRepeatsAt, TakesKept, next_at}
 use Rattle.hmc_schedule.specs.Written.{WrittenFields, Kept, IsRounds, IsWritten, held_steps, steps_in, stretch_of}
 use Rattle.hmc_schedule.proofs.WrittenLemmas.{in_order, in_round, place_at, quiet_place, start_few}
 
@@ -59,54 +59,48 @@ pass-next w at r more is = record {
       ∙ ap (λ i. slice_get w.kept (r.from + i % is.len)) turn;
 }
 
--- what is at hand of steps that repeat, up to the end of the round
-pub hand_taken : (w : WrittenFields) (at len : ℕ) (r : Repeats) → at < r.until → at + len ≤ r.until → len ≤ r.end - r.next → (at + len < r.until → len ≡ r.end - r.next) → AreRepeated w at r
-    → IsHand w (record { place = r.next; end = r.next + len; until = at + len; later = record { from = r.from; next = r.from; end = r.end; until = r.until } })
-hand_taken w at len r more few turn whole is =
-    let first : (at + len) - ((r.next + len) - r.next) ≡ at = omega arith in
+-- the turn after a whole one
+turned : (w : WrittenFields) (at len : ℕ) (r : Repeats) → at + len < r.until → len ≡ r.end - r.next → AreRepeated w at r → AreRepeated w (at + len) (record { from = r.from; next = r.from; end = r.end; until = r.until })
+turned w at len r again full is =
+    let ends : is.place + len ≡ is.len = omega (arith, full, is.next_is, is.end_is, is.small) in
     record {
-      near = omega arith;
-      ahead = omega arith;
-      inside = omega (arith, is.inside, is.end_is, is.next_is, is.small, turn);
+      len = is.len;
+      place = 0;
+      next_is = omega arith;
+      end_is = is.end_is;
+      small = omega (arith, is.small);
+      inside = is.inside;
+      few = is.few;
       each = λ k below.
-          let small : is.place + k < is.len = omega (arith, is.next_is, is.end_is, turn, below) in
-          let place : r.from + (is.place + k) ≡ r.next + k = omega (arith, is.next_is) in
-          ap (λ i. slice_get w.steps (i + k)) first
-          ∙ is.each k (omega (arith, few, below))
-          ∙ ap (λ i. slice_get w.kept (r.from + i)) (mod-eq_of_lt small)
-          ∙ ap (slice_get w.kept) place;
-      later = λ again. turned w at len r again (whole again) is;
-    } where
-      turned : (w : WrittenFields) (at len : ℕ) (r : Repeats) → at + len < r.until → len ≡ r.end - r.next → AreRepeated w at r → AreRepeated w (at + len) (record { from = r.from; next = r.from; end = r.end; until = r.until })
-      turned w at len r again full is =
-          let ends : is.place + len ≡ is.len = omega (arith, full, is.next_is, is.end_is, is.small) in
-          record {
-            len = is.len;
-            place = 0;
-            next_is = omega arith;
-            end_is = is.end_is;
-            small = omega (arith, is.small);
-            inside = is.inside;
-            few = is.few;
-            each = λ k below.
-                let step : (at + len) + k ≡ at + (len + k) = omega arith in
-                let turn : is.place + (len + k) ≡ is.len + k = omega (arith, ends) in
-                let first : k ≡ 0 + k = omega arith in
-                ap (slice_get w.steps) step
-                ∙ is.each (len + k) (omega (arith, below))
-                ∙ ap (λ i. slice_get w.kept (r.from + i % is.len)) turn
-                ∙ ap (λ i. slice_get w.kept (r.from + i)) (add-mod_left is.len k)
-                ∙ ap (λ i. slice_get w.kept (r.from + i % is.len)) first;
-          }
+          let step : (at + len) + k ≡ at + (len + k) = omega arith in
+          let turn : is.place + (len + k) ≡ is.len + k = omega (arith, ends) in
+          let first : k ≡ 0 + k = omega arith in
+          ap (slice_get w.steps) step
+          ∙ is.each (len + k) (omega (arith, below))
+          ∙ ap (λ i. slice_get w.kept (r.from + i % is.len)) turn
+          ∙ ap (λ i. slice_get w.kept (r.from + i)) (add-mod_left is.len k)
+          ∙ ap (λ i. slice_get w.kept (r.from + i % is.len)) first;
+    }
 
--- none is
-pub hand_empty : (w : WrittenFields) (at : ℕ) → IsHand w (record { place = 0; end = 0; until = at; later = record { from = 0; next = 0; end = 0; until = 0 } })
-hand_empty w at = record {
+-- what is at hand of steps that repeat, up to the end of the round
+pub hand_taken : (w : WrittenFields) (at len : ℕ) (r : Repeats) → len ≤ r.until - at → len ≤ r.end - r.next → (at + len < r.until → len ≡ r.end - r.next) → IsRepeatsAt w at r
+    → IsHand w (record { place = r.next; end = r.next + len; until = at + len; later = record { from = r.from; next = r.from; end = r.end; until = r.until } })
+hand_taken w at len r few turn whole repeats = record {
   near = omega arith;
   ahead = omega arith;
-  inside = omega arith;
-  each = λ k below. absurd (omega (arith, below));
-  later = λ more. absurd (omega (arith, more));
+  inside = λ some.
+      let is = repeats (omega (arith, few, some)) in
+      omega (arith, is.inside, is.end_is, is.next_is, is.small, turn);
+  each = λ k below.
+      let is = repeats (omega (arith, few, below)) in
+      let first : (at + len) - ((r.next + len) - r.next) ≡ at = omega arith in
+      let small : is.place + k < is.len = omega (arith, is.next_is, is.end_is, turn, below) in
+      let place : r.from + (is.place + k) ≡ r.next + k = omega (arith, is.next_is) in
+      ap (λ i. slice_get w.steps (i + k)) first
+      ∙ is.each k (omega (arith, few, below))
+      ∙ ap (λ i. slice_get w.kept (r.from + i)) (mod-eq_of_lt small)
+      ∙ ap (slice_get w.kept) place;
+  later = λ again. turned w at len r again (whole again) (repeats (omega (arith, again)));
 }
 
 -- a remainder and more have the same remainder as the whole
@@ -193,9 +187,6 @@ repeated_at kept again segments looked len at n until w s r is view within same 
           place.is x held ∙ sym value ∙ ap (λ (l : List Step). slice_get l i) kept_is;
     }
 
-pub next_in_round : (w : WrittenFields) (at : ℕ) (r : Repeats) → AreRepeated w at r → r.next < r.end
-next_in_round w at r is = omega (arith, is.next_is, is.end_is, is.small)
-
 one_further : (k : ℕ) → suc k + 1 ≡ suc (k + 1)
 one_further k = omega arith
 
@@ -210,7 +201,7 @@ pub hand_passed : (w : WrittenFields) (hand : Hand) → hand.place < hand.end �
 hand_passed w hand more is = record {
   near = omega (arith, more);
   ahead = omega (arith, is.ahead);
-  inside = is.inside;
+  inside = λ some. is.inside more;
   each = λ k below.
       let at : (hand.until - (hand.end - (hand.place + 1))) + k ≡ next_at hand + (k + 1) = omega (arith, more, is.ahead) in
       let place : hand.place + (k + 1) ≡ (hand.place + 1) + k = omega arith in
@@ -218,10 +209,20 @@ hand_passed w hand more is = record {
   later = is.later;
 }
 
+-- none is at hand, and what follows is known
+pub hand_empty : (w : WrittenFields) (at : ℕ) (r : Repeats) → IsRepeatsAt w at r → IsHand w (record { place = 0; end = 0; until = at; later = r })
+hand_empty w at r repeats = record {
+  near = omega arith;
+  ahead = omega arith;
+  inside = λ some. absurd (omega (arith, some));
+  each = λ k below. absurd (omega (arith, below));
+  later = repeats;
+}
+
 -- the step at hand is taken off a list
 pub hand_off : (w old : WrittenFields) (hand : Hand) → hand.place < hand.end → IsHand w hand → record { kept = w.kept; steps = drop (next_at hand) w.steps } ≡ old → TakesKept old hand.place (record { kept = w.kept; steps = drop (next_at (record hand { place = hand.place + 1 })) w.steps })
 hand_off w old hand more is view =
-    let small : hand.place < length w.kept = omega (arith, more, is.inside) in
+    let small : hand.place < length w.kept = omega (arith, more, is.inside more) in
     let step = get_or w.kept hand.place (Give 0) in
     let found : slice_get w.kept hand.place ≡ Some step = slice_get-get_or w.kept hand.place (Give 0) small in
     let at : next_at hand ≡ next_at hand + 0 = omega arith in

@@ -29,7 +29,7 @@ use Rattle.hmc_schedule.specs.Round.{shifts_of, spreads_of, banks_of, lifts_of, 
 use Rattle.hmc_schedule.specs.Noise.{is_land, noisy, IsNoise}
 use Rattle.hmc_schedule.specs.Schedule.{add_steps, add_rounds, add_one, after_line, schedule_of, IsSchedule}
 use Rattle.hmc_schedule.specs.Verb.{verbs as all_verbs, verb_of}
-use Rattle.hmc_schedule.specs.StepsLeft.{AreRepeated, TakesFirst}
+use Rattle.hmc_schedule.specs.StepsLeft.{AreRepeated, IsHand, TakesFirst, TakesKept, next_at}
 use Rattle.hmc_schedule.specs.Written.{WrittenFields, Kept, kept_of, held_of, steps_in, IsKept, IsWritten}
 
 abbrev two_cubes : PlanFields
@@ -284,4 +284,53 @@ AreRepeated-until is =
     let len : is.len ≡ 2 = omega (arith, is.end_is) in
     let place : is.place ≡ 0 = omega (arith, is.next_is) in
     let first : Some (steps.Send 0) ≡ slice_get same_round_twice.kept (0 + (0 + 0) % 2) = is.each 0 (omega arith) ∙ ap (λ p. slice_get same_round_twice.kept (0 + (p + 0) % is.len)) place ∙ ap (λ n. slice_get same_round_twice.kept (0 + (0 + 0) % n)) len in
+    absurd cc
+
+-- the round's second step is at hand, and after it the round comes once more
+IsHand-second : IsHand same_round_twice (record { place = 1; end = 2; until = 2; later = record { from = 0; next = 0; end = 2; until = 4 } })
+IsHand-second = record {
+  near = omega arith;
+  ahead = omega arith;
+  inside = λ some. omega arith;
+  each = each;
+  later = λ more. record {
+    len = 2;
+    place = 0;
+    next_is = refl;
+    end_is = refl;
+    small = omega arith;
+    inside = omega arith;
+    few = omega arith;
+    each = again;
+  };
+} where
+  each : (k : ℕ) → 1 + k < 2 → slice_get same_round_twice.steps (1 + k) ≡ slice_get same_round_twice.kept (1 + k)
+  each zero below = refl
+  each (suc k) below = absurd (omega (arith, below))
+
+  again : (k : ℕ) → 2 + k < 4 → slice_get same_round_twice.steps (2 + k) ≡ slice_get same_round_twice.kept (0 + (0 + k) % 2)
+  again zero below = refl
+  again (suc zero) below = refl
+  again (suc (suc k)) below = absurd (omega (arith, below))
+
+-- not the first one, where the second comes next
+IsHand-first : IsHand same_round_twice (record { place = 0; end = 1; until = 2; later = record { from = 0; next = 0; end = 0; until = 0 } }) → ⊥
+IsHand-first is =
+    let first : Some (steps.Take 0) ≡ Some (steps.Give 0) = is.each 0 (omega arith) in
+    absurd cc
+
+-- a step that was taken is the one that is kept at the place
+abbrev after_first : WrittenFields
+after_first = record {
+  kept = steps.Give 0 ∷ steps.Take 0 ∷ [];
+  steps = steps.Take 0 ∷ steps.Give 0 ∷ steps.Take 0 ∷ steps.Send 0 ∷ [];
+}
+
+TakesKept-first : TakesKept same_round_twice 0 after_first
+TakesKept-first = record { step = steps.Give 0; is = refl; small = omega arith; first = refl; kept = refl }
+
+TakesKept-second : TakesKept same_round_twice 1 after_first → ⊥
+TakesKept-second is =
+    let place : Some (steps.Take 0) ≡ Some is.step = is.is in
+    let first : steps.Give 0 ≡ is.step = cc is.first in
     absurd cc

@@ -43,7 +43,7 @@ next_at hand = hand.until - (hand.end - hand.place)
 pub record IsHand (written : WrittenFields) (hand : Hand) : Type 0 where
   pub near : hand.place ≤ hand.end
   pub ahead : hand.end - hand.place ≤ hand.until
-  pub inside : hand.end ≤ length written.kept
+  pub inside : hand.place < hand.end → hand.end ≤ length written.kept
   pub each : (k : ℕ) → hand.place + k < hand.end →
       slice_get written.steps (next_at hand + k) ≡ slice_get written.kept (hand.place + k)
   pub later : IsRepeatsAt written hand.until hand.later

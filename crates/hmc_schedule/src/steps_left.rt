@@ -62,51 +62,36 @@ fn next_at(hand: Hand) -> u32
 }
 
 // How many steps there are up to the end of the round, of these that repeat from this place of the
-// schedule on.
+// schedule on: none where they end before it.
+#[inline(always)]
 fn turn_len(at: u32, repeats: Repeats) -> u32
-    requires some { at < repeats.until }
-    requires inside { repeats.next < repeats.end }
-    ensures few { at + result ≤ repeats.until }
+    ensures few { result ≤ repeats.until - at }
     ensures turn { result ≤ repeats.end - repeats.next }
     ensures whole { at + result < repeats.until → result ≡ repeats.end - repeats.next }
 {
-    let turn = repeats.end - repeats.next;
-    let rest = repeats.until - at;
+    let turn = repeats.end.saturating_sub(repeats.next);
+    let rest = repeats.until.saturating_sub(at);
     if turn < rest as usize {
         return turn as u32;
     }
     rest
 }
 
-// What is at hand of steps that repeat from this place of the schedule on: those up to the end of
-// the round. After them its first one comes next.
-fn hand_of(at: u32, repeats: Repeats) -> Hand
-    requires { at < repeats.until → repeats.next < repeats.end }
-    ensures at { next_at result ≡ at }
-    ensures hand { (written : WrittenFields) → IsRepeatsAt written at repeats →
-        IsHand written result }
+// Brings the steps that repeat to hand, up to the end of their round, where none is at hand. After
+// them the first one of the round comes next.
+#[inline(always)]
+fn turn(hand: &mut Hand)
+    requires none { hand.old.end ≤ hand.old.place }
+    ensures at { next_at hand.new ≡ next_at hand.old }
+    ensures hand { (written : WrittenFields) → IsHand written hand.old →
+        IsHand written hand.new }
 {
-    if at >= repeats.until {
-        return Hand {
-            place: 0,
-            end: 0,
-            until: at,
-            later: NO_REPEATS,
-        };
-    }
-    let len = turn_len(at, repeats);
-    let later = Repeats {
-        from: repeats.from,
-        next: repeats.from,
-        end: repeats.end,
-        until: repeats.until,
-    };
-    Hand {
-        place: repeats.next,
-        end: repeats.next + len as usize,
-        until: at + len,
-        later,
-    }
+    let place = hand.later.next;
+    let len = turn_len(hand.until, hand.later);
+    hand.place = place;
+    hand.end = place + len as usize;
+    hand.until += len;
+    hand.later.next = hand.later.from;
 }
 
 // What repeats from the place in the schedule that is after this one: after the last step of the
@@ -174,40 +159,23 @@ impl StepsLeft {
         ensures taken { IfSome result (λ place. TakesKept self.old place self.new) }
         ensures none { IfNone result (self.new ≡ self.old) }
     {
-        self.turn();
-        let place = self.hand.place;
-        if place >= self.hand.end {
-            return None;
+        if self.hand.place >= self.hand.end {
+            turn(&mut self.hand);
+            if self.hand.place >= self.hand.end {
+                return None;
+            }
         }
+        let place = self.hand.place;
         self.hand.place = place + 1;
         Some(place)
-    }
-
-    // Brings the round that ended to hand once more, if it repeats. The list stays as it is.
-    #[inline(always)]
-    fn turn(&mut self)
-        ensures { self.new ≡ self.old }
-    {
-        if self.hand.place >= self.hand.end {
-            self.turn_over();
-        }
-    }
-
-    // The same, where nothing is at hand.
-    #[inline(never)]
-    fn turn_over(&mut self)
-        ensures { self.new ≡ self.old }
-    {
-        if self.hand.place == self.hand.end {
-            self.hand = hand_of(self.hand.until, self.hand.later);
-        }
     }
 
     /// Takes the next step off the list, if one is left. One that isn't at hand is found by its
     /// place.
     #[inline(always)]
     pub fn take(&mut self) -> Option<Step>
-        ensures { TakesFirst self.old.steps result self.new.steps }
+        ensures taken { TakesFirst self.old.steps result self.new.steps }
+        ensures kept { self.new.kept ≡ self.old.kept }
     {
         if let Some(place) = self.take_kept() {
             return Some(*self.kept_step(place));
@@ -215,19 +183,24 @@ impl StepsLeft {
         self.take_found()
     }
 
-    // Takes the next step, which is found by its place, if one is left. Those after it are brought
-    // to hand, if it is one of a round without noise.
+    // Takes the next step, which is found by its place, if one is left. Of those after it nothing is
+    // at hand yet.
     #[inline(never)]
     fn take_found(&mut self) -> Option<Step>
-        ensures { TakesFirst self.old.steps result self.new.steps }
+        ensures taken { TakesFirst self.old.steps result self.new.steps }
+        ensures kept { self.new.kept ≡ self.old.kept }
     {
         let at = next_at(self.hand);
         if at >= self.written.len() {
             return None;
         }
         let found = self.written.find(at);
-        let repeats = passed(at, found.repeats);
-        self.hand = hand_of(at + 1, repeats);
+        self.hand = Hand {
+            place: 0,
+            end: 0,
+            until: at + 1,
+            later: passed(at, found.repeats),
+        };
         Some(found.step)
     }
 }
