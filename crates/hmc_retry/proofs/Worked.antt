@@ -4,7 +4,7 @@ use Rattle.std.specs.List.{range_with_len}
 use Rattle.hmc_codes.specs.declared.command.Command.TheVariants.{Rd16}
 use Rattle.hmc_codes.specs.declared.profile.Profile.TheVariants.{One, Two}
 use Rattle.hmc_packet.specs.Packet.{PacketFields, null_packet}
-use Rattle.hmc_retry.specs.RetryBuffer.{RetryFields, room_of, next_pointer, opening_buffer, after_put, acknowledged_by, acknowledgement, after_acknowledge, after_next, are_all_sent}
+use Rattle.hmc_retry.specs.RetryBuffer.{RetryFields, room_of, next_pointer, opening_buffer, after_put, numbered, acknowledged_by, acknowledgement, after_acknowledge, after_next, are_all_sent}
 
 -- a packet of one flit that ends at a pointer
 abbrev ending_at : ℕ → PacketFields
@@ -115,3 +115,8 @@ wrap-each = refl
 -- going back in the middle: all are to be sent again, and a packet that is kept then too
 back-put : after_put (ending_at 4) (record (keeping 0 2 three) { position = 0 }) ≡ keeping 0 0 (ending_at 1 ∷ ending_at 2 ∷ ending_at 3 ∷ ending_at 4 ∷ [])
 back-put = refl
+
+-- a packet gets its three numbers, each in its place, and keeps the rest
+numbered-packet : numbered 1 2 3 (record null_packet { command = Rd16; tag = 4; slid = 5; rtc = 9; seq = 8; frp = 7 }) ≡
+    record null_packet { command = Rd16; tag = 4; slid = 5; rtc = 1; seq = 2; frp = 3 }
+numbered-packet = refl

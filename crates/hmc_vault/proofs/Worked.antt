@@ -19,8 +19,10 @@ use Rattle.hmc_serial.specs.Errors.{memory_error, register_error}
 use Rattle.hmc_serial.specs.Perform.{perform_on}
 use Rattle.hmc_vault.specs.declared.spread.Spread.TheVariants as spreads
 use Rattle.hmc_vault.specs.declared.execute.Executed.TheVariants.{Empty, Full, Ran}
+use Rattle.hmc_vault.specs.declared.execution.ExecutionKind.TheVariants as kinds
 use Rattle.hmc_vault.specs.Vault.{VaultFields, opening_vault, held_by}
 use Rattle.hmc_vault.specs.Spread.{spread_says, spread_gives}
+use Rattle.hmc_vault.specs.Execution.{executed_of, kind_of}
 use Rattle.hmc_vault.specs.Execute.{must_wait, execute_says, replies_to, waiting_after, answers_after, slots_after, execute_gives}
 
 abbrev two_banks : ShapeFields
@@ -154,3 +156,12 @@ slots_after-each : map (λ executed. slots_after executed cube (Some (stamp_unit
     (Some (stamp_unit 6 1 3) ∷ []) ∷ (Some (stamp_unit 6 1 3) ∷ []) ∷ (Some (stamp_unit 6 1 3) ∷ []) ∷ (Some (stamp_unit 6 1 4) ∷ []) ∷ []
 unfolding table_line perform_on action_of memory_error padded_bytes stamp_unit
 slots_after-each = refl
+
+-- what was done, from the parts of the place that it is written into: where nothing was executed,
+-- the request and the answer that are left there aren't shown
+executed_of-each : map (λ kind. executed_of kind (request_with Rd16 16) answers.Silent) (kinds.Empty ∷ kinds.Full ∷ kinds.Ran 5 3 ∷ []) ≡ Empty ∷ Full ∷ Ran 5 3 (request_with Rd16 16) answers.Silent ∷ []
+executed_of-each = refl
+
+-- and without the request and the answer
+kind_of-each : map kind_of (Empty ∷ Full ∷ Ran 5 3 (request_with Rd16 16) answers.Silent ∷ []) ≡ kinds.Empty ∷ kinds.Full ∷ kinds.Ran 5 3 ∷ []
+kind_of-each = refl
