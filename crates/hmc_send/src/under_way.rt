@@ -22,9 +22,9 @@ use std::marker::Model;
 
 /// A packet that is begun and has flits left, with its place.
 ///
-/// The packet and its draft have places of their own, into which one after another is written: while
-/// a packet is passed on, of which the head and the numbers are known, they are old content, which
-/// no contract sees.
+/// The packet and its draft have places of their own, into which one after another is written.
+/// While a packet is passed on, of which the head and the numbers are known, they are old content,
+/// which no contract sees.
 #[derive(Drop)]
 pub struct UnderWay {
     again: bool,
