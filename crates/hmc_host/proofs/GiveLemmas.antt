@@ -10,6 +10,7 @@ use Rattle.std.proofs.lemmas.Option.{slice_get-get_or, slice_get_within}
 use Rattle.hmc_script.specs.Items.{ItemFields, outline_of}
 use Rattle.hmc_host.specs.declared.given.Given.{Given}
 use Rattle.hmc_host.specs.declared.given.Given.TheVariants.{Ended, Fence, Tags, Full, Gave}
+use Rattle.hmc_host.specs.declared.given.Hindrance.{Hindrance}
 use Rattle.hmc_host.specs.declared.given.Hindrance.TheVariants as hindrances
 use Rattle.hmc_host.specs.Tags.{lowest_free, IsFree, IsOut, IsLowestFree, with_out}
 use Rattle.hmc_host.specs.Host.{HostFields, IsHost}
@@ -114,6 +115,13 @@ pub says_left : (host : HostFields) (room : Bool) (given : Given) → given ≡ 
 unfolding give_says
 says_left host room given is more =
     some_left host.left (λ none. more (is ∙ ap (λ (next : Option ItemFields). next_says host next room) none))
+
+-- nor has one that nothing hinders given all of them
+pub unhindered_left : (host : HostFields) (room : Bool) → hindrance_of (give_says host room) ≡ None → 0 < length host.left
+unhindered_left host room none =
+    says_left host room (give_says host room) refl (λ ended. some_none (hindrance_of (give_says host room)) (ap hindrance_of (sym ended)) none) where
+      some_none : (found : Option Hindrance) → Some hindrances.Ended ≡ found → found ≡ None → ⊥
+      some_none found some none = cc
 
 -- it ends exactly where it has given all of its requests
 pub says_ended : (host : HostFields) (room : Bool) (given : Given) → given ≡ give_says host room → (given ≡ Ended) ↔ (host.left ≡ [])

@@ -162,9 +162,6 @@ impl Host {
         if let Some(hindrance) = self.hindrance(room) {
             return nothing_given(hindrance);
         }
-        if self.left.len() == 0 {
-            return Given::Ended;
-        }
         let item = self.left.first();
         gave_request(self.number, &item, tag_for(&item, &self.tags))
     }
