@@ -1,4 +1,5 @@
--- What entries are counted as, and the length of the longest line, counted by hand.
+-- What entries are counted as, steps that did nothing, and lines; the length of the longest is
+-- counted by hand.
 use Rattle.std.proofs.Common.{◌≡◌, [], ◌∷◌, Some, None, true, refl, length}
 use Rattle.std.specs.Prelude.{map, replicate, codes}
 use Rattle.std.specs.Fmt.{digits}
@@ -17,10 +18,12 @@ use Rattle.hmc_packet.specs.declared.outcome.Outcome.TheVariants.{Quiet, Trained
 use Rattle.hmc_packet.specs.declared.what.What.TheVariants.{Null, Again}
 use Rattle.hmc_schedule.specs.declared.step.Step.TheVariants as steps
 use Rattle.hmc_entries.specs.declared.event.Event.TheVariants as events
+use Rattle.hmc_entries.specs.declared.idle_step.IdleStep.TheVariants as idles
 use Rattle.hmc_entries.specs.declared.outcome.Cause.TheVariants.{Empty, Full, Starved, NoPacket, Busy}
 use Rattle.hmc_entries.specs.declared.outcome.Goal.TheVariants as goals
 use Rattle.hmc_entries.specs.declared.entry.Entry.TheVariants.{Gave, Sent, Landed, Shifted, Dropped, Spread, Executed, Lifted, Took, Discarded, Through, Unlocked, Retired, Passed, Idle}
 use Rattle.hmc_entries.specs.Event.{event_of, cause_of}
+use Rattle.hmc_entries.specs.IdleStep.{idle_step, idle_words}
 use Rattle.hmc_entries.specs.Lines.{line_of, outcome_text}
 
 abbrev read : RequestFields
@@ -63,3 +66,24 @@ line_of-through : map line_of (Through 1 2 3 ∷ Idle (steps.Through 0 1) NoPack
     codes "through 1 2 3\n" ∷ codes "idle through 0 1 nopacket\n" ∷ codes "idle through 0 1 full\n" ∷ codes "idle through 0 1 busy\n" ∷ codes "retired 3\n" ∷ codes "idle retire 3 empty\n" ∷ []
 unfolding line_of encode_with digits zero_flit
 line_of-through = refl
+
+-- steps that did nothing; a landing has the mask that changes nothing
+idle_step-hosts : map idle_step (idles.Give 1 ∷ idles.Take 2 ∷ idles.Send 3 ∷ idles.Land 4 ∷ idles.Unlock 5 ∷ idles.Retire 6 ∷ []) ≡
+    steps.Give 1 ∷ steps.Take 2 ∷ steps.Send 3 ∷ steps.Land 4 (replicate 16 0) ∷ steps.Unlock 5 ∷ steps.Retire 6 ∷ []
+unfolding zero_flit
+idle_step-hosts = refl
+
+idle_step-cubes : map idle_step (idles.Shift 1 2 ∷ idles.Through 1 2 ∷ idles.Spread 1 2 ∷ idles.Bank 1 2 3 ∷ idles.Registers 4 ∷ idles.Lift 5 (lifts.Vault 6) ∷ idles.Lift 5 lifts.Registers ∷ []) ≡
+    steps.Shift 1 2 ∷ steps.Through 1 2 ∷ steps.Spread 1 2 ∷ steps.Bank 1 2 3 ∷ steps.Registers 4 ∷ steps.Lift 5 (lifts.Vault 6) ∷ steps.Lift 5 lifts.Registers ∷ []
+idle_step-cubes = refl
+
+-- their words; that of a landing shows no mask
+idle_words-hosts : map idle_words (idles.Give 1 ∷ idles.Take 20 ∷ idles.Send 3 ∷ idles.Land 40 ∷ idles.Unlock 5 ∷ idles.Retire 6 ∷ []) ≡
+    (codes "give" ∷ codes "1" ∷ []) ∷ (codes "take" ∷ codes "20" ∷ []) ∷ (codes "send" ∷ codes "3" ∷ []) ∷ (codes "land" ∷ codes "40" ∷ []) ∷ (codes "unlock" ∷ codes "5" ∷ []) ∷ (codes "retire" ∷ codes "6" ∷ []) ∷ []
+unfolding digits
+idle_words-hosts = refl
+
+idle_words-cubes : map idle_words (idles.Shift 1 20 ∷ idles.Through 1 2 ∷ idles.Spread 1 2 ∷ idles.Bank 1 20 3 ∷ idles.Registers 4 ∷ idles.Lift 5 (lifts.Vault 60) ∷ idles.Lift 5 lifts.Registers ∷ []) ≡
+    (codes "shift" ∷ codes "1" ∷ codes "20" ∷ []) ∷ (codes "through" ∷ codes "1" ∷ codes "2" ∷ []) ∷ (codes "spread" ∷ codes "1" ∷ codes "2" ∷ []) ∷ (codes "bank" ∷ codes "1" ∷ codes "20" ∷ codes "3" ∷ []) ∷ (codes "registers" ∷ codes "4" ∷ []) ∷ (codes "lift" ∷ codes "5" ∷ codes "60" ∷ []) ∷ (codes "lift" ∷ codes "5" ∷ codes "r" ∷ []) ∷ []
+unfolding digits
+idle_words-cubes = refl

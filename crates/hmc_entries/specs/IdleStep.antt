@@ -1,28 +1,29 @@
--- Steps without masks: the steps with them, and their words.
+-- Steps that did nothing: the steps themselves, and their words.
 use Rattle.std.specs.Prelude.{ℕ, List, [], ◌∷◌, codes}
 use Rattle.std.specs.Fmt.{decimal}
+use Rattle.hmc_codes.specs.Flit.{zero_flit}
 use Rattle.hmc_schedule.specs.declared.step.Step.{Step}
 use Rattle.hmc_schedule.specs.declared.step.Step.TheVariants as steps
 use Rattle.hmc_entries.specs.Lines.{lift_text}
 use Rattle.hmc_entries.specs.declared.idle_step.IdleStep.{IdleStep}
 use Rattle.hmc_entries.specs.declared.idle_step.IdleStep.TheVariants as idles
 
--- the step with this mask, if it has one
-abbrev pub step_of : IdleStep → (mask : List ℕ) → Step
-step_of (idles.Give host) mask = steps.Give host
-step_of (idles.Send direction) mask = steps.Send direction
-step_of (idles.Land direction) mask = steps.Land direction mask
-step_of (idles.Shift cube port) mask = steps.Shift cube port
-step_of (idles.Spread cube vault) mask = steps.Spread cube vault
-step_of (idles.Bank cube vault bank) mask = steps.Bank cube vault bank
-step_of (idles.Registers cube) mask = steps.Registers cube
-step_of (idles.Lift cube from) mask = steps.Lift cube from
-step_of (idles.Take host) mask = steps.Take host
-step_of (idles.Through cube port) mask = steps.Through cube port
-step_of (idles.Unlock direction) mask = steps.Unlock direction
-step_of (idles.Retire slot) mask = steps.Retire slot
+-- the step; a landing has the mask that changes nothing
+abbrev pub idle_step : IdleStep → Step
+idle_step (idles.Give host) = steps.Give host
+idle_step (idles.Send direction) = steps.Send direction
+idle_step (idles.Land direction) = steps.Land direction zero_flit
+idle_step (idles.Shift cube port) = steps.Shift cube port
+idle_step (idles.Spread cube vault) = steps.Spread cube vault
+idle_step (idles.Bank cube vault bank) = steps.Bank cube vault bank
+idle_step (idles.Registers cube) = steps.Registers cube
+idle_step (idles.Lift cube from) = steps.Lift cube from
+idle_step (idles.Take host) = steps.Take host
+idle_step (idles.Through cube port) = steps.Through cube port
+idle_step (idles.Unlock direction) = steps.Unlock direction
+idle_step (idles.Retire slot) = steps.Retire slot
 
--- its words, which don't show the mask
+-- its words
 abbrev pub idle_words : IdleStep → List (List ℕ)
 idle_words (idles.Give host) = codes "give" ∷ decimal host ∷ []
 idle_words (idles.Send direction) = codes "send" ∷ decimal direction ∷ []

@@ -6,25 +6,23 @@
 //! content, which no contract sees.
 
 ghost use Rattle.std.specs.Prelude.{◌≡◌, ◌<◌, ◌≤◌, ◌+◌, ◌++◌, [], length};
-ghost use Rattle.hmc_codes.specs.Flit.{zero_flit};
 ghost use Rattle.hmc_entries.specs.declared.entry.Entry.{Entry};
 ghost use Rattle.hmc_entries.specs.Event.{event_of, cause_of, is_passed, IsLongFlit};
+ghost use Rattle.hmc_entries.specs.IdleStep.{idle_step};
 ghost use Rattle.hmc_entries.specs.Lines.{line_of};
 ghost use Rattle.hmc_schedule.specs.declared.step.Step.{Step};
 
 use crate::idle_line::idle_line;
-use crate::idle_step::{IdleStep, with_mask};
 use crate::line::{
     discarded_line, dropped_line, executed_line, gave_line, landed_line, lifted_line, passed_line,
     retired_line, sent_line, shifted_line, spread_line, through_line, took_line, unlocked_line,
 };
-use crate::{Cause, Entry, Event, Goal};
+use crate::{Cause, Entry, Event, Goal, IdleStep};
 use arrayvec::ArrayString;
 use hmc_codes::{
     Answer, Command, Flit, Gathered, Lift, Line, LineText, Payload, Request, Unit, ZERO_FLIT,
 };
 use hmc_packet::{Outcome, What};
-use hmc_schedule::Step;
 use std::marker::Model;
 
 // The variant of an entry, with its short parts: four bytes.
@@ -51,9 +49,7 @@ pub(crate) enum Short {
 #[derive(Drop)]
 pub struct LastEntry {
     short: Short,
-    // A step that did nothing, and its mask if it was a landing.
     step: IdleStep,
-    mask: Flit,
     flit: Flit,
     // The tag of what was given or executed, and that of an answer that was taken.
     tag: Option<u16>,
@@ -67,13 +63,13 @@ pub struct LastEntry {
 
 impl Model for LastEntry {
     ghost use Rattle.hmc_entries.specs.declared.entry.Entry.{Entry};
-    ghost use Rattle.hmc_entries.specs.IdleStep.{step_of};
+    ghost use Rattle.hmc_entries.specs.IdleStep.{idle_step};
     ghost use Rattle.hmc_entries.specs.LastEntry.{entry_of};
 
     ghost Value = { Entry };
 
     ghost view = { λ e. entry_of e.short (record {
-      step = step_of e.step e.mask;
+      step = idle_step e.step;
       flit = e.flit;
       tag = e.tag;
       taken = e.taken;
@@ -95,7 +91,6 @@ impl LastEntry {
                 cause: Cause::Empty,
             },
             step: IdleStep::Give(0),
-            mask: ZERO_FLIT,
             flit: ZERO_FLIT,
             tag: None,
             taken: 0,
@@ -236,27 +231,11 @@ impl LastEntry {
 
     /// The step did nothing.
     #[inline(always)]
-    pub fn idle(&mut self, step: &Step, cause: Cause)
-        ensures { self.new ≡ Entry.Idle step.now cause }
+    pub fn idle(&mut self, step: IdleStep, cause: Cause)
+        ensures { self.new ≡ Entry.Idle (idle_step step) cause }
     {
         self.short = Short::Idle { cause };
-        match step {
-            Step::Give(host) => self.step = IdleStep::Give(*host),
-            Step::Send(direction) => self.step = IdleStep::Send(*direction),
-            Step::Land(direction, mask) => {
-                self.step = IdleStep::Land(*direction);
-                self.mask = *mask;
-            }
-            Step::Shift(cube, port) => self.step = IdleStep::Shift(*cube, *port),
-            Step::Spread(cube, vault) => self.step = IdleStep::Spread(*cube, *vault),
-            Step::Bank(cube, vault, bank) => self.step = IdleStep::Bank(*cube, *vault, *bank),
-            Step::Registers(cube) => self.step = IdleStep::Registers(*cube),
-            Step::Lift(cube, from) => self.step = IdleStep::Lift(*cube, *from),
-            Step::Take(host) => self.step = IdleStep::Take(*host),
-            Step::Through(cube, port) => self.step = IdleStep::Through(*cube, *port),
-            Step::Unlock(direction) => self.step = IdleStep::Unlock(*direction),
-            Step::Retire(slot) => self.step = IdleStep::Retire(*slot),
-        }
+        self.step = step;
     }
 
     /// What the step is counted as.
@@ -426,7 +405,7 @@ impl LastEntry {
                 flit: self.flit,
             },
             Short::Idle { cause } => Entry::Idle {
-                step: with_mask(self.step, self.mask),
+                step: self.step.step(),
                 cause,
             },
         }

@@ -26,6 +26,7 @@ pub use entry::Entry;
 pub use event::Event;
 pub use fits::step_fits;
 pub use hmc_packet::Outcome;
+pub use idle_step::IdleStep;
 pub use journal::Journal;
 pub use last_entry::LastEntry;
 pub use laws::{lines_are_in_order, text_tells};

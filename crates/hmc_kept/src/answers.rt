@@ -4,11 +4,9 @@ ghost use Rattle.std.specs.Prelude.{◌≡◌};
 ghost use Rattle.hmc_journal.specs.Piped.{goes_on};
 ghost use Rattle.hmc_kept.specs.LinkAnswers.{sent_by, landed_by, IsCameFlit};
 
-use hmc_codes::ZERO_FLIT;
 use hmc_ends::{LinkOutcome, LinkSent, flit_is_bytes};
-use hmc_entries::{Cause, LastEntry};
-use hmc_packet::{Outcome, constant_flits};
-use hmc_schedule::Step;
+use hmc_entries::{Cause, IdleStep, LastEntry};
+use hmc_packet::Outcome;
 
 /// Whether a landing ends a packet that is forwarded (onto this direction), and that is accepted:
 /// it then leaves its buffer at once.
@@ -27,8 +25,8 @@ pub fn note_sent(last: &mut LastEntry, direction: u8, sent: &LinkSent)
     ensures { last.new ≡ sent_by direction sent.now }
 {
     match sent {
-        LinkSent::Full => last.idle(&Step::Send(direction), Cause::Full),
-        LinkSent::Starved => last.idle(&Step::Send(direction), Cause::Starved),
+        LinkSent::Full => last.idle(IdleStep::Send(direction), Cause::Full),
+        LinkSent::Starved => last.idle(IdleStep::Send(direction), Cause::Starved),
         LinkSent::Out { flit, what } => last.sent(direction, *what, flit),
     }
 }
@@ -39,9 +37,8 @@ pub fn note_landed(last: &mut LastEntry, direction: u8, landing: &LinkOutcome)
     ensures entry { last.new ≡ landed_by direction landing.now }
     ensures size { IsCameFlit landing.now }
 {
-    constant_flits();
     match landing {
-        LinkOutcome::Empty => last.idle(&Step::Land(direction, ZERO_FLIT), Cause::Empty),
+        LinkOutcome::Empty => last.idle(IdleStep::Land(direction), Cause::Empty),
         LinkOutcome::Passed(flit) => last.passed(direction, flit),
         LinkOutcome::Came { flit, outcome } => {
             flit_is_bytes(flit);

@@ -3,6 +3,7 @@
 ghost use Rattle.std.specs.Prelude.{◌≡◌, ◌<◌, ℕ, true, false, length};
 ghost use Rattle.hmc_schedule.specs.declared.step.Step.{Step};
 ghost use Rattle.hmc_codes.specs.Commands.{is_posted};
+ghost use Rattle.hmc_entries.specs.IdleStep.{idle_step};
 ghost use Rattle.hmc_journal.specs.Setup.{unit_cube};
 ghost use Rattle.hmc_queues.specs.Queues.{packets_at, size_at};
 ghost use Rattle.hmc_check.specs.Units.{step_of, queue_name, answers_name, IsRequestAt};
@@ -10,10 +11,9 @@ ghost use Rattle.hmc_check.specs.Past.{past_of, TakesStep, IsNextOfSome};
 
 use crate::past::Past;
 use hmc_codes::{Lift, Request, Unit};
-use hmc_entries::Cause;
+use hmc_entries::{Cause, IdleStep};
 use hmc_packet::{Packet, reply, request_of};
 use hmc_queues::QueueName;
-use hmc_schedule::Step;
 use hmc_units::Workbench;
 
 impl<B: Workbench> Past<B> {
@@ -24,7 +24,7 @@ impl<B: Workbench> Past<B> {
             (Step.Spread cube vault) }
     {
         if self.queues.is_empty(cube, QueueName::Vault(vault)) {
-            self.last.idle(&Step::Spread(cube, vault), Cause::Empty);
+            self.last.idle(IdleStep::Spread(cube, vault), Cause::Empty);
             return;
         }
         self.spread_front(cube, vault);
@@ -36,12 +36,12 @@ impl<B: Workbench> Past<B> {
             (Step.Spread cube vault) }
     {
         let Some(front) = self.queues.front(cube, QueueName::Vault(vault)) else {
-            self.last.idle(&Step::Spread(cube, vault), Cause::Empty);
+            self.last.idle(IdleStep::Spread(cube, vault), Cause::Empty);
             return;
         };
         let bank = self.wiring.shape(cube).spot(front.address).bank;
         if !self.queues.has_room(cube, QueueName::Bank(vault, bank)) {
-            self.last.idle(&Step::Spread(cube, vault), Cause::Full);
+            self.last.idle(IdleStep::Spread(cube, vault), Cause::Full);
             return;
         }
         self.queues.pop(cube, QueueName::Vault(vault));
@@ -75,7 +75,7 @@ impl<B: Workbench> Past<B> {
     {
         let cube = cube_of(unit);
         if self.queues.is_empty(cube, queue_of(unit)) {
-            self.last.idle(&step_of(unit), Cause::Empty);
+            self.last.idle(step_of(unit), Cause::Empty);
             return;
         }
         self.execute_front(unit, cube);
@@ -88,11 +88,11 @@ impl<B: Workbench> Past<B> {
         ensures { TakesStep (past_of B.slots self.old) (past_of B.slots self.new) (step_of unit) }
     {
         let Some(front) = self.queues.front(cube, queue_of(unit)) else {
-            self.last.idle(&step_of(unit), Cause::Empty);
+            self.last.idle(step_of(unit), Cause::Empty);
             return;
         };
         let Some(request) = request_of(&front) else {
-            self.last.idle(&step_of(unit), Cause::Empty);
+            self.last.idle(step_of(unit), Cause::Empty);
             return;
         };
         if request.command.posted() {
@@ -100,7 +100,7 @@ impl<B: Workbench> Past<B> {
             return;
         }
         if !self.queues.has_room(cube, answers_of(unit)) {
-            self.last.idle(&step_of(unit), Cause::Full);
+            self.last.idle(step_of(unit), Cause::Full);
             return;
         }
         self.execute_answered(unit, cube, &front, &request);
@@ -146,18 +146,18 @@ impl<B: Workbench> Past<B> {
         if self.bench.retire(slot) {
             self.last.retired(slot);
         } else {
-            self.last.idle(&Step::Retire(slot), Cause::Empty);
+            self.last.idle(IdleStep::Retire(slot), Cause::Empty);
         }
     }
 }
 
 // The step of a unit.
-fn step_of(unit: Unit) -> Step
-    ensures { result ≡ step_of unit }
+fn step_of(unit: Unit) -> IdleStep
+    ensures { idle_step result ≡ step_of unit }
 {
     match unit {
-        Unit::Bank { cube, vault, bank } => Step::Bank(cube, vault, bank),
-        Unit::Registers { cube } => Step::Registers(cube),
+        Unit::Bank { cube, vault, bank } => IdleStep::Bank(cube, vault, bank),
+        Unit::Registers { cube } => IdleStep::Registers(cube),
     }
 }
 

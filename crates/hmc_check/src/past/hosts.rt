@@ -13,9 +13,8 @@ ghost use Rattle.hmc_kept.specs.ByDirection.{HasRoom};
 ghost use Rattle.hmc_check.specs.Past.{past_of, TakesStep, IsNextOfSome};
 
 use crate::past::Past;
-use hmc_entries::{Cause, LastEntry};
+use hmc_entries::{Cause, IdleStep, LastEntry};
 use hmc_host::{Given, Hindrance, Settled};
-use hmc_schedule::Step;
 use hmc_units::Workbench;
 
 impl<B: Workbench> Past<B> {
@@ -27,7 +26,7 @@ impl<B: Workbench> Past<B> {
         let direction = self.wiring.from_host(host);
         let room = self.ends.has_room(direction);
         if let Some(hindrance) = self.hosts[usize::from(host)].hindrance(room) {
-            self.last.idle(&Step::Give(host), cause_of(hindrance));
+            self.last.idle(IdleStep::Give(host), cause_of(hindrance));
             return;
         }
         self.give_next(host, direction);
@@ -62,7 +61,7 @@ impl<B: Workbench> Past<B> {
     {
         let direction = self.wiring.to_host(host);
         if !self.ends.has_arrived(direction) {
-            self.last.idle(&Step::Take(host), Cause::Empty);
+            self.last.idle(IdleStep::Take(host), Cause::Empty);
             return;
         }
         self.take_front(host, direction);
@@ -74,7 +73,7 @@ impl<B: Workbench> Past<B> {
         ensures { TakesStep (past_of B.slots self.old) (past_of B.slots self.new) (Step.Take host) }
     {
         let Some(front) = self.ends.front(direction) else {
-            self.last.idle(&Step::Take(host), Cause::Empty);
+            self.last.idle(IdleStep::Take(host), Cause::Empty);
             return;
         };
         self.ends.take(direction);

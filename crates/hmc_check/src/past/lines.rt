@@ -13,13 +13,12 @@ ghost use Rattle.hmc_directions.specs.Ends.{EndsHold, HoldSome, IsDirection};
 ghost use Rattle.hmc_check.specs.Past.{past_of, TakesStep, IsNextOfSome};
 
 use crate::past::Past;
-use hmc_codes::{Flit, ZERO_FLIT};
+use hmc_codes::Flit;
 use hmc_directions::Ends;
 use hmc_ends::{LinkOutcome, flit_is_bytes};
-use hmc_entries::Cause;
+use hmc_entries::{Cause, IdleStep};
 use hmc_kept::{goes_on, note_sent};
 use hmc_packet::Outcome;
-use hmc_schedule::Step;
 use hmc_units::Workbench;
 
 impl<B: Workbench> Past<B> {
@@ -42,9 +41,7 @@ impl<B: Workbench> Past<B> {
             (Step.Land direction mask.now) }
     {
         match self.ends.land(direction, mask) {
-            LinkOutcome::Empty => self
-                .last
-                .idle(&Step::Land(direction, ZERO_FLIT), Cause::Empty),
+            LinkOutcome::Empty => self.last.idle(IdleStep::Land(direction), Cause::Empty),
             LinkOutcome::Passed(flit) => self.last.passed(direction, &flit),
             LinkOutcome::Came { flit, outcome } => {
                 flit_is_bytes(&flit);

@@ -11,10 +11,9 @@ ghost use Rattle.hmc_check.specs.Past.{past_of, TakesStep, IsNextOfSome};
 use crate::past::Past;
 use hmc_codes::Lift;
 use hmc_crossbar::To;
-use hmc_entries::{Cause, Goal};
+use hmc_entries::{Cause, Goal, IdleStep};
 use hmc_packet::Packet;
 use hmc_queues::QueueName;
-use hmc_schedule::Step;
 use hmc_units::Workbench;
 
 impl<B: Workbench> Past<B> {
@@ -26,7 +25,7 @@ impl<B: Workbench> Past<B> {
     {
         let direction = self.wiring.to_port(cube, port);
         if !self.ends.has_arrived(direction) {
-            self.last.idle(&Step::Shift(cube, port), Cause::Empty);
+            self.last.idle(IdleStep::Shift(cube, port), Cause::Empty);
             return;
         }
         self.shift_front(cube, port, direction);
@@ -39,7 +38,7 @@ impl<B: Workbench> Past<B> {
             (Step.Shift cube port) }
     {
         let Some(front) = self.ends.front(direction) else {
-            self.last.idle(&Step::Shift(cube, port), Cause::Empty);
+            self.last.idle(IdleStep::Shift(cube, port), Cause::Empty);
             return;
         };
         match self.wiring.goal(cube, &front) {
@@ -88,7 +87,7 @@ impl<B: Workbench> Past<B> {
             (Step.Shift cube port) }
     {
         if !self.queues.has_room(cube, room) {
-            self.last.idle(&Step::Shift(cube, port), Cause::Full);
+            self.last.idle(IdleStep::Shift(cube, port), Cause::Full);
             return;
         }
         self.ends.take(direction);
@@ -105,7 +104,7 @@ impl<B: Workbench> Past<B> {
             (Step.Shift cube port) }
     {
         let Some(onward) = self.way_out(cube, out) else {
-            self.last.idle(&Step::Shift(cube, port), Cause::Full);
+            self.last.idle(IdleStep::Shift(cube, port), Cause::Full);
             return;
         };
         self.ends.take(direction);
@@ -134,7 +133,7 @@ impl<B: Workbench> Past<B> {
             (Step.Lift cube from) }
     {
         if self.queues.is_empty(cube, QueueName::Answers(from)) {
-            self.last.idle(&Step::Lift(cube, from), Cause::Empty);
+            self.last.idle(IdleStep::Lift(cube, from), Cause::Empty);
             return;
         }
         self.lift_front(cube, from);
@@ -146,12 +145,12 @@ impl<B: Workbench> Past<B> {
             (Step.Lift cube from) }
     {
         let Some(front) = self.queues.front(cube, QueueName::Answers(from)) else {
-            self.last.idle(&Step::Lift(cube, from), Cause::Empty);
+            self.last.idle(IdleStep::Lift(cube, from), Cause::Empty);
             return;
         };
         let port = self.wiring.port_towards(cube, front.slid);
         let Some(onward) = self.way_out(cube, port) else {
-            self.last.idle(&Step::Lift(cube, from), Cause::Full);
+            self.last.idle(IdleStep::Lift(cube, from), Cause::Full);
             return;
         };
         self.queues.pop(cube, QueueName::Answers(from));

@@ -8,10 +8,9 @@ ghost use Rattle.hmc_check.specs.Moving.{IsHeadAt, IsFree, IsComing};
 ghost use Rattle.hmc_check.specs.Past.{past_of, TakesStep, IsNextOfSome};
 
 use crate::past::Past;
-use hmc_entries::Cause;
+use hmc_entries::{Cause, IdleStep};
 use hmc_kept::{may_go, pipe_of};
 use hmc_packet::{Head, head_of, lng_of};
-use hmc_schedule::Step;
 use hmc_units::Workbench;
 
 impl<B: Workbench> Past<B> {
@@ -23,15 +22,17 @@ impl<B: Workbench> Past<B> {
     {
         let from = self.wiring.to_port(cube, port);
         let Some(head) = self.gathered_head(from) else {
-            self.last.idle(&Step::Through(cube, port), Cause::NoPacket);
+            self.last
+                .idle(IdleStep::Through(cube, port), Cause::NoPacket);
             return;
         };
         let Some(onto) = self.way_on(cube, port, &head) else {
-            self.last.idle(&Step::Through(cube, port), Cause::NoPacket);
+            self.last
+                .idle(IdleStep::Through(cube, port), Cause::NoPacket);
             return;
         };
         if !self.may_forward(from, onto, head.flits) {
-            self.last.idle(&Step::Through(cube, port), Cause::Busy);
+            self.last.idle(IdleStep::Through(cube, port), Cause::Busy);
             return;
         }
         self.forward(cube, port, from, onto);
