@@ -1,5 +1,5 @@
 -- What a step returns and which calls make which entries, computed.
-use Rattle.std.proofs.Common.{◌≡◌, ℕ, Option, Some, None, List, [], ◌∷◌, refl}
+use Rattle.std.proofs.Common.{◌≡◌, ℕ, Option, Some, None, List, [], ◌∷◌, refl, arith, lit<}
 use Rattle.std.specs.Prelude.{map, replicate}
 use Rattle.std.specs.Option.{option_map}
 use Rattle.hmc_codes.specs.Request.{RequestFields}
@@ -9,6 +9,8 @@ use Rattle.hmc_codes.specs.declared.command.Command.TheVariants.{Unit0, Unit1}
 use Rattle.hmc_codes.specs.declared.unit.Unit.TheVariants as units
 use Rattle.hmc_codes.specs.Flit.{zero_flit}
 use Rattle.hmc_codes.specs.declared.lift.Lift.TheVariants as lifts
+use Rattle.hmc_crossbar.specs.declared.to.To.TheVariants as goes
+use Rattle.hmc_cube.specs.Cube.{CubeFields, no_vault}
 use Rattle.hmc_host.specs.declared.given.Hindrance.TheVariants as hindrances
 use Rattle.hmc_packet.specs.Packet.{null_packet}
 use Rattle.hmc_units.specs.Unit.{UnitFields}
@@ -32,6 +34,7 @@ use Rattle.hmc_kept.specs.After.{slots_after}
 use Rattle.hmc_kept.specs.Hosts.{cause_by, no_host}
 use Rattle.hmc_kept.specs.Called.{called}
 use Rattle.hmc_net.specs.NetState.{no_cube, inside}
+use Rattle.hmc_net.specs.Ports.{HasEntrance}
 use Rattle.hmc_net.specs.Went.{went_of}
 
 -- idle with its cause; a NULL that is sent is something, and so are a packet that is dropped, an
@@ -92,3 +95,25 @@ unit_retires = refl
 others_leave_units : map (λ entry. kept (slots_after seen entry bench)) (Retired 2 ∷ Idle (steps.Retire 2) causes.Empty ∷ Unlocked 1 ∷ []) ≡ replicate 3 (Some [] ∷ Some (4 ∷ []) ∷ [])
 unfolding reverse_unit stamp_unit
 others_leave_units = refl
+
+-- a cube of two vaults, whose queues hold one packet each: one vault's queue is free, and the other
+-- and that of the registers are full
+abbrev nearly_full : CubeFields
+nearly_full = record no_cube {
+  vaults = no_vault ∷ record no_vault { vault_queue = null_packet ∷ [] } ∷ [];
+  register_queue = null_packet ∷ [];
+  size = 1;
+}
+
+HasEntrance-free : HasEntrance nearly_full (goes.Vault 0)
+HasEntrance-free = lit< tt
+
+HasEntrance-vault : HasEntrance nearly_full (goes.Vault 1) → ⊥
+HasEntrance-vault is = absurd (omega (arith, is))
+
+HasEntrance-registers : HasEntrance nearly_full goes.Registers → ⊥
+HasEntrance-registers is = absurd (omega (arith, is))
+
+-- with room for two it is free again
+HasEntrance-larger : HasEntrance (record nearly_full { size = 2 }) goes.Registers
+HasEntrance-larger = lit< tt

@@ -1,11 +1,11 @@
 //! How a step went.
 
 ghost use Rattle.std.specs.Prelude.{◌≡◌};
+ghost use Rattle.hmc_entries.specs.IdleStep.{idle_step};
 ghost use Rattle.hmc_entries.specs.declared.entry.Entry.TheVariants as entries;
 ghost use Rattle.hmc_net.specs.declared.went.Went.TheVariants as wents;
 
-use hmc_entries::{Cause, LastEntry};
-use hmc_schedule::Step;
+use hmc_entries::{Cause, IdleStep, LastEntry};
 
 /// How a step went.
 #[derive(Clone, Copy, Debug, PartialEq, Eq)]
@@ -20,8 +20,8 @@ pub enum Went {
 
 /// The last entry becomes that of a step that did nothing, for this cause.
 #[inline(always)]
-pub fn idle(last: &mut LastEntry, step: &Step, cause: Cause) -> Went
-    ensures last { last.new ≡ entries.Idle step.now cause }
+pub fn idle(last: &mut LastEntry, step: IdleStep, cause: Cause) -> Went
+    ensures last { last.new ≡ entries.Idle (idle_step step) cause }
     ensures went { result ≡ wents.Idle cause }
 {
     last.idle(step, cause);

@@ -5,6 +5,7 @@ ghost use Rattle.hmc_codes.specs.Commands.{is_posted};
 ghost use Rattle.hmc_cube.specs.After.{bank_says};
 ghost use Rattle.hmc_journal.specs.Answers.{spread_entry, tag_of, ran_entry};
 ghost use Rattle.hmc_journal.specs.Setup.{cubes_in};
+ghost use Rattle.hmc_entries.specs.IdleStep.{idle_step};
 ghost use Rattle.hmc_net.specs.Apply.{DoesStep};
 ghost use Rattle.hmc_net.specs.NetState.{net_of, cube_in};
 ghost use Rattle.hmc_wiring.specs.Ready.{IsVaultIn, IsBankIn};
@@ -15,7 +16,7 @@ use crate::went::idle;
 use crate::{Network, Went};
 use hmc_codes::{Command, Unit};
 use hmc_cube::{Executed, Execution, ExecutionKind, Spread};
-use hmc_entries::{Cause, LastEntry};
+use hmc_entries::{Cause, IdleStep, LastEntry};
 use hmc_schedule::Step;
 use hmc_units::Workbench;
 
@@ -45,7 +46,11 @@ impl<B: Workbench> Network<B> {
         ensures went { result ≡ went_of self.new.last }
     {
         if self.cubes[usize::from(cube)].bank_is_empty(vault, bank) {
-            return idle(&mut self.last, &Step::Bank(cube, vault, bank), Cause::Empty);
+            return idle(
+                &mut self.last,
+                IdleStep::Bank(cube, vault, bank),
+                Cause::Empty,
+            );
         }
         if self.cubes[usize::from(cube)].bank_waits(vault, bank) {
             return self.bank_full(cube, vault, bank);
@@ -64,7 +69,11 @@ impl<B: Workbench> Network<B> {
         ensures went { result ≡ went_of self.new.last }
     {
         self.cubes[usize::from(cube)].invariant();
-        idle(&mut self.last, &Step::Bank(cube, vault, bank), Cause::Full)
+        idle(
+            &mut self.last,
+            IdleStep::Bank(cube, vault, bank),
+            Cause::Full,
+        )
     }
 
     // The same. Where the queue is empty, no request is to be moved.
@@ -80,8 +89,8 @@ impl<B: Workbench> Network<B> {
         let owner = &mut self.cubes[usize::from(cube)];
         owner.invariant();
         owner.execute_in(vault, bank, &mut self.bench, &mut self.execution);
-        let step = Step::Bank(cube, vault, bank);
-        note_ran(&mut self.last, unit, &step, &self.execution)
+        let step = IdleStep::Bank(cube, vault, bank);
+        note_ran(&mut self.last, unit, step, &self.execution)
     }
 
     // The registers execute the front of their queue.
@@ -94,7 +103,7 @@ impl<B: Workbench> Network<B> {
         ensures went { result ≡ went_of self.new.last }
     {
         if self.cubes[usize::from(cube)].register_queue_is_empty() {
-            return idle(&mut self.last, &Step::Registers(cube), Cause::Empty);
+            return idle(&mut self.last, IdleStep::Registers(cube), Cause::Empty);
         }
         self.registers_front(cube)
     }
@@ -111,8 +120,8 @@ impl<B: Workbench> Network<B> {
         let unit = Unit::Registers { cube };
         let owner = &mut self.cubes[usize::from(cube)];
         owner.registers_in(&mut self.bench, &mut self.execution);
-        let step = Step::Registers(cube);
-        note_ran(&mut self.last, unit, &step, &self.execution)
+        let step = IdleStep::Registers(cube);
+        note_ran(&mut self.last, unit, step, &self.execution)
     }
 }
 
@@ -122,8 +131,8 @@ fn note_spread(last: &mut LastEntry, cube: u8, vault: u8, spread: Spread) -> Wen
     ensures went { result ≡ went_of last.new }
 {
     match spread {
-        Spread::Empty => idle(last, &Step::Spread(cube, vault), Cause::Empty),
-        Spread::Full => idle(last, &Step::Spread(cube, vault), Cause::Full),
+        Spread::Empty => idle(last, IdleStep::Spread(cube, vault), Cause::Empty),
+        Spread::Full => idle(last, IdleStep::Spread(cube, vault), Cause::Full),
         Spread::Moved { bank } => {
             last.spread(cube, vault, bank);
             Went::Done
@@ -133,8 +142,8 @@ fn note_spread(last: &mut LastEntry, cube: u8, vault: u8, spread: Spread) -> Wen
 
 // The last entry becomes that of an execution.
 #[inline(always)]
-fn note_ran(last: &mut LastEntry, unit: Unit, step: &Step, execution: &Execution) -> Went
-    ensures entry { last.new ≡ ran_entry unit step.now execution.now }
+fn note_ran(last: &mut LastEntry, unit: Unit, step: IdleStep, execution: &Execution) -> Went
+    ensures entry { last.new ≡ ran_entry unit (idle_step step) execution.now }
     ensures went { result ≡ went_of last.new }
 {
     match execution.kind() {

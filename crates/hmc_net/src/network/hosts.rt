@@ -20,7 +20,7 @@ ghost use Rattle.hmc_net.specs.Went.{went_of};
 use crate::went::idle;
 use crate::{Network, Went};
 use hmc_codes::Answer;
-use hmc_entries::{Cause, LastEntry};
+use hmc_entries::{Cause, IdleStep, LastEntry};
 use hmc_host::{Given, Hindrance, Host, Settled};
 use hmc_links::LinkList;
 use hmc_packet::Packet;
@@ -40,7 +40,7 @@ impl<B: Workbench> Network<B> {
         let direction = self.wiring.from_host(host);
         let room = self.links.room(direction);
         if let Some(hindrance) = self.hosts[usize::from(host)].hindrance(room) {
-            return idle(&mut self.last, &Step::Give(host), cause_of(hindrance));
+            return idle(&mut self.last, IdleStep::Give(host), cause_of(hindrance));
         }
         self.give_next(host, direction, room)
     }
@@ -73,7 +73,7 @@ impl<B: Workbench> Network<B> {
     {
         let direction = self.wiring.to_host(host);
         let Some(front) = self.links.front_ref(direction) else {
-            return idle(&mut self.last, &Step::Take(host), Cause::Empty);
+            return idle(&mut self.last, IdleStep::Take(host), Cause::Empty);
         };
         let taker = &mut self.hosts[usize::from(host)];
         let went = settle_front(taker, &mut self.last, host, front);
@@ -136,10 +136,10 @@ fn note_given(last: &mut LastEntry, host: u8, given: &Given) -> Went
     ensures went { result ≡ went_of last.new }
 {
     match given {
-        Given::Ended => idle(last, &Step::Give(host), Cause::Ended),
-        Given::Fence => idle(last, &Step::Give(host), Cause::Fence),
-        Given::Tags => idle(last, &Step::Give(host), Cause::Tags),
-        Given::Full => idle(last, &Step::Give(host), Cause::Full),
+        Given::Ended => idle(last, IdleStep::Give(host), Cause::Ended),
+        Given::Fence => idle(last, IdleStep::Give(host), Cause::Fence),
+        Given::Tags => idle(last, IdleStep::Give(host), Cause::Tags),
+        Given::Full => idle(last, IdleStep::Give(host), Cause::Full),
         Given::Gave {
             request,
             tag,

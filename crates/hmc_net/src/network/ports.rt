@@ -17,7 +17,7 @@ use crate::went::idle;
 use crate::{Network, Went};
 use hmc_codes::Lift;
 use hmc_crossbar::To;
-use hmc_entries::{Cause, Goal};
+use hmc_entries::{Cause, Goal, IdleStep};
 use hmc_schedule::Step;
 use hmc_units::Workbench;
 
@@ -33,7 +33,7 @@ impl<B: Workbench> Network<B> {
     {
         let direction = self.wiring.to_port(cube, port);
         let Some(_) = self.links.front_ref(direction) else {
-            return idle(&mut self.last, &Step::Shift(cube, port), Cause::Empty);
+            return idle(&mut self.last, IdleStep::Shift(cube, port), Cause::Empty);
         };
         self.shift_front(cube, port, direction)
     }
@@ -79,7 +79,7 @@ impl<B: Workbench> Network<B> {
         ensures went { result ≡ went_of self.new.last }
     {
         if !self.cubes[usize::from(cube)].room(to_of(goal)) {
-            return idle(&mut self.last, &Step::Shift(cube, port), Cause::Full);
+            return idle(&mut self.last, IdleStep::Shift(cube, port), Cause::Full);
         }
         self.move_in(cube, port, direction, goal)
     }
@@ -120,7 +120,7 @@ impl<B: Workbench> Network<B> {
         ensures went { result ≡ went_of self.new.last }
     {
         let Some(onward) = self.room_through(cube, out) else {
-            return idle(&mut self.last, &Step::Shift(cube, port), Cause::Full);
+            return idle(&mut self.last, IdleStep::Shift(cube, port), Cause::Full);
         };
         self.move_out(cube, port, direction, out, onward)
     }
@@ -170,11 +170,11 @@ impl<B: Workbench> Network<B> {
         ensures went { result ≡ went_of self.new.last }
     {
         let Some(front) = self.cubes[usize::from(cube)].lift_front_ref(from) else {
-            return idle(&mut self.last, &Step::Lift(cube, from), Cause::Empty);
+            return idle(&mut self.last, IdleStep::Lift(cube, from), Cause::Empty);
         };
         let port = self.wiring.port_towards(cube, front.slid);
         let Some(onward) = self.room_through(cube, port) else {
-            return idle(&mut self.last, &Step::Lift(cube, from), Cause::Full);
+            return idle(&mut self.last, IdleStep::Lift(cube, from), Cause::Full);
         };
         self.lift_out(cube, from, port, onward)
     }

@@ -12,7 +12,7 @@ ghost use Rattle.hmc_kept.specs.Throughs.{IsOnto};
 
 use crate::went::idle;
 use crate::{Network, Went};
-use hmc_entries::Cause;
+use hmc_entries::{Cause, IdleStep};
 use hmc_kept::{may_go, pipe_of};
 use hmc_packet::{Head, head_of, lng_of};
 use hmc_schedule::Step;
@@ -30,13 +30,21 @@ impl<B: Workbench> Network<B> {
     {
         let from = self.wiring.to_port(cube, port);
         let Some(head) = self.gathered_head(from) else {
-            return idle(&mut self.last, &Step::Through(cube, port), Cause::NoPacket);
+            return idle(
+                &mut self.last,
+                IdleStep::Through(cube, port),
+                Cause::NoPacket,
+            );
         };
         let Some(onto) = self.way_on(cube, port, &head) else {
-            return idle(&mut self.last, &Step::Through(cube, port), Cause::NoPacket);
+            return idle(
+                &mut self.last,
+                IdleStep::Through(cube, port),
+                Cause::NoPacket,
+            );
         };
         if !self.may_forward(from, onto, head.flits) {
-            return idle(&mut self.last, &Step::Through(cube, port), Cause::Busy);
+            return idle(&mut self.last, IdleStep::Through(cube, port), Cause::Busy);
         }
         self.begin(cube, port, from, onto)
     }

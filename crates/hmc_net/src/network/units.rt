@@ -9,7 +9,7 @@ ghost use Rattle.hmc_net.specs.Went.{went_of};
 
 use crate::went::idle;
 use crate::{Network, Went};
-use hmc_entries::{Cause, LastEntry};
+use hmc_entries::{Cause, IdleStep, LastEntry};
 use hmc_schedule::Step;
 use hmc_units::Workbench;
 
@@ -36,6 +36,6 @@ fn note_retired(last: &mut LastEntry, slot: u8, live: bool) -> Went
         last.retired(slot);
         Went::Done
     } else {
-        idle(last, &Step::Retire(slot), Cause::Empty)
+        idle(last, IdleStep::Retire(slot), Cause::Empty)
     }
 }

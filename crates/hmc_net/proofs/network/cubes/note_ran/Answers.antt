@@ -6,6 +6,7 @@ use Rattle.hmc_codes.specs.declared.answer.Answer.{Answer}
 use Rattle.hmc_codes.specs.declared.unit.Unit.{Unit as RequestUnit}
 use Rattle.hmc_schedule.specs.declared.step.Step.{Step}
 use Rattle.hmc_entries.specs.declared.entry.Entry.TheVariants.{Executed}
+use Rattle.hmc_entries.specs.IdleStep.{idle_step}
 use Rattle.hmc_vault.specs.declared.execute.Executed.{Executed as Execution}
 use Rattle.hmc_vault.specs.declared.execute.Executed.TheVariants as executions
 use Rattle.hmc_vault.specs.declared.execution.ExecutionKind.TheVariants as kinds
@@ -32,6 +33,6 @@ by_parts unit step (executions.Ran h t r a) host tag shown request answer is req
 pub returns-in-Ran-clause-entry : goal.returns-in-Ran-clause-entry
 returns-in-Ran-clause-entry c =
     c.executed.ensures
-    ∙ by_parts c.args.unit c.args.step.now c.args.execution.now c.in-Ran.host c.in-Ran.tag c.tag_of-tag.result c.request-request.result.now c.answer.result.now
+    ∙ by_parts c.args.unit (idle_step c.args.step) c.args.execution.now c.in-Ran.host c.in-Ran.tag c.tag_of-tag.result c.request-request.result.now c.answer.result.now
     (sym c.in-Ran.is ∙ c.kind.ensures) c.request-request.ensures c.answer.ensures
     (c.tag_of-tag.ensures ∙ ap (λ (r : RequestFields). tag_of (is_posted r.command) c.in-Ran.tag) c.request.view_is)
