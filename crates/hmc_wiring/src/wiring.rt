@@ -42,9 +42,7 @@ impl Model for Wiring {
 
     ghost view = { λ w. record { cubes = w.cubes.items; links = w.links.items } };
 
-    ghost invariant = { λ w.
-        IsWiring (record { cubes = w.cubes.items; links = w.links.items })
-        w.hosts w.ports w.routes };
+    ghost invariant = { λ w. IsWiring (view w) w.hosts w.ports w.routes };
 }
 
 impl Wiring {
