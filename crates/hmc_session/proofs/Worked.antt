@@ -1,5 +1,5 @@
 -- Texts that are asked, laid steps, runs and chosen kinds, computed.
-use Rattle.std.proofs.Common.{◌≡◌, ◌∙◌, ◌<◌, ◌+◌, ℕ, List, [], ◌∷◌, ◌++◌, length, length-append, Option, Some, None, Ok, Err, true, false, inl, inr, refl, sym, ap, subst, arith}
+use Rattle.std.proofs.Common.{◌≡◌, ◌∙◌, ◌<◌, ◌+◌, ℕ, List, [], ◌∷◌, ◌++◌, length, length-append, Option, Some, None, Ok, Err, true, false, inl, inr, refl, sym, ap, subst, arith, lit≤}
 use Rattle.std.specs.Prelude.{codes, map, slice_index_or}
 use Rattle.std.proofs.lemmas.List.{append-nil}
 use Rattle.hmc_codes.specs.Codes.{all_commands}
@@ -16,6 +16,9 @@ use Rattle.hmc_script.specs.Commands.{requests, command_of}
 use Rattle.hmc_script.specs.Meaning.{command_word, request_of, ask_of, fence_of, statement_of, meaning_of}
 use Rattle.hmc_script.specs.Payload.{payload_of, no_payload, some_payload, payload_word}
 use Rattle.hmc_script.specs.Script.{after_meaning, after_line, script_of}
+use Rattle.hmc_codes.specs.Limits.{most_taken}
+use Rattle.hmc_host.specs.Host.{HostFields}
+use Rattle.hmc_script.specs.Items.{ItemFields}
 use Rattle.hmc_schedule.specs.Plan.{PlanFields}
 use Rattle.hmc_schedule.specs.declared.step.Step.{Step}
 use Rattle.hmc_schedule.specs.declared.step.Step.TheVariants as steps
@@ -26,15 +29,17 @@ use Rattle.hmc_entries.specs.declared.outcome.Cause.TheVariants.{Empty}
 use Rattle.hmc_journal.specs.Setup.{Setup}
 use Rattle.hmc_session.specs.Asking.{item_in, told_of}
 use Rattle.hmc_session.specs.Numbers.{step_named}
-use Rattle.hmc_session.specs.Refusals.{has_step, step_refusal}
+use Rattle.hmc_session.specs.Count.{IsCount}
+use Rattle.hmc_session.specs.Refusals.{has_step, refusal_in, step_refusal}
 use Rattle.hmc_session.specs.Running.{TakenOrWaiting, StopsOnce, EndsTaken, RunsOn, RunsBy, stopped_at}
-use Rattle.hmc_session.specs.Session.{SessionFields, IsWaiting}
-use Rattle.hmc_session.specs.Stops.{event_stop, is_stop}
+use Rattle.hmc_session.specs.Session.{SessionFields, IsWaiting, waits_in}
+use Rattle.hmc_session.specs.Stops.{event_stop, is_stop, no_stops, IsQuiet}
 use Rattle.hmc_session.specs.declared.refusal.LineNotAsked.TheVariants.{Fault, NotOne, Refused}
 use Rattle.hmc_session.specs.declared.refusal.NotAsked.TheVariants as causes
 use Rattle.hmc_session.specs.declared.refusal.NotTaken.TheVariants as refusals
 use Rattle.hmc_session.specs.declared.run.Ran.TheVariants.{Ended, Over, Stopped}
 use Rattle.hmc_session.specs.declared.stops.Stops.{Stops}
+use Rattle.hmc_session.proofs.Known.{never}
 
 -- ---- texts: two hosts and one cube
 
@@ -86,6 +91,36 @@ has_step-last = refl
 
 has_step-past : map (has_step plan) (steps.Give 2 ∷ steps.Bank 0 0 1 ∷ steps.Retire 8 ∷ steps.Lift 1 lifts.Registers ∷ steps.Shift 0 0 ∷ []) ≡ false ∷ false ∷ false ∷ false ∷ false ∷ []
 has_step-past = refl
+
+-- a give waits where its host has given all of its requests and isn't finished, and only then
+abbrev hosts : List HostFields
+hosts = record { number = 0; left = []; given = 1; tags = [] } ∷ record { number = 1; left = item ∷ []; given = 0; tags = [] } ∷ [] where
+  item : ItemFields
+  item = record { host = 1; fenced = false; poisoned = false; request = record { command = commands.Rd16; cube = 0; address = 64; payload = [] } }
+
+waits_in-open : map (waits_in (false ∷ false ∷ []) hosts) (steps.Give 0 ∷ steps.Give 1 ∷ steps.Give 2 ∷ steps.Take 0 ∷ []) ≡ true ∷ false ∷ false ∷ false ∷ []
+waits_in-open = refl
+
+waits_in-finished : waits_in (true ∷ false ∷ []) hosts (steps.Give 0) ≡ false
+waits_in-finished = refl
+
+-- a part that isn't there is told before a host that waits
+refusal_in-each : map (refusal_in plan (false ∷ false ∷ []) hosts) (steps.Give 0 ∷ steps.Give 1 ∷ steps.Give 2 ∷ steps.Send 4 ∷ steps.Send 3 ∷ []) ≡
+    Some refusals.Waits ∷ None ∷ Some refusals.Unknown ∷ Some refusals.Unknown ∷ None ∷ []
+refusal_in-each = refl
+
+-- ---- counts
+
+-- three steps were taken, and the last one passed: none may follow
+IsCount-passed : IsCount 4 1 true
+IsCount-passed = record { few = lit≤ tt; some = lit≤ tt; within = lit≤ tt; all = λ no. absurd cc; none = λ same. refl }
+
+-- none that passed leaves none, and none that didn't leaves fewer than all
+IsCount-open : IsCount 4 2 true → ⊥
+IsCount-open is = let none : 2 ≡ 1 = is.none refl in absurd (omega (arith, none))
+
+IsCount-short : IsCount 4 1 false → ⊥
+IsCount-short is = let all : 4 ≡ most_taken + 1 = is.all refl in absurd cc
 
 -- ---- runs
 
@@ -187,6 +222,13 @@ is_stop-each = refl
 
 stopped_at-each : map (stopped_at unlocks) (Unlocked 0 ∷ Discarded 0 ∷ []) ≡ Some Stopped ∷ None ∷ []
 stopped_at-each = refl
+
+-- a kind that is chosen isn't quiet
+IsQuiet-no_stops : IsQuiet true no_stops
+IsQuiet-no_stops = λ is. never
+
+IsQuiet-unlocks : IsQuiet true unlocks → ⊥
+IsQuiet-unlocks is = let no : true ≡ false = is refl (Unlocked 0) in absurd cc
 
 -- what is counted as nothing may be of a chosen kind or not
 event_stop-each : map (event_stop unlocks) (events.Unlocked 0 ∷ events.Gave 0 ∷ events.Other ∷ []) ≡ Some true ∷ Some false ∷ None ∷ []

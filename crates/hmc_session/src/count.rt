@@ -10,12 +10,17 @@ use hmc_codes::MOST_TAKEN;
 use hmc_net::Went;
 use std::marker::Model;
 
-/// How many steps were taken, and whether a landing passed. What is kept is how many may follow, so
-/// that one test says whether any may.
+// One more than the steps that a session may take.
+const TOP: u64 = MOST_TAKEN as u64 + 1;
+
+/// How many steps were taken, and whether a landing passed. What is kept is one more than may
+/// follow, so that a step is counted and the last one told by one subtraction.
 #[derive(Drop)]
 pub struct StepCount {
-    most: u32,
-    free: u32,
+    // One more than all that may be taken.
+    top: u64,
+    // One more than those that may follow.
+    left: u64,
     passed: bool,
 }
 
@@ -26,11 +31,11 @@ impl Model for StepCount {
     ghost Value = { CountFields };
 
     ghost view = { λ c. record {
-      taken = c.most - c.free;
+      taken = c.top - c.left;
       passed = c.passed;
     } };
 
-    ghost invariant = { λ c. IsCount c.most c.free c.passed };
+    ghost invariant = { λ c. IsCount c.top c.left c.passed };
 }
 
 // Whether a step is a landing that passed.
@@ -41,14 +46,23 @@ fn has_passed(went: Went) -> bool
     matches!(went, Went::Passed)
 }
 
+// Takes back a step that was counted where none may follow. It is a call, so that a step that may
+// be taken is counted in place.
+#[inline(never)]
+fn take_back_last(left: &mut u64)
+    ensures { left.new ≡ 1 }
+{
+    *left = 1;
+}
+
 impl StepCount {
     /// No step was taken.
     pub fn new() -> Self
         ensures { result ≡ record { taken = 0; passed = false } }
     {
         StepCount {
-            most: MOST_TAKEN,
-            free: MOST_TAKEN,
+            top: TOP,
+            left: TOP,
             passed: false,
         }
     }
@@ -57,7 +71,7 @@ impl StepCount {
     pub fn taken(&self) -> u32
         ensures { result ≡ self.now.taken }
     {
-        self.most - self.free
+        (self.top - self.left) as u32
     }
 
     /// Whether a landing passed.
@@ -72,7 +86,7 @@ impl StepCount {
     pub fn is_over(&self) -> bool
         ensures { result ≡ (self.now.passed || nat_le most_taken self.now.taken) }
     {
-        self.free == 0
+        self.left == 1
     }
 
     /// Counts a step more, where one may follow.
@@ -82,18 +96,37 @@ impl StepCount {
         ensures taken { self.new.taken ≡ self.old.taken + 1 }
         ensures passed { self.new.passed ≡ self.old.passed }
     {
-        self.free -= 1;
+        self.left -= 1;
     }
 
-    /// Takes the latest step off the count, where one was counted and no landing passed.
+    /// Counts a step more, unless none may follow, and returns whether none may. Then nothing
+    /// changes.
     #[inline(always)]
+    pub fn add_unless_over(&mut self) -> bool
+        ensures over { result ≡ (self.old.passed || nat_le most_taken self.old.taken) }
+        ensures taken { result ≡ false → self.new.taken ≡ self.old.taken + 1 }
+        ensures passed { self.new.passed ≡ self.old.passed }
+        ensures same { result ≡ true → self.new ≡ self.old }
+    {
+        let left = self.left - 1;
+        self.left = left;
+        if left == 0 {
+            take_back_last(&mut self.left);
+            return true;
+        }
+        false
+    }
+
+    /// Takes the latest step off the count, where one was counted and no landing passed. It is out
+    /// of the way of steps that are taken.
+    #[inline(never)]
     pub fn take_back(&mut self)
         requires some { 0 < self.old.taken }
         requires on { self.old.passed ≡ false }
         ensures taken { self.new.taken ≡ self.old.taken - 1 }
         ensures passed { self.new.passed ≡ false }
     {
-        self.free += 1;
+        self.left += 1;
     }
 
     /// Notes how the step went that was counted last.
@@ -115,8 +148,8 @@ impl StepCount {
         ensures taken { self.new.taken ≡ self.old.taken }
         ensures passed { self.new.passed ≡ true }
     {
-        self.most -= self.free;
-        self.free = 0;
+        self.top -= self.left - 1;
+        self.left = 1;
         self.passed = true;
     }
 }

@@ -59,7 +59,9 @@ impl<B: Workbench> Session<B> {
         ensures finished { self.new.finished ≡ self.old.finished }
         ensures plan { self.new.plan ≡ self.old.plan }
     {
-        'steps: for at in 0..most {
+        let mut left = most;
+        'steps: while left > 0 {
+            left -= 1;
             if let Some(ran) = self.try_next::<QUIET>(laid, stops) {
                 return ran;
             }

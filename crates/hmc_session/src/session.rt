@@ -198,11 +198,10 @@ impl<B: Workbench> Session<B> {
         ensures finished { self.new.finished ≡ self.old.finished }
         ensures plan { self.new.plan ≡ self.old.plan }
     {
-        if self.count.is_over() {
+        // It is counted before it is looked at, so that what it is is told apart once.
+        if self.count.add_unless_over() {
             return Err(over_refusal(&self.plan, step));
         }
-        // It is counted before it is looked at, so that what it is is told apart once.
-        self.count.add();
         if let Some(refusal) = due_refusal(&self.plan, &self.network, &self.finished, step) {
             self.count.take_back();
             return Err(refusal);

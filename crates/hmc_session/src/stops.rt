@@ -71,7 +71,8 @@ pub fn no_stops() -> Stops
 
 /// Whether no kind is chosen: then no entry is of one of the kinds.
 pub fn is_quiet(stops: &Stops) -> bool
-    ensures { IsQuiet result stops.now }
+    ensures quiet { IsQuiet result stops.now }
+    ensures some { result ≡ false → stops.now ≡ no_stops → ⊥ }
 {
     *stops == NO_STOPS
 }

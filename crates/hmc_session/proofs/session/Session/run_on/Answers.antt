@@ -1,7 +1,7 @@
 -- One try follows the others, and the run goes on or ends with it.
-use Rattle.std.proofs.Common.{◌∙◌, ◌++◌, Option, false, refl, subst, arith}
-use Rattle.std.proofs.lemmas.Bool.Decides.{nat_tests}
-use Rattle.hmc_session.specs.Running.{with_steps, TriesBy}
+use Rattle.std.proofs.Common.{◌∙◌, ◌-◌, ◌++◌, ℕ, Option, false, refl, subst, sym, arith}
+use Rattle.std.proofs.Math.Nat.{sub_self}
+use Rattle.hmc_session.specs.Running.{with_steps, RunsOn, TriesBy}
 use Rattle.hmc_session.specs.Session.{SessionFields, StandsIn, session_of}
 use Rattle.hmc_session.specs.declared.run.Ran.{Ran}
 use Rattle.hmc_session.proofs.Runs.{runs_none, run_further, run_ends}
@@ -9,9 +9,13 @@ use Rattle.hmc_session.proofs.session.Session.run_on.Goals as goal
 
 pub steps-init : goal.steps-init
 steps-init g c = record {
-  runs = λ setup past stands. runs_none (StandsIn (session_of g.B.Workbench.slots c.args.self.now)) c.args.self.now.finished setup past c.args.laid.now c.args.laid.now c.args.stops.now stands refl;
+  runs = λ setup past stands.
+      let now = session_of g.B.Workbench.slots c.args.self.now in
+      subst (λ (n : ℕ). RunsOn (StandsIn now) c.args.self.now.finished setup past c.args.laid.now c.args.laid.now c.args.stops.now n false) (sym (sub_self c.args.most))
+      (runs_none (StandsIn now) c.args.self.now.finished setup past c.args.laid.now c.args.laid.now c.args.stops.now stands refl);
   finished = refl;
   plan = refl;
+  few = omega arith;
 }
 
 pub returns-in-Some-clause-stands : goal.returns-in-Some-clause-stands
@@ -20,7 +24,7 @@ returns-in-Some-clause-stands g c = λ setup past stands.
     let now : SessionFields = session_of g.B.Workbench.slots c.try_next.new.self in
     let a = c.steps.invariant.runs setup past stands in
     let b = subst (λ (r : Option Ran). TriesBy (StandsIn now) r now (with_steps setup a.taken) (a.entries ++ past) c.steps.laid c.try_next.new.laid c.args.stops.now) c.in-Some.is (c.try_next.ensures.tries (with_steps setup a.taken) (a.entries ++ past) a.stands) in
-    run_ends (StandsIn mid) (StandsIn now) c.in-Some.ran mid now setup past c.args.laid.now c.steps.laid c.try_next.new.laid c.args.stops.now c.steps.at c.args.most c.try_next.ensures.finished a (grind (arith, nat_tests, c.steps-test.true)) b
+    run_ends (StandsIn mid) (StandsIn now) c.in-Some.ran mid now setup past c.args.laid.now c.steps.laid c.try_next.new.laid c.args.stops.now (c.args.most - c.steps.left) c.args.most c.try_next.ensures.finished a (omega (arith, c.steps-test.true, c.steps.invariant.few)) b
 
 pub steps-preserved : goal.steps-preserved
 steps-preserved g c = record {
@@ -29,7 +33,9 @@ steps-preserved g c = record {
       let now : SessionFields = session_of g.B.Workbench.slots c.try_next.new.self in
       let a = c.steps.invariant.runs setup past stands in
       let b = subst (λ (r : Option Ran). TriesBy (StandsIn now) r now (with_steps setup a.taken) (a.entries ++ past) c.steps.laid c.try_next.new.laid c.args.stops.now) c.in_default.is (c.try_next.ensures.tries (with_steps setup a.taken) (a.entries ++ past) a.stands) in
-      run_further (StandsIn mid) (StandsIn now) mid now setup past c.args.laid.now c.steps.laid c.try_next.new.laid c.args.stops.now c.steps.at 1 false c.try_next.ensures.finished a b;
+      subst (λ (n : ℕ). RunsOn (StandsIn now) now.finished setup past c.args.laid.now c.try_next.new.laid c.args.stops.now n false) (omega (arith, c.steps-test.true, c.steps.invariant.few))
+      (run_further (StandsIn mid) (StandsIn now) mid now setup past c.args.laid.now c.steps.laid c.try_next.new.laid c.args.stops.now (c.args.most - c.steps.left) 1 false c.try_next.ensures.finished a b);
   finished = c.try_next.ensures.finished ∙ c.steps.invariant.finished;
   plan = c.try_next.ensures.plan ∙ c.steps.invariant.plan;
+  few = omega (arith, c.steps.invariant.few);
 }

@@ -21,7 +21,7 @@ step-went-requires g c =
     let i = c.self.inside in
     let slots = g.B.Workbench.slots in
     let s : SessionFields = session_of slots (record { network = i.network; plan = i.plan; finished = i.finished; taken = i.count.taken; passed = i.count.passed }) in
-    let free : step_refusal s c.args.step.now ≡ None = free_now s c.args.step.now c.is_over.result c.due_refusal.result c.is_over.ensures c.if-is_over.false c.due_refusal.ensures.value c.in_default.is in
+    let free : step_refusal s c.args.step.now ≡ None = free_now s c.args.step.now c.add_unless_over.result c.due_refusal.result c.add_unless_over.ensures.over c.if-add_unless_over.false c.due_refusal.ensures.value c.in_default.is in
     let may : MayTake s c.args.step.now = may_take s c.args.step.now (c.due_refusal.ensures.within c.in_default.is) c.has_flit.ensures free in
     some_next s c.args.step.now c.self.invariant may
 
@@ -30,14 +30,14 @@ invariant_of-self-2 g c =
     let i = c.self.inside in
     let slots = g.B.Workbench.slots in
     let s : SessionFields = session_of slots (record { network = i.network; plan = i.plan; finished = i.finished; taken = i.count.taken; passed = i.count.passed }) in
-    let free : step_refusal s c.args.step.now ≡ None = free_now s c.args.step.now c.is_over.result c.due_refusal.result c.is_over.ensures c.if-is_over.false c.due_refusal.ensures.value c.in_default.is in
+    let free : step_refusal s c.args.step.now ≡ None = free_now s c.args.step.now c.add_unless_over.result c.due_refusal.result c.add_unless_over.ensures.over c.if-add_unless_over.false c.due_refusal.ensures.value c.in_default.is in
     let may : MayTake s c.args.step.now = may_take s c.args.step.now (c.due_refusal.ensures.within c.in_default.is) c.has_flit.ensures free in
     let keeps = c.self.invariant in
     let setup = keeps.case in
     let past = keeps.journal in
     let due = next_is s setup past c.args.step.now keeps may keeps.stands in
     keeps_with s _ setup (with_step setup c.args.step.now) past _ keeps keeps.stands
-    (stands_next s _ setup past c.args.step.now keeps may keeps.stands (c.step-went.ensures.stands (with_step setup c.args.step.now) past due) (c.note.ensures.taken ∙ c.add.ensures.taken)
+    (stands_next s _ setup past c.args.step.now keeps may keeps.stands (c.step-went.ensures.stands (with_step setup c.args.step.now) past due) (c.note.ensures.taken ∙ c.add_unless_over.ensures.taken c.if-add_unless_over.false)
     (c.note.ensures.passed (next (with_step setup c.args.step.now) past c.args.step.now) (c.step-went.ensures.went (with_step setup c.args.step.now) past due)) refl (c.step-went.ensures.last (with_step setup c.args.step.now) past due)) refl refl refl
 
 pub returns-clause-stands : goal.returns-clause-stands
@@ -46,11 +46,11 @@ returns-clause-stands g c = λ setup past is.
     let slots = g.B.Workbench.slots in
     let s : SessionFields = session_of slots (record { network = i.network; plan = i.plan; finished = i.finished; taken = i.count.taken; passed = i.count.passed }) in
     let same : s ≡ session_of slots c.args.self.now = ap (session_of slots) c.self.view_is in
-    let free : step_refusal s c.args.step.now ≡ None = free_now s c.args.step.now c.is_over.result c.due_refusal.result c.is_over.ensures c.if-is_over.false c.due_refusal.ensures.value c.in_default.is in
+    let free : step_refusal s c.args.step.now ≡ None = free_now s c.args.step.now c.add_unless_over.result c.due_refusal.result c.add_unless_over.ensures.over c.if-add_unless_over.false c.due_refusal.ensures.value c.in_default.is in
     let may : MayTake s c.args.step.now = may_take s c.args.step.now (c.due_refusal.ensures.within c.in_default.is) c.has_flit.ensures free in
     let before : StandsIn s setup past = subst (λ (x : SessionFields). StandsIn x setup past) (sym same) is in
     let due = next_is s setup past c.args.step.now c.self.invariant may before in
-    stands_next s _ setup past c.args.step.now c.self.invariant may before (c.step-went.ensures.stands (with_step setup c.args.step.now) past due) (c.note.ensures.taken ∙ c.add.ensures.taken)
+    stands_next s _ setup past c.args.step.now c.self.invariant may before (c.step-went.ensures.stands (with_step setup c.args.step.now) past due) (c.note.ensures.taken ∙ c.add_unless_over.ensures.taken c.if-add_unless_over.false)
     (c.note.ensures.passed (next (with_step setup c.args.step.now) past c.args.step.now) (c.step-went.ensures.went (with_step setup c.args.step.now) past due)) refl (c.step-went.ensures.last (with_step setup c.args.step.now) past due)
 
 pub returns-clause-went : goal.returns-clause-went
@@ -59,7 +59,7 @@ returns-clause-went g c = λ setup past is.
     let slots = g.B.Workbench.slots in
     let s : SessionFields = session_of slots (record { network = i.network; plan = i.plan; finished = i.finished; taken = i.count.taken; passed = i.count.passed }) in
     let same : s ≡ session_of slots c.args.self.now = ap (session_of slots) c.self.view_is in
-    let free : step_refusal s c.args.step.now ≡ None = free_now s c.args.step.now c.is_over.result c.due_refusal.result c.is_over.ensures c.if-is_over.false c.due_refusal.ensures.value c.in_default.is in
+    let free : step_refusal s c.args.step.now ≡ None = free_now s c.args.step.now c.add_unless_over.result c.due_refusal.result c.add_unless_over.ensures.over c.if-add_unless_over.false c.due_refusal.ensures.value c.in_default.is in
     let may : MayTake s c.args.step.now = may_take s c.args.step.now (c.due_refusal.ensures.within c.in_default.is) c.has_flit.ensures free in
     let before : StandsIn s setup past = subst (λ (x : SessionFields). StandsIn x setup past) (sym same) is in
     c.step-went.ensures.went (with_step setup c.args.step.now) past (next_is s setup past c.args.step.now c.self.invariant may before) ∙ ap went_of (same_entry setup past c.args.step.now c.args.step.now)
@@ -69,7 +69,7 @@ returns-clause-last g c =
     let i = c.self.inside in
     let slots = g.B.Workbench.slots in
     let s : SessionFields = session_of slots (record { network = i.network; plan = i.plan; finished = i.finished; taken = i.count.taken; passed = i.count.passed }) in
-    let free : step_refusal s c.args.step.now ≡ None = free_now s c.args.step.now c.is_over.result c.due_refusal.result c.is_over.ensures c.if-is_over.false c.due_refusal.ensures.value c.in_default.is in
+    let free : step_refusal s c.args.step.now ≡ None = free_now s c.args.step.now c.add_unless_over.result c.due_refusal.result c.add_unless_over.ensures.over c.if-add_unless_over.false c.due_refusal.ensures.value c.in_default.is in
     let may : MayTake s c.args.step.now = may_take s c.args.step.now (c.due_refusal.ensures.within c.in_default.is) c.has_flit.ensures free in
     let due = some_next s c.args.step.now c.self.invariant may in
     c.step-went.ensures.went due.0 due.1 due.2 ∙ ap went_of (sym (c.step-went.ensures.last due.0 due.1 due.2))
