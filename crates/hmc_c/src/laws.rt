@@ -10,8 +10,8 @@ ghost use Rattle.hmc_c.specs.Status.{none};
 ghost use Rattle.hmc_c.specs.declared.held.Held.{Held};
 
 /// Steps that are laid down name parts of the network: those of the case that a handle is opened on
-/// do, and those that `hmc_lay` lays down, and what `hmc_next` and `hmc_run` leave of them. So these
-/// two return 8 only where none is left.
+/// do, and those that `hmc_lay` lays down, and what `hmc_next` and `hmc_run` leave of them. So
+/// these two return 8 only where none is left.
 pub fn a_laid_step_is_known()
     ensures next { (old new : Option Held) (setup : Setup) (past : List Entry) → KnowsLaid old →
         IsNexted none old new setup past → laid_in old ≡ [] }
