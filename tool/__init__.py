@@ -17,8 +17,8 @@ cli finds the command that is called; verbs has a file for each command, and the
 - traces, trace_formats, trace_case, trace_values: loads and stores, those of other tools, a case
   around them, and what the loads give
 - gate: what .ci/run needs
-- definitions, promises, counts, quotes: which definitions a promise rests on, and what documents
-  count and quote
+- definitions, promises, counts, durations, quotes: which definitions a promise rests on, and what
+  documents count and quote
 
 What cases may have is in few places: the ranges at the top of case, STEPS of schedule, and LINES of
 report. The gate compares this reader with the program and with the tables of faulty inputs, so a

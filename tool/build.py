@@ -107,7 +107,7 @@ def build() -> None:
     rt, _ = kit.require()
     sources = digest()
     make_out(RECORD)
-    note("proving and building the program; the first time can take over half an hour")
+    note("proving and building the program; CONTRIBUTING.md says how long the first time takes")
     result = prove([rt, "run", "--", "run"])
     if result != OF_NOTHING:
         show_log()

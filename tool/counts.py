@@ -11,6 +11,7 @@ from pathlib import Path
 
 from tool import numbers, quotes
 from tool.build import crates_below, libraries
+from tool.durations import duration_table
 from tool.kit import TOP
 from tool.promises import promise_table, reading_table, word_table
 from tool.touched import named_table, section_table
@@ -63,7 +64,7 @@ def counts() -> dict[str, int]:
     mutants = "mutants in the folders `must-fail/`: wrong edits of the code"
     firsts = "cases, inputs of `check`, scripts, schedules and traces with their first fault"
     return {
-        f"crates, {len(tests)} of which only test": len(crates),
+        f"crates, {len(tests)} of which only test, or show what statements refuse": len(crates),
         "functions": found(r"\bfn [a-z_]", code()),
         "`ensures` clauses, each proved": found(r"^\s*ensures\b", code()),
         f"{values} (`proofs/Worked*.antt`, `proofs/Needed.antt`)": found(
@@ -111,6 +112,7 @@ def measured_table(name: str) -> Callable[[], list[str]]:
 
 # The tables of each page.
 PAGES = {
+    "CONTRIBUTING.md": (duration_table,),
     "docs/ARCHITECTURE.md": (layer_table, named_table, section_table),
     "docs/PROOFS.md": (number_table,),
     "docs/speed.md": (measured_table("plain"), measured_table("events")),

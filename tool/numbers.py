@@ -139,7 +139,7 @@ def instructions_a_step() -> str:
     """Of the first workload of `bench/plain`, which has 18,000 rounds between its two sizes."""
     counted = next(it for it in text_of("bench/measured/plain.txt").splitlines() if "a write" in it)
     steps = int(steps_of(f"{FIRST}.toml", 18000)().replace(",", ""))
-    return shown(int(counted.split("|")[2].replace(",", "")) // steps)
+    return shown(round(int(counted.split("|")[2].replace(",", "")) / steps))
 
 
 def stage(name: str) -> Value:
@@ -345,7 +345,7 @@ NUMBERS: dict[str, tuple[Number, ...]] = {
         Number("is a schedule of {} steps", steps_of(f"{FIRST}.toml", 83333)),
     ),
     "docs/speed.md": (
-        Number("The first workload is {} steps", steps_of(f"{FIRST}.toml", 18000)),
+        Number("the first workload has {} steps", steps_of(f"{FIRST}.toml", 18000)),
         Number("steps: {} instructions a step", instructions_a_step),
         Number("`step` takes {} times the instructions of", measured("session", "step")),
         Number("`next` takes {} times as many, and", measured("session", "next")),

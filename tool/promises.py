@@ -2,9 +2,12 @@
 
 from __future__ import annotations
 
+import re
+
 from tool.definitions import Name, count_of, length_of, lines_of, rests_on, text_of
 
 JOURNAL, REPLAY = "crates/hmc_journal/specs", "crates/hmc_replay/specs"
+CODE, LAWS = "crates/hmc_replay/src", "crates/hmc_laws/src/laws.rt"
 DELIVERED = f"{JOURNAL}/Delivered.antt"
 CASE = "crates/hmc_case/specs"
 # Definitions of a file, or fields of its records.
@@ -17,6 +20,11 @@ ANSWERS: Roots = {
 }
 TAGS = tuple(f"DeliveredInOrder.{it}" for it in ("answered", "replied", "out"))
 ORDER = ("requests", "requests_kept", "lifted", "taken", "answers", "answers_kept")
+# Those of the words of the page.
+FIELDS = (
+    *("requests", "requests_kept", "lifted", "answers", "answers_kept", "answered", "replied"),
+    "out",
+)
 LINKS = ("wires", "accepted", "begun", "marks", "in_order")
 
 HEADLINE: Roots = {**ANSWERS, DELIVERED: ("IsScripted", *TAGS)}
@@ -87,50 +95,128 @@ def _link(path: str) -> str:
     return f"[{crate}: {name.removesuffix('.antt')}](../{path})"
 
 
-# The words of docs/TRUST.md, by the files that define them.
+# The words of docs/TRUST.md, by the files that define them. `DeliveredInOrder.out` is a field.
 WORDS = {
-    f"{JOURNAL}/Lawful.antt": ("Lawful", "IsWhole", "journal_of"),
-    f"{JOURNAL}/Next.antt": ("next",),
-    f"{JOURNAL}/Guarantees.antt": ("Guarantees",),
+    f"{JOURNAL}/Lawful.antt": ("Lawful", "Follows", "has_passed", "IsWhole", "journal_of"),
+    LAWS: ("one_journal", "lawful_goes_on"),
+    f"{JOURNAL}/Next.antt": ("next", "choice"),
+    "crates/hmc_schedule/src/step.rt": ("Step",),
+    f"{JOURNAL}/Setup.antt": ("Setup", "setup_of", "unit_in"),
+    f"{JOURNAL}/Network.antt": ("IsNetwork",),
+    f"{JOURNAL}/Guarantees.antt": (
+        "Guarantees",
+        *(f"Guarantees.{it}" for it in ("scripted", "serial", "delivered", "served")),
+    ),
     f"{JOURNAL}/Serial.antt": ("IsSerial",),
     f"{JOURNAL}/StepView.antt": ("state_of",),
-    f"{JOURNAL}/Setup.antt": ("unit_in",),
-    f"{JOURNAL}/LinkSteps.antt": ("land_entry",),
-    f"{JOURNAL}/Drained.antt": ("is_drained", "IsDrained"),
+    f"{JOURNAL}/LinkSteps.antt": ("landed_entry", "landed_flit", "land_entry"),
+    f"{JOURNAL}/CubeSteps.antt": ("shifted_entry",),
+    "crates/hmc_crossbar/specs/To.antt": ("where_to",),
+    f"{JOURNAL}/Queues.antt": ("QueueId", "contents"),
+    f"{JOURNAL}/Counts.antt": ("token_counts",),
+    "crates/hmc_codes/src/counts.rt": ("TokenRow.transit",),
+    "crates/hmc_send/specs/LinkSenders.antt": ("tokens",),
+    "crates/hmc_send/specs/LinkTokens.antt": ("token_row",),
+    "crates/hmc_send/specs/Places.antt": ("is_token", "takes_tokens"),
+    f"{JOURNAL}/Drained.antt": ("IsDrained", "directions_of", "queues_of", "is_drained"),
     "crates/hmc_promises/src/laws.rt": ("drained_is_tested",),
     f"{JOURNAL}/UnderWay.antt": ("under_way",),
     f"{JOURNAL}/Settled.antt": ("AreSettled",),
-    "crates/hmc_host/specs/Give.antt": ("give_says",),
-    f"{JOURNAL}/Report.antt": ("report_lines",),
+    "crates/hmc_script/specs/Script.antt": ("after_meaning",),
+    "crates/hmc_script/src/item.rt": ("Item.fenced",),
+    "crates/hmc_host/specs/Give.antt": ("wants_tag", "item_says"),
+    "crates/hmc_host/specs/Tags.antt": ("is_some_out",),
+    f"{JOURNAL}/Filters.antt": (
+        *("given_to", "executed_by", "asked_under", "replies_under", "answers_under"),
+        "answered_into",
+    ),
+    f"{JOURNAL}/Carried.antt": (
+        *("tagged_answers_gone", "answers_lifted", "answers_taken", "requests_waiting"),
+    ),
+    f"{JOURNAL}/Report.antt": ("report_lines", "report_text"),
     f"{JOURNAL}/Final.antt": ("values_of", "final_lines_of"),
+    "crates/hmc_report/specs/Final.antt": ("final_lines",),
+    "crates/hmc_report/specs/Lines.antt": (
+        *("memory_lines", "register_lines", "token_line", "host_line", "state_line"),
+    ),
     "crates/hmc_entries/specs/Lines.antt": ("line_of",),
-    DELIVERED: ("IsScripted", "LinksInOrder", "DeliveredInOrder", "AllServed"),
+    DELIVERED: (
+        *("IsScripted", "LinksInOrder", "LinksInOrder.accepted", "LinksInOrder.tokens"),
+        "DeliveredInOrder",
+        *(f"DeliveredInOrder.{it}" for it in FIELDS),
+        "AllServed",
+    ),
+    "crates/hmc_hops/specs/Delivered.antt": ("IsPrefix",),
     "crates/hmc_wire/specs/LinkLaws.antt": ("TokenLaws",),
-    "crates/hmc_send/specs/LinkLines.antt": ("passes",),
+    "crates/hmc_send/specs/LinkLines.antt": ("is_pending_changed", "passes"),
+    "crates/hmc_packet/specs/Masks.antt": ("under_mask", "changes"),
+    "crates/hmc_packet/specs/Landings.antt": ("mode", "pending", "is_training"),
+    "crates/hmc_packet/specs/Reading.antt": ("is_null", "read_of"),
+    "crates/hmc_packet/specs/Irtry.antt": ("irtry_in",),
+    "crates/hmc_packet/specs/Receptions.antt": (
+        *("train_reception", "abort_reception", "good_reception", "mode_reception"),
+        "reception_of",
+    ),
+    "crates/hmc_packet/src/reception.rt": ("Reception.checked",),
     "crates/hmc_serial/specs/Machine.antt": ("State",),
     "crates/hmc_serial/specs/Cube.antt": ("CubeState", "opening"),
     "crates/hmc_serial/specs/Perform.antt": ("perform_on",),
-    "crates/hmc_report/specs/Lines.antt": ("memory_lines", "register_lines"),
-    "crates/hmc_bound/specs/Ends.antt": ("EndsDrained", "EndsWithRounds", "AreEnough"),
-    "crates/hmc_check/specs/Verdict.antt": ("IsLawfulReport", "IsLeastUnfit"),
+    "crates/hmc_serial/specs/Unit.antt": ("unit_of",),
+    "crates/hmc_rounds/specs/Single.antt": ("IsSingle",),
+    "crates/hmc_schedule/specs/Round.antt": ("rounds_of",),
+    "crates/hmc_bound/specs/Ends.antt": (
+        *("before_rounds", "EndsWithRounds", "AreEnough", "EndsDrained"),
+    ),
+    "crates/hmc_bound/specs/Appended.antt": ("bound_of", "BoundDrains"),
+    "crates/hmc_bound/specs/Bound.antt": ("drain_bound",),
+    "crates/hmc_check/specs/Fronts.antt": ("front_lines", "lines_in"),
+    "crates/hmc_check/specs/Verdict.antt": ("IsLawfulReport", "Fits", "IsLeastUnfit", "capped"),
+    "crates/hmc_outside/specs/Views.antt": ("SourceView", "SinkView"),
     f"{CASE}/Case.antt": ("case_of",),
     f"{REPLAY}/Report.antt": ("report_of", "end_lines", "report_status"),
-    f"{REPLAY}/RunAnswer.antt": ("IsRunAnswer",),
-    f"{REPLAY}/Reported.antt": ("IsReport",),
-    f"{REPLAY}/Top.antt": ("Replayed",),
+    f"{REPLAY}/Answer.antt": ("limit_of", "IsAnswer"),
+    f"{REPLAY}/RunAnswer.antt": ("IsRefused", "IsRunAnswer"),
+    f"{REPLAY}/BoundAnswer.antt": ("IsBounded",),
+    f"{REPLAY}/Reported.antt": (
+        *("IsReport", "IsReport.lines_are", "IsReport.guarantees", "IsReport.drained"),
+    ),
+    f"{REPLAY}/CheckInput.antt": ("check_input",),
+    f"{REPLAY}/CheckAnswer.antt": (
+        *("IsLawful", "IsUnlawful", "IsOfParts", "IsHeadless", "IsCheckAnswer"),
+    ),
+    f"{REPLAY}/TraceAnswer.antt": ("IsTraceAnswer",),
+    f"{REPLAY}/Top.antt": ("Writes", "Replayed"),
     f"{REPLAY}/Complete.antt": ("IsComplete",),
+    f"{CODE}/top.rt": ("replay",),
 }
+
+
+def line_of(path: str, word: str) -> int:
+    """The line with which a word begins: a definition, a field of a record, or what is of the code.
+    """
+    record, _, name = word.rpartition(".")
+    head = re.compile(rf" *pub (?:fn |enum |struct |){name}\b")
+    if path.endswith(".antt"):
+        lines = lines_of((path, word))
+        head = re.compile(re.escape(next(it for it in lines if not it.lstrip().startswith("--"))))
+    within = not record or path.endswith(".antt")
+    for at, line in enumerate(text_of(path).splitlines(), start=1):
+        within = within or line.startswith(f"pub struct {record} ")
+        if within and head.match(line):
+            return at
+    raise AssertionError(f"{path}: {word}")
 
 
 def word_table() -> list[str]:
     """The file and the line of each word, as the rows of a table."""
     rows = ["| Word | File and line |", "|---|---|"]
     for path, words in WORDS.items():
-        for word in words:
-            head = f"pub fn {word}()"  # a law
-            if path.endswith(".antt"):
-                head = next(it for it in lines_of((path, word)) if not it.startswith("--"))
-            line = text_of(path)[: text_of(path).index(f"\n{head}\n") + 1].count("\n") + 1
-            name = path.removeprefix("crates/")
-            rows.append(f"| `{word}` | [{name}:{line}](../{path}) |")
+        name = path.removeprefix("crates/")
+        rows += (f"| {in_row(it)} | [{name}:{line_of(path, it)}](../{path}) |" for it in words)
     return rows
+
+
+def in_row(word: str) -> str:
+    """A word as its row has it."""
+    record, _, name = word.rpartition(".")
+    return f"`{name}` of `{record}`" if record else f"`{name}`"

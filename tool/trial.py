@@ -55,7 +55,7 @@ def _build() -> None:
         raise Trouble(UNAVAILABLE, OTHER_KIT)
     sources = build.digest()
     build.make_out(RECORD)
-    note("building the program without proofs, in two minutes; `run` proves it first")
+    note("building the program without proofs; `run` proves it first")
     with tempfile.TemporaryDirectory(prefix="zehimbado-") as name:
         folder, kept = Path(name) / "kit", Path(name) / "program"
         _copy_kit(whole, folder, kept)

@@ -8,10 +8,12 @@ from dataclasses import fields
 from functools import cache
 from operator import add, floordiv, mul, sub
 
-from tool import case, convert, numbers, packets, samples, trace_formats, trouble
+from tool import case, convert, durations, numbers, packets, samples, trace_formats, trouble
 from tool.commands import BY_WORD, LONG
+from tool.definitions import count_of
 from tool.lines import Tokens
 from tool.numbers import named, round_of, text_of
+from tool.promises import HEADLINE, definitions_of
 
 Quantity = Callable[[], int]
 TENS = "twenty thirty forty fifty sixty seventy eighty ninety".split()
@@ -196,6 +198,7 @@ QUANTITIES: dict[str, Quantity] = {
     "last_line": lambda: (1 << behind(IN_TURN, r"min \(number \+ 1\) \(2 \^ ")()) - 1,
     "last_memory_error": lambda: max(memory_errors()),
     "last_status": greatest("crates/hmc_replay/src/top.rt", r"RunError::\w+\) => "),
+    "lines_of_headline": lambda: count_of(definitions_of(HEADLINE)),
     "laws_of_wire": times("crates/hmc_wire/src/laws.rt", "^pub fn "),
     "least_cubes": lambda: case.CUBES[0],
     "least_digits": lambda: 1,
@@ -213,7 +216,8 @@ QUANTITIES: dict[str, Quantity] = {
     "made_cubes": behind("crates/hmc_make/specs/Numbered.antt", "1 \\+ number % "),
     "mebibytes_of_a_cube": lambda: capacity() >> 20,
     "memory_by_bytes": memory_by_bytes,
-    "minutes_of_try": lambda: -(-int(text_of("bench/measured/try.txt").split()[0]) // 60),
+    "minutes_of_gate": durations.minutes_of_gate,
+    "minutes_of_try": lambda: -(-durations.of_try() // 60),
     "modulus_one": behind(PROFILE, "modulus_of One = "),
     "modulus_seq": lambda: 1 << bits_of("SEQ")(),
     "modulus_two": behind(PROFILE, "modulus_of Two = "),
@@ -230,8 +234,8 @@ QUANTITIES: dict[str, Quantity] = {
     "padding": lambda: packets.FLIT_BYTES - value_of("register_bits / 8"),
     "pointer_bits_one": bits_of("RRP", 1),
     "pointer_bits_two": bits_of("RRP", 2),
+    "processors_of_gate": lambda: durations.PROCESSORS,
     "profiles": lambda: len(case.PROFILES),
-    "processors": lambda: int(text_of("bench/measured/try.txt").split()[-2]),
     "register_bits": behind("crates/hmc_registers/specs/Registers.antt", r"numbers k < 2 \^ "),
     "retry_of_one": lambda: case.LINK_RANGES["retry"][1],
     "retry_of_two": lambda: case.RETRY_OF_TWO[1],

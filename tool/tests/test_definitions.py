@@ -1,15 +1,33 @@
 """Tests of what follows the definitions that a promise rests on."""
 
+import re
 import unittest
 
 from tool import definitions, promises
 from tool.definitions import count_of, lines_of, read, rests_on
+from tool.tests import pages
 from tool.tests.shared import TOP
 
 DELIVERED = "crates/hmc_journal/specs/Delivered.antt"
 SERIAL = "crates/hmc_journal/specs/Serial.antt"
 
+# Words of the command line, of scripts, schedules and reports, and a clause that has its link.
+OF_TEXTS = set("use run check trace make bound land bank registers Memory replayed".split())
+OF_TEXTS |= set("gave executed took retired passed memory register host lawful".split())
+
 OUT = "  -- and at most one that was asked isn't answered yet"
+
+
+def defined() -> set[str]:
+    """The names of all definitions, fields of records, types and laws."""
+    names: set[str] = set()
+    for path in TOP.glob("crates/*/specs/*.antt"):
+        for name, it in read(str(path.relative_to(TOP))).definitions.items():
+            names |= {name, *it.fields}
+    for path in TOP.glob("crates/*/src/**/*.rt"):
+        text = path.read_text(encoding="utf-8")
+        names |= set(re.findall(r"^ *pub (?:fn|enum|struct)? ?(\w+)", text, re.MULTILINE))
+    return names
 
 
 def without_fields(names: set[str]) -> set[str]:
@@ -58,6 +76,16 @@ class Definitions(unittest.TestCase):
             self.assertLessEqual(without_fields(names), whole[path], path)
         self.assertLess(4 * count_of(headline), count_of(whole))
         self.assertLess(count_of(headline), 2000)
+
+    def test_each_word_of_the_page_has_its_line(self) -> None:
+        """What docs/TRUST.md has in backquotes, and is defined, is in its last table; and the
+        other way."""
+        text = re.sub(r"^\|.*\n|\]\([^)]*\)", "", pages.text_of("docs/TRUST.md"), flags=re.M)
+        words = set(pages.quoted(text)) & defined() - OF_TEXTS
+        rows = {it.rpartition(".")[2] for names in promises.WORDS.values() for it in names}
+        self.assertEqual(words - rows, set())
+        self.assertEqual(rows - words, set())
+        self.assertGreater(len(words), 80)
 
 
 if __name__ == "__main__":

@@ -4,6 +4,7 @@ somewhere, and the README stays short."""
 import re
 import shlex
 import subprocess
+import sys
 import tempfile
 import unittest
 from pathlib import Path
@@ -21,6 +22,8 @@ SENT = "sent 0 new 08090a0b0c0d0e0f02060840ce08fdd5"
 LINK = re.compile(r"\]\(([^)#]*)(?:#([^)]+))?\)")
 EXAMPLE = re.compile(r"^    \$ \./zehimbado (.*)\n((?:    .*\n)*)", re.MULTILINE)
 MOST_WORDS = 700
+# Of a command that finds no fault.
+ENDS = {"shrink": 64}
 MOST_SIGNS = 2000
 # What has a name in definitions and in code: definitions, fields, functions and clauses.
 NAMED = re.compile(r"(?:\bpub(?: record| data| fn)?|\bfn|\bensures) (\w+)")
@@ -156,6 +159,34 @@ class Docs(unittest.TestCase):
             section = text[text.index(f"\n## {name}\n") :]
             self.assertTrue(section.split("\n")[3].startswith(f"    ./zehimbado {name}"), name)
             self.assertIn(f"usage: ./zehimbado {name}", tool("help", name).stdout.decode())
+
+    def test_what_needs_no_kit(self) -> None:
+        """The commands that docs/tool.md doesn't name beside the kit work where it isn't there."""
+        text = (TOP / "docs" / "tool.md").read_text(encoding="utf-8")
+        (named,) = re.findall(r"program\nis built, ([^.]*)\sneed the Rattle", text)
+        case, report = (f"examples/changed-flit.{it}" for it in ("toml", "report"))
+        trace, values = (f"traces/load-and-store.{it}" for it in ("trace", "report"))
+        words = {
+            "show": [case],
+            "lint": [case],
+            "explain": [report],
+            "json": [report],
+            "diff": [report, report],
+            "wave": [report, case],
+            "sample": ["1"],
+            "values": [trace, values],
+            "trace": ["--case", trace],
+            "convert": ["-", case],
+            "shrink": [case, "--", sys.executable, "-c", ""],
+        }
+        others = set(re.findall("`([a-z]+)`", named)) - {"trace"}
+        self.assertEqual(set(COMMANDS) - set(words), others)
+        for name, rest in words.items():
+            command = [sys.executable, str(TOP / "zehimbado"), name, *rest]
+            ran = subprocess.run(
+                command, cwd=TOP, env={"PATH": ""}, input=b"", capture_output=True, timeout=60
+            )
+            self.assertEqual(ran.returncode, ENDS.get(name, 0), ran.stderr)
 
     def written(self, words: str) -> str:
         """What a command writes where the files that the page names are."""

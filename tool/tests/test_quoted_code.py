@@ -23,6 +23,7 @@ void bench(hmc_driver *d, const uint8_t *text, size_t length) {{
 }}
 """
 ENTRY = "hmc_entry_t entry;\n"
+BENCH_OF_C = "A first bench"
 
 
 class Code(unittest.TestCase):
@@ -39,14 +40,16 @@ class Code(unittest.TestCase):
         self.assertEqual((ran.returncode, ran.stderr), (0, ""), block)
 
     def test_first_benches(self) -> None:
-        """That of README.md, and that of docs/c-library.md, which hmc.h has too."""
-        first = pages.block_after(text_of("README.md"), "proves and builds the library:\n")
-        whole = pages.block_after(text_of("docs/c-library.md"), "## A first bench\n")
-        self.check_c(first)
-        self.check_c(whole)
-        calls = [re.sub(r" */\*.*?\*/", "", it).strip() for it in whole.splitlines()]
+        """README.md has lines of the one in docs/c-library.md, which bindings/tests/run.py runs.
+        A compiler accepts that in hmc.h."""
+        quoted = pages.block_after(text_of("README.md"), "[c-library.md](docs/c-library.md), has\n")
+        whole, _, printed = pages.blocks(pages.section(text_of("docs/c-library.md"), BENCH_OF_C))
+        self.assertIn("".join(f"    {it}\n" for it in quoted.splitlines()), whole)
+        for line in printed.splitlines():
+            self.assertIn(f"    {line}\n", text_of("README.md"))
         in_header = re.findall(r"^ \*     (.*?;)(?: .*)?$", HEADER, re.MULTILINE)
-        self.assertEqual(in_header, calls)
+        self.assertGreater(len(in_header), 8)
+        self.check_c("\n".join(in_header))
 
     def test_masks(self) -> None:
         page = text_of("docs/co-simulation.md")

@@ -257,7 +257,7 @@ class Others(unittest.TestCase):
         page = text_of("docs/many-cases.md")
         (last,) = re.findall(r"--array=0-([0-9]+)", page)
         said = re.findall(r"(\w+) tasks\b", page)
-        self.assertEqual([int_of(it) for it in said], [int(last) + 1] * 2)
+        self.assertEqual([int_of(it) for it in said], [int(last) + 1])
 
     def test_the_counts_of_the_plain_model(self) -> None:
         """The table of docs/speed.md has those of the file in which they are kept."""
@@ -271,6 +271,13 @@ class Others(unittest.TestCase):
         page = text_of("docs/speed.md")
         ratios = [float(row[3]) for row in pages.rows(page, "Workload")]
         self.assertEqual(max(ratios) <= 1, "No row is above 1.00: in none" in flat(page))
+
+    def test_what_is_said_of_slow_inputs(self) -> None:
+        """docs/speed.md has the most seconds and the largest ratio of the file of bench/slow."""
+        rows = pages.rows(text_of("bench/measured/slow.txt"), "Word")
+        seconds, ratio = (max(float(row[at]) for row in rows) for at in (4, 6))
+        said = f"None took more than {seconds:.2f} seconds, and none more than {ratio} times as"
+        self.assertIn(said, flat(text_of("docs/speed.md")))
 
     def test_systemc(self) -> None:
         """docs/systemc.md has what the target takes for what is left out, and what a test has."""
