@@ -124,11 +124,13 @@ def run_bench(
 
 
 def test_c(room: Path) -> str:
-    """Misuse of each call, the page's bench, and an example whose lines are those of its report."""
+    """Misuse of each call, the benches of two pages, and an example whose lines are those of its
+    report."""
     cc = ["cc", "-std=c99", *STRICT, *SANITIZED, *INCLUDES, "-o"]
     # By -lhmc, as pkg-config has it: that has to find the archive.
     library = [f"-L{BUILD}", "-lhmc"]
-    run_bench("co-simulation.md", ".c", room, lambda at, to: [*cc, to, at, *library])
+    for page in ("co-simulation.md", "c-library.md"):
+        run_bench(page, ".c", room, lambda at, to: [*cc, to, at, *library])
     example = TOP / "examples" / "write-then-read.toml"
     text = example.read_text(encoding="utf-8").splitlines(keepends=True)
     case = room / "case.toml"
