@@ -135,7 +135,7 @@ WORDS = {
     ),
     f"{JOURNAL}/Report.antt": ("report_lines", "report_text"),
     f"{JOURNAL}/Final.antt": ("values_of", "final_lines_of"),
-    "crates/hmc_report/specs/Final.antt": ("final_lines",),
+    "crates/hmc_report/specs/Final.antt": ("FinalValues", "FinalValues.drained", "final_lines"),
     "crates/hmc_report/specs/Lines.antt": (
         *("memory_lines", "register_lines", "token_line", "host_line", "state_line"),
     ),
@@ -149,9 +149,10 @@ WORDS = {
     "crates/hmc_hops/specs/Delivered.antt": ("IsPrefix",),
     "crates/hmc_wire/specs/LinkLaws.antt": ("TokenLaws",),
     "crates/hmc_send/specs/LinkLines.antt": ("is_pending_changed", "passes"),
+    "crates/hmc_send/specs/Copies.antt": ("copy_of",),
     "crates/hmc_packet/specs/Masks.antt": ("under_mask", "changes"),
     "crates/hmc_packet/specs/Landings.antt": ("mode", "pending", "is_training"),
-    "crates/hmc_packet/specs/Reading.antt": ("is_null", "read_of"),
+    "crates/hmc_packet/specs/Reading.antt": ("is_null", "poison_in", "read_of"),
     "crates/hmc_packet/specs/Irtry.antt": ("irtry_in",),
     "crates/hmc_packet/specs/Receptions.antt": (
         *("train_reception", "abort_reception", "good_reception", "mode_reception"),
@@ -162,6 +163,8 @@ WORDS = {
     "crates/hmc_serial/specs/Cube.antt": ("CubeState", "opening"),
     "crates/hmc_serial/specs/Perform.antt": ("perform_on",),
     "crates/hmc_serial/specs/Unit.antt": ("unit_of",),
+    "crates/hmc_codes/specs/Shape.antt": ("vault_of", "bank_of"),
+    "crates/hmc_serial/specs/Errors.antt": ("memory_error",),
     "crates/hmc_rounds/specs/Single.antt": ("IsSingle",),
     "crates/hmc_schedule/specs/Round.antt": ("rounds_of",),
     "crates/hmc_bound/specs/Ends.antt": (

@@ -13,7 +13,7 @@ SERIAL = "crates/hmc_journal/specs/Serial.antt"
 
 # Words of the command line, of scripts, schedules and reports, and a clause that has its link.
 OF_TEXTS = set("use run check trace make bound land bank registers Memory replayed".split())
-OF_TEXTS |= set("gave executed took retired passed memory register host lawful".split())
+OF_TEXTS |= set("gave landed executed took retired passed memory register host lawful".split())
 
 OUT = "  -- and at most one that was asked isn't answered yet"
 
