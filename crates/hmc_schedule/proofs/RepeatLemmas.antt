@@ -1,8 +1,9 @@
 -- Steps of a round, over and over.
-use Rattle.std.proofs.Common.{◌≡◌, ◌∙◌, ◌<◌, ◌≤◌, ◌+◌, ◌-◌, ◌*◌, ◌/◌, ◌%◌, ℕ, zero, suc, List, [], ◌∷◌, length, drop, slice_get, get_or, Option, Some, None, inl, inr, refl, sym, ap, subst, arith}
+use Rattle.std.proofs.Common.{◌≡◌, ◌∙◌, ◌<◌, ◌≤◌, ◌+◌, ◌-◌, ◌*◌, ◌/◌, ◌%◌, ℕ, zero, suc, List, [], ◌∷◌, length, drop, take, slice_get, get_or, Option, Some, None, inl, inr, refl, sym, ap, ap₂, subst, arith}
 use Rattle.std.specs.Option.{option_map_or, unwrap_or}
 use Rattle.std.specs.List.Sorted.{IsNonDecreasingBy, IsPartitionPoint}
 use Rattle.std.proofs.lemmas.Bool.{cases_lt}
+use Rattle.std.proofs.lemmas.List.{length-drop, length-take-le}
 use Rattle.std.proofs.lemmas.Option.{slice_get-get_or}
 use Rattle.std.proofs.Math.Nat.{add-mod_left, mod-eq_of_lt, mod-lt, mul-add-mod_self_right}
 use Rattle.std.proofs.lemmas.Nat.{div-add-mod'}
@@ -236,3 +237,47 @@ hand_off w old hand more is view =
       first = ap (λ (v : WrittenFields). v.steps) (sym view) ∙ drop_first w.steps (next_at hand) step first ∙ ap (λ (n : ℕ). step ∷ drop n w.steps) further;
       kept = ap (λ (v : WrittenFields). v.kept) view;
     }
+
+-- ---- several steps at hand
+
+get-drop : (steps : List Step) (n k : ℕ) → slice_get (drop n steps) k ≡ slice_get steps (n + k)
+get-drop steps zero k = let same : k ≡ 0 + k = omega arith in ap (slice_get steps) same
+get-drop [] (suc n) k = refl
+get-drop (x ∷ steps) (suc n) k = let next : suc (n + k) ≡ suc n + k = omega arith in get-drop steps n k ∙ ap (slice_get (x ∷ steps)) next
+
+-- lists with the same first elements
+same_front : (n : ℕ) (some others : List Step) → n ≤ length others → ((k : ℕ) → k < n → slice_get some k ≡ slice_get others k) → take n some ≡ take n others
+same_front zero some others few each = refl
+same_front (suc n) some [] few each = absurd (omega (arith, few))
+same_front (suc n) [] (y ∷ others) few each = let none : None ≡ Some y = each 0 (omega arith) in absurd cc
+same_front (suc n) (x ∷ some) (y ∷ others) few each =
+    let first : Some x ≡ Some y = each 0 (omega arith) in
+    ap₂ (λ (a : Step) (l : List Step). a ∷ l) (ap (λ (o : Option Step). unwrap_or o x) first)
+    (same_front n some others (omega (arith, few)) (λ k below. each (suc k) (omega (arith, below))))
+
+-- those at hand are the first ones of the list
+pub hand_first : (w : WrittenFields) (hand : Hand) → IsHand w hand → take (length (take (hand.end - hand.place) (drop hand.place w.kept))) (drop (next_at hand) w.steps) ≡ take (hand.end - hand.place) (drop hand.place w.kept)
+hand_first w hand is = elim (cases_lt hand.place hand.end) [
+  | inl some ↦
+      let n = hand.end - hand.place in
+      let kept = drop hand.place w.kept in
+      let few : n ≤ length kept = omega (arith, is.inside some, length-drop hand.place w.kept) in
+      ap (λ (m : ℕ). take m (drop (next_at hand) w.steps)) (length-take-le n kept few)
+      ∙ same_front n (drop (next_at hand) w.steps) kept few (λ k below. get-drop w.steps (next_at hand) k ∙ is.each k (omega (arith, below)) ∙ sym (get-drop w.kept hand.place k))
+  | inr none ↦
+      let no : hand.end - hand.place ≡ 0 = omega (arith, none) in
+      subst (λ (n : ℕ). take (length (take n (drop hand.place w.kept))) (drop (next_at hand) w.steps) ≡ take n (drop hand.place w.kept)) (sym no) refl
+]
+
+-- the hand without so many of its first steps
+pub hand_less : (w : WrittenFields) (hand : Hand) (count : ℕ) → count ≤ hand.end - hand.place → IsHand w hand → IsHand w (record hand { place = hand.place + count })
+hand_less w hand count few is = record {
+  near = omega (arith, few, is.near);
+  ahead = omega (arith, is.ahead);
+  inside = λ some. is.inside (omega (arith, some));
+  each = λ k below.
+      let at : (hand.until - (hand.end - (hand.place + count))) + k ≡ next_at hand + (count + k) = omega (arith, few, is.ahead) in
+      let place : hand.place + (count + k) ≡ (hand.place + count) + k = omega arith in
+      ap (slice_get w.steps) at ∙ is.each (count + k) (omega (arith, below)) ∙ ap (slice_get w.kept) place;
+  later = is.later;
+}

@@ -29,7 +29,7 @@ use Rattle.hmc_schedule.specs.Round.{shifts_of, spreads_of, banks_of, lifts_of, 
 use Rattle.hmc_schedule.specs.Noise.{is_land, noisy, IsNoise}
 use Rattle.hmc_schedule.specs.Schedule.{add_steps, add_rounds, add_one, after_line, schedule_of, IsSchedule}
 use Rattle.hmc_schedule.specs.Verb.{verbs as all_verbs, verb_of}
-use Rattle.hmc_schedule.specs.StepsLeft.{AreRepeated, IsHand, TakesFirst, TakesKept, next_at}
+use Rattle.hmc_schedule.specs.StepsLeft.{AreRepeated, IsHand, TakesFirst, TakesKept}
 use Rattle.hmc_schedule.specs.Written.{WrittenFields, Kept, kept_of, held_of, steps_in, IsKept, IsWritten}
 
 abbrev two_cubes : PlanFields

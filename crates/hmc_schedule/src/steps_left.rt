@@ -1,6 +1,6 @@
 //! The steps of a schedule, taken off one after another.
 
-ghost use Rattle.std.specs.Prelude.{◌≡◌, ◌<◌, ◌≤◌, ◌+◌, ◌-◌, IfNone, IfSome, Some, length, slice_get};
+ghost use Rattle.std.specs.Prelude.{◌≡◌, ◌<◌, ◌≤◌, ◌+◌, ◌-◌, IfNone, IfSome, Some, drop, length, slice_get, take};
 ghost use Rattle.hmc_schedule.specs.StepsLeft.{IsHand, IsRepeatsAt, TakesFirst, TakesKept, next_at};
 ghost use Rattle.hmc_schedule.specs.Written.{WrittenFields};
 
@@ -150,6 +150,58 @@ impl StepsLeft {
         ensures { slice_get self.now.kept place ≡ Some result.now }
     {
         self.written.kept_step(place)
+    }
+
+    /// Brings the steps of a round that repeats to hand, up to its end, if none is at hand.
+    #[inline(always)]
+    pub fn bring(&mut self)
+        ensures { self.new ≡ self.old }
+    {
+        if self.hand.place >= self.hand.end {
+            turn(&mut self.hand);
+        }
+    }
+
+    /// The steps at hand: the first ones of the list. They stay on it.
+    #[inline(always)]
+    pub fn at_hand(&self) -> &[Step]
+        ensures { take (length result.now) self.now.steps ≡ result.now }
+    {
+        self.written.kept_steps(self.hand.place, self.hand.end)
+    }
+
+    /// Takes so many steps off the list, or all where fewer are left.
+    #[inline(always)]
+    pub fn pass(&mut self, count: usize)
+        ensures steps { self.new.steps ≡ drop count self.old.steps }
+        ensures kept { self.new.kept ≡ self.old.kept }
+    {
+        if count <= self.hand.end - self.hand.place {
+            self.hand.place += count;
+            return;
+        }
+        self.pass_far(count)
+    }
+
+    // The same, of which nothing is at hand afterwards.
+    #[inline(never)]
+    fn pass_far(&mut self, count: usize)
+        ensures steps { self.new.steps ≡ drop count self.old.steps }
+        ensures kept { self.new.kept ≡ self.old.kept }
+    {
+        let at = next_at(self.hand);
+        let left = self.written.len().saturating_sub(at);
+        let more = if count < left as usize {
+            count as u32
+        } else {
+            left
+        };
+        self.hand = Hand {
+            place: 0,
+            end: 0,
+            until: at + more,
+            later: NO_REPEATS,
+        };
     }
 
     /// Takes the next step off the list, if it is at hand: one of a round without noise, which is

@@ -1,6 +1,6 @@
 //! A schedule as it is written: a segment for each line that has steps.
 
-ghost use Rattle.std.specs.Prelude.{◌≡◌, ◌<◌, ◌≤◌, ◌^◌, ◌+◌, ◌-◌, ◌*◌, ◌/◌, ◌%◌, ◌++◌, [], length, filter, slice_get, Some, IfOk, OnOk, OnErr};
+ghost use Rattle.std.specs.Prelude.{◌≡◌, ◌<◌, ◌≤◌, ◌^◌, ◌+◌, ◌-◌, ◌*◌, ◌/◌, ◌%◌, ◌++◌, [], length, filter, slice_get, Some, IfOk, OnOk, OnErr, drop, take};
 ghost use Rattle.std.specs.Option.{option_map_or};
 ghost use Rattle.std.specs.List.Sorted.{IsNonDecreasingBy, IsPartitionPoint};
 ghost use Rattle.hmc_codes.specs.Limits.{most_steps};
@@ -334,6 +334,18 @@ impl Written {
         ensures { slice_get self.now.kept place ≡ Some result.now }
     {
         &self.kept[place]
+    }
+
+    /// The kept steps from this place on and before that one, counted from 0.
+    #[inline(always)]
+    pub fn kept_steps(&self, place: usize, end: usize) -> &[Step]
+        requires { place < end → end ≤ length self.now.kept }
+        ensures { result.now ≡ take (end - place) (drop place self.now.kept) }
+    {
+        if place >= end {
+            return &self.kept[..0];
+        }
+        &self.kept[place..end]
     }
 
     /// All rounds, in their order.

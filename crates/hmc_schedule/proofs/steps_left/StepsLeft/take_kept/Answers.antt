@@ -1,5 +1,5 @@
 -- What is at hand is taken, where something is or was brought.
-use Rattle.std.proofs.Common.{◌≡◌, ◌∙◌, ◌<◌, ap, arith, drop, refl, subst, sym}
+use Rattle.std.proofs.Common.{◌≡◌, ◌∙◌, ◌<◌, ap, arith, drop, subst, sym}
 use Rattle.hmc_schedule.specs.StepsLeft.{IsHand, next_at}
 use Rattle.hmc_schedule.specs.Written.{WrittenFields}
 use Rattle.hmc_schedule.specs.declared.steps_left.StepsLeft.TheInside.{Inside}
