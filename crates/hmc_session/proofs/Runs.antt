@@ -1,7 +1,7 @@
 -- A run of laid steps.
-use Rattle.std.proofs.Common.{◌≡◌, ◌∙◌, ◌<◌, ◌+◌, ◌++◌, if◌then◌else◌, ℕ, Bool, true, false, List, [], ◌∷◌, length-append, Option, None, Some, inl, inr, refl, sym, ap, ap₂, subst, arith}
+use Rattle.std.proofs.Common.{◌≡◌, ◌∙◌, ◌<◌, ◌≤◌, ◌+◌, ◌-◌, ◌++◌, if◌then◌else◌, ℕ, Bool, true, false, List, [], ◌∷◌, length, drop, take, length-append, Option, None, Some, inl, inr, refl, sym, ap, ap₂, subst, arith}
 use Rattle.std.specs.Prelude.{Result, Ok, Err, OnOk, OnErr, IfOk, IfErr}
-use Rattle.std.proofs.lemmas.List.{append-nil, append_assoc}
+use Rattle.std.proofs.lemmas.List.{append-nil, append_assoc, drop-append-le, drop-drop, length-take-le, take-append-drop, take-append-le}
 use Rattle.std.proofs.lemmas.List.Elements.{All-nil, All-cons, All-append}
 use Rattle.hmc_schedule.specs.declared.step.Step.{Step}
 use Rattle.hmc_entries.specs.declared.entry.Entry.{Entry}
@@ -12,7 +12,7 @@ use Rattle.hmc_net.specs.Went.{went_of}
 use Rattle.hmc_net.specs.declared.went.Went.{Went}
 use Rattle.hmc_session.specs.Ahead.{StepsBy, IsWithoutStep}
 use Rattle.hmc_session.specs.Refusals.{step_refusal}
-use Rattle.hmc_session.specs.Running.{with_steps, TakenOrWaiting, StopsOnce, EndsTaken, RunsOn, RefusedAfter, RunsBy, TriesBy, stopped_at}
+use Rattle.hmc_session.specs.Running.{with_steps, TakenOrWaiting, StopsOnce, EndsTaken, RunsOn, RefusedAfter, RunsBy, TriesAll, TriesBy, ended_by, stopped_at}
 use Rattle.hmc_session.specs.Session.{SessionFields, StandsIn, IsWaiting}
 use Rattle.hmc_session.specs.Stops.{is_stop}
 use Rattle.hmc_session.specs.declared.refusal.NotTaken.{NotTaken}
@@ -32,27 +32,19 @@ taken_step before now (step ∷ rest) left result went is none by setup past sta
     let s = by step rest refl in
     (step, ap (λ (l : List Step). step ∷ l) (sym s.0), subst (λ (r : Result (Option Went) NotTaken). OnOk r (StandsIn now (with_step setup step) (next setup past step ∷ past))) is (s.1.stands setup past stands))
 
--- it was refused
-pub refused_step : (before now : SessionFields) (laid left : List Step) (result : Result (Option Went) NotTaken) (refusal : NotTaken) → result ≡ Err refusal → (laid ≡ [] → IsWithoutStep result before now left)
-    → ((step : Step) (rest : List Step) → laid ≡ step ∷ rest → (left ≡ rest) × StepsBy before now step result)
-    → (step : Step) × (laid ≡ step ∷ left) × (step_refusal before step ≡ Some refusal) × (now ≡ before)
-refused_step before now [] left result refusal is none by = let nothing = (none refl).none in absurd cc
-refused_step before now (step ∷ rest) left result refusal is none by =
+-- it was not taken
+pub not_taken_step : (before now : SessionFields) (laid left : List Step) (result : Result (Option Went) NotTaken) (refusal : NotTaken) → result ≡ Err refusal → (laid ≡ [] → IsWithoutStep result before now left)
+    → ((step : Step) (rest : List Step) → laid ≡ step ∷ rest → (left ≡ rest) × StepsBy before now step result) → (setup : Setup) (past : List Entry) → StandsIn before setup past
+    → (step : Step) × (laid ≡ step ∷ left) × (step_refusal before step ≡ Some refusal) × (now ≡ before) × (refusal ≡ Waits → IsWaiting before.finished setup past step)
+not_taken_step before now [] left result refusal is none by setup past stands = let nothing = (none refl).none in absurd cc
+not_taken_step before now (step ∷ rest) left result refusal is none by setup past stands =
     let s = by step rest refl in (
       step,
       ap (λ (l : List Step). step ∷ l) (sym s.0),
       subst (λ (r : Result (Option Went) NotTaken). IfErr r (λ cause. step_refusal before step ≡ Some cause)) is s.1.refused,
       subst (λ (r : Result (Option Went) NotTaken). OnErr r (now ≡ before)) is s.1.same,
+      λ waits. s.1.waits setup past stands (is ∙ ap Err waits),
     )
-
--- it waits
-pub waiting_step : (before now : SessionFields) (laid left : List Step) (result : Result (Option Went) NotTaken) → result ≡ Err Waits → (laid ≡ [] → IsWithoutStep result before now left)
-    → ((step : Step) (rest : List Step) → laid ≡ step ∷ rest → (left ≡ rest) × StepsBy before now step result) → (setup : Setup) (past : List Entry) → StandsIn before setup past
-    → (step : Step) × (laid ≡ step ∷ left) × IsWaiting before.finished setup past step × (now ≡ before)
-waiting_step before now [] left result is none by setup past stands = let nothing = (none refl).none in absurd cc
-waiting_step before now (step ∷ rest) left result is none by setup past stands =
-    let s = by step rest refl in
-    (step, ap (λ (l : List Step). step ∷ l) (sym s.0), s.1.waits setup past stands is, subst (λ (r : Result (Option Went) NotTaken). OnErr r (now ≡ before)) is s.1.same)
 
 -- none was left
 pub no_step : (before now : SessionFields) (laid left : List Step) (result : Result (Option Went) NotTaken) → result ≡ Ok None → (laid ≡ [] → IsWithoutStep result before now left)
@@ -151,6 +143,14 @@ tries_refused S refusal before now setup past laid left stops step stands same l
   refused = ap (λ (s : SessionFields). step_refusal s step) same ∙ refused;
 }
 
+-- one that isn't taken ends it unless it waits
+pub tries_not_taken : (S : Setup → List Entry → Type 0) (refusal : NotTaken) (before now : SessionFields) (setup : Setup) (past : List Entry) (laid left : List Step) (stops : Stops) (step : Step) → S setup past → now ≡ before → laid ≡ step ∷ left → step_refusal before step ≡ Some refusal
+    → (refusal ≡ Waits → IsWaiting before.finished setup past step) → TriesBy S (ended_by refusal) now setup past laid left stops
+tries_not_taken S Waits before now setup past laid left stops step stands same laid_is refused waits =
+    runs_wait S now.finished setup past laid left stops step stands laid_is (subst (λ (s : SessionFields). IsWaiting s.finished setup past step) (sym same) (waits refl))
+tries_not_taken S Unknown before now setup past laid left stops step stands same laid_is refused waits = tries_refused S Unknown before now setup past laid left stops step stands same laid_is refused
+tries_not_taken S Over before now setup past laid left stops step stands same laid_is refused waits = tries_refused S Over before now setup past laid left stops step stands same laid_is refused
+
 -- a run ends where no step is left
 pub tries_ended : (S : Setup → List Entry → Type 0) (now : SessionFields) (setup : Setup) (past : List Entry) (laid left : List Step) (stops : Stops) → S setup past → laid ≡ [] → left ≡ [] → (left ≡ []) × RunsOn S now.finished setup past laid left stops 0 false
 tries_ended S now setup past laid left stops stands laid_is left_is =
@@ -225,9 +225,9 @@ run_further T S mid now setup past laid left left' stops n m stopped same a b =
     subst (λ (f : List Bool). RunsOn S f setup past laid left' stops (n + m) stopped) (sym same)
     (run_on T S mid.finished setup past laid left left' stops n m stopped a (subst (λ (f : List Bool). RunsOn S f (with_steps setup a.taken) (a.entries ++ past) left left' stops m stopped) same b))
 
-refused_on : (T S : Setup → List Entry → Type 0) (refusal : NotTaken) (mid now : SessionFields) (setup : Setup) (past : List Entry) (laid left left' : List Step) (stops : Stops) (n most : ℕ) → now.finished ≡ mid.finished → (a : RunsOn T mid.finished setup past laid left stops n false) → n < most
-    → RefusedAfter S refusal now (with_steps setup a.taken) (a.entries ++ past) left left' stops 1 → RefusedAfter S refusal now setup past laid left' stops most
-refused_on T S refusal mid now setup past laid left left' stops n most same a few b = record {
+refused_on : (T S : Setup → List Entry → Type 0) (refusal : NotTaken) (mid now : SessionFields) (setup : Setup) (past : List Entry) (laid left left' : List Step) (stops : Stops) (n m most : ℕ) → now.finished ≡ mid.finished → (a : RunsOn T mid.finished setup past laid left stops n false) → n + m ≤ most
+    → RefusedAfter S refusal now (with_steps setup a.taken) (a.entries ++ past) left left' stops m → RefusedAfter S refusal now setup past laid left' stops most
+refused_on T S refusal mid now setup past laid left left' stops n m most same a few b = record {
   count = n + b.count;
   few = omega (arith, few, b.few);
   step = b.step;
@@ -235,11 +235,64 @@ refused_on T S refusal mid now setup past laid left left' stops n most same a fe
   refused = b.refused;
 }
 
--- the run ends with a step, or since none is left
+-- the run ends with one of the steps, or since none is left
+pub run_ended : (T S : Setup → List Entry → Type 0) (ran : Ran) (mid now : SessionFields) (setup : Setup) (past : List Entry) (laid left left' : List Step) (stops : Stops) (n m most : ℕ) → now.finished ≡ mid.finished → (a : RunsOn T mid.finished setup past laid left stops n false) → n + m ≤ most
+    → TriesAll S (Some ran) now (with_steps setup a.taken) (a.entries ++ past) left left' stops m → RunsBy S ran now setup past laid left' stops most
+run_ended T S rans.Stopped mid now setup past laid left left' stops n m most same a few b = (n + b.1.0, omega (arith, few, b.1.1), run_further T S mid now setup past laid left left' stops n b.1.0 true same a b.1.2)
+run_ended T S rans.Tried mid now setup past laid left left' stops n m most same a few b = absurd (b.0 refl)
+run_ended T S rans.Ended mid now setup past laid left left' stops n m most same a few b = (n + b.1.0, omega (arith, few, b.1.1), b.1.2, run_further T S mid now setup past laid left left' stops n b.1.0 false same a b.1.3)
+run_ended T S rans.Unknown mid now setup past laid left left' stops n m most same a few b = refused_on T S Unknown mid now setup past laid left left' stops n m most same a few b.1
+run_ended T S rans.Over mid now setup past laid left left' stops n m most same a few b = refused_on T S Over mid now setup past laid left left' stops n m most same a few b.1
+
+-- one step is one of several
+pub tries_one : (S : Setup → List Entry → Type 0) (ran : Option Ran) (now : SessionFields) (setup : Setup) (past : List Entry) (laid left : List Step) (stops : Stops) → TriesBy S ran now setup past laid left stops → TriesAll S ran now setup past laid left stops 1
+tries_one S None now setup past laid left stops is = is
+tries_one S (Some rans.Stopped) now setup past laid left stops is = ((λ no. absurd cc), (1, omega arith, is))
+tries_one S (Some rans.Tried) now setup past laid left stops is = absurd is
+tries_one S (Some rans.Ended) now setup past laid left stops is = ((λ no. absurd cc), (0, omega arith, is.0, is.1))
+tries_one S (Some rans.Unknown) now setup past laid left stops is = ((λ no. absurd cc), is)
+tries_one S (Some rans.Over) now setup past laid left stops is = ((λ no. absurd cc), is)
+
+-- so the run ends with a step that follows others
 pub run_ends : (T S : Setup → List Entry → Type 0) (ran : Ran) (mid now : SessionFields) (setup : Setup) (past : List Entry) (laid left left' : List Step) (stops : Stops) (n most : ℕ) → now.finished ≡ mid.finished → (a : RunsOn T mid.finished setup past laid left stops n false) → n < most
     → TriesBy S (Some ran) now (with_steps setup a.taken) (a.entries ++ past) left left' stops → RunsBy S ran now setup past laid left' stops most
-run_ends T S rans.Stopped mid now setup past laid left left' stops n most same a few b = (n + 1, omega (arith, few), run_further T S mid now setup past laid left left' stops n 1 true same a b)
-run_ends T S rans.Tried mid now setup past laid left left' stops n most same a few b = absurd b
-run_ends T S rans.Ended mid now setup past laid left left' stops n most same a few b = (n + 0, omega (arith, few), b.0, run_further T S mid now setup past laid left left' stops n 0 false same a b.1)
-run_ends T S rans.Unknown mid now setup past laid left left' stops n most same a few b = refused_on T S Unknown mid now setup past laid left left' stops n most same a few b
-run_ends T S rans.Over mid now setup past laid left left' stops n most same a few b = refused_on T S Over mid now setup past laid left left' stops n most same a few b
+run_ends T S ran mid now setup past laid left left' stops n most same a few b =
+    run_ended T S ran mid now setup past laid left left' stops n 1 most same a (omega (arith, few)) (tries_one S (Some ran) now (with_steps setup a.taken) (a.entries ++ past) left left' stops b)
+
+-- and several that follow others are more of them
+pub tries_more : (T S : Setup → List Entry → Type 0) (ran : Ran) (mid now : SessionFields) (setup : Setup) (past : List Entry) (laid left left' : List Step) (stops : Stops) (n : ℕ) → now.finished ≡ mid.finished → (a : RunsOn T mid.finished setup past laid left stops n false)
+    → TriesBy S (Some ran) now (with_steps setup a.taken) (a.entries ++ past) left left' stops → TriesAll S (Some ran) now setup past laid left' stops (n + 1)
+tries_more T S ran mid now setup past laid left left' stops n same a b =
+    let one = tries_one S (Some ran) now (with_steps setup a.taken) (a.entries ++ past) left left' stops b in
+    (one.0, run_ends T S ran mid now setup past laid left left' stops n (n + 1) same a (omega arith) b)
+
+-- ---- steps of a list
+
+-- what is left after the first one is what is left of the whole
+pub after_first : (steps rest more : List Step) (step : Step) → rest ≡ step ∷ more → length rest ≤ length steps → drop (length steps - length rest) steps ≡ rest → drop (length steps - length more) steps ≡ more
+after_first steps rest more step is few same =
+    let one : length rest ≡ length more + 1 = ap length is ∙ omega arith in
+    let further : length steps - length more ≡ (length steps - length rest) + 1 = omega (arith, few, one) in
+    ap (λ (n : ℕ). drop n steps) further ∙ sym (drop-drop 1 (length steps - length rest) steps) ∙ ap (drop 1) (same ∙ is)
+
+-- some of the first steps of a list, and those after them
+first_and_after : (hand laid : List Step) (many : ℕ) → take (length hand) laid ≡ hand → many ≤ length hand → take many hand ++ drop many laid ≡ laid
+first_and_after hand laid many is few =
+    let all : hand ++ drop (length hand) laid ≡ laid = ap (λ (l : List Step). l ++ drop (length hand) laid) (sym is) ∙ take-append-drop (length hand) laid in
+    ap (λ (l : List Step). l ++ drop many laid) (sym (take-append-le many hand (drop (length hand) laid) few) ∙ ap (take many) all) ∙ take-append-drop many laid
+
+-- what came of them came of the list
+pub tries_first : (S : Setup → List Entry → Type 0) (ran : Option Ran) (now : SessionFields) (setup : Setup) (past : List Entry) (hand laid left : List Step) (stops : Stops) (many over most : ℕ) → take (length hand) laid ≡ hand → many ≤ length hand → many ≤ most → over ≤ many → left ≡ drop (many - over) laid
+    → ((after : List Step) → TriesAll S ran now setup past (take many hand ++ after) (drop (length (take many hand) - over) (take many hand) ++ after) stops (length (take many hand) - over)) → TriesAll S ran now setup past laid left stops (most - (most - (many - over)))
+tries_first S ran now setup past hand laid left stops many over most is few fits some left_is tries =
+    let steps = take many hand in
+    let after = drop many laid in
+    let len : length steps ≡ many = length-take-le many hand few in
+    let n = length steps - over in
+    let whole : steps ++ after ≡ laid = first_and_after hand laid many is few in
+    let count : n ≡ most - (most - (many - over)) = omega (arith, len, fits, some) in
+    let same : many - over ≡ n = omega (arith, len) in
+    let further : drop n steps ++ after ≡ left = sym (drop-append-le n steps after (omega arith)) ∙ ap (drop n) whole ∙ ap (λ (k : ℕ). drop k laid) (sym same) ∙ sym left_is in
+    subst (λ (k : ℕ). TriesAll S ran now setup past laid left stops k) count
+    (subst (λ (l : List Step). TriesAll S ran now setup past laid l stops n) further
+    (subst (λ (l : List Step). TriesAll S ran now setup past l (drop n steps ++ after) stops n) whole (tries after)))

@@ -31,13 +31,13 @@ use Rattle.hmc_session.specs.Asking.{item_in, told_of}
 use Rattle.hmc_session.specs.Numbers.{step_named}
 use Rattle.hmc_session.specs.Count.{IsCount}
 use Rattle.hmc_session.specs.Refusals.{has_step, refusal_in, step_refusal}
-use Rattle.hmc_session.specs.Running.{TakenOrWaiting, StopsOnce, EndsTaken, RunsOn, RunsBy, stopped_at}
+use Rattle.hmc_session.specs.Running.{TakenOrWaiting, StopsOnce, EndsTaken, RunsOn, RunsBy, TriesAll, ended_by, stopped_at}
 use Rattle.hmc_session.specs.Session.{SessionFields, IsWaiting, waits_in}
 use Rattle.hmc_session.specs.Stops.{event_stop, is_stop, no_stops, IsQuiet}
 use Rattle.hmc_session.specs.declared.refusal.LineNotAsked.TheVariants.{Fault, NotOne, Refused}
 use Rattle.hmc_session.specs.declared.refusal.NotAsked.TheVariants as causes
 use Rattle.hmc_session.specs.declared.refusal.NotTaken.TheVariants as refusals
-use Rattle.hmc_session.specs.declared.run.Ran.TheVariants.{Ended, Over, Stopped}
+use Rattle.hmc_session.specs.declared.run.Ran.TheVariants.{Ended, Over, Stopped, Tried, Unknown}
 use Rattle.hmc_session.specs.declared.stops.Stops.{Stops}
 use Rattle.hmc_session.proofs.Known.{never}
 
@@ -192,6 +192,17 @@ RunsBy-stopped S now setup past laid left stops is =
     let count = is.2.count_is in
     let few = is.1 in
     absurd (omega (arith, some, count, few))
+
+-- of no steps none ends a run, and no step ends it as all tried
+TriesAll-ended : (S : Setup → List Entry → Type 0) (now : SessionFields) (setup : Setup) (past : List Entry) (stops : Stops) → TriesAll S (Some Ended) now setup past [] [] stops 0 → ⊥
+TriesAll-ended S now setup past stops is = RunsBy-ended S now setup past stops is.1
+
+TriesAll-tried : (S : Setup → List Entry → Type 0) (now : SessionFields) (setup : Setup) (past : List Entry) (laid left : List Step) (stops : Stops) → TriesAll S (Some Tried) now setup past laid left stops 2 → ⊥
+TriesAll-tried S now setup past laid left stops is = is.0 refl
+
+-- a step that waits is passed over
+ended_by-each : map ended_by (refusals.Waits ∷ refusals.Unknown ∷ refusals.Over ∷ []) ≡ None ∷ Some Unknown ∷ Some Over ∷ []
+ended_by-each = refl
 
 -- a run that stopped tried no step after the one at which it stopped
 last_of : List Step → Option Step

@@ -121,6 +121,20 @@ TriesBy stands_for (Some Unknown) now setup past laid left stops =
 TriesBy stands_for (Some Over) now setup past laid left stops =
     RefusedAfter stands_for refusals.Over now setup past laid left stops 1
 
+-- so many steps were tried, and the run goes on after all of them or ends with one
+abbrev pub TriesAll : (stands_for : Setup → List Entry → Type 0) → Option Ran → SessionFields →
+    Setup → List Entry → (laid left : List Step) → Stops → (count : ℕ) → Type 0
+TriesAll stands_for None now setup past laid left stops count =
+    RunsOn stands_for now.finished setup past laid left stops count false
+TriesAll stands_for (Some ran) now setup past laid left stops count =
+    (ran ≡ Tried → ⊥) × RunsBy stands_for ran now setup past laid left stops count
+
+-- how a run ends with a step that isn't taken, if it does
+abbrev pub ended_by : NotTaken → Option Ran
+ended_by refusals.Waits = None
+ended_by refusals.Unknown = Some Unknown
+ended_by refusals.Over = Some Over
+
 -- a run ends with an entry of a chosen kind
 abbrev pub stopped_at : Stops → Entry → Option Ran
 stopped_at stops entry = (if is_stop stops entry then Some Stopped else None)

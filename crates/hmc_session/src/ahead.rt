@@ -1,6 +1,6 @@
 //! Steps that are laid down ahead.
 
-ghost use Rattle.std.specs.Prelude.{◌≡◌, ◌∷◌, [], List, length, slice_get, IfOk, IfSome};
+ghost use Rattle.std.specs.Prelude.{◌≡◌, ◌∷◌, [], List, drop, length, slice_get, take, IfOk, IfSome};
 ghost use Rattle.std.specs.List.{All};
 ghost use Rattle.hmc_schedule.specs.Plan.{IsStepOf};
 ghost use Rattle.hmc_schedule.specs.Schedule.{schedule_of};
@@ -64,6 +64,30 @@ impl Laid {
     {
         self.left.take()
     }
+
+    /// Brings steps that are kept one after another to hand, if none is at hand and such follow.
+    #[inline(always)]
+    pub(crate) fn bring(&mut self)
+        ensures { self.new ≡ self.old }
+    {
+        self.left.bring();
+    }
+
+    /// The steps at hand: the first ones of the list. They stay on it.
+    #[inline(always)]
+    pub(crate) fn at_hand(&self) -> &[Step]
+        ensures { take (length result.now) self.now ≡ result.now }
+    {
+        self.left.at_hand()
+    }
+
+    /// Takes so many steps off the list, or all where fewer are left.
+    #[inline(always)]
+    pub(crate) fn pass(&mut self, count: usize)
+        ensures { self.new ≡ drop count self.old }
+    {
+        self.left.pass(count);
+    }
 }
 
 impl<B: Workbench> Session<B> {
@@ -102,7 +126,7 @@ impl<B: Workbench> Session<B> {
 
     // The same, out of the way of steps that are at hand.
     #[inline(never)]
-    fn next_found(&mut self, laid: &mut Laid) -> Result<Option<Went>, NotTaken>
+    pub(crate) fn next_found(&mut self, laid: &mut Laid) -> Result<Option<Went>, NotTaken>
         ensures none { laid.old ≡ [] → IsWithoutStep result
             (session_of B.slots self.old) (session_of B.slots self.new) laid.new }
         ensures steps { (step : Step) (rest : List Step) → laid.old ≡ step ∷ rest →
