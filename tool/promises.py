@@ -98,7 +98,7 @@ def _link(path: str) -> str:
 # The words of docs/TRUST.md, by the files that define them. `DeliveredInOrder.out` is a field.
 WORDS = {
     f"{JOURNAL}/Lawful.antt": ("Lawful", "Follows", "has_passed", "IsWhole", "journal_of"),
-    LAWS: ("one_journal", "lawful_goes_on"),
+    LAWS: ("one_journal", "lawful_goes_on", "lawful_keeps_queues"),
     f"{JOURNAL}/Next.antt": ("next", "choice"),
     "crates/hmc_schedule/src/step.rt": ("Step",),
     f"{JOURNAL}/Setup.antt": ("Setup", "setup_of", "unit_in"),
@@ -114,6 +114,7 @@ WORDS = {
     "crates/hmc_crossbar/specs/To.antt": ("where_to",),
     f"{JOURNAL}/Queues.antt": ("QueueId", "contents"),
     f"{JOURNAL}/Counts.antt": ("token_counts",),
+    f"{JOURNAL}/Directions.antt": ("receiver_of",),
     "crates/hmc_codes/src/counts.rt": ("TokenRow.transit",),
     "crates/hmc_send/specs/LinkSenders.antt": ("tokens",),
     "crates/hmc_send/specs/LinkTokens.antt": ("token_row",),
@@ -125,7 +126,9 @@ WORDS = {
     "crates/hmc_script/specs/Script.antt": ("after_meaning",),
     "crates/hmc_script/src/item.rt": ("Item.fenced",),
     "crates/hmc_host/specs/Give.antt": ("wants_tag", "item_says"),
+    "crates/hmc_host/specs/Settle.antt": ("settle_says",),
     "crates/hmc_host/specs/Tags.antt": ("is_some_out",),
+    f"{JOURNAL}/Hosts.antt": ("tags_out",),
     f"{JOURNAL}/Filters.antt": (
         *("given_to", "executed_by", "asked_under", "replies_under", "answers_under"),
         "answered_into",
@@ -141,13 +144,13 @@ WORDS = {
     ),
     "crates/hmc_entries/specs/Lines.antt": ("line_of",),
     DELIVERED: (
-        *("IsScripted", "LinksInOrder", "LinksInOrder.accepted", "LinksInOrder.tokens"),
-        "DeliveredInOrder",
+        *("IsScripted", "LinksInOrder", "LinksInOrder.tokens", "DeliveredInOrder"),
         *(f"DeliveredInOrder.{it}" for it in FIELDS),
         "AllServed",
     ),
     "crates/hmc_hops/specs/Delivered.antt": ("IsPrefix",),
-    "crates/hmc_wire/specs/LinkLaws.antt": ("TokenLaws",),
+    "crates/hmc_wire/specs/LinkLaws.antt": ("DirectionLaws", "DirectionLaws.accepted", "TokenLaws"),
+    "crates/hmc_wire/src/laws.rt": ("link_is_a_list",),
     "crates/hmc_send/specs/LinkLines.antt": ("is_pending_changed", "passes"),
     "crates/hmc_send/specs/Copies.antt": ("copy_of",),
     "crates/hmc_packet/specs/Masks.antt": ("under_mask", "changes"),
@@ -163,7 +166,8 @@ WORDS = {
     "crates/hmc_serial/specs/Cube.antt": ("CubeState", "opening"),
     "crates/hmc_serial/specs/Perform.antt": ("perform_on",),
     "crates/hmc_serial/specs/Unit.antt": ("unit_of",),
-    "crates/hmc_codes/specs/Shape.antt": ("vault_of", "bank_of"),
+    "crates/hmc_codes/specs/Shape.antt": ("is_block", "vault_of", "bank_of"),
+    "crates/hmc_codes/specs/Limits.antt": ("most_check_input",),
     "crates/hmc_serial/specs/Errors.antt": ("memory_error",),
     "crates/hmc_rounds/specs/Single.antt": ("IsSingle",),
     "crates/hmc_schedule/specs/Round.antt": ("rounds_of",),
@@ -179,6 +183,7 @@ WORDS = {
     f"{REPLAY}/Report.antt": ("report_of", "end_lines", "report_status"),
     f"{REPLAY}/Answer.antt": ("limit_of", "IsAnswer"),
     f"{REPLAY}/RunAnswer.antt": ("IsRefused", "IsRunAnswer"),
+    f"{REPLAY}/MakeAnswer.antt": ("IsMakeAnswer",),
     f"{REPLAY}/BoundAnswer.antt": ("IsBounded",),
     f"{REPLAY}/Reported.antt": (
         *("IsReport", "IsReport.lines_are", "IsReport.guarantees", "IsReport.drained"),
@@ -188,9 +193,15 @@ WORDS = {
         *("IsLawful", "IsUnlawful", "IsOfParts", "IsHeadless", "IsCheckAnswer"),
     ),
     f"{REPLAY}/TraceAnswer.antt": ("IsTraceAnswer",),
-    f"{REPLAY}/Top.antt": ("Writes", "Replayed"),
+    f"{REPLAY}/Top.antt": (
+        *("IsRead", "Writes", "Writes.cut_off", "Writes.unwritten"),
+        *("Replayed", "Replayed.usage", "Replayed.untouched"),
+    ),
     f"{REPLAY}/Complete.antt": ("IsComplete",),
     f"{CODE}/top.rt": ("replay",),
+    "crates/hmc_main/src/lib.rt": ("run_program",),
+    "crates/hmc_main/specs/Ends.antt": ("Ends",),
+    "crates/hmc_main/specs/Shipped.antt": ("shipped_slots",),
 }
 
 
