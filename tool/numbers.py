@@ -263,7 +263,11 @@ LAWS = tuple(
 )
 NUMBERS: dict[str, tuple[Number, ...]] = {
     "CHANGES.md": (Number("single steps takes {} bytes a line", LINE_BYTES),),
-    "README.md": (Number("the report has {} lines", lines(f"{FIRST}.report")),),
+    "README.md": (
+        Number("](docs/report.md) has {} lines", lines(f"{FIRST}.report")),
+        Number("with `--no-idle` {}", lines(f"{FIRST}.report", "(?!idle )")),
+        Number("about {} rounds train the link", rounds_of_training),
+    ),
     "CONTRIBUTING.md": (
         Number("the script have at most {} lines", named("tool/pylintrc", "max-module-lines=")),
     ),
@@ -308,6 +312,7 @@ NUMBERS: dict[str, tuple[Number, ...]] = {
     "docs/case.md": (
         Number("has {} examples, each a change", BAD_CASES),
         Number("A link trains for about {} rounds", rounds_of_training),
+        Number("For about {} of them a link trains", rounds_of_training),
     ),
     "docs/check.md": (Number("in a text of {} KiB", TEXT_BYTES),),
     "docs/co-simulation.md": (

@@ -13,7 +13,7 @@ from tool.commands import BY_WORD, LONG
 from tool.definitions import count_of
 from tool.lines import Tokens
 from tool.numbers import named, round_of, text_of
-from tool.promises import HEADLINE, definitions_of
+from tool.promises import HEADLINE, PROMISES, definitions_of
 
 Quantity = Callable[[], int]
 TENS = "twenty thirty forty fifty sixty seventy eighty ninety".split()
@@ -199,6 +199,7 @@ QUANTITIES: dict[str, Quantity] = {
     "last_memory_error": lambda: max(memory_errors()),
     "last_status": greatest("crates/hmc_replay/src/top.rt", r"RunError::\w+\) => "),
     "lines_of_headline": lambda: count_of(definitions_of(HEADLINE)),
+    "lines_of_report": lambda: count_of(definitions_of(PROMISES["the one report of a case"])),
     "laws_of_wire": times("crates/hmc_wire/src/laws.rt", "^pub fn "),
     "least_cubes": lambda: case.CUBES[0],
     "least_digits": lambda: 1,
@@ -240,6 +241,8 @@ QUANTITIES: dict[str, Quantity] = {
     "retry_of_one": lambda: case.LINK_RANGES["retry"][1],
     "retry_of_two": lambda: case.RETRY_OF_TWO[1],
     "returned_of_first": lambda: 1 << setting(FIRST, "tokens").bit_length() - 1,
+    "rounds_of_first": lambda: value_of("MOST_STEPS") // value_of("steps_of_a_round"),
+    "rounds_of_largest": lambda: value_of("MOST_STEPS") // int_of(numbers.largest_round()),
     "rounds_left": lambda: int(re.findall("round ([0-9]+)", text_of(PASSED))[-1]),
     "rounds_of_a_case": behind("docs/case.md", "(?m)^round "),
     "rtc_codes": lambda: 1 << bits_of("RTC")(),

@@ -42,7 +42,7 @@ class Code(unittest.TestCase):
     def test_first_benches(self) -> None:
         """README.md has lines of the one in docs/c-library.md, which bindings/tests/run.py runs.
         A compiler accepts that in hmc.h."""
-        quoted = pages.block_after(text_of("README.md"), "[c-library.md](docs/c-library.md), has\n")
+        quoted = pages.block_after(text_of("README.md"), "in a chain of two cubes:\n")
         whole, _, printed = pages.blocks(pages.section(text_of("docs/c-library.md"), BENCH_OF_C))
         self.assertIn("".join(f"    {it}\n" for it in quoted.splitlines()), whole)
         for line in printed.splitlines():

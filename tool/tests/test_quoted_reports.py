@@ -171,10 +171,10 @@ class Rounds(unittest.TestCase):
         )
         first, *rounds = (after - before + 1 for before, after in zip(gave, took, strict=True))
         said = (
-            f"in the network of `first.c` the first answer comes after {first} rounds. Alone in "
-            f"that network, a later read of 16 bytes is answered after {rounds[0]} rounds by cube "
-            f"0 and after {rounds[1]} by cube 1, and one of 256 bytes after {rounds[2]} and "
-            f"{rounds[3]}."
+            f"in the network of `first_driver.c` the first answer comes after {first} rounds. "
+            f"Alone in that network, a later read of 16 bytes is answered after {rounds[0]} rounds "
+            f"by cube 0 and after {rounds[1]} by cube 1, and one of 256 bytes after {rounds[2]} "
+            f"and {rounds[3]}."
         )
         self.assertIn(said, flat(text_of("docs/co-simulation.md")))
 
@@ -206,7 +206,7 @@ class Commands(unittest.TestCase):
     def test_the_first_command(self) -> None:
         """README.md has all that it prints."""
         page = text_of("README.md")
-        command = pages.block_after(page, "packages as root.\n").splitlines()[0]
+        command = pages.block_after(page, "[others](docs/tool.md).\n").splitlines()[0]
         block = pages.block_after(page, "The first command prints\n")
         self.assertIn("./zehimbado try", command)
         self.assertEqual(self.written(command), (0, block))
