@@ -9,7 +9,7 @@ import sys
 from collections.abc import Callable, Iterable, Iterator
 from pathlib import Path
 
-from tool import numbers, quotes
+from tool import numbers, phrases, quotes
 from tool.build import crates_below, libraries
 from tool.durations import duration_table
 from tool.kit import TOP
@@ -131,22 +131,23 @@ def page_of(path: str) -> str:
     """A page with its tables, contracts and numbers as they have to be."""
     calling = path.endswith("CALLING.md")
     text = quotes.requote(TOP / path) if calling else (TOP / path).read_text(encoding="utf-8")
+    text = phrases.page_with(path, text)
     for table in PAGES.get(path, ()):
         text = page_with(text, table())
     return numbers.page_with(path, text)
 
 
 def pages() -> Iterator[tuple[Path, str]]:
-    """Yields each page that has a table, contracts or numbers, as it has to be."""
-    calling = [str(it.relative_to(TOP)) for it in CRATES.glob("*/CALLING.md")]
-    for path in sorted({*PAGES, *calling, *numbers.NUMBERS}):
+    """Yields each page as it has to be."""
+    for path in phrases.PAGES:
         yield TOP / path, page_of(path)
 
 
 def write() -> None:
-    """Puts the tables and the contracts into their pages."""
+    """Puts the tables, the contracts and the numbers into their pages."""
     for path, text in pages():
         path.write_text(text, encoding="utf-8")
+    phrases.write()
 
 
 def main(words: list[str]) -> None:

@@ -1,26 +1,22 @@
-"""The numbers of a page, and what says where each comes from: the rows of data/phrases.txt."""
+"""The numbers of a page, and what says where each comes from: the rows of tool/phrases.txt."""
 
 from __future__ import annotations
 
 import re
 from collections.abc import Iterator
 from functools import cache
-from typing import NamedTuple
 
 from tool import counts, numbers
+from tool.phrases import DIGITS, Row, rows_of
+from tool.quantities import LETTERS, int_of, value_of
 from tool.tests import pages
-from tool.tests.quantities import LETTERS, int_of, value_of
-from tool.tests.shared import DATA
 
 # Letters from three on are numbers. One, two, half and twice are words of the language: they count
 # what the same sentence names.
 WORDS = "|".join(it for it, number in LETTERS.items() if number > 2)
-DIGITS = r"[0-9][0-9,]*[0-9](?:\.[0-9]+)?|[0-9](?:\.[0-9]+)?"
 FOUND = re.compile(rf"(?<![\w.])(?:{DIGITS})(?:st|nd|rd|th)?(?!\w)|\b(?:{WORDS})\b", re.IGNORECASE)
-ANY = rf"(?:{DIGITS})|\b(?:{'|'.join(LETTERS)})\b"
 # What is no sentence: blocks and code, which other tests compare, and targets of links.
 APART = re.compile(rf"{pages.BLOCK.pattern}|`[^`]*`|\]\([^)]*\)", re.MULTILINE | re.DOTALL)
-EVERY = "every page"
 # What is named by a number, and how the numbers of it end.
 NAMED = {
     "[Hh]ost": "MOST_HOSTS - 1",
@@ -50,50 +46,6 @@ NAMES = [
         r"0x[0-9A-F]+",  # a number in hexadecimal digits, which test_quoted_tables compares
     )
 ]
-
-
-class Row(NamedTuple):
-    """A row of data/phrases.txt: its page, what compares it, and its words."""
-
-    page: str
-    by: str
-    words: str
-
-    @property
-    def pattern(self) -> re.Pattern[str]:
-        """The words, with a number for each `{..}`, and wherever lines end."""
-        return pattern_of(self.words)
-
-    @property
-    def quantities(self) -> list[str]:
-        """What stands between the braces."""
-        return re.findall(r"\{([^}]*)\}", self.words)
-
-
-@cache
-def pattern_of(words: str) -> re.Pattern[str]:
-    """The pattern of the words of a row."""
-    parts = re.split(r"\{[^}]*\}", words)
-    number = rf"((?i:{ANY}))(?!,?[0-9])(?:st|nd|rd|th)?"
-    return re.compile(number.join(numbers.spaced(part) for part in parts))
-
-
-@cache
-def rows() -> list[Row]:
-    """The rows, each with the page of its section."""
-    page, found = "", []
-    for line in (DATA / "phrases.txt").read_text(encoding="utf-8").splitlines():
-        if line.startswith("    "):
-            by, _, words = line.strip().rpartition(" :: ")
-            found.append(Row(page, by, words))
-        elif line and not line.startswith("#"):
-            page = line
-    return found
-
-
-def rows_of(page: str) -> list[Row]:
-    """Those of a page, and of every page."""
-    return [it for it in rows() if it.page in (page, EVERY)]
 
 
 def blanked(text: str, pattern: re.Pattern[str]) -> str:
@@ -129,9 +81,7 @@ def spans(text: str, row: Row) -> list[tuple[int, int]]:
         return list(cells(text, row.words, columns))
     places = range(1, len(row.quantities) + 1)
     matches = row.pattern.finditer(text)
-    if row.page == EVERY:
-        matches = (it for it in matches if not list(differing(it, row)))
-    return [found.span(at) for found in matches for at in places]
+    return [found.span(at) for found in matches if row.means(found) for at in places]
 
 
 def differing(found: re.Match[str], row: Row) -> Iterator[str]:

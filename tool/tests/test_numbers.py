@@ -1,33 +1,32 @@
 """Tests that the numbers of the documents are those of these sources.
 
-Each number of a page is one that `tool.numbers` puts there, or one that a row of data/phrases.txt
-compares with a quantity, or names what compares it; or it names one of several things, as `port 3`.
+Each number of a page is one that `tool.numbers` puts there, or a row of tool/phrases.txt, or one of
+which such a row says what compares it; or it names one of several things, as `port 3`.
 """
 
 import re
 import unittest
 
 from tool import numbers
+from tool.phrases import EVERY, PAGES, Row, put_right, rows
+from tool.quantities import value_of
 from tool.tests import phrases
-from tool.tests.shared import DATA, TOP
+from tool.tests.shared import DATA
 
-FIRST = ("README.md", "CONTRIBUTING.md", "CHANGES.md")
-MORE = ("docs/*.md", "crates/*/CALLING.md", "bindings/*.md")
-PAGES = sorted({*FIRST, *(str(it.relative_to(TOP)) for part in MORE for it in TOP.glob(part))})
 # What compares the numbers of a row: nothing, which is quantities; a test; or a reason in brackets.
 BY = re.compile(r"|test_\w+|table test_\w+(?: [1-9](?:, [1-9])*)?|\([a-z].*\)")
 
 
 class Numbers(unittest.TestCase):
     def test_each_number_is_known(self) -> None:
-        said = "a row of tool/tests/data/phrases.txt has to say where these numbers come from"
+        said = "a row of tool/phrases.txt has to say where these numbers come from"
         for page in PAGES:
             with self.subTest(page=page):
                 self.assertEqual(list(phrases.unknown(page)), [], said)
 
     def test_each_number_is_the_quantity_of_its_row(self) -> None:
-        for row in phrases.rows():
-            if not row.by and row.page != phrases.EVERY:
+        for row in rows():
+            if not row.by and row.page != EVERY:
                 with self.subTest(page=row.page, words=row.words):
                     self.assertEqual(list(phrases.wrong(phrases.text_of(row.page), row)), [])
 
@@ -50,15 +49,15 @@ class Numbers(unittest.TestCase):
     def test_each_row_is_of_use(self) -> None:
         """Its words are in its page, or in one of all."""
         texts = {page: phrases.text_of(page) for page in PAGES}
-        for row in phrases.rows():
-            where = PAGES if row.page == phrases.EVERY else [row.page]
+        for row in rows():
+            where = PAGES if row.page == EVERY else [row.page]
             with self.subTest(page=row.page, words=row.words):
                 found = [it for page in where for it in phrases.spans(texts[page], row)]
                 self.assertGreater(max(found)[1], 0)
 
     def test_what_compares_a_row_names_its_page(self) -> None:
         """It is a test of that page; of a row of quantities each number has one."""
-        for row in phrases.rows():
+        for row in rows():
             with self.subTest(page=row.page, words=row.words):
                 self.assertRegex(row.by, f"^(?:{BY.pattern})$")
                 if "test_" in row.by:
@@ -70,11 +69,11 @@ class Numbers(unittest.TestCase):
 
     def test_a_number_that_differs_is_found(self) -> None:
         """In digits, in letters, as an ordinal, and where a line ends within the words."""
-        row = phrases.Row("a page", "", "sends {hmc_irtry/burst.BURST} Starts")
+        row = Row("a page", "", "sends {hmc_irtry/burst.BURST} Starts")
         for number, count in (("32", 0), ("33\n", 1), ("ten", 1)):
             found = list(phrases.wrong(f"sends {number} Starts", row))
             self.assertEqual(len(found), count, number)
-        ordinal = phrases.Row("a page", "", "the {hmc_irtry/runs.RUN}th Start")
+        ordinal = Row("a page", "", "the {hmc_irtry/runs.RUN}th Start")
         self.assertEqual(len(list(phrases.wrong("the 25th Start", ordinal))), 1)
         self.assertEqual(list(phrases.beyond("port 3, hosts 0 and 7")), [])
         self.assertEqual(list(phrases.beyond("ports 0 to 4")), ["ports 0 to 4"])
@@ -85,6 +84,22 @@ class Numbers(unittest.TestCase):
         self.assertEqual(numbers.put("It has 7\nlines, 7.", row), "It has 1,148\nlines, 7.")
         with self.assertRaises(AssertionError):
             numbers.put("It has no lines.", row)
+
+    def test_a_quantity_is_put_into_its_row(self) -> None:
+        """In digits or in letters, as the page has it; and of every page only the row's number."""
+        row = Row("a page", "", "sends {hmc_irtry/burst.BURST} Starts")
+        for text, wanted in (("sends 7\nStarts", "sends 32\nStarts"), ("7 Starts", "7 Starts")):
+            self.assertEqual(put_right(row, text), wanted)
+        letters = Row("a page", "", "{least_cubes} of {hmc_schedule/meaning.SLOTS} units")
+        self.assertEqual(put_right(letters, "Two of seven units"), "One of eight units")
+        every = Row(EVERY, "", "{7: hmc_schedule/meaning.SLOTS} units")
+        self.assertEqual(put_right(every, "6 units, 7 units"), "6 units, 8 units")
+
+    def test_rows_of_every_page_have_their_numbers(self) -> None:
+        for row in rows():
+            with self.subTest(words=row.words):
+                wanted = [value_of(it) for it in row.quantities] if row.page == EVERY else []
+                self.assertEqual(row.last, wanted)
 
 
 if __name__ == "__main__":

@@ -9,7 +9,7 @@ from tool import case, convert, numbers, packets
 from tool.commands import BY_WORD
 from tool.tests import pages
 from tool.tests.pages import flat, quoted, text_of
-from tool.tests.quantities import int_of, value_of
+from tool.quantities import int_of, value_of
 from tool.tests.shared import DATA, EXAMPLES, TOP, tool
 
 PACKETS = text_of("docs/packets.md")

@@ -147,6 +147,12 @@ def capacity() -> int:
     return (rows * case.BLOCKS[-1]) << (vaults + banks)
 
 
+def rows_of_most_banks() -> int:
+    """The rows for which there is room in a cube with the most vaults and banks."""
+    banks = sum(case.CUBE_RANGES[it][1] for it in ("vault_bits", "bank_bits"))
+    return constant(numbers.LIMITS, "MOST_MEMORY") // (case.BLOCKS[-1] << banks)
+
+
 ERRORS = "crates/hmc_serial/specs/Errors.antt"
 FIRST = "write-then-read"
 CHAIN = "crates/hmc_make/src/chain.rt"
@@ -241,6 +247,7 @@ QUANTITIES: dict[str, Quantity] = {
     "retry_of_one": lambda: case.LINK_RANGES["retry"][1],
     "retry_of_two": lambda: case.RETRY_OF_TWO[1],
     "returned_of_first": lambda: 1 << setting(FIRST, "tokens").bit_length() - 1,
+    "rows_of_most_banks": rows_of_most_banks,
     "rounds_of_first": lambda: value_of("MOST_STEPS") // value_of("steps_of_a_round"),
     "rounds_of_largest": lambda: value_of("MOST_STEPS") // int_of(numbers.largest_round()),
     "rounds_left": lambda: int(re.findall("round ([0-9]+)", text_of(PASSED))[-1]),
