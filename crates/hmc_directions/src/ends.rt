@@ -279,7 +279,7 @@ impl Ends {
         }
     }
 
-    /// Whether no end holds a packet, and each packet that was begun was accepted.
+    /// Whether no end holds a packet, and no tokens are with packets under way.
     pub fn are_quiet(&self) -> bool
         ensures { IsTrue result ↔ All IsQuiet self.now }
     {

@@ -9,8 +9,8 @@ use Rattle.hmc_journal.specs.Counts.{token_counts}
 use Rattle.hmc_journal.specs.Queues.{QueueId, landing_buffer, contents}
 use Rattle.hmc_journal.specs.Queues.QueueId.{Output, Vault, Bank, Registers, Answers}
 
--- no queue holds a packet, and each request and each answer that was begun on a direction was
--- accepted: none of its flits is in transit
+-- no queue holds a packet, and on no direction tokens are with packets under way; by the laws of
+-- tokens each request and each answer that was begun on it was then accepted
 pub record IsDrained (topology : Topology) (past : List Entry) : Type 0 where
   pub queues : (queue : QueueId) → contents topology past queue ≡ []
   pub transit : (direction : ℕ) → (token_counts topology past direction).transit ≡ 0

@@ -492,8 +492,8 @@ impl<A: Intake, B: Intake> Link<A, B> {
         }
     }
 
-    /// Whether no output queue and no buffer holds a packet, and each packet that was begun was
-    /// accepted.
+    /// Whether no output queue and no buffer holds a packet, and no tokens are with packets under
+    /// way.
     pub fn is_quiet(&self) -> bool
         ensures { IsTrue result ↔ (IsQuiet self.now.a × IsQuiet self.now.b) }
     {

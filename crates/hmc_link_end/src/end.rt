@@ -227,8 +227,8 @@ impl<I: Intake> End<I> {
         !self.has_arrived()
     }
 
-    /// Whether the output queue and the buffer hold no packet, and each packet that was begun was
-    /// accepted.
+    /// Whether the output queue and the buffer hold no packet, and no tokens are with packets under
+    /// way.
     pub fn is_quiet(&self) -> bool
         ensures { IsTrue result ↔ IsQuiet self.now }
     {

@@ -252,7 +252,7 @@ impl LinkList {
         held_in(&self.links)
     }
 
-    /// Whether no link holds a packet, and each packet that was begun was accepted.
+    /// Whether no link holds a packet, and no tokens are with packets under way.
     pub fn are_quiet(&self) -> bool
         ensures { IsTrue result ↔ All IsQuietLink self.now }
     {

@@ -10,7 +10,8 @@ pub struct Item {
     /// Whether a fence of the host is before the request and after the host's previous one, if
     /// there is one. The request then waits until no tag of the host is out.
     pub fenced: bool,
-    /// Whether the request is sent poisoned: whole on the links, and without effect at its cube.
+    /// Whether the request is sent poisoned: the first cube that accepts it drops it, and nothing
+    /// answers it.
     pub poisoned: bool,
     /// The request.
     pub request: Request,
