@@ -124,7 +124,7 @@ class Reports(unittest.TestCase):
 
     def test_a_sink_that_fails(self) -> None:
         """It has precedence over three other statuses."""
-        self.assertIn("and 4 over 6, 7 and 8", self.TEXT)
+        self.assertIn("and 4 over 6, 7 and 8", flat(self.TEXT))
         given = CASE.read_bytes()
         unlawful = b"case %d\n%s" % (len(given), given)
         for word, data in (

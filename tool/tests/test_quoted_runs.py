@@ -48,7 +48,7 @@ class Checked(unittest.TestCase):
         self.assertEqual(checked(self.case, b""), (8, "unlawful 1\n"))
 
     def test_capitals(self) -> None:
-        self.assertIn("capitals is unlawful at the first of them", self.TEXT)
+        self.assertIn("capitals is unlawful at the first of them", flat(self.TEXT))
         capitals = re.sub(b"[0-9a-f]{32}", lambda found: found[0].upper(), self.report)
         pairs = zip(self.report.splitlines(), capitals.splitlines())
         first = next(at for at, (mine, other) in enumerate(pairs, start=1) if mine != other)
@@ -129,7 +129,7 @@ class Drained(unittest.TestCase):
         self.assertEqual(REPORT.read_text(encoding="utf-8").splitlines()[-1], "state drained")
 
     def test_a_landing_that_passes(self) -> None:
-        self.assertIn("landing is written alone, with status 7.", self.TEXT)
+        self.assertIn("landing is written alone, with status 7.", flat(self.TEXT))
         path = EXAMPLES / "passed-null.toml"
         last = path.with_suffix(".report").read_text(encoding="utf-8").splitlines()[-1]
         self.assertEqual(answer("bound", path.read_bytes()), (7, f"{last}\n"))

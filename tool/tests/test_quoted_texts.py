@@ -96,12 +96,12 @@ class Schedules(unittest.TestCase):
         self.assertEqual(f"{len(steps_of(line, '')):,}", count)
 
     def test_a_mask_of_zeros(self) -> None:
-        self.assertIn("`land 0` is the same as\n", self.TEXT)
+        self.assertIn("`land 0` is the same as", flat(self.TEXT))
         masked = self.block("Masks")
         self.assertEqual(steps_of(f"send 0\n{masked}"), steps_of("send 0\nland 0\n"))
 
     def test_a_mask(self) -> None:
-        self.assertIn("inverts the lowest bit of the last byte of the flit:", self.TEXT)
+        self.assertIn("inverts the lowest bit of the last byte of the flit:", flat(self.TEXT))
         masks = masks_of(steps_of("send 0\n" + self.block("Masks", 1)))
         self.assertEqual(masks, [("0", f"{1:032x}")])
 
