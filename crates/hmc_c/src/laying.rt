@@ -72,13 +72,13 @@ fn take_next(held: &mut Held) -> u8
     held.kept.next(&mut held.laid)
 }
 
-/// Takes the next of the steps that are laid down. One that is refused is off the list too; one that
-/// the tape has no memory for stays.
+/// Takes the next of the steps that are laid down. One that is refused is off the list too; one
+/// that the tape has no memory for stays.
 ///
-/// 0: it is taken. 7: it is taken, and its landing passed; no step may follow. 1: the tape is out of
-/// memory. 8: none is left. 9: the handle is closed. 10: it is a give of a host that has given all
-/// of its requests and may be asked for more. 11: no step may be taken any more. With 1 and 8 to 11
-/// the session doesn't change.
+/// 0: it is taken. 7: it is taken, and its landing passed; no step may follow. 1: the tape is out
+/// of memory. 8: none is left. 9: the handle is closed. 10: it is a give of a host that has given
+/// all of its requests and may be asked for more. 11: no step may be taken any more. With 1 and 8
+/// to 11 the session doesn't change.
 #[unsafe(no_mangle)]
 pub extern "C" fn hmc_next(alloc: Global, handle: &mut Handle) -> u8
     ensures stands { (setup : Setup) (past : List Entry) →
@@ -140,9 +140,9 @@ fn run_on(held: &mut Held, most: u32, stops: &Stops, steps: &mut u32) -> u8
 /// tries at most so many. A step that waits is passed over; one that is refused for another cause
 /// is off the list, and ends the run. `steps` is how many were taken.
 ///
-/// 0: the latest entry is of such a kind, or so many were tried. 1: the tape is out of memory for the
-/// next step, which stays on the list. 8: no step is left. 9: the handle is closed; then `steps` is
-/// 0. 11: a step may not be taken any more.
+/// 0: the latest entry is of such a kind, or so many were tried. 1: the tape is out of memory for
+/// the next step, which stays on the list. 8: no step is left. 9: the handle is closed; then
+/// `steps` is 0. 11: a step may not be taken any more.
 #[unsafe(no_mangle)]
 pub extern "C" fn hmc_run(
     alloc: Global,

@@ -36,10 +36,10 @@ fn step_by(held: &mut Held, kind: u8, a: u8, b: u8, c: u8, mask: &Flit) -> u8
 /// 7 lift, 8 take, 9 through, 10 unlock and 11 retire. A lift of the answers of the registers has
 /// 255 in place of a vault.
 ///
-/// 0: it is taken. 7: it is taken, and its landing passed; no step may follow. 1: the tape is out of
-/// memory. 8: it names no part of the network. 9: the handle is closed. 10: it is a give of a host
-/// that has given all of its requests and may be asked for more. 11: no step may be taken any more.
-/// With 1 and 8 to 11 nothing changes.
+/// 0: it is taken. 7: it is taken, and its landing passed; no step may follow. 1: the tape is out
+/// of memory. 8: it names no part of the network. 9: the handle is closed. 10: it is a give of a
+/// host that has given all of its requests and may be asked for more. 11: no step may be taken any
+/// more. With 1 and 8 to 11 nothing changes.
 #[unsafe(no_mangle)]
 pub extern "C" fn hmc_step(
     alloc: Global,

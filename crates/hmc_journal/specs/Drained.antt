@@ -9,8 +9,7 @@ use Rattle.hmc_journal.specs.Counts.{token_counts}
 use Rattle.hmc_journal.specs.Queues.{QueueId, landing_buffer, contents}
 use Rattle.hmc_journal.specs.Queues.QueueId.{Output, Vault, Bank, Registers, Answers}
 
--- no queue holds a packet, and on no direction tokens are with packets under way; by the laws of
--- tokens each request and each answer that was begun on it was then accepted
+-- no queue holds a packet, and on no direction tokens are with packets under way
 pub record IsDrained (topology : Topology) (past : List Entry) : Type 0 where
   pub queues : (queue : QueueId) → contents topology past queue ≡ []
   pub transit : (direction : ℕ) → (token_counts topology past direction).transit ≡ 0

@@ -235,8 +235,8 @@ impl StepsLeft {
         self.take_found()
     }
 
-    // Takes the next step, which is found by its place, if one is left. Of those after it nothing is
-    // at hand yet.
+    // Takes the next step, which is found by its place, if one is left. Of those after it nothing
+    // is at hand yet.
     #[inline(never)]
     fn take_found(&mut self) -> Option<Step>
         ensures taken { TakesFirst self.old.steps result self.new.steps }
