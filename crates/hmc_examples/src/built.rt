@@ -1,12 +1,14 @@
 //! What a case has, by its parts, and the network that is built of it. The case is that of
 //! `sessions/two-vaults.toml`.
 
-use crate::begun::{case_of, out_of_memory, units};
+use crate::begun::{case_of, units};
+use crate::orders::Order;
+use crate::reading::Contents;
+use crate::words::push_texts;
 use hmc_case::Case;
-use hmc_codes::{Join, LinkSetup, Place, Profile, Shape};
+use hmc_codes::{Join, LinkSetup, Memory, Place, Profile, Shape};
 use hmc_net::Net;
 use std::alloc::Global;
-use std::io;
 
 // Whether a case has that cube, with two vaults of four banks.
 fn has_the_cube(case: &Case) -> bool {
@@ -42,11 +44,9 @@ fn has_the_texts(case: &Case) -> bool {
 }
 
 // Whether nothing has happened in the network that is built of a case. Its cube 0 has 8,192 bytes.
-fn is_quiet(alloc: Global, text: &str) -> Result<bool, io::Error> {
+fn is_quiet(alloc: Global, text: &str) -> Result<bool, Memory> {
     let case = case_of(alloc, text)?;
-    let Ok(net) = Net::build(alloc, &case, units(alloc)?) else {
-        return Err(out_of_memory());
-    };
+    let net = Net::build(alloc, &case, units(alloc)?)?;
     let is_new = net.journal().is_empty();
     let tags = net.tags_out(0);
     let bytes = net.cube(0).capacity();
@@ -55,9 +55,25 @@ fn is_quiet(alloc: Global, text: &str) -> Result<bool, io::Error> {
     Ok(is_new && tags == 0 && bytes == 8192 && held == 0 && is_drained)
 }
 
-/// Whether the case of a text has these parts, and its network has done nothing.
-pub fn is_as_written(alloc: Global, net: &str) -> Result<bool, io::Error> {
-    let case = case_of(alloc, net)?;
-    let is_quiet = is_quiet(alloc, net)?;
+// Whether the case of a text has these parts, and its network has done nothing.
+fn is_as_written(alloc: Global, text: &str) -> Result<bool, Memory> {
+    let case = case_of(alloc, text)?;
+    let is_quiet = is_quiet(alloc, text)?;
     Ok(is_quiet && has_the_cube(&case) && has_the_link(&case) && has_the_texts(&case))
+}
+
+/// Appends whether a case is as its file says.
+pub fn push_built(
+    alloc: Global,
+    order: &Order<'_>,
+    contents: &Contents,
+    into: &mut String,
+) -> Result<(), Memory> {
+    let word = if is_as_written(alloc, contents.input.as_str())? {
+        "as written"
+    } else {
+        "differs"
+    };
+    push_texts(into, &["built of ", order.name, ": ", word, "\n"])?;
+    Ok(())
 }

@@ -5,7 +5,7 @@
 //! A call that is out of memory is made once more: it must have changed nothing, or else what
 //! follows differs from the report of the tape.
 
-use crate::begun::{WithTape, begin, out_of_memory};
+use crate::begun::{WithTape, begin};
 use crate::draws::Draws;
 use crate::texts::{drawn_step, request_text};
 use hmc_codes::{LineText, MOST_HOSTS, Memory};
@@ -15,10 +15,9 @@ use hmc_schedule::Step;
 use hmc_session::{LineNotAsked, NotAsked, NotTaken};
 use hmc_tape::NotTaped;
 use std::alloc::Global;
-use std::io;
 
 /// How often something happened.
-#[derive(Clone, Copy)]
+#[derive(Drop)]
 pub struct Counts {
     /// Requests that were asked.
     pub asked: u32,
@@ -41,30 +40,26 @@ pub struct Drawn {
     pub draws: Draws,
     /// After how many steps the latest line was looked at.
     pub looked: Vec<u32>,
-    /// These lines.
+    /// These lines, and at the end the final lines.
     pub lines: String,
     /// What happened.
     pub counts: Counts,
 }
 
-/// Nothing happened yet.
-const NOTHING: Counts = Counts {
-    asked: 0,
-    not_asked: 0,
-    waited: 0,
-    refused: 0,
-    memory: 0,
-};
-
 impl Drawn {
+    /// How many steps were taken.
+    pub fn taken(&self) -> u32 {
+        self.session.session().taken()
+    }
+
     /// Counts a call that was out of memory.
     pub fn count_memory(&mut self) {
         self.counts.memory = self.counts.memory.saturating_add(1);
     }
 
     /// Keeps the line of the latest step, unless it is kept already.
-    pub fn look(&mut self) -> Result<(), io::Error> {
-        let taken = self.session.session().taken();
+    pub fn look(&mut self) -> Result<(), Memory> {
+        let taken = self.taken();
         if self.looked.last().copied().unwrap_or(0) == taken {
             return Ok(());
         }
@@ -94,9 +89,9 @@ impl Drawn {
     }
 
     // Asks for the request of a drawn text.
-    fn ask_drawn(&mut self, alloc: Global) -> Result<(), io::Error> {
-        let hosts = self.session.session().plan().hosts;
-        let cubes = self.session.session().plan().cube_count();
+    fn ask_drawn(&mut self, alloc: Global) -> Result<(), Memory> {
+        let plan = self.session.session().plan();
+        let (hosts, cubes) = (plan.hosts, plan.cube_count());
         let text = request_text(alloc, &mut self.draws, hosts, cubes)?;
         let by_values = self.draws.below(2) == 0;
         let mut asked = self.ask(alloc, text.as_str(), by_values);
@@ -122,7 +117,7 @@ impl Drawn {
     }
 
     // Takes a drawn step.
-    fn step_drawn(&mut self) -> Result<(), io::Error> {
+    fn step_drawn(&mut self) -> Result<(), Memory> {
         let Some(step) = drawn_step(&mut self.draws) else {
             return Ok(());
         };
@@ -140,7 +135,7 @@ impl Drawn {
     }
 
     // One turn.
-    fn turn(&mut self, alloc: Global) -> Result<(), io::Error> {
+    fn turn(&mut self, alloc: Global) -> Result<(), Memory> {
         let way = self.draws.below(200);
         if way < 60 {
             return self.ask_drawn(alloc);
@@ -167,30 +162,34 @@ impl Drawn {
         session.final_lines(alloc, Part::Memory, into)
     }
 
-    /// The lines that were kept, and after them the final lines.
-    pub fn all_lines(&mut self, alloc: Global) -> Result<String, io::Error> {
+    /// Keeps the final lines.
+    pub fn look_at_end(&mut self, alloc: Global) -> Result<(), Memory> {
         let mut last = String::new(alloc);
         if let Err(_) = self.push_final(alloc, &mut last) {
             self.count_memory();
             last = String::new(alloc);
-            if let Err(_) = self.push_final(alloc, &mut last) {
-                return Err(out_of_memory());
-            }
+            self.push_final(alloc, &mut last)?;
         }
-        let lines = &self.lines;
-        Ok(format!(in alloc; "{lines}{last}")?)
+        self.lines.push_str(last.as_str())?;
+        Ok(())
     }
 }
 
 /// Drives the session of a case without requests and steps by so many turns, which follow from a
 /// seed.
-pub fn drive(alloc: Global, net: &str, seed: u64, turns: u32) -> Result<Drawn, io::Error> {
+pub fn drive(alloc: Global, net: &str, seed: u64, turns: u32) -> Result<Drawn, Memory> {
     let mut drawn = Drawn {
         session: begin(alloc, net)?,
         draws: Draws { state: seed },
         looked: Vec::new(alloc),
         lines: String::new(alloc),
-        counts: NOTHING,
+        counts: Counts {
+            asked: 0,
+            not_asked: 0,
+            waited: 0,
+            refused: 0,
+            memory: 0,
+        },
     };
     for _ in 0..turns {
         drawn.turn(alloc)?;

@@ -10,15 +10,20 @@ pub struct Draws {
 }
 
 impl Draws {
-    /// A number below this one, or 0 where this is 0.
-    pub fn below(&mut self, bound: u32) -> u32
-        ensures { 0 < bound → result < bound }
-    {
+    // The next draw.
+    fn draw(&mut self) -> u32 {
         self.state = self
             .state
             .wrapping_mul(6_364_136_223_846_793_005)
             .wrapping_add(1_442_695_040_888_963_407);
-        let drawn = (self.state >> 32) as u32;
+        (self.state >> 32) as u32
+    }
+
+    /// A number below this one, or 0 where this is 0.
+    pub fn below(&mut self, bound: u32) -> u32
+        ensures { 0 < bound → result < bound }
+    {
+        let drawn = self.draw();
         if bound == 0 {
             return 0;
         }

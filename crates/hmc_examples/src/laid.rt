@@ -3,29 +3,40 @@
 use crate::drawn::Drawn;
 use crate::draws::Draws;
 use crate::texts::schedule_text;
+use hmc_codes::Memory;
 use hmc_schedule::ScheduleFault;
 use hmc_session::{Laid, Stops};
 use hmc_tape::NotTaped;
 use std::alloc::Global;
-use std::io;
 
-// Chosen kinds of entries: each is among them with one draw of four, idle ones with one of sixteen.
+// Whether each of the first kinds of entries is chosen: with one draw of four.
+fn drawn_kinds(draws: &mut Draws) -> [bool; 14] {
+    let mut kinds = [false; 14];
+    for kind in 0..14_usize {
+        let is_chosen = draws.below(4) == 0;
+        kinds[kind] = is_chosen;
+    }
+    kinds
+}
+
+// Chosen kinds of entries. Idle ones are among them with one draw of sixteen.
 fn drawn_stops(draws: &mut Draws) -> Stops {
+    let kinds = drawn_kinds(draws);
     Stops {
-        gave: draws.below(4) == 0,
-        sent: draws.below(4) == 0,
-        landed: draws.below(4) == 0,
-        shifted: draws.below(4) == 0,
-        dropped: draws.below(4) == 0,
-        spread: draws.below(4) == 0,
-        executed: draws.below(4) == 0,
-        lifted: draws.below(4) == 0,
-        took: draws.below(4) == 0,
-        discarded: draws.below(4) == 0,
-        through: draws.below(4) == 0,
-        unlocked: draws.below(4) == 0,
-        retired: draws.below(4) == 0,
-        passed: draws.below(4) == 0,
+        gave: kinds[0],
+        sent: kinds[1],
+        landed: kinds[2],
+        shifted: kinds[3],
+        dropped: kinds[4],
+        spread: kinds[5],
+        executed: kinds[6],
+        lifted: kinds[7],
+        took: kinds[8],
+        discarded: kinds[9],
+        through: kinds[10],
+        unlocked: kinds[11],
+        retired: kinds[12],
+        passed: kinds[13],
         idle: draws.below(16) == 0,
     }
 }
@@ -73,23 +84,23 @@ impl Drawn {
     }
 
     // Takes the next laid step or several, and counts those that weren't taken.
-    fn go_on(&mut self, laid: &mut Laid) -> Result<(), io::Error> {
+    fn go_on(&mut self, laid: &mut Laid) -> Result<(), Memory> {
         let before = laid.len();
-        let taken = self.session.session().taken();
+        let taken = self.taken();
         if self.draws.below(3) == 0 {
             self.take_next(laid);
         } else {
             self.run_drawn(laid);
         }
         let tried = before.saturating_sub(laid.len());
-        let done = self.session.session().taken().saturating_sub(taken);
+        let done = self.taken().saturating_sub(taken);
         let left_out = tried.saturating_sub(done);
         self.counts.waited = self.counts.waited.saturating_add(left_out);
         self.look()
     }
 
     /// Takes the steps of a drawn text.
-    pub fn take_drawn_text(&mut self, alloc: Global) -> Result<(), io::Error> {
+    pub fn take_drawn_text(&mut self, alloc: Global) -> Result<(), Memory> {
         let text = schedule_text(alloc, &mut self.draws)?;
         let Ok(mut laid) = self.lay(alloc, text.as_str()) else {
             self.counts.refused = self.counts.refused.saturating_add(1);

@@ -1,39 +1,54 @@
 //! A session that goes on and on: whenever a host waits, it is asked for more.
 
-use crate::begun::{begin, out_of_memory};
+use crate::begun::begin;
 use crate::draws::Draws;
+use crate::orders::Order;
+use crate::reading::Contents;
+use crate::texts::push_rounds;
+use crate::words::push_counts;
+use hmc_codes::Memory;
 use hmc_schedule::Step;
 use hmc_session::{Laid, NO_STOPS, NotTaken, Ran, Session, Stops};
 use hmc_units::{Shipped, Slots};
-use std::alloc::Global;
-use std::io;
+use std::alloc::{AllocError, Global};
 
 /// A session with shipped units, without a tape.
 pub type Plain = Session<Slots<Shipped>>;
 
-/// What a long session did.
-#[derive(Clone, Copy)]
-pub struct Done {
-    /// Requests that were asked.
-    pub asked: u32,
-    /// Answers that hosts took.
-    pub answers: u32,
-    /// Steps that were taken.
-    pub taken: u32,
+// The text of a read of 64 bytes.
+fn read_text(alloc: Global, host: u8, cube: u8, address: u32) -> Result<String, AllocError> {
+    let mut text = String::new(alloc);
+    push_counts(
+        &mut text,
+        &[
+            (u64::from(host), " rd64 "),
+            (u64::from(cube), " "),
+            (u64::from(address), ""),
+        ],
+    )?;
+    Ok(text)
+}
+
+// Whether a host has given all that it was asked for.
+fn waits(session: &Plain, host: u8) -> bool {
+    matches!(
+        session.step_refusal(&Step::Give(host)),
+        Some(NotTaken::Waits)
+    )
 }
 
 // Asks each host that has given all that it was asked for. Returns how many were asked.
-fn ask_waiting(alloc: Global, session: &mut Plain, draws: &mut Draws) -> Result<u32, io::Error> {
+fn ask_waiting(alloc: Global, session: &mut Plain, draws: &mut Draws) -> Result<u32, Memory> {
     let hosts = session.plan().hosts;
     let cubes = session.plan().cube_count();
     let mut asked = 0_u32;
     for host in 0..hosts {
-        if session.step_refusal(&Step::Give(host)) != Some(NotTaken::Waits) {
+        if !waits(session, host) {
             continue;
         }
         let cube = draws.byte_below(cubes);
         let address = draws.below(64).wrapping_mul(16);
-        let text = format!(in alloc; "{host} rd64 {cube} {address}")?;
+        let text = read_text(alloc, host, cube, address)?;
         if session.ask_line(alloc, text.as_str()).is_ok() {
             asked = asked.saturating_add(1);
         }
@@ -47,11 +62,12 @@ pub fn reaches(session: &mut Plain, laid: &mut Laid, most: u32, stops: &Stops) -
 }
 
 /// The steps of so many rounds, laid down for the session.
-pub fn laid_rounds(alloc: Global, session: &Plain, rounds: u32) -> Result<Laid, io::Error> {
-    let text = format!(in alloc; "round {rounds}")?;
+pub fn laid_rounds(alloc: Global, session: &Plain, rounds: u32) -> Result<Laid, Memory> {
+    let mut text = String::new(alloc);
+    push_rounds(&mut text, rounds)?;
     match session.lay(alloc, text.as_str()) {
         Ok(laid) => Ok(laid),
-        Err(_) => Err(out_of_memory()),
+        Err(_) => Err(Memory),
     }
 }
 
@@ -68,25 +84,45 @@ fn count_stops(session: &mut Plain, laid: &mut Laid, stops: &Stops) -> u32 {
     count
 }
 
-/// Asks and steps the session of a case, over so many pieces of ten rounds.
-pub fn go_on(alloc: Global, net: &str, seed: u64, pieces: u32) -> Result<Done, io::Error> {
-    let mut session = begin(alloc, net)?.into_session();
-    let mut draws = Draws { state: seed };
+// Takes so many rounds, and returns how many answers hosts took.
+fn take_rounds(alloc: Global, session: &mut Plain, rounds: u32) -> Result<u32, Memory> {
     let stops = Stops {
         took: true,
         ..NO_STOPS
     };
+    let mut laid = laid_rounds(alloc, session, rounds)?;
+    Ok(count_stops(session, &mut laid, &stops))
+}
+
+// Appends what a long session did.
+fn push_done(into: &mut String, asked: u32, answers: u32, taken: u32) -> Result<(), AllocError> {
+    into.push_str("long: ")?;
+    push_counts(
+        into,
+        &[
+            (u64::from(asked), " asked, "),
+            (u64::from(answers), " answers, "),
+            (u64::from(taken), " steps\n"),
+        ],
+    )
+}
+
+/// Asks and steps the session of a case, over so many pieces of ten rounds. Appends how many
+/// requests were asked, how many answers hosts took, and how many steps were taken.
+pub fn push_long(
+    alloc: Global,
+    order: &Order<'_>,
+    contents: &Contents,
+    into: &mut String,
+) -> Result<(), Memory> {
+    let mut session = begin(alloc, contents.input.as_str())?.into_session();
+    let mut draws = Draws { state: order.seed };
     let mut asked = 0_u32;
     let mut answers = 0_u32;
-    for _ in 0..pieces {
+    for _ in 0..order.count {
         asked = asked.saturating_add(ask_waiting(alloc, &mut session, &mut draws)?);
-        let mut laid = laid_rounds(alloc, &session, 10)?;
-        answers = answers.saturating_add(count_stops(&mut session, &mut laid, &stops));
+        answers = answers.saturating_add(take_rounds(alloc, &mut session, 10)?);
     }
-    let taken = session.taken();
-    Ok(Done {
-        asked,
-        answers,
-        taken,
-    })
+    push_done(into, asked, answers, session.taken())?;
+    Ok(())
 }

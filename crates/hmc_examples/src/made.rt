@@ -1,12 +1,11 @@
 //! The cases of two numbers. The values are those of another program.
 
-use crate::begun::out_of_memory;
+use crate::words::push_counts;
 use hmc_case::Case;
-use hmc_codes::{Command, Join, Place, ZERO_FLIT};
+use hmc_codes::{Command, Join, Memory, Place, ZERO_FLIT};
 use hmc_make::make;
 use hmc_schedule::Step;
 use std::alloc::Global;
-use std::io;
 
 /// It inverts one bit of a flit.
 const ONE_BIT: [u8; 16] = [0, 0, 0, 0, 0, 0, 0, 0, 0, 0, 0, 0, 0, 0, 0, 1];
@@ -63,13 +62,23 @@ fn is_of_three(case: &Case) -> bool {
     has_sizes && third && changed && unchanged && ends_in_chain(case)
 }
 
-/// Whether the case of 0, or that of 3, has the parts that were worked out.
-pub fn is_as_worked(alloc: Global, number: u64) -> Result<bool, io::Error> {
-    let Ok(case) = make(alloc, number) else {
-        return Err(out_of_memory());
-    };
+// Whether the case of 0, or that of 3, has the parts that were worked out.
+fn is_as_worked(alloc: Global, number: u64) -> Result<bool, Memory> {
+    let case = make(alloc, number)?;
     if number == 0 {
         return Ok(is_of_zero(&case));
     }
     Ok(number == 3 && is_of_three(&case))
+}
+
+/// Appends whether the case of a number is as it was worked out.
+pub fn push_made(alloc: Global, number: u64, into: &mut String) -> Result<(), Memory> {
+    let word = if is_as_worked(alloc, number)? {
+        ": as worked out\n"
+    } else {
+        ": differs\n"
+    };
+    into.push_str("made of ")?;
+    push_counts(into, &[(number, word)])?;
+    Ok(())
 }

@@ -10,57 +10,81 @@ ghost use Rattle.std.specs.Prelude.{◌≡◌};
 ghost use Rattle.std.specs.Str.{bytes_eq};
 ghost use Rattle.hmc_packet.specs.Spelling.{FitsProfile, spelling};
 
+use crate::orders::Order;
+use crate::reading::Contents;
+use crate::words::{begins_with, first_word, number_of, push_all_hold, push_counts, push_differs};
 use arrayvec::ArrayVec;
-use hmc_codes::{Flit, Profile};
+use hmc_codes::{Flit, Memory, Profile};
 use hmc_packet::{Bad, Packet, Seen, read, spell};
 use std::alloc::{AllocError, Global};
-use std::rt::Files;
-use std::{fs, io};
 
-/// The words of a packet before its flits.
-const PACKET_WORDS: usize = 12;
+/// The digits of a flit. No other word of a row has so many.
+const FLIT_DIGITS: usize = 32;
 
 type Flits = ArrayVec<Flit, 17>;
 
 // The profile that a row begins with, and the rest.
 fn profile_of(row: &str) -> Option<(Profile, &str)> {
-    let (word, rest) = row.split_once(" ")?;
-    match word {
-        "1" => Some((Profile::One, rest)),
-        "2" => Some((Profile::Two, rest)),
+    let (word, rest) = first_word(row)?;
+    match number_of(word)? {
+        1 => Some((Profile::One, rest)),
+        2 => Some((Profile::Two, rest)),
         _ => None,
     }
 }
 
-// The flits in the words of a line after the first `skipped` words.
-fn flits_in(line: &str, skipped: usize) -> Option<Flits> {
+// The flits of a line.
+fn flits_in(line: &str) -> Option<Flits> {
     let mut flits = Flits::new();
-    let mut index = 0usize;
     for word in line.split_whitespace() {
-        if index >= skipped {
+        if word.len() == FLIT_DIGITS {
             let flit = u128::from_str_radix(word, 16).ok()?.to_be_bytes();
             flits.try_push(flit).ok()?;
         }
-        index = index.saturating_add(1);
     }
     Some(flits)
 }
 
-// The first seven words of a packet.
+// Appends these numbers, each with a blank after it.
+fn push_numbers(into: &mut String, numbers: &[u8]) -> Result<(), AllocError> {
+    for number in numbers {
+        push_counts(into, &[(u64::from(*number), " ")])?;
+    }
+    Ok(())
+}
+
+// The words of a packet up to its address.
 fn first_words(alloc: Global, packet: &Packet) -> Result<String, AllocError> {
     let word = packet.command.word();
-    let mut text = format!(in alloc; "{word} {} {:#x}", packet.tag, packet.address)?;
-    write!(text, " {} {}", packet.cube, packet.slid)?;
-    write!(text, " {} {}", u8::from(packet.flag), packet.errstat)?;
+    let text = format!(in alloc; "{word} {} {:#x} ", packet.tag, packet.address)?;
     Ok(text)
 }
 
-// The words of a packet.
+// The words of a packet, each with a blank after it.
 fn words_of(alloc: Global, seen: &Seen) -> Result<String, AllocError> {
     let packet = &seen.packet;
     let mut text = first_words(alloc, packet)?;
-    write!(text, " {} {} {}", packet.rtc, packet.seq, packet.frp)?;
-    write!(text, " {} {} ", u8::from(packet.poisoned), seen.rrp)?;
+    let flag = u8::from(packet.flag);
+    push_numbers(
+        &mut text,
+        &[
+            packet.cube,
+            packet.slid,
+            flag,
+            packet.errstat,
+            packet.rtc,
+            packet.seq,
+        ],
+    )?;
+    let poisoned = u64::from(packet.poisoned);
+    push_counts(
+        &mut text,
+        &[
+            (u64::from(packet.frp), " "),
+            (poisoned, " "),
+            (u64::from(seen.rrp), " "),
+        ],
+    )?;
     Ok(text)
 }
 
@@ -73,27 +97,6 @@ fn fault_name(bad: Bad) -> &'static str {
     }
 }
 
-// Whether a line is of a fault: no command has such a word.
-fn is_of_fault(line: &str) -> bool {
-    for name in ["length", "command", "reserved", "crc"] {
-        if line.starts_with(name) {
-            return true;
-        }
-    }
-    false
-}
-
-// Whether the fault that the line says is the first that its flits have.
-fn is_refused(line: &str, profile: Profile) -> bool {
-    let Some(flits) = flits_in(line, 1) else {
-        return false;
-    };
-    match read(flits.as_slice(), profile) {
-        Ok(_) => false,
-        Err(bad) => line.starts_with(fault_name(bad)),
-    }
-}
-
 // Whether the packet that was read is spelled by these flits, byte by byte.
 fn is_spelled_by(seen: &Seen, profile: Profile, flits: &[Flit]) -> bool
     requires { FitsProfile profile seen.now.packet seen.now.rrp }
@@ -103,17 +106,21 @@ fn is_spelled_by(seen: &Seen, profile: Profile, flits: &[Flit]) -> bool
     spell(&seen.packet, seen.rrp, profile).as_slice() == flits
 }
 
-// Whether the packet that the line says is what its flits are read as, and is spelled by them.
-fn is_packet(alloc: Global, line: &str, profile: Profile) -> Result<bool, AllocError> {
-    let Some(flits) = flits_in(line, PACKET_WORDS) else {
-        return Ok(false);
-    };
-    let flits = flits.as_slice();
-    let Ok(seen) = read(flits, profile) else {
-        return Ok(false);
-    };
-    let is_same = line.starts_with(words_of(alloc, &seen)?.as_str());
-    Ok(is_same && is_spelled_by(&seen, profile, flits))
+// Whether these flits are what the line says: the packet that they are read as, which is spelled by
+// them, or the first fault that they have. No command has the word of a fault.
+fn line_holds(
+    alloc: Global,
+    line: &str,
+    profile: Profile,
+    flits: &[Flit],
+) -> Result<bool, AllocError> {
+    match read(flits, profile) {
+        Ok(seen) => {
+            let is_same = begins_with(line, words_of(alloc, &seen)?.as_str());
+            Ok(is_same && is_spelled_by(&seen, profile, flits))
+        }
+        Err(bad) => Ok(begins_with(line, fault_name(bad))),
+    }
 }
 
 // Whether a row's flits are what it says.
@@ -121,23 +128,27 @@ fn row_holds(alloc: Global, row: &str) -> Result<bool, AllocError> {
     let Some((profile, line)) = profile_of(row) else {
         return Ok(false);
     };
-    if is_of_fault(line) {
-        Ok(is_refused(line, profile))
-    } else {
-        is_packet(alloc, line, profile)
+    match flits_in(line) {
+        Some(flits) => line_holds(alloc, line, profile, flits.as_slice()),
+        None => Ok(false),
     }
 }
 
-/// Prints how many rows of a table hold, and which is the first that doesn't.
-pub fn print_packets(rt: &(impl Files + AllocGlobal + Print), name: &str) -> Result<(), io::Error> {
-    let alloc = rt.alloc();
-    let table = fs::read_to_string(rt, format!(in alloc; "{name}.txt")?.as_str())?;
-    let mut count = 0_u32;
-    for row in table.lines() {
+/// Appends how many rows of a table hold, or which is the first that doesn't.
+pub fn push_packets(
+    alloc: Global,
+    order: &Order<'_>,
+    contents: &Contents,
+    into: &mut String,
+) -> Result<(), Memory> {
+    let mut count = 0_u64;
+    for row in contents.stored.as_str().lines() {
         if !row_holds(alloc, row)? {
-            return println!(rt; "{name}: the row {row} differs");
+            push_differs(into, order.name, row)?;
+            return Ok(());
         }
         count = count.saturating_add(1);
     }
-    println!(rt; "{name}: {count} rows hold")
+    push_all_hold(into, order.name, count)?;
+    Ok(())
 }

@@ -1,11 +1,14 @@
 //! A replay with a bench of the caller's own: it comes back as the steps left it.
 
-use crate::begun::{case_of, out_of_memory, units};
+use crate::begun::{case_of, units};
+use crate::orders::Order;
+use crate::reading::Contents;
+use crate::words::{push_counts, push_texts};
+use hmc_codes::Memory;
 use hmc_outside::MemorySink;
 use hmc_replay::{Extent, replay_on};
 use hmc_units::{Shipped, Slots, Workbench};
 use std::alloc::Global;
-use std::io;
 
 /// More than a short report has, and less than a whole one of 100 rounds.
 const ROOM: usize = 1_024;
@@ -20,20 +23,31 @@ fn stamp_of(bench: Slots<Shipped>) -> u8 {
     }
 }
 
-/// The number that this unit stamps next after a replay of a case; 0 where it is gone. A whole
-/// report breaks off.
-pub fn next_stamp(alloc: Global, net: &str, is_whole: bool) -> Result<u8, io::Error> {
-    let case = case_of(alloc, net)?;
-    let Ok(mut sink) = MemorySink::new(alloc, ROOM, &[]) else {
-        return Err(out_of_memory());
-    };
-    let extent = if is_whole {
+// The number that this unit stamps next after a replay of a case; 0 where it is gone. A whole
+// report breaks off.
+fn next_stamp(alloc: Global, text: &str, extent: Extent) -> Result<u8, Memory> {
+    let case = case_of(alloc, text)?;
+    let mut sink = MemorySink::new(alloc, ROOM, &[])?;
+    match replay_on(alloc, &mut sink, extent, &case, units(alloc)?) {
+        Ok((_, bench)) => Ok(stamp_of(bench)),
+        Err(memory) => Err(memory),
+    }
+}
+
+/// Appends what a unit stamps next, after a replay whose report is whole where the seed is not 0.
+pub fn push_stamp(
+    alloc: Global,
+    order: &Order<'_>,
+    contents: &Contents,
+    into: &mut String,
+) -> Result<(), Memory> {
+    let extent = if order.seed > 0 {
         Extent::Whole
     } else {
         Extent::Short
     };
-    match replay_on(alloc, &mut sink, extent, &case, units(alloc)?) {
-        Ok((_, bench)) => Ok(stamp_of(bench)),
-        Err(_) => Err(out_of_memory()),
-    }
+    let next = next_stamp(alloc, contents.input.as_str(), extent)?;
+    push_texts(into, &["stamp after ", order.name, ", "])?;
+    push_counts(into, &[(order.seed, ": "), (u64::from(next), "\n")])?;
+    Ok(())
 }

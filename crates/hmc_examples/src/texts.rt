@@ -1,12 +1,12 @@
 //! Texts of requests and of steps, drawn.
 
 use crate::draws::Draws;
-use hmc_codes::ZERO_FLIT;
+use crate::words::{push_counts, push_texts};
+use hmc_codes::{Flit, ZERO_FLIT};
 use hmc_schedule::Step;
 use hmc_session::step_named;
 use hmc_step_text::step_line;
-use std::alloc::Global;
-use std::io;
+use std::alloc::{AllocError, Global};
 
 /// Commands, each with what comes before the bytes of its line, and how many these are.
 const COMMANDS: [(&str, &str, u32); 23] = [
@@ -48,17 +48,11 @@ const WRONG: [&str; 8] = [
     "0 fence\n",
 ];
 
-/// The mask of noise.
-const NOISE: &str = "00000000000000000000000000000011";
+/// What a line of noise has after its number: the mask.
+const NOISE: &str = " 00000000000000000000000000000011\n";
 
-// Appends this and so many bytes.
-fn push_bytes(
-    text: &mut String,
-    draws: &mut Draws,
-    before: &str,
-    count: u32,
-) -> Result<(), io::Error> {
-    text.push_str(before)?;
+// Appends so many bytes.
+fn push_bytes(text: &mut String, draws: &mut Draws, count: u32) -> Result<(), AllocError> {
     for _ in 0..count {
         let byte = draws.byte_below(255);
         write!(text, "{byte:02x}")?;
@@ -66,18 +60,51 @@ fn push_bytes(
     Ok(())
 }
 
-// Appends a command for this cube. Of the addresses some are no multiple of 16, and are registers,
-// and some are past the capacity of a small cube.
-fn push_command(text: &mut String, draws: &mut Draws, cube: u8) -> Result<(), io::Error> {
+// An address. Some are no multiple of 16, and are registers, and some are past the capacity of a
+// small cube.
+fn drawn_address(draws: &mut Draws) -> u32 {
+    if draws.below(4) == 0 {
+        return draws.below(20);
+    }
+    draws.below(80).wrapping_mul(16)
+}
+
+// Appends a command for this cube.
+fn push_command(text: &mut String, draws: &mut Draws, cube: u8) -> Result<(), AllocError> {
     let (word, before, count) = COMMANDS[draws.below(23) as usize];
-    let address = if draws.below(4) == 0 {
-        draws.below(20)
-    } else {
-        draws.below(80).wrapping_mul(16)
-    };
-    write!(text, "{word} {cube}")?;
-    write!(text, " {address}")?;
-    push_bytes(text, draws, before, count)
+    let address = drawn_address(draws);
+    push_texts(text, &[word, " "])?;
+    push_counts(
+        text,
+        &[(u64::from(cube), " "), (u64::from(address), before)],
+    )?;
+    push_bytes(text, draws, count)
+}
+
+// Appends a fence of one of these hosts, or none.
+fn push_fence(text: &mut String, draws: &mut Draws, hosts: u8) -> Result<(), AllocError> {
+    if draws.below(6) > 0 {
+        return Ok(());
+    }
+    let fenced = draws.byte_below(hosts);
+    push_counts(text, &[(u64::from(fenced), " fence\n")])
+}
+
+// Appends a request of one of these hosts to one of these cubes, with a fence before it or without.
+fn push_request(
+    text: &mut String,
+    draws: &mut Draws,
+    hosts: u8,
+    cubes: u8,
+) -> Result<(), AllocError> {
+    let host = draws.byte_below(hosts);
+    let cube = draws.byte_below(cubes);
+    push_fence(text, draws, hosts)?;
+    push_counts(text, &[(u64::from(host), " ")])?;
+    if draws.below(10) == 0 {
+        text.push_str("poison ")?;
+    }
+    push_command(text, draws, cube)
 }
 
 /// The text of a request of one of these hosts to one of these cubes, with a fence before it or
@@ -87,63 +114,89 @@ pub fn request_text(
     draws: &mut Draws,
     hosts: u8,
     cubes: u8,
-) -> Result<String, io::Error> {
+) -> Result<String, AllocError> {
+    let mut text = String::new(alloc);
     if draws.below(8) == 0 {
         let wrong = WRONG[draws.below(8) as usize];
-        return Ok(String::from_str(alloc, wrong)?);
+        text.push_str(wrong)?;
+    } else {
+        push_request(&mut text, draws, hosts, cubes)?;
     }
-    let mut text = String::new(alloc);
-    let host = draws.byte_below(hosts);
-    let cube = draws.byte_below(cubes);
-    if draws.below(6) == 0 {
-        let fenced = draws.byte_below(hosts);
-        writeln!(text, "{fenced} fence")?;
-    }
-    write!(text, "{host} ")?;
-    if draws.below(10) == 0 {
-        text.push_str("poison ")?;
-    }
-    push_command(&mut text, draws, cube)?;
     Ok(text)
+}
+
+// The number of a kind of step, or of none.
+fn drawn_kind(draws: &mut Draws) -> u8 {
+    let usual = draws.byte_below(11);
+    if usual < 10 {
+        return usual;
+    }
+    draws.byte_below(3).wrapping_add(10)
+}
+
+// A mask, which changes nothing or the last byte.
+fn drawn_mask(draws: &mut Draws) -> Flit {
+    let mut mask = ZERO_FLIT;
+    if draws.below(8) == 0 {
+        mask[15] = draws.byte_below(255);
+    }
+    mask
 }
 
 /// A step by numbers, of any kind, or numbers that name none. Some name parts that aren't there. Of
 /// the landings some change the last byte.
 pub fn drawn_step(draws: &mut Draws) -> Option<Step> {
-    let usual = draws.byte_below(11);
-    let kind = if usual == 10 {
-        draws.byte_below(3).wrapping_add(10)
-    } else {
-        usual
-    };
+    let kind = drawn_kind(draws);
     let a = draws.byte_below(4);
     let b = draws.byte_below(3);
     let c = draws.byte_below(2);
-    let mut mask = ZERO_FLIT;
-    if draws.below(8) == 0 {
-        mask[15] = draws.byte_below(255);
-    }
+    let mask = drawn_mask(draws);
     step_named(kind, a, b, c, &mask)
 }
 
-/// The text of some rounds, with noise or without, or of a single step. After rounds a packet may
-/// go on that is arriving at cube 0.
-pub fn schedule_text(alloc: Global, draws: &mut Draws) -> Result<String, io::Error> {
-    let mut text = String::new(alloc);
-    if draws.below(4) == 0 {
-        if let Some(step) = drawn_step(draws) {
-            text.push_str(step_line(&step).as_str())?;
-        }
-        return Ok(text);
+/// Appends a line of so many rounds.
+pub fn push_rounds(text: &mut String, rounds: u32) -> Result<(), AllocError> {
+    text.push_str("round ")?;
+    push_counts(text, &[(u64::from(rounds), "\n")])
+}
+
+// Appends a line of noise, or none.
+fn push_noise(text: &mut String, draws: &mut Draws) -> Result<(), AllocError> {
+    if draws.below(4) > 0 {
+        return Ok(());
     }
-    if draws.below(4) == 0 {
-        let every = draws.below(60).wrapping_add(10);
-        writeln!(text, "noise {every} {NOISE}")?;
-    }
+    let every = draws.below(60).wrapping_add(10);
+    text.push_str("noise ")?;
+    push_counts(text, &[(u64::from(every), NOISE)])
+}
+
+// Appends some rounds, with noise or without. After them a packet may go on that is arriving at
+// cube 0.
+fn push_drawn_rounds(text: &mut String, draws: &mut Draws) -> Result<(), AllocError> {
+    push_noise(text, draws)?;
     let rounds = draws.below(16).wrapping_add(1);
-    writeln!(text, "round {rounds}")?;
+    push_rounds(text, rounds)?;
     if draws.below(3) == 0 {
         text.push_str("through 0 0\n")?;
+    }
+    Ok(())
+}
+
+// Appends a single step, or nothing where the numbers name none.
+fn push_drawn_step(text: &mut String, draws: &mut Draws) -> Result<(), AllocError> {
+    if let Some(step) = drawn_step(draws) {
+        text.push_str(step_line(&step).as_str())?;
+    }
+    Ok(())
+}
+
+/// The text of some rounds, or of a single step.
+pub fn schedule_text(alloc: Global, draws: &mut Draws) -> Result<String, AllocError> {
+    let mut text = String::new(alloc);
+    if draws.below(4) == 0 {
+        push_drawn_step(&mut text, draws)?;
+    } else {
+        push_drawn_rounds(&mut text, draws)?;
     }
     Ok(text)
 }

@@ -1,16 +1,19 @@
 //! The same steps, taken in several ways, so that bench/session can count their instructions. The
 //! case has one host, one link and one cube of one vault and one bank, and its host is finished.
 
-use crate::begun::{begin, case_of, out_of_memory, units};
+use crate::begun::{begin, case_of, units};
 use crate::long::{Plain, laid_rounds, reaches};
+use crate::orders::{Order, Way};
+use crate::reading::Contents;
 use crate::replayed::NO_SCHEDULE;
-use hmc_codes::{Lift, ZERO_FLIT};
+use crate::words::{push_counts, push_texts, replaced};
+use hmc_case::Case;
+use hmc_codes::{Lift, Memory, ZERO_FLIT};
 use hmc_outside::MemorySink;
 use hmc_replay::{Extent, replay_on};
 use hmc_schedule::Step;
 use hmc_session::{Laid, NO_STOPS};
 use std::alloc::Global;
-use std::io;
 
 /// The steps of a round.
 const ROUND: [Step; 12] = [
@@ -33,8 +36,8 @@ const ROOM: usize = 4_096;
 
 // Takes the steps of a round, each as a value.
 fn take_round(session: &mut Plain) {
-    for step in ROUND {
-        let _ = session.step(&step);
+    for step in &ROUND {
+        let _ = session.step(step);
     }
 }
 
@@ -45,6 +48,12 @@ fn take_rounds(session: &mut Plain, rounds: u32) {
     }
 }
 
+// Takes laid steps in one run.
+fn take_run(session: &mut Plain, laid: &mut Laid) {
+    let most = laid.len();
+    let _ = reaches(session, laid, most, &NO_STOPS);
+}
+
 // Takes laid steps one by one.
 fn take_each(session: &mut Plain, laid: &mut Laid) {
     for _ in 0..laid.len() {
@@ -52,35 +61,54 @@ fn take_each(session: &mut Plain, laid: &mut Laid) {
     }
 }
 
-/// Takes so many rounds in a session: each step as a value (`steps`), or laid down ahead, one by
-/// one (`next`) or in one run. Returns how many steps were taken.
-pub fn in_session(alloc: Global, way: &str, net: &str, rounds: u32) -> Result<u32, io::Error> {
-    let mut session = begin(alloc, net)?.into_session();
+// Takes so many rounds in a session: each step as a value, or laid down ahead, one by one or in one
+// run. Returns how many steps were taken.
+fn in_session(alloc: Global, way: Way, case: &str, rounds: u32) -> Result<u32, Memory> {
+    let mut session = begin(alloc, case)?.into_session();
     session.finish(0);
     let mut laid = laid_rounds(alloc, &session, rounds)?;
-    if way == "steps" {
-        take_rounds(&mut session, rounds);
-    } else if way == "next" {
-        take_each(&mut session, &mut laid);
-    } else {
-        let most = laid.len();
-        let _ = reaches(&mut session, &mut laid, most, &NO_STOPS);
+    match way {
+        Way::Steps => take_rounds(&mut session, rounds),
+        Way::Next => take_each(&mut session, &mut laid),
+        _ => take_run(&mut session, &mut laid),
     }
     Ok(session.taken())
 }
 
-/// Takes so many rounds as the program does, without the lines of their entries. Returns the
-/// number of rounds, or 0 where not all were taken.
-pub fn by_program(alloc: Global, net: &str, rounds: u32) -> Result<u32, io::Error> {
-    let schedule = format!(in alloc; "schedule = 'round {rounds}'\n")?;
-    let text = net.replace(alloc, NO_SCHEDULE, schedule.as_str())?;
-    let case = case_of(alloc, text.as_str())?;
-    let Ok(mut sink) = MemorySink::new(alloc, ROOM, &[]) else {
-        return Err(out_of_memory());
-    };
+// The case without steps, with so many rounds.
+fn case_of_rounds(alloc: Global, case: &str, rounds: u32) -> Result<Case, Memory> {
+    let mut schedule = String::new(alloc);
+    schedule.push_str("schedule = 'round ")?;
+    push_counts(&mut schedule, &[(u64::from(rounds), "'\n")])?;
+    let text = replaced(alloc, case, NO_SCHEDULE, schedule.as_str())?;
+    case_of(alloc, text.as_str())
+}
+
+// Takes so many rounds as the program does, without the lines of their entries. Returns the number
+// of rounds, or 0 where not all were taken.
+fn by_program(alloc: Global, case: &str, rounds: u32) -> Result<u32, Memory> {
+    let case = case_of_rounds(alloc, case, rounds)?;
+    let mut sink = MemorySink::new(alloc, ROOM, &[])?;
     match replay_on(alloc, &mut sink, Extent::Short, &case, units(alloc)?) {
         Ok((Ok(false), _)) => Ok(rounds),
         Ok(_) => Ok(0),
-        Err(_) => Err(out_of_memory()),
+        Err(memory) => Err(memory),
     }
+}
+
+/// Takes the rounds of an order, and appends what they came to.
+pub fn push_timed(
+    alloc: Global,
+    order: &Order<'_>,
+    contents: &Contents,
+    into: &mut String,
+) -> Result<(), Memory> {
+    let (case, rounds) = (contents.input.as_str(), order.count);
+    let done = match order.way {
+        Way::Program => by_program(alloc, case, rounds)?,
+        _ => in_session(alloc, order.way, case, rounds)?,
+    };
+    push_texts(into, &[order.word, ": "])?;
+    push_counts(into, &[(u64::from(done), "\n")])?;
+    Ok(())
 }

@@ -4,15 +4,18 @@
 ghost use Rattle.std.specs.Prelude.{◌≡◌, IfOk, option_map, string_bytes};
 ghost use Rattle.hmc_examples.specs.Values.{value_text};
 
+use crate::orders::Order;
+use crate::reading::{Contents, contents_of};
+use crate::words::{first_word, is_same, number_of, push_all_hold, push_differs, push_texts};
 use hmc_entries::Entry;
 use hmc_trace::{Compiled, compile, value, values};
 use std::alloc::{AllocError, Global};
+use std::io;
 use std::rt::Files;
-use std::{fs, io};
 
 // A row: a trace and its report, how many lines of the report are read, and the values of the
 // loads then, in hexadecimal digits, or `unknown`.
-#[derive(Clone, Copy)]
+#[derive(Drop)]
 struct Row<'a> {
     name: &'a str,
     lines: usize,
@@ -21,9 +24,10 @@ struct Row<'a> {
 
 // The row of a line `NAME LINES = VALUES`, if it is one.
 fn row_of(line: &str) -> Option<Row<'_>> {
-    let (head, values) = line.split_once(" = ")?;
-    let (name, lines) = head.split_once(" ")?;
-    let lines = lines.parse::<usize>().ok()?;
+    let (name, rest) = first_word(line)?;
+    let (lines, rest) = first_word(rest)?;
+    let (_, values) = first_word(rest)?;
+    let lines = number_of(lines)? as usize;
     Some(Row {
         name,
         lines,
@@ -74,7 +78,7 @@ fn is_value(
         return Ok(false);
     }
     match value(alloc, compiled, load, journal) {
-        Ok(found) => Ok(value_text(alloc, &found)?.as_str() == text),
+        Ok(found) => Ok(is_same(value_text(alloc, &found)?.as_str(), text)),
         Err(_) => Ok(false),
     }
 }
@@ -90,11 +94,10 @@ fn all_values(alloc: Global, compiled: &Compiled, journal: &[Entry]) -> Result<S
     for one in found.iter() {
         let digits = value_text(alloc, one)?;
         if is_value(alloc, compiled, load, journal, digits.as_str())? {
-            text.push_str(digits.as_str())?;
+            push_texts(&mut text, &[digits.as_str(), ";"])?;
         } else {
-            text.push_str("differs")?;
+            text.push_str("differs;")?;
         }
-        text.push_str(";")?;
         load = load.saturating_add(1);
     }
     Ok(text)
@@ -109,28 +112,31 @@ fn values_text(alloc: Global, trace: &str, journal: &[Entry]) -> Result<String, 
 }
 
 // Whether the values of a row are those that the first lines of its report give.
-fn row_holds(rt: &(impl Files + AllocGlobal), row: &Row<'_>) -> Result<bool, io::Error> {
-    let alloc = rt.alloc();
-    let name = row.name;
-    let trace = fs::read_to_string(rt, format!(in alloc; "traces/{name}.trace")?.as_str())?;
-    let report = fs::read_to_string(rt, format!(in alloc; "traces/{name}.report")?.as_str())?;
-    let journal = known_entries(alloc, report.as_str(), row.lines)?;
-    let values = values_text(alloc, trace.as_str(), &journal)?;
-    Ok(values.as_str() == row.values)
+fn row_holds(alloc: Global, row: &Row<'_>, contents: &Contents) -> Result<bool, AllocError> {
+    let journal = known_entries(alloc, contents.stored.as_str(), row.lines)?;
+    let values = values_text(alloc, contents.input.as_str(), &journal)?;
+    Ok(is_same(values.as_str(), row.values))
 }
 
-/// Prints how many rows of the table hold, and which is the first that doesn't.
-pub fn print_values(rt: &(impl Files + AllocGlobal + Print), name: &str) -> Result<(), io::Error> {
-    let table = fs::read_to_string(rt, format!(in rt.alloc(); "{name}.txt")?.as_str())?;
-    let mut count = 0_u32;
+/// Appends how many rows of the table hold, or which is the first that doesn't.
+pub fn push_values(
+    rt: &(impl Files + AllocGlobal),
+    order: &Order<'_>,
+    table: &str,
+    into: &mut String,
+) -> Result<(), io::Error> {
+    let mut count = 0_u64;
     for line in table.lines() {
         let Some(row) = row_of(line) else {
             continue;
         };
-        if !row_holds(rt, &row)? {
-            return println!(rt; "{name}: the row {line} differs");
+        let contents = contents_of(rt, row.name, ".trace", ".report")?;
+        if !row_holds(rt.alloc(), &row, &contents)? {
+            push_differs(into, order.name, line)?;
+            return Ok(());
         }
         count = count.saturating_add(1);
     }
-    println!(rt; "{name}: {count} rows hold")
+    push_all_hold(into, order.name, count)?;
+    Ok(())
 }
