@@ -9,7 +9,7 @@ import sys
 from collections.abc import Callable, Iterable, Iterator
 from pathlib import Path
 
-from tool import numbers, phrases, quotes
+from tool import numbers, phrases, quotes, stated
 from tool.build import crates_below, libraries
 from tool.durations import duration_table
 from tool.kit import TOP
@@ -134,7 +134,7 @@ def page_of(path: str) -> str:
     text = phrases.page_with(path, text)
     for table in PAGES.get(path, ()):
         text = page_with(text, table())
-    return numbers.page_with(path, text)
+    return stated.page_with(path, text)
 
 
 def pages() -> Iterator[tuple[Path, str]]:

@@ -14,7 +14,8 @@ from typing import NamedTuple
 
 from tool import numbers
 from tool.kit import TOP
-from tool.quantities import LETTERS, int_of, value_of
+from tool.quantities import value_of
+from tool.sources import LETTERS, int_of
 
 PATH = Path(__file__).resolve().parent / "phrases.txt"
 FIRST = ("README.md", "CONTRIBUTING.md", "CHANGES.md")
@@ -28,7 +29,7 @@ PLACE = re.compile(r"\{(?:([0-9]+): )?([^}]*)\}")
 
 
 class Row(NamedTuple):
-    """A row: its page, what compares it, and its words."""
+    """A row: its page, why no script makes its numbers, where none does, and its words."""
 
     page: str
     by: str

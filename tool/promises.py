@@ -160,6 +160,7 @@ WORDS = {
     "crates/hmc_wire/src/laws.rt": ("link_is_a_list",),
     "crates/hmc_send/specs/LinkLines.antt": ("is_pending_changed", "passes"),
     "crates/hmc_send/specs/Copies.antt": ("copy_of",),
+    "crates/hmc_packet/specs/Copy.antt": ("copied_packet",),
     "crates/hmc_packet/specs/Masks.antt": ("under_mask", "changes"),
     "crates/hmc_packet/specs/Landings.antt": ("mode", "pending", "is_training"),
     "crates/hmc_packet/specs/Reading.antt": ("is_null", "poison_in", "read_of"),
@@ -192,6 +193,7 @@ WORDS = {
     f"{REPLAY}/RunAnswer.antt": ("IsRefused", "IsRunAnswer"),
     f"{REPLAY}/MakeAnswer.antt": ("IsMakeAnswer",),
     f"{REPLAY}/BoundAnswer.antt": ("IsBounded",),
+    f"{REPLAY}/BoundLines.antt": ("bound_lines",),
     f"{REPLAY}/Reported.antt": (
         *("IsReport", "IsReport.lines_are", "IsReport.guarantees", "IsReport.drained"),
     ),

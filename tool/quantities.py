@@ -3,109 +3,23 @@
 from __future__ import annotations
 
 import re
-from collections.abc import Callable
 from dataclasses import fields
 from functools import cache
 from operator import add, floordiv, mul, sub
 
-from tool import case, convert, durations, numbers, packets, samples, trace_formats, trouble
+from tool import case, convert, durations, numbers, packets, samples, style, trace_formats
 from tool.commands import BY_WORD, LONG
 from tool.definitions import count_of
+from tool.kinds import ERRORS, HEADER, KINDS, setting
 from tool.lines import Tokens
 from tool.numbers import named, round_of, text_of
 from tool.promises import HEADLINE, PROMISES, definitions_of
+from tool.sources import Quantity, behind, bits_of, constant, greatest, in_letters, int_of, of
+from tool.sources import times, times_before, within
 
-Quantity = Callable[[], int]
-TENS = "twenty thirty forty fifty sixty seventy eighty ninety".split()
-LETTERS = {word: at for at, word in enumerate(numbers.SPELLED)}
-LETTERS |= {word: 10 * at for at, word in enumerate(TENS, start=2)}
-LETTERS |= {"hundred": 100, "thousand": 1000, "million": 1_000_000}
 # A quantity, and what is done with it: `PIECE`, `MOST_CUBES - 1`.
 EXPRESSION = re.compile(r"([^ ]+)(?: ([-+*/]) ([0-9]+))?")
 OPERATIONS = {"+": add, "-": sub, "*": mul, "/": floordiv}
-
-
-def int_of(shown: str) -> int:
-    """The number that a page shows: digits with commas, or letters."""
-    word = shown.replace(",", "")
-    return int(word) if word.isdigit() else LETTERS[shown.lower()]
-
-
-def of(value: numbers.Value) -> Quantity:
-    """The quantity of a number as pages show it, in digits or in letters."""
-    return lambda: int_of(value())
-
-
-def constant(path: str, name: str) -> int:
-    """A constant of a file of code, in decimal digits, or as a power of two."""
-    found = re.search(rf"\bconst {name}: \w+ = (1 << )?([0-9_]+);", text_of(path))
-    assert found, f"{path}: {name}"
-    number = int(found[2].replace("_", ""))
-    return 1 << number if found[1] else number
-
-
-def behind(path: str, pattern: str) -> Quantity:
-    """The number that a file has behind these words, the same wherever they are."""
-    return of(named(path, pattern))
-
-
-def in_letters(path: str, pattern: str) -> Quantity:
-    """The number that a comment of a file has in letters."""
-
-    def value() -> int:
-        (found,) = re.findall(pattern, text_of(path))
-        return LETTERS[found]
-
-    return value
-
-
-def greatest(path: str, pattern: str) -> Quantity:
-    """The greatest number that a file has behind these words."""
-    return lambda: max(map(int, re.findall(rf"{pattern}([0-9]+)", text_of(path))))
-
-
-def times(path: str, pattern: str) -> Quantity:
-    """How often a file has this pattern."""
-    return lambda: len(re.findall(pattern, text_of(path), re.MULTILINE))
-
-
-def within(path: str, begin: str, end: str, pattern: str) -> Quantity:
-    """How often a file has this pattern from some words to others."""
-
-    def value() -> int:
-        after = text_of(path).split(begin, 1)[1].split(end, 1)[0]
-        return len(re.findall(pattern, after, re.MULTILINE))
-
-    return value
-
-
-def bits_of(name: str, profile: int = 1) -> Quantity:
-    """How many bits a field of a packet has."""
-    tails = packets.REQUEST_TAIL[profile] + packets.RESPONSE_TAIL[profile]
-    known = (*packets.REQUEST_HEADER, *tails)
-    return lambda: next(it.high - it.low + 1 for it in known if it.name == name)
-
-
-def ends_of(name: str) -> list[str]:
-    """The ends of links of an example."""
-    return re.findall(r'^[ab] = "(.*)"$', text_of(f"examples/{name}.toml"), re.MULTILINE)
-
-
-def script_of(name: str) -> str:
-    """The script of an example."""
-    return text_of(f"examples/{name}.toml").split("script = '''")[1].split("'''")[0]
-
-
-def setting(name: str, key: str) -> int:
-    """A number that an example has, the same in each of its tables."""
-    return int_of(named(f"examples/{name}.toml", rf"(?m)^{key} = ")())
-
-
-def status(name: str) -> int:
-    """A status of the program, by what ends a run."""
-    if name in ("Ok", "Usage"):
-        return {"Ok": 0, "Usage": constant("crates/hmc_main/src/lib.rt", "USAGE")}[name]
-    return int_of(named("crates/hmc_replay/src/top.rt", rf"RunError::{name}\) => ")())
 
 
 def grown() -> int:
@@ -141,6 +55,11 @@ def memory_errors() -> list[int]:
     return [int(it) for it in re.findall("Some ([0-9])", definition)]
 
 
+def reports_of_retry() -> int:
+    """How many reports docs/retry-example.md names."""
+    return len(set(re.findall(r"`examples/([a-z-]+)\.report`", text_of("docs/retry-example.md"))))
+
+
 def capacity() -> int:
     """The bytes of the largest cube."""
     vaults, banks, rows = (case.CUBE_RANGES[it][1] for it in ("vault_bits", "bank_bits", "rows"))
@@ -153,12 +72,13 @@ def rows_of_most_banks() -> int:
     return constant(numbers.LIMITS, "MOST_MEMORY") // (case.BLOCKS[-1] << banks)
 
 
-ERRORS = "crates/hmc_serial/specs/Errors.antt"
 FIRST = "write-then-read"
-CHAIN = "crates/hmc_make/src/chain.rt"
-HEADER = "bindings/c/hmc.h"
+PERFORM = "crates/hmc_serial/specs/Perform.antt"
 IN_TURN = "crates/hmc_text/specs/InTurn.antt"
 PASSED = "examples/passed-null.toml"
+SCHEDULES = "docs/schedule.md"
+TARGET = "bindings/systemc/hmc_target.h"
+THROUGH = "examples/through-two-cubes.report"
 PROFILE = "crates/hmc_codes/specs/Profile.antt"
 STAGES = numbers.STAGES
 TOP_CALL = "crates/hmc_replay/specs/Top.antt"
@@ -168,11 +88,13 @@ QUANTITIES: dict[str, Quantity] = {
     "arrive_rounds": of(numbers.stage("Arrives")),
     "begin_rounds": of(numbers.BEGIN),
     "box_functions": of(numbers.files("crates/hmc_c/proofs/**/Proof.antt")),
+    "bit_of_half": lambda: behind(PERFORM, r"is_high \w+ = not \(\w+ / ")().bit_length() - 1,
     "bits_of_a_flit": lambda: packets.FLIT_BYTES * 8,
     "blocks_0": lambda: case.BLOCKS[0],
     "blocks_1": lambda: case.BLOCKS[1],
     "blocks_2": lambda: case.BLOCKS[2],
     "bytes_at_a_time": lambda: times(WORD, "^const BEFORE_")() + 1,
+    "bytes_of_example": lambda: numbers.BYTES_OF_EXAMPLE,
     "bytes_of_a_draw": behind("crates/hmc_make/specs/Requests.antt", "payload_len_of command / "),
     "bytes_of_a_word": lambda: (packets.REQUEST_HEADER[-1].high + 1) // 8,
     "bytes_of_first_case": lambda: setting(FIRST, "rows") * case.BLOCKS[-1],
@@ -184,6 +106,7 @@ QUANTITIES: dict[str, Quantity] = {
     ),
     "chain_of_bench": behind("bench/check", r"n, 4, (?=[0-9]+\))"),
     "check_mebibytes": lambda: constant(numbers.LIMITS, "MOST_CHECK_INPUT") >> 20,
+    "coefficient": lambda: packets.DIVISOR & 1,
     "columns": behind("tool/pylintrc", "max-line-length="),
     "crc_bits": lambda: next(it for it in packets.tail_fields(None, 1)).high + 1 - 32,
     "cube_bits": bits_of("CUB"),
@@ -196,8 +119,11 @@ QUANTITIES: dict[str, Quantity] = {
     "errors_of_two": lambda: 1 << bits_of("ERRSTAT", 2)(),
     "extents": within("crates/hmc_replay/src/extent.rt", "enum Extent {", "\n}", r"^    \w+,$"),
     "fields_of_replayed": within(TOP_CALL, "pub record Replayed ", "\n\n", r"^  pub \w+ :"),
+    "first_byte": lambda: 1,
     "floors": times("docs/ARCHITECTURE.md", "^## Floor "),
+    "initiators": behind(TARGET, "unsigned initiators = "),
     "irtry_kinds": lambda: len(packets.IRTRY_KINDS),
+    "last_code": lambda: max(int(it[-1]) for it in BY_WORD if it.startswith("unit")),
     "last_direction": lambda: 2 * case.LINKS[1] - 1,
     "last_zero_bits": lambda: value_of("crc_bits * 3") - 1,
     "last_error": greatest(ERRORS, "Some "),
@@ -206,16 +132,23 @@ QUANTITIES: dict[str, Quantity] = {
     "last_status": greatest("crates/hmc_replay/src/top.rt", r"RunError::\w+\) => "),
     "lines_of_headline": lambda: count_of(definitions_of(HEADLINE)),
     "lines_of_report": lambda: count_of(definitions_of(PROMISES["the one report of a case"])),
+    "landings_of_training": times_before(THROUGH, "\ngave ", "^landed 0 "),
+    "last_task": behind("docs/many-cases.md", "--array=0-"),
     "laws_of_wire": times("crates/hmc_wire/src/laws.rt", "^pub fn "),
     "least_cubes": lambda: case.CUBES[0],
     "least_digits": lambda: 1,
     "least_error": lambda: min(memory_errors()),
     "least_flits_of_packet": lambda: 1,
     "least_hosts": lambda: 1,
+    "least_length": lambda: 1,
+    "least_links": lambda: case.LINKS[0],
+    "least_rounds": lambda: 1,
     "least_offset": lambda: case.BLOCKS[0].bit_length() - 1,
     "least_profile": lambda: case.PROFILES[0],
     "last_profile": lambda: case.PROFILES[-1],
     "line_bytes": behind("crates/hmc_codes/src/pieces.rt", "LineText = ArrayString<"),
+    "levels_of_a_function": lambda: style.FUNCTION_LEVELS,
+    "lines_of_a_function": lambda: style.FUNCTION_LINES,
     "lines_of_bound": of(numbers.lines("examples/bound-two-requests.bound")),
     "lines_of_make": lines_of_make,
     "longest_short": lambda: int(LONG[-2] - 1) * packets.FLIT_BYTES,
@@ -237,22 +170,28 @@ QUANTITIES: dict[str, Quantity] = {
         "crates/hmc_hops/specs/CutThrough.antt", "forwarded m past e d x =", " past\n", "Goes "
     ),
     "needed_retry": behind("crates/hmc_numbers/proofs/Needed.antt", "A retry buffer of (?=257)"),
+    "none": lambda: 0,
     "null_code": lambda: BY_WORD["null"].code,
     "padding": lambda: packets.FLIT_BYTES - value_of("register_bits / 8"),
+    "period": behind(TARGET, r"period = sc_core::sc_time\("),
     "pointer_bits_one": bits_of("RRP", 1),
     "pointer_bits_two": bits_of("RRP", 2),
     "processors_of_gate": lambda: durations.PROCESSORS,
     "profiles": lambda: len(case.PROFILES),
     "register_bits": behind("crates/hmc_registers/specs/Registers.antt", r"numbers k < 2 \^ "),
+    "reports_of_retry": reports_of_retry,
     "retry_of_one": lambda: case.LINK_RANGES["retry"][1],
     "retry_of_two": lambda: case.RETRY_OF_TWO[1],
     "returned_of_first": lambda: 1 << setting(FIRST, "tokens").bit_length() - 1,
     "rows_of_most_banks": rows_of_most_banks,
+    "rounds_after_unlock": behind(SCHEDULES, "\nunlock 0\nround "),
+    "rounds_before_unlock": behind(SCHEDULES, r"\nround (?=[0-9]+\nunlock 0\n)"),
     "rounds_of_first": lambda: value_of("MOST_STEPS") // value_of("steps_of_a_round"),
     "rounds_of_largest": lambda: value_of("MOST_STEPS") // int_of(numbers.largest_round()),
     "rounds_left": lambda: int(re.findall("round ([0-9]+)", text_of(PASSED))[-1]),
     "rounds_of_a_case": behind("docs/case.md", "(?m)^round "),
     "rtc_codes": lambda: 1 << bits_of("RTC")(),
+    "schedule_of_first": behind(f"examples/{FIRST}.toml", "(?m)^round "),
     "send_rows": of(numbers.ROWS_OF_SENDS),
     "seq_bits": bits_of("SEQ"),
     "sessions_ratio": grown,
@@ -266,6 +205,9 @@ QUANTITIES: dict[str, Quantity] = {
     "token_numbers": lambda: len(fields(Tokens)) - len(("direction", "advertised")),
     "toml_bits": lambda: case.INTEGERS[-1].bit_length() + 1,
     "top_keys": lambda: len(case.TOP_KEYS),
+    "top_of_first": lambda: numbers.check_of_example(1) >> 31,
+    "top_of_second": lambda: numbers.check_of_example(2) >> 31,
+    "transactions": behind("bindings/systemc/test.cpp", " ALL = "),
     "trets_of_most": lambda: case.LINK_RANGES["tokens"][1] // convert.MOST_RETURNED,
     "mutants_of_net": of(numbers.files("crates/hmc_net/must-fail/*.edit")),
     "mutants_of_session": of(numbers.files("crates/hmc_session/must-fail/*.edit")),
@@ -301,24 +243,11 @@ def one_of(name: str) -> int:
         return QUANTITIES[name]()
     if name.startswith("HMC_"):
         return int_of(named(HEADER, rf"\b(?:{name} =|define {name}) ")())
+    kind, _, rest = name.rpartition(".")
+    if kind in KINDS:
+        return KINDS[kind](rest)
     if ":" in name:
         return setting(*name.split(":"))
-    if "." not in name:
+    if not kind:
         return constant(numbers.LIMITS, name)
-    kind, rest = name.rsplit(".", 1)
-    known: dict[str, Callable[[str], int]] = {
-        "status": status,
-        "script": lambda it: int(vars(trouble)[it]),
-        "made": lambda it: int_of(named(CHAIN, rf"\b{it}: ")()),
-        "link": lambda it: int_of(named("bench/link-example", rf"\b{it}: ")()),
-        "hosts": lambda it: sum(end[0] == "h" for end in ends_of(it)),
-        "cubes": lambda it: text_of(f"examples/{it}.toml").count("[[cubes]]"),
-        "links": lambda it: text_of(f"examples/{it}.toml").count("[[links]]"),
-        "requests": lambda it: len(re.findall(r"^[0-7] (?!fence)", script_of(it), re.MULTILINE)),
-        "vaults": lambda it: 1 << setting(it, "vault_bits"),
-        "banks": lambda it: 1 << setting(it, "bank_bits"),
-        "flits": lambda it: BY_WORD[it].lengths[0],
-    }
-    if kind in known:
-        return known[kind](rest)
     return constant(f"crates/{kind.replace('/', '/src/', 1)}.rt", rest)

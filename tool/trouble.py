@@ -4,6 +4,8 @@ from __future__ import annotations
 
 import sys
 
+# What is compared differs.
+DIFFERENT = 1
 USAGE = 64
 BAD_DATA = 65
 NO_INPUT = 66

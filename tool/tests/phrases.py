@@ -6,15 +6,19 @@ import re
 from collections.abc import Iterator
 from functools import cache
 
-from tool import counts, numbers
+from tool import counts, stated
 from tool.phrases import DIGITS, Row, rows_of
-from tool.quantities import LETTERS, int_of, value_of
+from tool.quantities import value_of
+from tool.sources import LETTERS, int_of
 from tool.tests import pages
 
 # Letters from three on are numbers. One, two, half and twice are words of the language: they count
 # what the same sentence names.
 WORDS = "|".join(it for it, number in LETTERS.items() if number > 2)
-FOUND = re.compile(rf"(?<![\w.])(?:{DIGITS})(?:st|nd|rd|th)?(?!\w)|\b(?:{WORDS})\b", re.IGNORECASE)
+HEX = "0x[0-9a-f]+"
+FOUND = re.compile(
+    rf"(?<![\w.])(?:{HEX}|{DIGITS})(?:st|nd|rd|th)?(?!\w)|\b(?:{WORDS})\b", re.IGNORECASE
+)
 # What is no sentence: blocks and code, which other tests compare, and targets of links.
 APART = re.compile(rf"{pages.BLOCK.pattern}|`[^`]*`|\]\([^)]*\)", re.MULTILINE | re.DOTALL)
 # What is named by a number, and how the numbers of it end.
@@ -43,7 +47,6 @@ NAMES = [
         r"\b[A-Za-z]\s[+-]\s+1\b",  # one more, or one less
         r"\b(?:from|at)\s+[01](?=[.,;: ])",  # where a numbering begins
         r"[\w-]+\.toml\b",  # names of files
-        r"0x[0-9A-F]+",  # a number in hexadecimal digits, which test_quoted_tables compares
     )
 ]
 
@@ -62,23 +65,8 @@ def text_of(page: str) -> str:
     return text
 
 
-def cells(text: str, head: str, columns: set[int]) -> Iterator[tuple[int, int]]:
-    """Yields where the cells of these columns are, of the table whose first row begins so."""
-    at = text.find(f"\n| {head} ") + 1
-    while at and text.startswith("|", at):
-        end = text.find("\n", at)
-        bars = [at + it.start() for it in re.finditer(r"\|", text[at:end])]
-        for column, cell in enumerate(zip(bars, bars[1:]), start=1):
-            if not columns or column in columns:
-                yield cell
-        at = end + 1
-
-
 def spans(text: str, row: Row) -> list[tuple[int, int]]:
     """Where the numbers of a row are in a page."""
-    if row.by.startswith("table "):
-        columns = {int(it) for it in re.findall("[0-9]+", row.by)}
-        return list(cells(text, row.words, columns))
     places = range(1, len(row.quantities) + 1)
     matches = row.pattern.finditer(text)
     return [found.span(at) for found in matches if row.means(found) for at in places]
@@ -113,7 +101,7 @@ def beyond(text: str) -> Iterator[str]:
 
 def made(page: str, text: str) -> Iterator[tuple[int, int]]:
     """Yields where the numbers are that tool.numbers puts into a page."""
-    for number in numbers.NUMBERS.get(page, ()):
+    for number in stated.NUMBERS.get(page, ()):
         found = number.pattern.search(text)
         assert found, number.words
         yield found.span(2)

@@ -1,20 +1,19 @@
 """Tests that the numbers of the documents are those of these sources.
 
-Each number of a page is one that `tool.numbers` puts there, or a row of tool/phrases.txt, or one of
-which such a row says what compares it; or it names one of several things, as `port 3`.
+Each number of a page is one that `tool.stated` puts there, or that of a row of tool/phrases.txt, or
+one of which such a row says why no script makes it; or it names one of several things, as `port 3`.
 """
 
 import re
 import unittest
 
-from tool import numbers
+from tool import stated
 from tool.phrases import EVERY, PAGES, Row, put_right, rows
 from tool.quantities import value_of
 from tool.tests import phrases
-from tool.tests.shared import DATA
 
-# What compares the numbers of a row: nothing, which is quantities; a test; or a reason in brackets.
-BY = re.compile(r"|test_\w+|table test_\w+(?: [1-9](?:, [1-9])*)?|\([a-z].*\)")
+# Why no script makes the numbers of a row, in brackets; nothing, where one does.
+BY = re.compile(r"|\([a-z].*\)")
 
 
 class Numbers(unittest.TestCase):
@@ -55,17 +54,11 @@ class Numbers(unittest.TestCase):
                 found = [it for page in where for it in phrases.spans(texts[page], row)]
                 self.assertGreater(max(found)[1], 0)
 
-    def test_what_compares_a_row_names_its_page(self) -> None:
-        """It is a test of that page; of a row of quantities each number has one."""
+    def test_each_row_has_quantities_or_a_reason(self) -> None:
         for row in rows():
             with self.subTest(page=row.page, words=row.words):
                 self.assertRegex(row.by, f"^(?:{BY.pattern})$")
-                if "test_" in row.by:
-                    (name,) = re.findall(r"test_\w+", row.by)
-                    path = DATA.parent / f"{name}.py"
-                    self.assertIn(row.page.rpartition("/")[2], path.read_text(encoding="utf-8"))
-                if not row.by:
-                    self.assertNotIn("*", row.quantities)
+                self.assertEqual("*" in row.quantities, bool(row.by))
 
     def test_a_number_that_differs_is_found(self) -> None:
         """In digits, in letters, as an ordinal, and where a line ends within the words."""
@@ -80,10 +73,10 @@ class Numbers(unittest.TestCase):
 
     def test_a_number_that_differs_is_put_right(self) -> None:
         """And only that number of the words."""
-        row = numbers.Number("has {} lines", lambda: "1,148")
-        self.assertEqual(numbers.put("It has 7\nlines, 7.", row), "It has 1,148\nlines, 7.")
+        row = stated.Number("has {} lines", lambda: "1,148")
+        self.assertEqual(stated.put("It has 7\nlines, 7.", row), "It has 1,148\nlines, 7.")
         with self.assertRaises(AssertionError):
-            numbers.put("It has no lines.", row)
+            stated.put("It has no lines.", row)
 
     def test_a_quantity_is_put_into_its_row(self) -> None:
         """In digits or in letters, as the page has it; and of every page only the row's number."""

@@ -9,8 +9,9 @@ import tempfile
 import unittest
 from pathlib import Path
 
-from tool import build, case, documents
+from tool import answered, build, case, documents
 from tool.commands import BY_WORD
+from tool.quantities import value_of
 from tool.tests import pages
 from tool.tests.pages import answer, flat, text_of
 from tool.tests.shared import EXAMPLES, TOP, require_program, tool
@@ -155,28 +156,10 @@ class Rounds(unittest.TestCase):
     """docs/co-simulation.md."""
 
     def test_rounds_until_an_answer(self) -> None:
-        """A fence before each request, so that it is alone; the first one is that of the page."""
+        """The numbers of bench/rounds are what the program gives."""
         require_program()
-        document, fault = case.read((TOP / "bindings" / "tests" / "chain.toml").read_bytes())
-        self.assertIsNone(fault)
-        requests = [f"wr16 0 0x40 {'5c' * 16}"]
-        requests += [f"{word} {cube} 0x0" for word in ("rd16", "rd256") for cube in (0, 1)]
-        document["script"] = "".join(f"0 fence\n0 {it}\n" for it in requests)
-        document["schedule"] = "round 200\n"
-        lines = pages.lines_of(documents.text_of(document))
-        steps = case.plan_of(document).round_steps
-        gave, took = (
-            [at // steps for at, it in enumerate(lines) if it.startswith(word)]
-            for word in ("gave ", "took ")
-        )
-        first, *rounds = (after - before + 1 for before, after in zip(gave, took, strict=True))
-        said = (
-            f"in the network of `first_driver.c` the first answer comes after {first} rounds. "
-            f"Alone in that network, a later read of 16 bytes is answered after {rounds[0]} rounds "
-            f"by cube 0 and after {rounds[1]} by cube 1, and one of 256 bytes after {rounds[2]} "
-            f"and {rounds[3]}."
-        )
-        self.assertIn(said, flat(text_of("docs/co-simulation.md")))
+        found = answered.rounds()
+        self.assertEqual({it: value_of(f"rounds.{it}") for it in found}, found)
 
 
 class Commands(unittest.TestCase):

@@ -34,13 +34,13 @@ class Checked(unittest.TestCase):
 
     def test_reports_that_are_cut(self) -> None:
         """After a line, before the last line feed, and before the first line."""
-        pattern = "cut off after its ([0-9,]+)th line the ([0-9,]+)th is named"
-        ((kept, named),) = re.findall(pattern, flat(self.TEXT))
-        first = int(kept.replace(",", ""))
+        named = "of a report that was cut off after a line of steps the next one is named;"
+        self.assertIn(named, flat(self.TEXT))
+        first = 1000
         longer = EXAMPLES / "row-of-eight.toml"
         lines = longer.with_suffix(".report").read_bytes().splitlines(keepends=True)
         said = checked(longer.read_bytes(), b"".join(lines[:first]))
-        self.assertEqual(said, (8, f"unlawful {named.replace(',', '')}\n"))
+        self.assertEqual(said, (8, f"unlawful {first + 1}\n"))
         self.assertIn("its last line feed, the line after its last one;", flat(self.TEXT))
         said = (8, f"unlawful {self.report.count(10) + 1}\n")
         self.assertEqual(checked(self.case, self.report[:-1]), said)

@@ -5,7 +5,7 @@ import re
 import signal
 import unittest
 
-from tool import case, commands, packets, schedule, texts, traces, trouble
+from tool import case, commands, schedule, texts, traces, trouble
 from tool.commands import BY_WORD
 from tool.tests import pages
 from tool.tests.pages import flat, quoted, text_of
@@ -189,15 +189,6 @@ class Commands(unittest.TestCase):
                 found[word] = commands.Command(word, number, BY_WORD[word].family, length, replied)
         self.assertEqual(found, BY_WORD)
 
-    def test_the_sentence(self) -> None:
-        code = {word: it.code for word, it in BY_WORD.items()}
-        said = (
-            f"Reads of 16 to 128 bytes are {code['rd16']} to {code['rd128']} and of 256 bytes "
-            f"{code['rd256']}; writes are {code['wr16']} to {code['wr128']} and {code['wr256']}, "
-            f"and posted writes {code['pwr16']} to {code['pwr128']} and {code['pwr256']}."
-        )
-        self.assertIn(said, flat(text_of("docs/co-simulation.md")))
-
 
 class Header(unittest.TestCase):
     """The numbers that pages state of hmc.h."""
@@ -244,32 +235,6 @@ class Statuses(unittest.TestCase):
         known = {it for it in vars(trouble).values() if isinstance(it, int)} - {trouble.SIGNALLED}
         signals = {trouble.SIGNALLED + it for it in (signal.SIGHUP, signal.SIGTERM)}
         self.assertEqual(found, sorted({0, 1, *known, *signals}))
-
-
-class Checks(unittest.TestCase):
-    """docs/crc.md."""
-
-    TEXT = flat(text_of("docs/crc.md"))
-
-    def test_the_divisor(self) -> None:
-        ((terms, number),) = re.findall(
-            r"3\. Divide by (.*?)\. 4\..* read as a number, is (0x[0-9A-F]+)\.", self.TEXT
-        )
-        powers = {"1": 0, "x": 1}
-        found = sum(1 << powers.get(it, int(it.rpartition("^")[2]) if "^" in it else 0)
-                    for it in terms.split(" + "))
-        self.assertEqual(f"0x{found - (1 << 32):08X}", number)
-
-    def test_the_worked_examples(self) -> None:
-        """Each number of the page is the check of eleven zero bytes and the one that it names."""
-        one, two, four = (packets.crc(bytes(11) + bytes([it])) for it in (1, 2, 4))
-        moved = (two << 1) & 0xFFFFFFFF
-        self.assertIn(f"So the check is 0x{one:08X}, the number of the divisor itself.", self.TEXT)
-        self.assertIn(f"coefficient of 0x{one:08X}, which is 0, and only moves", self.TEXT)
-        self.assertIn(f"moves the others up: the check is 0x{two:08X}.", self.TEXT)
-        last = f"0x{moved:08X} xor 0x{one:08X} = 0x{four:08X}."
-        self.assertIn(f"The others move up to 0x{moved:08X}, and", self.TEXT)
-        self.assertIn(f"the divisor is added: the check is {last}", self.TEXT)
 
 
 if __name__ == "__main__":

@@ -5,40 +5,21 @@ import re
 import unittest
 from collections.abc import Iterator
 
-from tool import case, convert, numbers, packets
+from tool import case, convert, packets
 from tool.commands import BY_WORD
 from tool.tests import pages
 from tool.tests.pages import flat, quoted, text_of
-from tool.quantities import int_of, value_of
-from tool.tests.shared import DATA, EXAMPLES, TOP, tool
+from tool.quantities import value_of
+from tool.style import FUNCTION_LINES
+from tool.tests.shared import EXAMPLES, TOP, tool
 
 PACKETS = text_of("docs/packets.md")
 COMMANDS = text_of("docs/commands.md")
 OPERATIONS = text_of("crates/hmc_atomics/specs/Operations.antt")
 
 
-def shown(fields: tuple[packets.Field, ...]) -> str:
-    """The fields of a word as docs/packets.md has them."""
-    ends = [f"{it.high}..{it.low}" if it.high > it.low else f"{it.high}" for it in fields]
-    return ", ".join(f"{it.name} {end}" for it, end in zip(fields, ends))
-
-
 class Packets(unittest.TestCase):
     """docs/packets.md."""
-
-    def test_the_fields(self) -> None:
-        headers = [
-            ["request, flow packet", shown(packets.REQUEST_HEADER)],
-            ["response", shown(packets.RESPONSE_HEADER)],
-        ]
-        self.assertEqual(pages.rows(PACKETS, "Layout"), headers)
-        tails = [
-            ["One", "request, flow packet", shown(packets.REQUEST_TAIL[1])],
-            ["One", "response", shown(packets.RESPONSE_TAIL[1])],
-            ["Two", "request, flow packet", shown(packets.REQUEST_TAIL[2])],
-            ["Two", "response", shown(packets.RESPONSE_TAIL[2])],
-        ]
-        self.assertEqual(pages.rows(PACKETS, "Profile"), tails)
 
     def test_what_must_be_zero(self) -> None:
         rows = {row[0].lower(): row[1] for row in pages.rows(PACKETS, "Packet")}
@@ -46,10 +27,6 @@ class Packets(unittest.TestCase):
         for name, wanted in packets.ZERO_FIELDS.items():
             self.assertEqual(rows.pop(name).split("; ")[0], ", ".join(wanted))
         self.assertEqual(rows, {})
-        kinds = [f"{number} ({name})" for number, name in packets.IRTRY_KINDS.items()]
-        self.assertIn(f"FRP must be {' or '.join(kinds)}", flat(PACKETS))
-        either = " or ".join(map(str, packets.IRTRY_KINDS))
-        self.assertIn(f"FRP of an IRTRY is {either}.", flat(PACKETS))
 
 
 class Commands(unittest.TestCase):
@@ -83,45 +60,6 @@ class Commands(unittest.TestCase):
         errors = [int(row[0]) for row in pages.rows(COMMANDS, "Error")]
         self.assertEqual(errors, list(range(1, value_of("last_error") + 1)))
 
-    def test_the_registers(self) -> None:
-        """They begin with what the definition of their first values has, and zeros follow."""
-        text = text_of("crates/hmc_registers/specs/Registers.antt")
-        ((first, zeros),) = re.findall(r"^    (cube ∷ .*) ∷ replicate ([0-9]+) 0$", text, re.M)
-        names = [it.rpartition(".")[2] for it in first.split(" ∷ ")]
-        said = "register 0 is the cube's number, "
-        said += "".join(f"{at} is `{name}`, " for at, name in enumerate(names[1:], start=1))
-        last = len(names) + int(zeros) - 1
-        self.assertIn(f"{said}and {len(names)} to {last} are scratch", flat(COMMANDS))
-
-    def test_the_half_of_an_address(self) -> None:
-        """It is the bit that the definition looks at."""
-        text = text_of("crates/hmc_serial/specs/Perform.antt")
-        (weight,) = re.findall(r"\bis_high address = not \(address / ([0-9]+) % 2 == 0\)", text)
-        bit = int(weight).bit_length() - 1
-        self.assertIn(f"the high half if bit {bit} of the address is set", flat(COMMANDS))
-
-
-class Checks(unittest.TestCase):
-    """The words of docs/crc.md around its worked examples."""
-
-    PAGE = flat(text_of("docs/crc.md"))
-
-    def test_the_bytes(self) -> None:
-        """The numbers of bytes, the last bytes, and the coefficients that the steps find."""
-        ((zeros, last),) = re.findall(r"example: (\w+) zero bytes, then (\w+) The", self.PAGE)
-        before = bytes(int_of(zeros))
-        one, two, four = (packets.crc(before + bytes([1 << at])) for at in range(3))
-        self.assertIn(f"The {numbers.SPELLED[len(before) + 1]} bytes have", self.PAGE)
-        self.assertIn(f"With 02 in place of {last}, the 1 comes one step earlier.", self.PAGE)
-        self.assertEqual((last, "With 04 there is one more step." in self.PAGE), ("01", True))
-        said = f"coefficient of 0x{one:08X}, which is {one >> 31}, and only moves the others up"
-        self.assertIn(f"{said}: the check is 0x{two:08X}.", self.PAGE)
-        said = f"coefficient of 0x{two:08X}, which is {two >> 31}. The others move up"
-        self.assertIn(said, self.PAGE)
-        self.assertIn(f"= 0x{four:08X}.", self.PAGE)
-        divisor = f"the divisor 0x{packets.DIVISOR:08X} and the checks"
-        self.assertIn(divisor, flat(text_of("docs/PROOFS.md")))
-
 
 BEGIN = re.compile(r'( *)(?:pub(?:\(crate\))? )?(?:extern "C" )?fn (\w+)')
 
@@ -149,12 +87,9 @@ class Functions(unittest.TestCase):
 
     def test_the_lines_of_functions(self) -> None:
         """Only those that are one `match`, a table of rows, may have more."""
-        (most,) = re.findall(r"more than (\w+) lines\*\*", text_of("docs/DECISIONS.md"))
-        (about,) = re.findall(r"at most about ([0-9]+) lines", text_of("CONTRIBUTING.md"))
-        self.assertEqual(int_of(most), int(about))
         bodies = list(functions())
         self.assertGreater(len(bodies), 2000)
-        longer = {name: body for name, body in bodies if len(body) > int(about)}
+        longer = {name: body for name, body in bodies if len(body) > FUNCTION_LINES}
         self.assertEqual([it for it, body in longer.items() if "match " not in body[0]], [])
 
 
@@ -165,14 +100,6 @@ class Others(unittest.TestCase):
         """docs/report.md has each status of the program."""
         statuses = [int(row[0]) for row in pages.rows(text_of("docs/report.md"), "Status")]
         self.assertEqual(statuses, list(range(value_of("last_status") + 1)))
-
-    def test_the_stored_runs(self) -> None:
-        """docs/PROOFS.md has the statuses of the programs, in the order in which it names them."""
-        runs = [DATA / "runs" / it for it in ("refused", "made", "usage", "lawful", "unlawful")]
-        paths = [it / "status" for it in (TOP / "crates" / "hmc_prog", *runs)]
-        found = [it.read_text(encoding="utf-8").strip() if it.exists() else "0" for it in paths]
-        said = f"which end with status {', '.join(found[:-1])} and {found[-1]}:"
-        self.assertIn(said, flat(text_of("docs/PROOFS.md")))
 
     def test_the_shipped_units(self) -> None:
         """docs/units.md has the slots in order, each with the cube and the number of its unit."""
@@ -192,24 +119,10 @@ class Others(unittest.TestCase):
         link = f"`profile` = {first} or {last}, and `retry` {least}..{most} where it is {last}"
         self.assertTrue(rows["each of `[[links]]`"].endswith(f"with `profile = 2` also {link}"))
 
-    def test_the_rounds_of_a_link(self) -> None:
-        """The sentences of docs/link.md have the rounds of the lines that its program prints."""
-        page = text_of("docs/link.md")
-        lines = pages.block_after(page, "It prints:\n").splitlines()
-        ran = [it.split()[0] for it in lines if it.endswith(" ran")]
-        aborted, accepted = (
-            next(it.split()[0] for it in lines if it.endswith(end))
-            for end in (" forth aborted bad", "1 forth accepted rd16")
-        )
-        for said in (
-            f"train in the rounds to {ran[3]}. Then",
-            f"The landing of round {aborted} is that of the second read.",
-            f"In round {ran[4]} the first end has seen",
-            f"in round {ran[5]} the second has seen",
-            f"in round {accepted} the second read is accepted.",
-        ):
-            self.assertIn(said, flat(page))
-        self.assertIn(f"if round == {aborted} {{", page)
+    def test_the_round_of_a_change(self) -> None:
+        """The program of docs/link.md changes a flit in the round whose landing is aborted."""
+        said = f"if round == {value_of('landed.aborted_bad')} {{"
+        self.assertIn(said, text_of("docs/link.md"))
 
     def test_the_status_of_a_difference(self) -> None:
         """`diff` ends with that of the table, and the sentences have it."""
@@ -218,20 +131,14 @@ class Others(unittest.TestCase):
         page = text_of("docs/tool.md")
         ((status, _),) = [it for it in pages.rows(page, "Status") if "`diff`" in it[1]]
         self.assertEqual((same, differ), (0, int(status)))
-        said = f"The status is {same} where the reports are equal, and {differ} where they are not."
-        self.assertIn(said, flat(page))
-        self.assertIn(f"The status is {status} where a value differs.", flat(page))
-        said = f"The exit status is {status} where a value differs."
-        self.assertIn(said, flat(text_of("docs/trace.md")))
 
     def test_ranges_of_words(self) -> None:
         """Ranges of words, as `h0` to `h7`, are those of what they name."""
-        last_code = max(int(it[-1]) for it in BY_WORD if it.startswith("unit"))
         short = str(value_of("longest_short"))
         ends = {
             "h": ("0", str(case.HOSTS - 1)),
             "c": ("0.0", f"{case.CUBES[1] - 1}.{len(case.EVERY_PORT) - 1}"),
-            "unit": ("0", str(last_code)),
+            "unit": ("0", str(value_of("last_code"))),
             **{word: ("16", short) for word in ("rd", "wr", "pwr")},
         }
         pattern = re.compile(r"`([a-z]+)([0-9][0-9.]*)`,? (?:to|\.\.) `\1([0-9][0-9.]*)`")
@@ -252,13 +159,6 @@ class Others(unittest.TestCase):
         (bindings,) = re.findall('python = ">=(.*)"', text_of("bindings/python/pyproject.toml"))
         self.assertIn(f"Python {bindings} or later", flat(text_of("docs/python.md")))
 
-    def test_the_tasks_of_an_array(self) -> None:
-        """docs/many-cases.md has as many tasks as its script asks for, counted from 0."""
-        page = text_of("docs/many-cases.md")
-        (last,) = re.findall(r"--array=0-([0-9]+)", page)
-        said = re.findall(r"(\w+) tasks\b", page)
-        self.assertEqual([int_of(it) for it in said], [int(last) + 1])
-
     def test_the_counts_of_the_plain_model(self) -> None:
         """The table of docs/speed.md has those of the file in which they are kept."""
         kept = text_of("bench/measured/plain-model.txt").splitlines()
@@ -271,24 +171,6 @@ class Others(unittest.TestCase):
         page = text_of("docs/speed.md")
         ratios = [float(row[3]) for row in pages.rows(page, "Workload")]
         self.assertEqual(max(ratios) <= 1, "No row is above 1.00: in none" in flat(page))
-
-    def test_what_is_said_of_slow_inputs(self) -> None:
-        """docs/speed.md has the most seconds and the largest ratio of the file of bench/slow."""
-        rows = pages.rows(text_of("bench/measured/slow.txt"), "Word")
-        seconds, ratio = (max(float(row[at]) for row in rows) for at in (4, 6))
-        said = f"None took more than {seconds:.2f} seconds, and none more than {ratio} times as"
-        self.assertIn(said, flat(text_of("docs/speed.md")))
-
-    def test_systemc(self) -> None:
-        """docs/systemc.md has what the target takes for what is left out, and what a test has."""
-        page = flat(text_of("docs/systemc.md"))
-        target = text_of("bindings/systemc/hmc_target.h")
-        (initiators,) = re.findall(r"unsigned initiators = ([0-9]+),", target)
-        (period,) = re.findall(r"period = sc_core::sc_time\(([0-9]+), sc_core::SC_NS\)", target)
-        self.assertIn(f"the number of initiators, {initiators} if left out;", page)
-        self.assertIn(f"the time of a round, {period} ns if left out", page)
-        (at_once,) = re.findall(r"ALL = ([0-9]+);", text_of("bindings/systemc/test.cpp"))
-        self.assertIn(f"and one with {numbers.SPELLED[int(at_once)]} transactions at once.", page)
 
 
 if __name__ == "__main__":

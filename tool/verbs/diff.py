@@ -6,6 +6,7 @@ from argparse import Namespace
 from functools import partial
 
 from tool import diff, files
+from tool.trouble import DIFFERENT
 from tool.verbs import Parser
 from tool.verbs.words import add_profile, refuse_two_standard
 
@@ -30,4 +31,4 @@ def run(words: Namespace) -> int:
     with files.rereadable(words.first) as first, files.rereadable(words.second) as second:
         lines = diff.compare(partial(files.lines_of, first), partial(files.lines_of, second), how)
     files.write_lines(lines)
-    return 1 if lines else 0
+    return DIFFERENT if lines else 0

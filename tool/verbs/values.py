@@ -7,7 +7,7 @@ from argparse import Namespace
 
 from tool import files, trace_values, traces
 from tool.traces import Trace
-from tool.trouble import note
+from tool.trouble import DIFFERENT, note
 from tool.verbs import Parser
 from tool.verbs.words import refuse_two_standard
 
@@ -40,7 +40,7 @@ def compare(trace: Trace, values: list[bytes | None]) -> int:
     for load, value, due in zip(trace.loads, values, traces.plain_values(trace)):
         if value not in (None, due):
             note(f"line {load.access.line} of the trace: plain bytes give {due.hex()}")
-            status = 1
+            status = DIFFERENT
             break
     unknown = values.count(None)
     if unknown:
