@@ -3,11 +3,11 @@
 from __future__ import annotations
 
 import re
-from collections.abc import Iterator
-from functools import cache
+from collections.abc import Callable, Iterator
+from functools import cache, partial
 
 from tool import counts, stated
-from tool.phrases import DIGITS, Row, rows_of
+from tool.phrases import DIGITS, Row, put_right, rows_of
 from tool.quantities import value_of
 from tool.sources import LETTERS, int_of
 from tool.tests import pages
@@ -49,6 +49,9 @@ NAMES = [
         r"[\w-]+\.toml\b",  # names of files
     )
 ]
+
+
+Span = tuple[int, int]
 
 
 def blanked(text: str, pattern: re.Pattern[str]) -> str:
@@ -105,6 +108,17 @@ def made(page: str, text: str) -> Iterator[tuple[int, int]]:
         found = number.pattern.search(text)
         assert found, number.words
         yield found.span(2)
+
+
+def written_in(page: str, text: str) -> Iterator[tuple[Callable[[str], str], list[Span]]]:
+    """Yields where the numbers are that a script writes, with what writes those of each row. Those
+    of every page are left out: they know their number by what it is."""
+    for number in stated.NUMBERS.get(page, ()):
+        (found,) = number.pattern.finditer(text)
+        yield partial(stated.put, number=number), [found.span(2)]
+    for row in rows_of(page):
+        if row.page == page and not row.by:
+            yield partial(put_right, row), spans(text, row)
 
 
 def unknown(page: str) -> Iterator[tuple[int, str]]:

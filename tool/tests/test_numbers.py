@@ -10,10 +10,24 @@ import unittest
 from tool import stated
 from tool.phrases import EVERY, PAGES, Row, put_right, rows
 from tool.quantities import value_of
-from tool.tests import phrases
+from tool.tests import pages, phrases
 
 # Why no script makes the numbers of a row, in brackets; nothing, where one does.
 BY = re.compile(r"|\([a-z].*\)")
+
+
+def another(shown: str) -> str:
+    """Another number, in digits or in letters as this one."""
+    if shown.startswith("0x"):
+        return "0xABCDEF01"
+    if shown[0].isdigit():
+        return "4" if shown == "3" else "3"
+    return "four" if shown.lower() == "three" else "three"
+
+
+def plain(text: str) -> str:
+    """A text whose numbers have no commas and no zeros before them, and no capitals."""
+    return re.sub(r"\b0+(?=[0-9])", "", re.sub(r"(?<=[0-9]),(?=[0-9]{3})", "", text)).lower()
 
 
 class Numbers(unittest.TestCase):
@@ -77,6 +91,19 @@ class Numbers(unittest.TestCase):
         self.assertEqual(stated.put("It has 7\nlines, 7.", row), "It has 1,148\nlines, 7.")
         with self.assertRaises(AssertionError):
             stated.put("It has no lines.", row)
+
+    def test_each_number_comes_back(self) -> None:
+        """A page in which one number of a row is another is put right, for each of them."""
+        count = 0
+        for page in PAGES:
+            text = pages.text_of(page)
+            for put, places in phrases.written_in(page, text):
+                for start, end in places:
+                    changed = text[:start] + another(text[start:end]) + text[end:]
+                    with self.subTest(page=page, at=text[start - 30 : end + 20]):
+                        self.assertEqual(plain(put(changed)), plain(text))
+                    count += 1
+        self.assertGreater(count, 900)
 
     def test_a_quantity_is_put_into_its_row(self) -> None:
         """In digits or in letters, as the page has it; and of every page only the row's number."""
