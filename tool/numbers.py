@@ -102,13 +102,17 @@ def steps_of(case_path: str, rounds: int) -> Value:
     return value
 
 
+def most_links() -> int:
+    """The links of a network with most cubes and hosts, where each host and each port has one."""
+    ends = case.CUBES[1] * len(case.EVERY_PORT)
+    return case.HOSTS + (ends - case.HOSTS) // 2
+
+
 def largest_round() -> str:
     """The steps of a round where there are most cubes, vaults, banks, hosts and links."""
     vaults, banks = (1 << case.CUBE_RANGES[key][1] for key in ("vault_bits", "bank_bits"))
     cubes = [CubeParts(vaults, banks, case.EVERY_PORT)] * case.CUBES[1]
-    ends = len(cubes) * len(case.EVERY_PORT)
-    links = case.HOSTS + (ends - case.HOSTS) // 2
-    return shown(Plan(case.HOSTS, 2 * links, cubes).round_steps)
+    return shown(Plan(case.HOSTS, 2 * most_links(), cubes).round_steps)
 
 
 # The worked example of docs/crc.md has three times the bytes of a check.

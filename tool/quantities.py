@@ -162,6 +162,7 @@ QUANTITIES: dict[str, Quantity] = {
     "modulus_seq": lambda: 1 << bits_of("SEQ")(),
     "modulus_two": behind(PROFILE, "modulus_of Two = "),
     "MOST_FLITS": lambda: constant(numbers.LIMITS, "LEAST_FLITS"),
+    "most_links": numbers.most_links,
     "most_offset": lambda: case.BLOCKS[-1].bit_length() - 1,
     "most_returned": lambda: convert.MOST_RETURNED,
     "most_sample_cubes": lambda: samples.MOST_CUBES,
