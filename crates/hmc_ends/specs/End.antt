@@ -67,7 +67,8 @@ flits_seen Good [] = None
 flits_seen Good (first ∷ rest) = Some (first ∷ rest)
 flits_seen mode flits = None
 
--- an end holds no packet, has gathered no flit of one, and none of its own is under way with tokens
+-- an end has no packet in its queue nor in its buffer, and no flits of packets that it began are
+-- under way
 pub record IsQuiet (e : EndFields) : Type 0 where
   pub queue : e.queue ≡ []
   pub transit : e.transit ≡ 0
