@@ -2,12 +2,15 @@
 
 from __future__ import annotations
 
+import io
 import os
 import re
 import shutil
 import subprocess
 import sys
 import unittest
+from concurrent.futures import ProcessPoolExecutor
+from pathlib import Path
 
 from tool import build
 
@@ -21,25 +24,38 @@ CHECKERS = {
 }
 
 
-def checks() -> bool:
-    """Whether each checker of Python that is here accepts the script. One that is not is named."""
-    are_well = True
-    for name, words in CHECKERS.items():
-        if shutil.which(name) is None:
-            print(f"zehimbado: {name} is not here, so it checks nothing: apt-get install {name}")
-            continue
-        are_well &= subprocess.run([name, *words], check=False).returncode == 0
-    return are_well
+def checked(name: str) -> tuple[str, int, bool]:
+    """Whether a checker of Python accepts the script, and what it said. One that is not here is
+    named."""
+    if shutil.which(name) is None:
+        said = f"zehimbado: {name} is not here, so it checks nothing: apt-get install {name}\n"
+        return said, 0, True
+    ran = subprocess.run([name, *CHECKERS[name]], capture_output=True, text=True, check=False)
+    return ran.stdout + ran.stderr, 0, ran.returncode == 0
+
+
+def tested(name: str) -> tuple[str, int, bool]:
+    """What the tests of a module said, how many there are, and whether all of them passed. A test
+    that is skipped fails."""
+    suite = unittest.defaultTestLoader.loadTestsFromName(name)
+    written = io.StringIO()
+    result = unittest.TextTestRunner(stream=written).run(suite)
+    is_well = result.wasSuccessful() and not result.skipped and result.testsRun > 0
+    return f"{name}: {written.getvalue()}", result.testsRun, is_well
 
 
 def tests() -> int:
-    """Runs the checkers and the tests of the script, and returns 0 where all pass. A test that is
-    skipped fails."""
-    is_clean = checks()
-    suite = unittest.defaultTestLoader.discover("tool/tests", top_level_dir=".")
-    result = unittest.TextTestRunner(stream=sys.stdout).run(suite)
-    is_well = result.wasSuccessful() and not result.skipped and result.testsRun > 0
-    return 0 if is_well and is_clean else 1
+    """Runs the checkers and the tests of the script, each module in a process, as many at once as
+    there are processors, and returns 0 where all pass."""
+    modules = [f"tool.tests.{path.stem}" for path in sorted(Path("tool/tests").glob("test_*.py"))]
+    with ProcessPoolExecutor() as pool:
+        runs = [pool.submit(checked, name) for name in CHECKERS]
+        runs += [pool.submit(tested, name) for name in modules]
+        ended = [run.result() for run in runs]
+    for said, _, _ in ended:
+        print(said, end="")
+    print(f"zehimbado: {sum(number for _, number, _ in ended)} tests of the script")
+    return 0 if all(is_well for _, _, is_well in ended) else 1
 
 
 def count(line: str, status: str) -> str:

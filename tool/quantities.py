@@ -211,7 +211,6 @@ QUANTITIES: dict[str, Quantity] = {
     "transactions": behind("bindings/systemc/test.cpp", " ALL = "),
     "trets_of_most": lambda: case.LINK_RANGES["tokens"][1] // convert.MOST_RETURNED,
     "mutants_of_net": of(numbers.files("crates/hmc_net/must-fail/*.edit")),
-    "mutants_of_session": of(numbers.files("crates/hmc_session/must-fail/*.edit")),
     "weight": of(numbers.WEIGHT),
     "windows": times("crates/hmc_drain/proofs/Beginning.antt", r"^        window p c f bf bb "),
     "worked_checks": times("crates/hmc_crc/proofs/Worked.antt", "^pub crc_of_"),

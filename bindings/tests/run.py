@@ -15,6 +15,7 @@ import sys
 import tempfile
 import time
 from collections.abc import Callable
+from concurrent.futures import ThreadPoolExecutor
 from pathlib import Path
 
 HERE = Path(__file__).resolve().parent
@@ -357,7 +358,8 @@ def main(names: list[str]) -> int:
         if why:
             raise Failed(why)
         run("make", "-C", BINDINGS)
-        outcomes = [outcome(name) for name in names or TESTS]
+        with ThreadPoolExecutor(os.cpu_count()) as pool:
+            outcomes = list(pool.map(outcome, names or TESTS))
     except Failed as failed:
         print(f"FAILED build: {failed}")
         outcomes = ["failed"]

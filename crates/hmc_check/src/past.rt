@@ -20,7 +20,7 @@ use hmc_entries::LastEntry;
 use hmc_host::Host;
 use hmc_kept::{Parts, Pipes};
 use hmc_queues::{Queues, QueuesSetup};
-use hmc_schedule::Step;
+use hmc_schedule::{Step, act};
 use hmc_script::Script;
 use hmc_serial::Plain;
 use hmc_tally::{Tally, is_good, step_changes};
@@ -132,20 +132,7 @@ impl<B: Workbench> Past<B> {
         requires { IsNextOfSome (past_of B.slots self.old) (step.now) }
         ensures { TakesStep (past_of B.slots self.old) (past_of B.slots self.new) (step.now) }
     {
-        match step {
-            Step::Give(host) => self.give(*host),
-            Step::Send(direction) => self.send(*direction),
-            Step::Land(direction, mask) => self.land(*direction, mask),
-            Step::Shift(cube, port) => self.shift(*cube, *port),
-            Step::Spread(cube, vault) => self.spread(*cube, *vault),
-            Step::Bank(cube, vault, bank) => self.bank(*cube, *vault, *bank),
-            Step::Registers(cube) => self.registers(*cube),
-            Step::Lift(cube, from) => self.lift(*cube, *from),
-            Step::Take(host) => self.take(*host),
-            Step::Unlock(direction) => self.unlock(*direction),
-            Step::Through(cube, port) => self.through(*cube, *port),
-            Step::Retire(slot) => self.retire(*slot),
-        }
+        act!(self, step)
     }
 
     // Whether the receiver that a step unlocks is good.

@@ -1,6 +1,8 @@
 //! What a case has, by its parts, and the network that is built of it. The case is that of
 //! `sessions/two-vaults.toml`.
 
+ghost use Rattle.std.specs.Prelude.{◌<◌, length};
+
 use crate::begun::{case_of, units};
 use crate::orders::Order;
 use crate::reading::Contents;
@@ -8,6 +10,7 @@ use crate::words::push_texts;
 use hmc_case::Case;
 use hmc_codes::{Join, LinkSetup, Memory, Place, Profile, Shape};
 use hmc_net::Net;
+use hmc_units::{Shipped, Slots};
 use std::alloc::Global;
 
 // Whether a case has that cube, with two vaults of four banks.
@@ -43,16 +46,20 @@ fn has_the_texts(case: &Case) -> bool {
     case.hosts() == 1 && case.script().len() == 2 && case.schedule().len() == 22
 }
 
-// Whether nothing has happened in the network that is built of a case. Its cube 0 has 8,192 bytes.
+// Whether nothing has happened in a network. Its cube 0 has 8,192 bytes.
+fn is_new(net: &Net<Slots<Shipped>>) -> bool
+    requires host { 0 < length net.now.network.hosts }
+    requires cube { 0 < length net.now.network.cubes }
+{
+    let is_idle = net.cube(0).capacity() == 8192 && net.cube(0).held() == 0;
+    is_idle && net.journal().is_empty() && net.tags_out(0) == 0 && net.drained()
+}
+
+// Whether nothing has happened in the network that is built of a case.
 fn is_quiet(alloc: Global, text: &str) -> Result<bool, Memory> {
     let case = case_of(alloc, text)?;
     let net = Net::build(alloc, &case, units(alloc)?)?;
-    let is_new = net.journal().is_empty();
-    let tags = net.tags_out(0);
-    let bytes = net.cube(0).capacity();
-    let held = net.cube(0).held();
-    let is_drained = net.drained();
-    Ok(is_new && tags == 0 && bytes == 8192 && held == 0 && is_drained)
+    Ok(is_new(&net))
 }
 
 // Whether the case of a text has these parts, and its network has done nothing.

@@ -94,17 +94,57 @@ fn take_rounds(alloc: Global, session: &mut Plain, rounds: u32) -> Result<u32, M
     Ok(count_stops(session, &mut laid, &stops))
 }
 
+// How many requests were asked, and how many answers hosts took.
+#[derive(Drop)]
+struct Done {
+    asked: u32,
+    answers: u32,
+}
+
+// Asks the hosts that wait and takes ten rounds, and counts what was done.
+fn take_piece(
+    alloc: Global,
+    session: &mut Plain,
+    draws: &mut Draws,
+    done: &mut Done,
+) -> Result<(), Memory> {
+    let asked = ask_waiting(alloc, session, draws)?;
+    let answers = take_rounds(alloc, session, 10)?;
+    done.asked = done.asked.saturating_add(asked);
+    done.answers = done.answers.saturating_add(answers);
+    Ok(())
+}
+
 // Appends what a long session did.
-fn push_done(into: &mut String, asked: u32, answers: u32, taken: u32) -> Result<(), AllocError> {
+fn push_done(into: &mut String, done: &Done, taken: u32) -> Result<(), AllocError> {
     into.push_str("long: ")?;
     push_counts(
         into,
         &[
-            (u64::from(asked), " asked, "),
-            (u64::from(answers), " answers, "),
+            (u64::from(done.asked), " asked, "),
+            (u64::from(done.answers), " answers, "),
             (u64::from(taken), " steps\n"),
         ],
     )
+}
+
+// Takes the pieces of an order in a session, and appends what they did.
+fn push_pieces(
+    alloc: Global,
+    session: &mut Plain,
+    order: &Order<'_>,
+    into: &mut String,
+) -> Result<(), Memory> {
+    let mut draws = Draws { state: order.seed };
+    let mut done = Done {
+        asked: 0,
+        answers: 0,
+    };
+    for _ in 0..order.count {
+        take_piece(alloc, session, &mut draws, &mut done)?;
+    }
+    push_done(into, &done, session.taken())?;
+    Ok(())
 }
 
 /// Asks and steps the session of a case, over so many pieces of ten rounds. Appends how many
@@ -116,13 +156,5 @@ pub fn push_long(
     into: &mut String,
 ) -> Result<(), Memory> {
     let mut session = begin(alloc, contents.input.as_str())?.into_session();
-    let mut draws = Draws { state: order.seed };
-    let mut asked = 0_u32;
-    let mut answers = 0_u32;
-    for _ in 0..order.count {
-        asked = asked.saturating_add(ask_waiting(alloc, &mut session, &mut draws)?);
-        answers = answers.saturating_add(take_rounds(alloc, &mut session, 10)?);
-    }
-    push_done(into, asked, answers, session.taken())?;
-    Ok(())
+    push_pieces(alloc, &mut session, order, into)
 }

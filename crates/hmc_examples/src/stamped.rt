@@ -4,6 +4,7 @@ use crate::begun::{case_of, units};
 use crate::orders::Order;
 use crate::reading::Contents;
 use crate::words::{push_counts, push_texts};
+use hmc_case::Case;
 use hmc_codes::Memory;
 use hmc_outside::MemorySink;
 use hmc_replay::{Extent, replay_on};
@@ -25,13 +26,18 @@ fn stamp_of(bench: Slots<Shipped>) -> u8 {
 
 // The number that this unit stamps next after a replay of a case; 0 where it is gone. A whole
 // report breaks off.
-fn next_stamp(alloc: Global, text: &str, extent: Extent) -> Result<u8, Memory> {
-    let case = case_of(alloc, text)?;
+fn stamp_after(alloc: Global, case: &Case, extent: Extent) -> Result<u8, Memory> {
     let mut sink = MemorySink::new(alloc, ROOM, &[])?;
-    match replay_on(alloc, &mut sink, extent, &case, units(alloc)?) {
+    match replay_on(alloc, &mut sink, extent, case, units(alloc)?) {
         Ok((_, bench)) => Ok(stamp_of(bench)),
         Err(memory) => Err(memory),
     }
+}
+
+// The same, of the case that a text is.
+fn next_stamp(alloc: Global, text: &str, extent: Extent) -> Result<u8, Memory> {
+    let case = case_of(alloc, text)?;
+    stamp_after(alloc, &case, extent)
 }
 
 /// Appends what a unit stamps next, after a replay whose report is whole where the seed is not 0.

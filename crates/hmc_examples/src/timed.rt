@@ -63,16 +63,21 @@ fn take_each(session: &mut Plain, laid: &mut Laid) {
 
 // Takes so many rounds in a session: each step as a value, or laid down ahead, one by one or in one
 // run. Returns how many steps were taken.
-fn in_session(alloc: Global, way: Way, case: &str, rounds: u32) -> Result<u32, Memory> {
-    let mut session = begin(alloc, case)?.into_session();
+fn taken_by(alloc: Global, session: &mut Plain, way: Way, rounds: u32) -> Result<u32, Memory> {
     session.finish(0);
-    let mut laid = laid_rounds(alloc, &session, rounds)?;
+    let mut laid = laid_rounds(alloc, session, rounds)?;
     match way {
-        Way::Steps => take_rounds(&mut session, rounds),
-        Way::Next => take_each(&mut session, &mut laid),
-        _ => take_run(&mut session, &mut laid),
+        Way::Steps => take_rounds(session, rounds),
+        Way::Next => take_each(session, &mut laid),
+        _ => take_run(session, &mut laid),
     }
     Ok(session.taken())
+}
+
+// The same in a session of this case.
+fn in_session(alloc: Global, way: Way, case: &str, rounds: u32) -> Result<u32, Memory> {
+    let mut session = begin(alloc, case)?.into_session();
+    taken_by(alloc, &mut session, way, rounds)
 }
 
 // The case without steps, with so many rounds.
@@ -84,16 +89,21 @@ fn case_of_rounds(alloc: Global, case: &str, rounds: u32) -> Result<Case, Memory
     case_of(alloc, text.as_str())
 }
 
-// Takes so many rounds as the program does, without the lines of their entries. Returns the number
-// of rounds, or 0 where not all were taken.
-fn by_program(alloc: Global, case: &str, rounds: u32) -> Result<u32, Memory> {
-    let case = case_of_rounds(alloc, case, rounds)?;
+// Whether a case is replayed to its end as the program does it, without the lines of its entries.
+fn is_replayed(alloc: Global, case: &Case) -> Result<bool, Memory> {
     let mut sink = MemorySink::new(alloc, ROOM, &[])?;
-    match replay_on(alloc, &mut sink, Extent::Short, &case, units(alloc)?) {
-        Ok((Ok(false), _)) => Ok(rounds),
-        Ok(_) => Ok(0),
+    match replay_on(alloc, &mut sink, Extent::Short, case, units(alloc)?) {
+        Ok((ended, _)) => Ok(matches!(ended, Ok(false))),
         Err(memory) => Err(memory),
     }
+}
+
+// Takes so many rounds as the program does. Returns the number of rounds, or 0 where not all were
+// taken.
+fn by_program(alloc: Global, case: &str, rounds: u32) -> Result<u32, Memory> {
+    let case = case_of_rounds(alloc, case, rounds)?;
+    let is_done = is_replayed(alloc, &case)?;
+    Ok(if is_done { rounds } else { 0 })
 }
 
 /// Takes the rounds of an order, and appends what they came to.

@@ -35,7 +35,7 @@ use hmc_entries::LastEntry;
 use hmc_host::Host;
 use hmc_kept::{Parts, Pipes};
 use hmc_links::LinkList;
-use hmc_schedule::Step;
+use hmc_schedule::{Step, act};
 use hmc_script::Script;
 use hmc_tally::Tally;
 use hmc_units::Workbench;
@@ -157,20 +157,7 @@ impl<B: Workbench> Network<B> {
         ensures does { DoesStep (net_of B.slots self.old) (net_of B.slots self.new) step.now }
         ensures went { result ≡ went_of self.new.last }
     {
-        match step {
-            Step::Give(host) => self.give(*host),
-            Step::Send(direction) => self.send(*direction),
-            Step::Land(direction, mask) => self.land(*direction, mask),
-            Step::Shift(cube, port) => self.shift(*cube, *port),
-            Step::Spread(cube, vault) => self.spread(*cube, *vault),
-            Step::Bank(cube, vault, bank) => self.bank(*cube, *vault, *bank),
-            Step::Registers(cube) => self.registers(*cube),
-            Step::Lift(cube, from) => self.lift(*cube, *from),
-            Step::Take(host) => self.take(*host),
-            Step::Unlock(direction) => self.unlock(*direction),
-            Step::Through(cube, port) => self.through(*cube, *port),
-            Step::Retire(slot) => self.retire(*slot),
-        }
+        act!(self, step)
     }
 
     /// The entry of the latest step. Before the first step it says nothing.

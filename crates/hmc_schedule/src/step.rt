@@ -31,3 +31,25 @@ pub enum Step {
     /// The logic unit in this slot, below 8, is retired.
     Retire(u8),
 }
+
+/// Acts on a step: `act!(self, step)` is `self.give(host)` where the step is a give, and so on. The
+/// step is borrowed; whoever calls it imports [`Step`] and has a function for each kind.
+#[macro_export]
+macro_rules! act {
+    ($part:expr, $step:expr) => {
+        match $step {
+            Step::Give(host) => $part.give(*host),
+            Step::Send(direction) => $part.send(*direction),
+            Step::Land(direction, mask) => $part.land(*direction, mask),
+            Step::Shift(cube, port) => $part.shift(*cube, *port),
+            Step::Spread(cube, vault) => $part.spread(*cube, *vault),
+            Step::Bank(cube, vault, bank) => $part.bank(*cube, *vault, *bank),
+            Step::Registers(cube) => $part.registers(*cube),
+            Step::Lift(cube, from) => $part.lift(*cube, *from),
+            Step::Take(host) => $part.take(*host),
+            Step::Unlock(direction) => $part.unlock(*direction),
+            Step::Through(cube, port) => $part.through(*cube, *port),
+            Step::Retire(slot) => $part.retire(*slot),
+        }
+    };
+}
