@@ -214,17 +214,23 @@ fn memory(rt: HostRuntime) -> Result<(), Fail> {
 }
 
 // A posted write and a unit command: the reply has the old bytes, and the block is reversed.
+fn assert_reversed<B: Workbench>(rt: &impl Abort, cube: &mut Cube, bench: &mut B)
+    requires { 1 < 2 ^ cube.old.state.shape.vault_bits }
+{
+    let payload = Payload::from_slice(&BYTES).expect(rt, "refused");
+    let operand = Payload::from_slice(&REVERSED).expect(rt, "refused");
+    assert_spread(rt, cube, payload, reverse(operand));
+    assert_executed(rt, cube, bench);
+    assert!(rt; block(cube, 0x100) == Some(REVERSED), "reversed");
+}
+
 #[test]
 fn unit_command(rt: HostRuntime) -> Result<(), Fail> {
-    let payload = Payload::from_slice(&BYTES).expect(&rt, "refused");
-    let operand = Payload::from_slice(&REVERSED).expect(&rt, "refused");
     let mut cube = two_vaults(rt.alloc())?;
     let mut units = Vec::new(rt.alloc());
     units.push(Reverse::new(6, 1))?;
     let mut bench = Slots::new(rt.alloc(), units)?;
-    assert_spread(&rt, &mut cube, payload, reverse(operand));
-    assert_executed(&rt, &mut cube, &mut bench);
-    assert!(rt; block(&cube, 0x100) == Some(REVERSED), "reversed");
+    assert_reversed(&rt, &mut cube, &mut bench);
     Ok(())
 }
 

@@ -96,19 +96,24 @@ fn reads(alloc: Global, count: u32) -> Result<Script, Memory> {
     Ok(script)
 }
 
-// A host has 2,048 tags. One more request waits until an answer comes, and goes out under that
-// answer's tag.
+// One request more than there are tags waits until an answer comes, and goes out under that answer's
+// tag.
+fn assert_all_tags(rt: &impl Abort, host: &mut Host) {
+    for tag in 0..TAGS {
+        give_under(rt, host, tag, 0);
+    }
+    assert!(rt; matches!(&host.give(true), Given::Tags), "all are out");
+    settle(rt, host, 700);
+    give_under(rt, host, 700, 0);
+    assert!(rt; matches!(&host.give(true), Given::Ended), "all are given");
+}
+
+// A host has 2,048 tags.
 #[test]
 fn all_tags(rt: HostRuntime) -> Result<(), Fail> {
     let script = reads(rt.alloc(), u32::from(TAGS) + 1)?;
     let mut host = Host::new(rt.alloc(), 1, &script)?;
-    for tag in 0..TAGS {
-        give_under(&rt, &mut host, tag, 0);
-    }
-    assert!(rt; matches!(&host.give(true), Given::Tags), "all are out");
-    settle(&rt, &mut host, 700);
-    give_under(&rt, &mut host, 700, 0);
-    assert!(rt; matches!(&host.give(true), Given::Ended), "all are given");
+    assert_all_tags(&rt, &mut host);
     Ok(())
 }
 
@@ -161,11 +166,16 @@ fn is_discarded(host: &mut Host, packet: &Packet) -> bool {
     packet.poisoned && matches!(&host.settle(packet), Settled::Discarded)
 }
 
+// The same, of a new buffer.
+fn through_a_buffer(alloc: Global) -> Result<Option<Packet>, Memory> {
+    let mut buffer = HostBuffer::new(alloc, 17)?;
+    Ok(through(&mut buffer))
+}
+
 // A poisoned packet is taken out of a host's buffer and discarded.
 #[test]
 fn poisoned(rt: HostRuntime) -> Result<(), Fail> {
-    let mut buffer = HostBuffer::new(rt.alloc(), 17)?;
-    let packet = through(&mut buffer).ok_or("nothing came")?;
+    let packet = through_a_buffer(rt.alloc())?.ok_or("nothing came")?;
     let mut host = Host::new(rt.alloc(), 0, &Script::new(rt.alloc()))?;
     assert!(rt; is_discarded(&mut host, &packet), "discarded");
     Ok(())
@@ -180,16 +190,34 @@ fn ask_for(rt: &impl Abort, host: &mut Host, address: u64) -> Result<(), Memory>
 }
 
 // Requests that a host is asked for while it runs come after those that wait, in their order.
+fn assert_in_order(rt: &impl Abort, host: &mut Host) -> Result<(), Memory> {
+    ask_for(rt, host, 0x10)?;
+    give_under(rt, host, 0, 0);
+    ask_for(rt, host, 0x20)?;
+    give_under(rt, host, 1, 0x10);
+    give_under(rt, host, 2, 0x20);
+    Ok(())
+}
+
+// All that a host was asked for is given, and was so many requests.
+fn assert_given(rt: &impl Abort, host: &mut Host, asked: u32) {
+    assert!(rt; matches!(&host.give(true), Given::Ended), "all are given");
+    assert!(rt; host.asked() == asked, "{asked} were asked");
+}
+
 #[test]
 fn asked_while_some_wait(rt: HostRuntime) -> Result<(), Fail> {
     let mut host = Host::new(rt.alloc(), 1, &reads(rt.alloc(), 1)?)?;
-    ask_for(&rt, &mut host, 0x10)?;
-    give_under(&rt, &mut host, 0, 0);
-    ask_for(&rt, &mut host, 0x20)?;
-    give_under(&rt, &mut host, 1, 0x10);
-    give_under(&rt, &mut host, 2, 0x20);
-    assert!(rt; matches!(&host.give(true), Given::Ended), "all are given");
-    assert!(rt; host.asked() == 3, "three were asked");
+    assert_in_order(&rt, &mut host)?;
+    assert_given(&rt, &mut host, 3);
+    Ok(())
+}
+
+// A host is asked for a read, gives it, and has its answer.
+fn ask_and_settle(rt: &impl Abort, host: &mut Host) -> Result<(), Memory> {
+    ask_for(rt, host, 0x30)?;
+    give_under(rt, host, 0, 0x30);
+    settle(rt, host, 0);
     Ok(())
 }
 
@@ -198,11 +226,8 @@ fn asked_while_some_wait(rt: HostRuntime) -> Result<(), Fail> {
 fn asked_for_more_than_a_script_has(rt: HostRuntime) -> Result<(), Fail> {
     let mut host = Host::new(rt.alloc(), 1, &Script::new(rt.alloc()))?;
     for _ in 0..MOST_REQUESTS + 2 {
-        ask_for(&rt, &mut host, 0x30)?;
-        give_under(&rt, &mut host, 0, 0x30);
-        settle(&rt, &mut host, 0);
+        ask_and_settle(&rt, &mut host)?;
     }
-    assert!(rt; host.asked() == MOST_REQUESTS + 2, "all were asked");
-    assert!(rt; matches!(&host.give(true), Given::Ended), "all are given");
+    assert_given(&rt, &mut host, MOST_REQUESTS + 2);
     Ok(())
 }

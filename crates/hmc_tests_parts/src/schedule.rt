@@ -187,24 +187,51 @@ const SECOND_ROUND: &str =
     "give 0\nsend 0\nsend 1\nland 0 00000000000000000000000000000080\nland 1\nshift 0 0\n\
     spread 0 0\nbank 0 0 0\nregisters 0\nlift 0 0\nlift 0 r\ntake 0\n";
 
-// Noise counts the landings of rounds alone, on over their lines, and anew after each `noise`.
+// The same, with a step of its own between the rounds.
+const NOISY_LINES: &str = "noise 3 00000000000000000000000000000080\nround 1\nland 0\nround 1\n";
+
+// No third landing after the second line, and no noise at all.
+const UNCHANGED: [(&str, &str); 2] = [
+    (
+        "noise 3 00000000000000000000000000000080\nround 1\n\
+        noise 3 00000000000000000000000000000080\nround 1\n",
+        "round 2\n",
+    ),
+    (
+        "noise 1 00000000000000000000000000000080\nnoise off\nround 1\n",
+        "round 1\n",
+    ),
+];
+
+// Whether noise changes the second round alone, where that comes after these lines.
+fn changes_the_second(alloc: Global, plan: &Plan, noisy: &str, lines: &str) -> Result<bool, Fail> {
+    let written = format!(in alloc; "{lines}{SECOND_ROUND}")?;
+    Ok(is_same_text(alloc, plan, noisy, &written)?)
+}
+
+// Noise counts the landings of rounds alone, on over their lines.
 #[test]
 fn noise_counts_the_landings_of_rounds(rt: HostRuntime) -> Result<(), Fail> {
-    let alloc = rt.alloc();
-    let plan = small(alloc)?;
-    let mask = "00000000000000000000000000000080";
-    let together = format!(in alloc; "round 1\n{SECOND_ROUND}")?;
-    let apart = format!(in alloc; "noise 3 {mask}\nround 1\nland 0\nround 1\n")?;
-    let apart_rounds = format!(in alloc; "round 1\nland 0\n{SECOND_ROUND}")?;
-    assert!(rt; is_same_text(alloc, &plan, NOISY, &together)?, "two rounds");
-    assert!(rt;
-        is_same_text(alloc, &plan, &apart, &apart_rounds)?,
-        "two lines"
-    );
-    let anew = format!(in alloc; "noise 3 {mask}\nround 1\nnoise 3 {mask}\nround 1\n")?;
-    assert!(rt; is_same_text(alloc, &plan, &anew, "round 2\n")?, "anew");
-    let off = format!(in alloc; "noise 1 {mask}\nnoise off\nround 1\n")?;
-    assert!(rt; is_same_text(alloc, &plan, &off, "round 1\n")?, "off");
+    let plan = small(rt.alloc())?;
+    for (noisy, lines) in [(NOISY, "round 1\n"), (NOISY_LINES, "round 1\nland 0\n")] {
+        assert!(rt;
+            changes_the_second(rt.alloc(), &plan, noisy, lines)?,
+            "at {noisy:?}"
+        );
+    }
+    Ok(())
+}
+
+// Noise counts anew after each `noise`.
+#[test]
+fn noise_counts_anew(rt: HostRuntime) -> Result<(), Fail> {
+    let plan = small(rt.alloc())?;
+    for (noisy, rounds) in UNCHANGED {
+        assert!(rt;
+            is_same_text(rt.alloc(), &plan, noisy, rounds)?,
+            "at {noisy:?}"
+        );
+    }
     Ok(())
 }
 

@@ -5,6 +5,7 @@ ghost use Rattle.std.specs.Prelude.{◌≡◌};
 
 use hmc_codes::Acted;
 use hmc_units::{Bench, LogicUnit, Reverse, Slots, Stamp, Workbench};
+use std::process::Abort;
 use std::test::Fail;
 
 // A block of the numbers 0 to 15, and the same from 15 down.
@@ -47,7 +48,24 @@ fn stamped_twice(rt: HostRuntime) {
     assert!(rt; unit.work(UP, [0x11; 16]) == acted(STAMPED_TWICE, UP, false));
 }
 
-// The shipped units in their slots: a bench finds each, and no other.
+// A bench finds the shipped units in their slots, and no other.
+fn assert_found<B: Workbench>(rt: &impl Abort, bench: &mut B) {
+    assert!(rt; bench.work(0, 1, UP, [0x11; 16]) == Some(acted(STAMPED_ONCE, UP, false)));
+    assert!(rt; bench.work(0, 0, UP, [0x11; 16]) == Some(acted(DOWN, UP, false)));
+    assert!(rt; bench.work(1, 1, UP, [0x11; 16]) == None, "another cube");
+    assert!(rt; bench.work(0, 2, UP, [0x11; 16]) == None, "another code");
+    assert!(rt; bench.work(0, 1, UP, [0x11; 16]) == Some(acted(STAMPED_TWICE, UP, false)));
+}
+
+// A retired unit works no more. The other one does.
+fn assert_retired<B: Workbench>(rt: &impl Abort, bench: &mut B) {
+    assert!(rt; bench.retire(1), "retired");
+    assert!(rt; bench.work(0, 1, UP, [0x11; 16]) == None, "no longer there");
+    assert!(rt; !bench.retire(1), "retired before");
+    assert!(rt; !bench.retire(2), "never there");
+    assert!(rt; bench.work(0, 0, UP, [0x11; 16]) == Some(acted(DOWN, UP, false)));
+}
+
 #[test]
 fn shipped_bench(rt: HostRuntime) -> Result<(), Fail> {
     let alloc = rt.alloc();
@@ -55,18 +73,8 @@ fn shipped_bench(rt: HostRuntime) -> Result<(), Fail> {
     units.push(Box::new(alloc, Reverse::new(0, 0))?)?;
     units.push(Box::new(alloc, Stamp::new(0, 1))?)?;
     let mut bench = Bench::new(alloc, units)?;
-    assert!(rt; bench.work(0, 1, UP, [0x11; 16]) == Some(acted(STAMPED_ONCE, UP, false)));
-    assert!(rt; bench.work(0, 0, UP, [0x11; 16]) == Some(acted(DOWN, UP, false)));
-    assert!(rt; bench.work(1, 1, UP, [0x11; 16]) == None, "another cube");
-    assert!(rt; bench.work(0, 2, UP, [0x11; 16]) == None, "another code");
-    assert!(rt; bench.work(0, 1, UP, [0x11; 16]) == Some(acted(STAMPED_TWICE, UP, false)));
-
-    // A retired unit works no more. The other one does.
-    assert!(rt; bench.retire(1), "retired");
-    assert!(rt; bench.work(0, 1, UP, [0x11; 16]) == None, "no longer there");
-    assert!(rt; !bench.retire(1), "retired before");
-    assert!(rt; !bench.retire(2), "never there");
-    assert!(rt; bench.work(0, 0, UP, [0x11; 16]) == Some(acted(DOWN, UP, false)));
+    assert_found(&rt, &mut bench);
+    assert_retired(&rt, &mut bench);
     Ok(())
 }
 

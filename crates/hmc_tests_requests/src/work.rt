@@ -111,6 +111,16 @@ fn assert_stamped<B: Workbench>(rt: &impl Abort, plain: &mut Plain, bench: &mut 
     assert!(rt; is_block(plain, 0, STAMPED_TWICE), "twice");
 }
 
+// Both units work, and one that is retired doesn't.
+fn assert_shipped<B: Workbench>(rt: &impl Abort, plain: &mut Plain, bench: &mut B) {
+    assert!(rt; writes_up(plain, bench, 0), "written");
+    assert_reversed(rt, plain, bench);
+    assert_stamped(rt, plain, bench);
+    assert!(rt; bench.retire(1), "retired");
+    let found = refusal(plain, bench, command(Command::Unit3));
+    assert!(rt; found == 6, "the retired unit");
+}
+
 #[test]
 fn shipped_units(rt: HostRuntime) -> Result<(), Fail> {
     let alloc = rt.alloc();
@@ -119,12 +129,7 @@ fn shipped_units(rt: HostRuntime) -> Result<(), Fail> {
     units.push(Box::new(alloc, Stamp::new(0, 1))?)?;
     units.push(Box::new(alloc, Reverse::new(0, 3))?)?;
     let mut bench = Bench::new(alloc, units)?;
-    assert!(rt; writes_up(&mut plain, &mut bench, 0), "written");
-    assert_reversed(&rt, &mut plain, &mut bench);
-    assert_stamped(&rt, &mut plain, &mut bench);
-    assert!(rt; bench.retire(1), "retired");
-    let found = refusal(&mut plain, &mut bench, command(Command::Unit3));
-    assert!(rt; found == 6, "the retired unit");
+    assert_shipped(&rt, &mut plain, &mut bench);
     Ok(())
 }
 
