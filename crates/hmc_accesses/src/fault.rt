@@ -7,7 +7,7 @@ use hmc_text::fault::TextFault;
 use std::fmt;
 
 /// What is wrong with a line.
-#[derive(Clone, Copy, Debug, PartialEq, Eq)]
+#[derive(Clone, Copy, PartialEq, Eq)]
 pub enum TraceKind {
     /// The word is unknown, or a cube comes after the first load or store.
     Word,

@@ -1,7 +1,7 @@
 //! Spans of addresses.
 
 /// The addresses from one up to another.
-#[derive(Clone, Copy, Debug, PartialEq, Eq)]
+#[derive(Clone, Copy, PartialEq, Eq)]
 pub struct Span {
     /// The first address.
     pub start: u64,

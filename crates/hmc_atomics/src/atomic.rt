@@ -6,7 +6,7 @@ ghost use Rattle.hmc_atomics.specs.Operations.{atomic_of, by_halves};
 use hmc_codes::Command;
 
 /// The operation of an atomic command. Posted and returning commands have that of the plain one.
-#[derive(Clone, Copy, Debug, PartialEq, Eq)]
+#[derive(Clone, Copy, PartialEq, Eq)]
 pub enum Atomic {
     /// Bits of a half are written where the operand's high half has them set.
     Bwr,

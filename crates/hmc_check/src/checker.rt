@@ -25,7 +25,7 @@ use hmc_units::Workbench;
 use std::alloc::Global;
 
 /// Why a report isn't lawful.
-#[derive(Clone, Copy, Debug, PartialEq, Eq)]
+#[derive(Clone, Copy, PartialEq, Eq)]
 pub enum CheckFault {
     /// Out of memory.
     Memory,

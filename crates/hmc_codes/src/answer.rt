@@ -22,7 +22,7 @@ pub enum Answer {
 }
 
 /// What an atomic command or a logic unit makes of a block of 16 bytes.
-#[derive(Clone, Copy, Debug, PartialEq, Eq)]
+#[derive(Clone, Copy, PartialEq, Eq)]
 pub struct Acted {
     /// The new block.
     pub block: [u8; 16],

@@ -15,7 +15,7 @@ use crate::{Family, Layout, Length, table};
 /// unit performs `Unit..`. The other requests are atomic commands on 8 or 16 bytes. Those that
 /// begin with `P`, except `Pret`, are posted: they have no response. `Null`, `Pret`, `Tret` and
 /// `Irtry` control a link. `..Rs` and `Error` are responses.
-#[derive(Clone, Copy, Debug, PartialEq, Eq)]
+#[derive(Clone, Copy, PartialEq, Eq)]
 pub enum Command {
     Null,
     Pret,

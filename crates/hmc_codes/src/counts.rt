@@ -1,7 +1,7 @@
 //! Counts of a run: tokens and flits of each direction, requests and packets of hosts and cubes.
 
 /// The tokens of a direction. Their sum is the number that its receiving end advertises.
-#[derive(Clone, Copy, Debug, PartialEq, Eq)]
+#[derive(Clone, Copy, PartialEq, Eq)]
 pub struct TokenRow {
     /// Tokens that its sender may still spend.
     pub held: u32,
@@ -16,7 +16,7 @@ pub struct TokenRow {
 }
 
 /// The counts of a direction.
-#[derive(Clone, Copy, Debug, PartialEq, Eq)]
+#[derive(Clone, Copy, PartialEq, Eq)]
 pub struct Counters {
     /// Flits sent.
     pub sent: u32,
@@ -33,7 +33,7 @@ pub struct Counters {
 }
 
 /// The counts of a host.
-#[derive(Clone, Copy, Debug, PartialEq, Eq)]
+#[derive(Clone, Copy, PartialEq, Eq)]
 pub struct HostCounts {
     /// Requests given.
     pub given: u32,
@@ -44,7 +44,7 @@ pub struct HostCounts {
 }
 
 /// The counts of a cube.
-#[derive(Clone, Copy, Debug, PartialEq, Eq)]
+#[derive(Clone, Copy, PartialEq, Eq)]
 pub struct CubeCounts {
     /// Requests executed.
     pub executed: u32,

@@ -1,7 +1,7 @@
 //! The three kinds of packets.
 
 /// What a packet is for.
-#[derive(Clone, Copy, Debug, PartialEq, Eq)]
+#[derive(Clone, Copy, PartialEq, Eq)]
 pub enum Family {
     /// NULL, PRET, TRET and IRTRY: packets between the two ends of a link.
     Flow,

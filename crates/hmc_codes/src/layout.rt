@@ -2,7 +2,7 @@
 
 /// The layouts of packets: which fields header and tail have, and which are always zero. In every
 /// flow packet the tag, the address, the cube and the number of a host link are zero.
-#[derive(Clone, Copy, Debug, PartialEq, Eq)]
+#[derive(Clone, Copy, PartialEq, Eq)]
 pub enum Layout {
     /// All 16 bytes are zero.
     Null,

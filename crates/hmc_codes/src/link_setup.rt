@@ -7,7 +7,7 @@ use crate::Profile;
 use std::marker::Model;
 
 /// The sizes and the profile of a link, the same at both of its ends.
-#[derive(Clone, Copy, Debug, PartialEq, Eq)]
+#[derive(Clone, Copy, PartialEq, Eq)]
 pub struct LinkSetup {
     /// Flits that a line holds; 1 to 64.
     pub line: u8,

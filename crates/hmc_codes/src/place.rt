@@ -3,7 +3,7 @@
 ghost use Rattle.std.specs.Prelude.{◌≡◌};
 
 /// An end of a link.
-#[derive(Clone, Copy, Debug, PartialEq, Eq)]
+#[derive(Clone, Copy, PartialEq, Eq)]
 pub enum Place {
     /// A host, by its number, below 8.
     Host(u8),
@@ -38,7 +38,7 @@ impl Place {
 }
 
 /// What a link joins. Its direction forth goes from `a` to `b`, its direction back from `b` to `a`.
-#[derive(Clone, Copy, Debug, PartialEq, Eq)]
+#[derive(Clone, Copy, PartialEq, Eq)]
 pub struct Join {
     /// One end.
     pub a: Place,

@@ -13,7 +13,7 @@ ghost use Rattle.hmc_codes.specs.Shape.{
 use std::marker::Model;
 
 /// The numbers of vaults, banks and rows of a cube, and the bytes of a block, which fills a row.
-#[derive(Clone, Copy, Debug, PartialEq, Eq)]
+#[derive(Clone, Copy, PartialEq, Eq)]
 pub struct Shape {
     /// The cube has `2^vault_bits` vaults; 0 to 5.
     pub vault_bits: u8,
@@ -48,7 +48,7 @@ impl Model for Shape {
 }
 
 /// The place of an address. The row may be past the shape's rows.
-#[derive(Clone, Copy, Debug, PartialEq, Eq)]
+#[derive(Clone, Copy, PartialEq, Eq)]
 pub struct Spot {
     /// The byte in the block, below the block's size.
     pub offset: u16,

@@ -1,7 +1,7 @@
 //! The units that execute requests.
 
 /// What executes a request: a bank, or the registers of a cube.
-#[derive(Clone, Copy, Debug, PartialEq, Eq)]
+#[derive(Clone, Copy, PartialEq, Eq)]
 pub enum Unit {
     /// A bank, by the numbers of its cube (below 8), of its vault in the cube (below 32) and of the
     /// bank in the vault (below 16).

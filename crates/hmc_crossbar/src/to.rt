@@ -11,7 +11,7 @@ use hmc_routes::Routes;
 use hmc_serial::is_for_registers;
 
 /// Where a packet goes from a port of a cube.
-#[derive(Clone, Copy, Debug, PartialEq, Eq)]
+#[derive(Clone, Copy, PartialEq, Eq)]
 pub enum To {
     /// To a vault of this cube, by its number, below 32.
     Vault(u8),

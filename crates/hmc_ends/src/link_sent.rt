@@ -4,7 +4,7 @@ use hmc_codes::Flit;
 use hmc_packet::What;
 
 /// What a send of a link gives.
-#[derive(Clone, Copy, Debug, PartialEq, Eq)]
+#[derive(Clone, Copy, PartialEq, Eq)]
 pub enum LinkSent {
     /// A flit, now the last on the line, and what it is sent as.
     Out {

@@ -1,7 +1,7 @@
 //! Where a packet went, and why nothing happened.
 
 /// Where a packet went from the buffer of a port.
-#[derive(Clone, Copy, Debug, PartialEq, Eq)]
+#[derive(Clone, Copy, PartialEq, Eq)]
 pub enum Goal {
     /// The queue of a vault of this cube, by its number, below 32.
     Vault(u8),
@@ -12,7 +12,7 @@ pub enum Goal {
 }
 
 /// Why a step did nothing. Of several causes the first of these counts.
-#[derive(Clone, Copy, Debug, PartialEq, Eq)]
+#[derive(Clone, Copy, PartialEq, Eq)]
 pub enum Cause {
     /// The script has no further request of the host.
     Ended,

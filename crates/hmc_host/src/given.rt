@@ -29,7 +29,7 @@ pub enum Given {
 }
 
 /// Why a host gives nothing. The first of several causes counts.
-#[derive(Clone, Copy, Debug, PartialEq, Eq)]
+#[derive(Clone, Copy, PartialEq, Eq)]
 pub enum Hindrance {
     /// No request is left.
     Ended,

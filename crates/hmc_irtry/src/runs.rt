@@ -11,7 +11,7 @@ use std::marker::Model;
 const RUN: u8 = 24;
 
 /// What a flit is in its run.
-#[derive(Clone, Copy, Debug, PartialEq, Eq)]
+#[derive(Clone, Copy, PartialEq, Eq)]
 pub enum Counted {
     /// One of the first 23, or no IRTRY.
     Below,

@@ -4,7 +4,7 @@ ghost use Rattle.hmc_outside.specs.Counts.{unread, once_more, after_count, after
 ghost use Rattle.hmc_outside.specs.Raised.{raised};
 
 /// A source or a sink failed in this call.
-#[derive(Clone, Copy, Debug, PartialEq, Eq)]
+#[derive(Clone, Copy, PartialEq, Eq)]
 pub struct Failed;
 
 /// One more, where the count isn't at its last value.

@@ -1,7 +1,7 @@
 //! Why flits are not a packet.
 
 /// The first test that flits fail.
-#[derive(Clone, Copy, Debug, PartialEq, Eq)]
+#[derive(Clone, Copy, PartialEq, Eq)]
 pub enum Bad {
     /// The first flit's LNG isn't 1 to 17, or isn't the number of flits.
     Length,

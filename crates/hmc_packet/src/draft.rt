@@ -15,7 +15,7 @@ use hmc_crc::{crc_fast, crc_update};
 ///
 /// The flits before the last are the packet's header and payload, whatever the profile and the
 /// return pointer are. The check goes on over the tail when the last flit is made.
-#[derive(Clone, Copy, Debug, PartialEq, Eq)]
+#[derive(Clone, Copy, PartialEq, Eq)]
 pub struct Draft {
     // The word of the header.
     header: u64,

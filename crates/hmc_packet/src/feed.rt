@@ -3,7 +3,7 @@
 use hmc_codes::Flit;
 
 /// The next flit of a packet that leaves a cube before it has come whole.
-#[derive(Clone, Copy, Debug, PartialEq, Eq)]
+#[derive(Clone, Copy, PartialEq, Eq)]
 pub enum Feed {
     /// It isn't there yet.
     Waiting,

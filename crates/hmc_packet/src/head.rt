@@ -8,7 +8,7 @@ use crate::reading::{command_in, header_in, is_transaction};
 use hmc_codes::{Command, Flit, Layout};
 
 /// The head of a request or a response.
-#[derive(Clone, Copy, Debug, PartialEq, Eq)]
+#[derive(Clone, Copy, PartialEq, Eq)]
 pub struct Head {
     /// Of a request or a response.
     pub command: Command,

@@ -12,7 +12,7 @@ ghost use Rattle.std.specs.Prelude.{◌≡◌};
 use hmc_codes::Layout;
 
 /// The fields of a header. Those that a layout lacks are zero.
-#[derive(Clone, Copy, Debug, PartialEq, Eq)]
+#[derive(Clone, Copy, PartialEq, Eq)]
 pub struct Header {
     /// The code of the command, below 128.
     pub code: u8,

@@ -3,7 +3,7 @@
 use crate::{Bad, Kind};
 
 /// What a receiver makes of a flit, without the packet.
-#[derive(Clone, Copy, Debug, PartialEq, Eq)]
+#[derive(Clone, Copy, PartialEq, Eq)]
 pub enum Outcome {
     /// Nothing: a NULL, a PRET, an IRTRY of a run that goes on, or a flit that is passed over.
     Quiet,

@@ -3,7 +3,7 @@
 use crate::Outcome;
 
 /// What the landing of a flit gives to its receiver, and to the sender at the same end.
-#[derive(Clone, Copy, Debug, PartialEq, Eq)]
+#[derive(Clone, Copy, PartialEq, Eq)]
 pub struct Reception {
     /// What the receiver makes of the flit.
     pub outcome: Outcome,

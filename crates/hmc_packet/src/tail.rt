@@ -14,7 +14,7 @@ ghost use Rattle.std.specs.Prelude.{◌≡◌};
 use hmc_codes::{Layout, Profile};
 
 /// The fields of a tail without the check. Those that a layout lacks are zero.
-#[derive(Clone, Copy, Debug, PartialEq, Eq)]
+#[derive(Clone, Copy, PartialEq, Eq)]
 pub struct Tail {
     /// The return retry pointer, below the profile's modulus.
     pub rrp: u16,

@@ -1,7 +1,7 @@
 //! What a sender sees of the receiver at its own end.
 
 /// What a receiver waits for.
-#[derive(Clone, Copy, Debug, PartialEq, Eq)]
+#[derive(Clone, Copy, PartialEq, Eq)]
 pub enum Mode {
     /// For eight training flits or IRTRYs in a row.
     Train,
@@ -12,7 +12,7 @@ pub enum Mode {
 }
 
 /// What a sender sees of the receiver at its own end.
-#[derive(Clone, Copy, Debug, PartialEq, Eq)]
+#[derive(Clone, Copy, PartialEq, Eq)]
 pub struct View {
     pub mode: Mode,
     /// The return pointer to send: the forward pointer of the last packet accepted, 0 at first.

@@ -1,7 +1,7 @@
 //! What a flit is sent as.
 
 /// What an end of a link sends a flit as.
-#[derive(Clone, Copy, Debug, PartialEq, Eq)]
+#[derive(Clone, Copy, PartialEq, Eq)]
 pub enum What {
     /// The training flit.
     Train,

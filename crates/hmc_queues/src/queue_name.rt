@@ -3,7 +3,7 @@
 use hmc_codes::Lift;
 
 /// A queue inside a cube.
-#[derive(Clone, Copy, Debug, PartialEq, Eq)]
+#[derive(Clone, Copy, PartialEq, Eq)]
 pub enum QueueName {
     /// The requests that wait at a vault.
     Vault(u8),

@@ -12,7 +12,7 @@ use std::marker::Model;
 
 /// How many vaults a cube has, how many banks each of them, and for how many packets each queue has
 /// room.
-#[derive(Clone, Copy, Debug, PartialEq, Eq)]
+#[derive(Clone, Copy, PartialEq, Eq)]
 pub struct QueuesSetup {
     /// The number of vaults.
     pub vaults: u8,

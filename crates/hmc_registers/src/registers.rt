@@ -13,7 +13,7 @@ pub const REGISTERS: u64 = 16;
 pub const FIRST_SCRATCH: u64 = 4;
 
 /// Why a register wasn't written.
-#[derive(Clone, Copy, Debug, PartialEq, Eq)]
+#[derive(Clone, Copy, PartialEq, Eq)]
 pub enum RegisterFault {
     /// There is no register with this number.
     NoRegister,

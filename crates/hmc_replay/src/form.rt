@@ -6,7 +6,7 @@ ghost use Rattle.hmc_replay.specs.Words.{make_form, form_of};
 use hmc_make::number_of;
 
 /// What the words ask for.
-#[derive(Clone, Copy, Debug, PartialEq, Eq)]
+#[derive(Clone, Copy, PartialEq, Eq)]
 pub enum Form {
     /// The report of the case that is read.
     Run,

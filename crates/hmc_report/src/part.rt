@@ -1,7 +1,7 @@
 //! From where the final lines are made.
 
 /// The first kind of line that is made.
-#[derive(Clone, Copy, Debug, PartialEq, Eq)]
+#[derive(Clone, Copy, PartialEq, Eq)]
 pub enum Part {
     /// The lines of memories: all final lines.
     Memory,

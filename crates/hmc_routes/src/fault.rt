@@ -6,7 +6,7 @@ ghost use Rattle.hmc_routes.specs.declared.fault.RouteFault.TheVariants as fault
 use std::alloc::{AllocError, AllocFailed};
 
 /// Why there are no routes.
-#[derive(Clone, Copy, Debug, PartialEq, Eq)]
+#[derive(Clone, Copy, PartialEq, Eq)]
 pub enum RouteFault {
     /// Out of memory.
     Memory,

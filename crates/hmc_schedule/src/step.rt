@@ -4,7 +4,7 @@ use hmc_codes::{Flit, Lift};
 
 /// A step: one thing that one part of a network does. Hosts, directions, cubes, ports, vaults and
 /// banks go by their numbers, from 0.
-#[derive(Clone, Copy, Debug, PartialEq, Eq)]
+#[derive(Clone, Copy, PartialEq, Eq)]
 pub enum Step {
     /// This host gives its next request to its link.
     Give(u8),

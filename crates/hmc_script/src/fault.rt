@@ -7,7 +7,7 @@ use hmc_text::fault::TextFault;
 use std::fmt;
 
 /// What is wrong with a line.
-#[derive(Clone, Copy, Debug, PartialEq, Eq)]
+#[derive(Clone, Copy, PartialEq, Eq)]
 pub enum ScriptKind {
     /// The word is not the number of a host of the case.
     Host,

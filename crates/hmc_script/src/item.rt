@@ -19,7 +19,7 @@ pub struct Item {
 
 /// What of an item decides when it may be given: all but the host, the cube, the address and the
 /// payload.
-#[derive(Clone, Copy, Debug, PartialEq, Eq)]
+#[derive(Clone, Copy, PartialEq, Eq)]
 pub struct Outline {
     /// Whether a fence is before the request.
     pub fenced: bool,

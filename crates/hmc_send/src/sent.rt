@@ -4,7 +4,7 @@ use hmc_codes::Flit;
 use hmc_packet::What;
 
 /// What a send gives.
-#[derive(Clone, Copy, Debug, PartialEq, Eq)]
+#[derive(Clone, Copy, PartialEq, Eq)]
 pub enum Sent {
     /// A flit, and what it is sent as.
     Out {

@@ -1,7 +1,7 @@
 //! The two directions of a link.
 
 /// A direction of a link.
-#[derive(Clone, Copy, Debug, PartialEq, Eq)]
+#[derive(Clone, Copy, PartialEq, Eq)]
 pub enum Toward {
     /// Away from the host.
     Forth,

@@ -8,7 +8,7 @@ use hmc_entries::{Entry, Event, LastEntry};
 use hmc_net::Went;
 
 /// Kinds of entries at which a run stops: those of the fields that are set.
-#[derive(Clone, Copy, Debug, PartialEq, Eq)]
+#[derive(Clone, Copy, PartialEq, Eq)]
 pub struct Stops {
     /// A host gave a request.
     pub gave: bool,

@@ -31,7 +31,7 @@ use std::alloc::Global;
 use std::marker::Model;
 
 /// Why a taped session doesn't take a step.
-#[derive(Clone, Copy, Debug, PartialEq, Eq)]
+#[derive(Clone, Copy, PartialEq, Eq)]
 pub enum NotTaped {
     /// The session refuses it.
     Refused(NotTaken),

@@ -7,7 +7,7 @@ use hmc_codes::Memory;
 use std::alloc::AllocError;
 
 /// Why a text can't be read. `K` is what can be wrong with a line.
-#[derive(Clone, Copy, Debug, PartialEq, Eq)]
+#[derive(Clone, Copy, PartialEq, Eq)]
 pub enum TextFault<K> {
     /// Out of memory.
     Memory,

@@ -5,7 +5,7 @@ ghost use Rattle.hmc_codes.specs.Limits.{most_tokens};
 ghost use Rattle.hmc_tokens.specs.Account.{tokens_of_code, code_for};
 
 /// The tokens of one end of a link. A token stands for a flit of a receiving buffer.
-#[derive(Clone, Copy, Debug, PartialEq, Eq)]
+#[derive(Clone, Copy, PartialEq, Eq)]
 pub struct Account {
     /// Tokens held for sending: free flits of the other end's buffer.
     pub held: u32,

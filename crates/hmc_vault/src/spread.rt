@@ -1,7 +1,7 @@
 //! What a spread returns.
 
 /// What a spread of a vault did.
-#[derive(Clone, Copy, Debug, PartialEq, Eq)]
+#[derive(Clone, Copy, PartialEq, Eq)]
 pub enum Spread {
     /// Nothing: the vault queue is empty.
     Empty,
