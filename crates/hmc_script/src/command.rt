@@ -3,13 +3,13 @@
 ghost use Rattle.std.specs.Prelude.{◌≡◌, IfSome};
 ghost use Rattle.hmc_codes.specs.Commands.{family_of};
 ghost use Rattle.hmc_codes.specs.declared.family.Family.TheVariants as families;
-ghost use Rattle.hmc_script.specs.Commands.{command_of};
+ghost use Rattle.hmc_script.specs.Commands.{command_of, first_tried, second_tried, IsNoneOf};
 
 use hmc_codes::Command;
 use std::str;
 
 // The request with this word. The words are tried one by one, so those that most scripts have come
-// first.
+// first. They are in three parts, as the time of a proof grows faster than a match.
 #[tactic(auto, unfolding(crate::specs::Commands::command_of, crate::specs::Commands::requests, hmc_codes::specs::Codes::all_commands, hmc_codes::specs::Table::table_line))]
 fn with_word(word: &str) -> Option<Command>
     ensures { result ≡ command_of word.now }
@@ -33,6 +33,17 @@ fn with_word(word: &str) -> Option<Command>
         "wr96" => Some(Command::Wr96),
         "rd112" => Some(Command::Rd112),
         "wr112" => Some(Command::Wr112),
+        _ => with_other_word(word),
+    }
+}
+
+// The same of a word that is none of the first.
+#[tactic(auto, unfolding(crate::specs::Commands::command_of, crate::specs::Commands::requests, hmc_codes::specs::Codes::all_commands, hmc_codes::specs::Table::table_line))]
+fn with_other_word(word: &str) -> Option<Command>
+    requires first { IsNoneOf word.now first_tried }
+    ensures { result ≡ command_of word.now }
+{
+    match word {
         "pwr16" => Some(Command::Pwr16),
         "pwr32" => Some(Command::Pwr32),
         "pwr48" => Some(Command::Pwr48),
@@ -55,6 +66,18 @@ fn with_word(word: &str) -> Option<Command>
         "adds16r" => Some(Command::Adds16r),
         "xor16" => Some(Command::Xor16),
         "or16" => Some(Command::Or16),
+        _ => with_last_word(word),
+    }
+}
+
+// The same of a word that is none of the first and second.
+#[tactic(auto, unfolding(crate::specs::Commands::command_of, crate::specs::Commands::requests, hmc_codes::specs::Codes::all_commands, hmc_codes::specs::Table::table_line))]
+fn with_last_word(word: &str) -> Option<Command>
+    requires first { IsNoneOf word.now first_tried }
+    requires second { IsNoneOf word.now second_tried }
+    ensures { result ≡ command_of word.now }
+{
+    match word {
         "nor16" => Some(Command::Nor16),
         "and16" => Some(Command::And16),
         "nand16" => Some(Command::Nand16),
