@@ -17,6 +17,9 @@ from tool import build
 COUNT = re.compile(r"([0-9]+) passed, ([0-9]+) failed(.*)")
 
 
+# The modules of tests that take longest: they build a program, or run one often.
+LONGEST = ("test_quoted", "test_run", "test_files", "test_docs", "test_numbers")
+
 # What reads the sources of the script, with the words that it takes.
 CHECKERS = {
     "mypy": ("--strict", f"--cache-dir={os.devnull}", "tool"),
@@ -44,10 +47,16 @@ def tested(name: str) -> tuple[str, int, bool]:
     return f"{name}: {written.getvalue()}", result.testsRun, is_well
 
 
+def order(name: str) -> tuple[bool, str]:
+    """Those that take longest begin first."""
+    return name not in LONGEST, name
+
+
 def tests() -> int:
     """Runs the checkers and the tests of the script, each module in a process, as many at once as
     there are processors, and returns 0 where all pass."""
-    modules = [f"tool.tests.{path.stem}" for path in sorted(Path("tool/tests").glob("test_*.py"))]
+    names = sorted((path.stem for path in Path("tool/tests").glob("test_*.py")), key=order)
+    modules = [f"tool.tests.{name}" for name in names]
     with ProcessPoolExecutor() as pool:
         runs = [pool.submit(checked, name) for name in CHECKERS]
         runs += [pool.submit(tested, name) for name in modules]
