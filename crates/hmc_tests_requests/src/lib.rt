@@ -1,27 +1,15 @@
-//! Tests of the crates below for one request: commands and texts, checks, memory, registers, and
-//! what a request does. All are tests of public calls. They are in a crate of their own, since a
-//! crate with tests is proved twice: with them, and without.
+//! Tests of the crates below for one request: what no clause says. These are values from outside,
+//! readers and writers that fail, and that each call that takes memory gives its value where memory
+//! is ample. What a call returns and leaves is said by its clauses, and computed at examples in the
+//! files `proofs/Worked.antt`. The tests are in a crate of their own, since a crate with tests is
+//! proved twice: with them, and without.
 #![tactic(auto)]
 
 #[cfg(test)]
 mod atomics;
-#[cfg(test)]
-mod codes;
 #[cfg(test)]
 mod crc;
 #[cfg(test)]
 mod memory;
 #[cfg(test)]
 mod outside;
-#[cfg(test)]
-mod registers;
-#[cfg(test)]
-mod report_lines;
-#[cfg(test)]
-mod request;
-#[cfg(test)]
-mod serial;
-#[cfg(test)]
-mod units;
-#[cfg(test)]
-mod work;

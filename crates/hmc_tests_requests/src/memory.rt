@@ -1,32 +1,56 @@
-//! All banks of a cube.
+//! Calls that take memory. No clause says that they give their value where memory is ample, and
+//! each is made once so; what the value is, its clauses say.
 
-use hmc_codes::Shape;
+use hmc_codes::{Command, Payload, Request, Shape};
 use hmc_memory::Banks;
+use hmc_outside::{MemorySink, MemorySource};
+use hmc_serial::Plain;
+use hmc_units::{Bench, LogicUnit, Reverse};
 use std::test::Fail;
 
-// Whether the last block is this one.
-fn ends_with(banks: &Banks, block: [u8; 16]) -> bool {
-    let place = banks.shape().capacity() - 16;
-    place == 496 && banks.get16(place) == block
-}
+// Four vaults of two banks of three rows.
+const SHAPE: Shape = Shape {
+    vault_bits: 2,
+    bank_bits: 1,
+    rows: 3,
+    block: 256,
+};
 
-fn put_last(banks: &mut Banks, block: [u8; 16]) {
-    let place = banks.shape().capacity() - 16;
-    banks.put16(place, block);
-}
-
-// Two vaults of two banks of two rows of 64 bytes: the last block is written and read.
 #[test]
-fn new_and_last_block(rt: HostRuntime) -> Result<(), Fail> {
-    let shape = Shape {
-        vault_bits: 1,
-        bank_bits: 1,
-        rows: 2,
-        block: 64,
-    };
-    let mut banks = Banks::new(rt.alloc(), shape)?;
-    assert!(rt; ends_with(&banks, [0; 16]), "zeros");
-    put_last(&mut banks, [7; 16]);
-    assert!(rt; ends_with(&banks, [7; 16]), "written");
+fn cubes(rt: HostRuntime) -> Result<(), Fail> {
+    Banks::new(rt.alloc(), SHAPE)?;
+    Plain::new(rt.alloc(), &[SHAPE, SHAPE])?;
+    Ok(())
+}
+
+#[test]
+fn a_bench(rt: HostRuntime) -> Result<(), Fail> {
+    let mut units: Vec<Box<dyn LogicUnit>> = Vec::new(rt.alloc());
+    units.push(Box::new(rt.alloc(), Reverse::new(0, 0))?)?;
+    Bench::new(rt.alloc(), units)?;
+    Ok(())
+}
+
+#[test]
+fn sources_and_sinks_in_memory(rt: HostRuntime) -> Result<(), Fail> {
+    MemorySource::new(rt.alloc(), b"quick fox", &[2])?;
+    MemorySink::new(rt.alloc(), 6, &[(2, 2)])?;
+    Ok(())
+}
+
+// A read of register 15 of cube 3.
+#[tactic(auto, unfolding(hmc_codes::specs::Table::table_line))]
+fn load() -> Request {
+    Request {
+        command: Command::Mdrd,
+        cube: 3,
+        address: 15,
+        payload: Payload::empty(),
+    }
+}
+
+#[test]
+fn the_text_of_a_request(rt: HostRuntime) -> Result<(), Fail> {
+    load().text(rt.alloc())?;
     Ok(())
 }
