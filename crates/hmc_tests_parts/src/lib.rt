@@ -1,22 +1,14 @@
-//! Tests of the texts of a case, of the lines of a report, of routes, and of parts of a network.
-//! All are tests of public calls. A crate with tests is proved twice: with them, and without.
+//! Tests of the parts of a network, of scripts and of schedules: what no clause says. These are
+//! lines of schedules and scripts with what they are read as, written out by hand, and that each
+//! call that takes memory gives its value where memory is ample. What a call returns and leaves is
+//! said by its clauses, and computed at examples in the files `proofs/Worked*.antt`; whole networks
+//! are compared with the reports of `examples/`. A crate with tests is proved twice: with them, and
+//! without.
 #![tactic(auto)]
 
 #[cfg(test)]
-mod bench;
-#[cfg(test)]
-mod cube;
-#[cfg(test)]
-mod host;
-#[cfg(test)]
-mod journal;
-#[cfg(test)]
-mod routes;
+mod memory;
 #[cfg(test)]
 mod schedule;
 #[cfg(test)]
 mod script;
-#[cfg(test)]
-mod text;
-#[cfg(test)]
-mod vault;

@@ -1,5 +1,0 @@
-//! Entries and their lines.
-
-mod entries;
-mod line;
-mod parse;
