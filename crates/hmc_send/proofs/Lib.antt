@@ -19,7 +19,7 @@ pub mod LinkLawful
 pub mod LinkProjections
 pub mod LinkTokenSums
 pub mod WorkedLinkWords
-mod WorkedLink
+pub mod WorkedLink
 pub mod WorkedLinkRetry
 pub mod WorkedLinkThrough
 mod WorkedLinkCalls

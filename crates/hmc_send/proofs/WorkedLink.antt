@@ -30,15 +30,23 @@ use Rattle.hmc_send.specs.LinkLines.{sent_flits, landings, line, is_pending_chan
 use Rattle.hmc_send.specs.LinkSenders.{given_after, sender_entries, tokens}
 use Rattle.hmc_send.specs.Places.{flit_of}
 use Rattle.hmc_send.proofs.LinkLists.{calls_are_lawful}
-use Rattle.hmc_send.proofs.WorkedLinkWords.{link, opened, trained, flit_3}
+use Rattle.hmc_send.proofs.WorkedLinkWords.{link, opened, returned, trained, flit_3}
 
-trained-row : entries_after_calls link [] (map call_of trained) ≡ reverse trained
+-- the rows of other histories of this link go on from here
+opened-row : entries_after_calls link [] (map call_of opened) ≡ reverse opened
+unfolding next_entry entries_after_calls tokens sender_entries given_after passes is_pending_changed line landings sent_flits takes handed_packets receiver_entries reception_of reception_by landing_view accepted is_training training run pending mode choice view_after shown_pointer last_begun others is_open go_back starts clears acked taken_fronts places unfinished copy_of copied_packet flit_of code_for irtry_in irtry_flit read_of bytes_read judgement_of seen_in poison_in is_clean has_length is_null_alone is_null packet_from command_in fitting spelling flits_with bytes_of covered cut check_of half_bytes word_bytes header_word header_of header_is_clean tail_word tail_of tail_is_clean head_in head_with named_by command_of all_commands table_line lng_of word_of half_of training_flit zero_flit crc_of remainder divide plus zeros divisor coefficients number_of bits_of bits_below xor
+opened-row = refl
+
+pub opened-lawful : IsLawful link (reverse opened)
+unfolding IsLawful
+opened-lawful = subst (IsLawful link) opened-row (calls_are_lawful link [] (map call_of opened) tt)
+
+trained-row : entries_after_calls link (reverse opened) (map call_of returned) ≡ reverse trained
 unfolding next_entry entries_after_calls tokens sender_entries given_after passes is_pending_changed line landings sent_flits takes handed_packets receiver_entries reception_of reception_by landing_view accepted is_training training run pending mode choice view_after shown_pointer last_begun others is_open go_back starts clears acked taken_fronts places unfinished copy_of copied_packet flit_of code_for irtry_in irtry_flit read_of bytes_read judgement_of seen_in poison_in is_clean has_length is_null_alone is_null packet_from command_in fitting spelling flits_with bytes_of covered cut check_of half_bytes word_bytes header_word header_of header_is_clean tail_word tail_of tail_is_clean head_in head_with named_by command_of all_commands table_line lng_of word_of half_of training_flit zero_flit crc_of remainder divide plus zeros divisor coefficients number_of bits_of bits_below xor
 trained-row = refl
 
-trained-lawful : IsLawful link (reverse trained)
-unfolding IsLawful
-trained-lawful = subst (IsLawful link) trained-row (calls_are_lawful link [] (map call_of trained) tt)
+pub trained-lawful : IsLawful link (reverse trained)
+trained-lawful = subst (IsLawful link) trained-row (calls_are_lawful link (reverse opened) (map call_of returned) opened-lawful)
 
 -- at first all tokens are due
 tokens-first : tokens link Forth [] ≡ record { held = 0; transit = 0; used = 0; due = 34; returning = 0 }

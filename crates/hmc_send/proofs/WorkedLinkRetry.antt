@@ -35,6 +35,7 @@ use Rattle.hmc_send.specs.LinkLines.{sent_flits, landings, line, is_pending_chan
 use Rattle.hmc_send.specs.LinkSenders.{given_after, sender_entries, tokens}
 use Rattle.hmc_send.specs.Places.{flit_of}
 use Rattle.hmc_send.proofs.LinkLists.{calls_are_lawful}
+use Rattle.hmc_send.proofs.WorkedLink.{opened-lawful}
 use Rattle.hmc_send.proofs.WorkedLinkWords.{crossing, rounds, both, link, opened, flit_3, flit_4, flit_6, flit_7, flit_8, flit_9, flit_10, flit_11, flit_12, flit_13}
 
 abbrev pub packet_1 : PacketFields
@@ -47,11 +48,10 @@ packet_2 = record null_packet { command = Rd16; tag = 1; address = 64 }
 abbrev mask : List ℕ
 mask = replicate 15 0 ++ 1 ∷ []
 
--- up to the changed landing
-abbrev masked : List LinkEntry
-masked =
+-- the link is opened; from there up to the changed landing
+abbrev written : List LinkEntry
+written =
     LinkEntry.handed Forth packet_1 ∷ LinkEntry.handed Forth packet_2 ∷ []
-    ++ opened
     ++ both 1 (crossing what.Tret flit_3 Accepted)
     ++ rounds 1 (crossing what.New flit_6 Gathered)
     (crossing what.Tret flit_4 Accepted)
@@ -60,11 +60,13 @@ masked =
     LinkEntry.landed Forth mask flit_8 (AbortedBad Crc) ∷
     LinkEntry.landed Back zero_flit zero_flit Quiet ∷ [])
 
+abbrev masked : List LinkEntry
+masked = opened ++ written
+
 -- and on, until both packets are accepted and acknowledged
-abbrev pub repeated : List LinkEntry
-repeated =
-    masked
-    ++ rounds 1 (crossing what.New flit_9 Quiet)
+abbrev served : List LinkEntry
+served =
+    rounds 1 (crossing what.New flit_9 Quiet)
     (crossing what.Null zero_flit Quiet)
     ++ both 28 (crossing what.Null zero_flit Quiet)
     ++ rounds 23 (crossing what.Null zero_flit Quiet)
@@ -89,13 +91,15 @@ repeated =
     (crossing what.Pret flit_13 Quiet)
     ++ both 8 (crossing what.Null zero_flit Quiet)
 
-repeated-row : entries_after_calls link [] (map call_of repeated) ≡ reverse repeated
+abbrev pub repeated : List LinkEntry
+repeated = masked ++ served
+
+repeated-row : entries_after_calls link (reverse opened) (map call_of (written ++ served)) ≡ reverse repeated
 unfolding next_entry entries_after_calls tokens sender_entries given_after passes is_pending_changed line landings sent_flits takes handed_packets receiver_entries reception_of reception_by landing_view accepted is_training training run pending mode choice view_after shown_pointer last_begun others is_open go_back starts clears acked taken_fronts places unfinished copy_of copied_packet flit_of code_for irtry_in irtry_flit read_of bytes_read judgement_of seen_in poison_in is_clean has_length is_null_alone is_null packet_from command_in fitting spelling flits_with bytes_of covered cut check_of half_bytes word_bytes header_word header_of header_is_clean tail_word tail_of tail_is_clean head_in head_with named_by command_of all_commands table_line lng_of word_of half_of training_flit zero_flit crc_of remainder divide plus zeros divisor coefficients number_of bits_of bits_below xor
 repeated-row = refl
 
 pub repeated-lawful : IsLawful link (reverse repeated)
-unfolding IsLawful
-repeated-lawful = subst (IsLawful link) repeated-row (calls_are_lawful link [] (map call_of repeated) tt)
+repeated-lawful = subst (IsLawful link) repeated-row (calls_are_lawful link (reverse opened) (map call_of (written ++ served)) opened-lawful)
 
 -- the write's two flits are in transit when its last flit lands changed; it returns two tokens
 tokens-masked : tokens link Forth (reverse masked) ≡ record { held = 32; transit = 2; used = 0; due = 0; returning = 0 }

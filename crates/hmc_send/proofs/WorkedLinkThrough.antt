@@ -30,34 +30,38 @@ use Rattle.hmc_send.specs.LinkLines.{sent_flits, landings, line, is_pending_chan
 use Rattle.hmc_send.specs.LinkSenders.{given_after, sender_entries, tokens}
 use Rattle.hmc_send.specs.Places.{flit_of}
 use Rattle.hmc_send.proofs.LinkLists.{calls_are_lawful}
+use Rattle.hmc_send.proofs.WorkedLink.{trained-lawful}
 use Rattle.hmc_send.proofs.WorkedLinkWords.{crossing, rounds, both, link, trained, flit_13, flit_14, flit_15}
 
--- the cut-through is begun, and its first flit has crossed
-abbrev started : List LinkEntry
-started =
-    trained
-    ++ both 75 (crossing what.Null zero_flit Quiet)
+-- after training the cut-through is begun, and its first flit has crossed
+abbrev begun : List LinkEntry
+begun =
+    both 75 (crossing what.Null zero_flit Quiet)
     ++ LinkEntry.through Forth flit_14 2 ∷
     LinkEntry.sent Forth (Whole flit_14) what.New flit_14 ∷
     LinkEntry.landed Forth zero_flit flit_14 Gathered ∷ []
 
+abbrev started : List LinkEntry
+started = trained ++ begun
+
 -- its last flit has crossed, and it is acknowledged
-abbrev pub passed_on : List LinkEntry
-passed_on =
-    started
-    ++ LinkEntry.sent Forth (Last (8 ∷ 9 ∷ 10 ∷ 11 ∷ 12 ∷ 13 ∷ 14 ∷ 15 ∷ []) 0 0 true) what.New flit_15 ∷
+abbrev ended : List LinkEntry
+ended =
+    LinkEntry.sent Forth (Last (8 ∷ 9 ∷ 10 ∷ 11 ∷ 12 ∷ 13 ∷ 14 ∷ 15 ∷ []) 0 0 true) what.New flit_15 ∷
     LinkEntry.landed Forth zero_flit flit_15 Accepted ∷ []
     ++ rounds 1 (crossing what.Null zero_flit Quiet)
     (crossing what.Pret flit_13 Quiet)
     ++ both 11 (crossing what.Null zero_flit Quiet)
 
-passed_on-row : entries_after_calls link [] (map call_of passed_on) ≡ reverse passed_on
+abbrev pub passed_on : List LinkEntry
+passed_on = started ++ ended
+
+passed_on-row : entries_after_calls link (reverse trained) (map call_of (begun ++ ended)) ≡ reverse passed_on
 unfolding next_entry entries_after_calls tokens sender_entries given_after passes is_pending_changed line landings sent_flits takes handed_packets receiver_entries reception_of reception_by landing_view accepted is_training training run pending mode choice view_after shown_pointer last_begun others is_open go_back starts clears acked taken_fronts places unfinished copy_of copied_packet flit_of code_for irtry_in irtry_flit read_of bytes_read judgement_of seen_in poison_in is_clean has_length is_null_alone is_null packet_from command_in fitting spelling flits_with bytes_of covered cut check_of half_bytes word_bytes header_word header_of header_is_clean tail_word tail_of tail_is_clean head_in head_with named_by command_of all_commands table_line lng_of word_of half_of training_flit zero_flit crc_of remainder divide plus zeros divisor coefficients number_of bits_of bits_below xor
 passed_on-row = refl
 
 pub passed_on-lawful : IsLawful link (reverse passed_on)
-unfolding IsLawful
-passed_on-lawful = subst (IsLawful link) passed_on-row (calls_are_lawful link [] (map call_of passed_on) tt)
+passed_on-lawful = subst (IsLawful link) passed_on-row (calls_are_lawful link (reverse trained) (map call_of (begun ++ ended)) trained-lawful)
 
 -- it is starved while its last flit isn't there, and no other one is begun meanwhile
 starved : next_entry link (reverse started) (LinkCall.send Forth Waiting) ≡ None

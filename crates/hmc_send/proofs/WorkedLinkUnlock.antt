@@ -33,6 +33,7 @@ use Rattle.hmc_send.specs.LinkLines.{sent_flits, landings, line, is_pending_chan
 use Rattle.hmc_send.specs.LinkSenders.{given_after, sender_entries, tokens}
 use Rattle.hmc_send.specs.Places.{flit_of}
 use Rattle.hmc_send.proofs.LinkLists.{calls_are_lawful}
+use Rattle.hmc_send.proofs.WorkedLink.{opened-lawful}
 use Rattle.hmc_send.proofs.WorkedLinkWords.{crossing, rounds, both, link, opened, flit_3, flit_4, flit_10, flit_11, flit_13}
 
 abbrev flit_16 : List ℕ
@@ -47,10 +48,10 @@ flit_18 = (8 ∷ 9 ∷ 0xa ∷ 0xb ∷ 0xc ∷ 0xd ∷ 0xe ∷ 0xf ∷ 2 ∷ 8 �
 abbrev packet : PacketFields
 packet = record null_packet { command = Wr32; address = 64; payload = (0 ∷ 1 ∷ 2 ∷ 3 ∷ 4 ∷ 5 ∷ 6 ∷ 7 ∷ 8 ∷ 9 ∷ 10 ∷ 11 ∷ 12 ∷ 13 ∷ 14 ∷ 15 ∷ 0 ∷ 1 ∷ 2 ∷ 3 ∷ 4 ∷ 5 ∷ 6 ∷ 7 ∷ 8 ∷ 9 ∷ 10 ∷ 11 ∷ 12 ∷ 13 ∷ 14 ∷ 15 ∷ []) }
 
-abbrev unlocked : List LinkEntry
-unlocked =
+-- what follows once the link is opened
+abbrev served : List LinkEntry
+served =
     LinkEntry.handed Forth packet ∷ []
-    ++ opened
     ++ both 1 (crossing what.Tret flit_3 Accepted)
     ++ rounds 1 (crossing what.New flit_16 Gathered)
     (crossing what.Tret flit_4 Accepted)
@@ -82,13 +83,15 @@ unlocked =
     (crossing what.Pret flit_13 Quiet)
     ++ both 4 (crossing what.Null zero_flit Quiet)
 
-unlocked-row : entries_after_calls link [] (map call_of unlocked) ≡ reverse unlocked
+abbrev unlocked : List LinkEntry
+unlocked = opened ++ served
+
+unlocked-row : entries_after_calls link (reverse opened) (map call_of served) ≡ reverse unlocked
 unfolding next_entry entries_after_calls tokens sender_entries given_after passes is_pending_changed line landings sent_flits takes handed_packets receiver_entries reception_of reception_by landing_view accepted is_training training run pending mode choice view_after shown_pointer last_begun others is_open go_back starts clears acked taken_fronts places unfinished copy_of copied_packet flit_of code_for irtry_in irtry_flit read_of bytes_read judgement_of seen_in poison_in is_clean has_length is_null_alone is_null packet_from command_in fitting spelling flits_with bytes_of covered cut check_of half_bytes word_bytes header_word header_of header_is_clean tail_word tail_of tail_is_clean head_in head_with named_by command_of all_commands table_line lng_of word_of half_of training_flit zero_flit crc_of remainder divide plus zeros divisor coefficients number_of bits_of bits_below xor
 unlocked-row = refl
 
 unlocked-lawful : IsLawful link (reverse unlocked)
-unfolding IsLawful
-unlocked-lawful = subst (IsLawful link) unlocked-row (calls_are_lawful link [] (map call_of unlocked) tt)
+unlocked-lawful = subst (IsLawful link) unlocked-row (calls_are_lawful link (reverse opened) (map call_of served) opened-lawful)
 
 -- a TRET and the packet are acknowledged, and its three flits are in the buffer
 acked-two : acked (sender_entries link Forth (reverse unlocked)) ≡ 2

@@ -101,9 +101,11 @@ opened =
     ++ both 8 (crossing what.Clear flit_2 Quiet)
 
 -- then all tokens are returned
-abbrev pub trained : List LinkEntry
-trained =
-    opened
-    ++ both 1 (crossing what.Tret flit_3 Accepted)
+abbrev pub returned : List LinkEntry
+returned =
+    both 1 (crossing what.Tret flit_3 Accepted)
     ++ both 1 (crossing what.Tret flit_4 Accepted)
     ++ both 1 (crossing what.Pret flit_5 Quiet)
+
+abbrev pub trained : List LinkEntry
+trained = opened ++ returned
