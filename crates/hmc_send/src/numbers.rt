@@ -1,7 +1,7 @@
 //! The numbers of a packet.
 
 /// The numbers that a direction gives to a packet.
-#[derive(Clone, Copy, PartialEq, Eq)]
+#[derive(Clone, Copy)]
 pub struct Numbers {
     /// The flits up to and including the packet, modulo the profile's number.
     pub frp: u16,

@@ -1,7 +1,7 @@
 //! The two directions of a link.
 
 /// A direction of a link.
-#[derive(Clone, Copy, PartialEq, Eq)]
+#[derive(Clone, Copy)]
 pub enum Toward {
     /// Away from the host.
     Forth,
