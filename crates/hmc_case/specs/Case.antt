@@ -28,6 +28,13 @@ pub record CaseFields : Type 0 where
   pub script : List ItemFields
   pub schedule : List Step
 
+-- a case of these cubes and links, by the texts of its script, which comes first, and its schedule
+abbrev pub case_with : NetFields → (script schedule : List ℕ) → Result CaseFields Fault
+case_with net script_text schedule_text = do
+  script ← in_text Script kinds.Script (script_of net.hosts (length net.cubes) script_text)
+  schedule ← in_text Schedule kinds.Schedule (schedule_of (plan_of net) schedule_text)
+  Ok (record { net = net; script = script; schedule = schedule })
+
 -- The document comes first, then its keys, then the cubes and links, then the script, and the
 -- schedule last.
 unfoldable pub case_of : List ℕ → Result CaseFields Fault
@@ -35,9 +42,7 @@ case_of bytes = do
   table ← in_section Toml 0 (table_in bytes)
   parts ← in_section Top 0 (parts_of table)
   net ← net_of parts.profile parts.cubes parts.links
-  script ← in_text Script kinds.Script (script_of net.hosts (length net.cubes) parts.script)
-  schedule ← in_text Schedule kinds.Schedule (schedule_of (plan_of net) parts.schedule)
-  Ok (record { net = net; script = script; schedule = schedule })
+  case_with net parts.script parts.schedule
 
 -- what every case keeps: each request is good, and of one of its hosts to one of its cubes; each
 -- step names its parts, and each mask is as long as a flit

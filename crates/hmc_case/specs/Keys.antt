@@ -23,23 +23,30 @@ abbrev pub is_cube_key : Profile → List ℕ → Bool
 is_cube_key One key = is_common_cube_key key
 is_cube_key Two key = is_common_cube_key key || bytes_eq key (codes "block")
 
+-- the keys of a link's two ends
+abbrev pub is_end_key : List ℕ → Bool
+is_end_key key = bytes_eq key (codes "a") || bytes_eq key (codes "b")
+
 -- the keys of a link in a case of either profile
 abbrev pub is_common_link_key : List ℕ → Bool
 is_common_link_key key =
-    bytes_eq key (codes "a") || bytes_eq key (codes "b") || bytes_eq key (codes "line")
-    || bytes_eq key (codes "tokens") || bytes_eq key (codes "retry")
-    || bytes_eq key (codes "output")
+    is_end_key key || bytes_eq key (codes "line") || bytes_eq key (codes "tokens")
+    || bytes_eq key (codes "retry") || bytes_eq key (codes "output")
 
 -- the keys of a link; in a case of profile 2 also its own profile
 abbrev pub is_link_key : Profile → List ℕ → Bool
 is_link_key One key = is_common_link_key key
 is_link_key Two key = is_common_link_key key || bytes_eq key (codes "profile")
 
+-- the keys of the document under which a network stands
+abbrev pub is_net_key : List ℕ → Bool
+is_net_key key =
+    bytes_eq key (codes "profile") || bytes_eq key (codes "cubes") || bytes_eq key (codes "links")
+
 -- the keys of each table; those of a cube and of a link depend on the profile of the case
 abbrev pub is_key : Part → List ℕ → Bool
 is_key Top key =
-    bytes_eq key (codes "profile") || bytes_eq key (codes "cubes") || bytes_eq key (codes "links")
-    || bytes_eq key (codes "script") || bytes_eq key (codes "schedule")
+    is_net_key key || bytes_eq key (codes "script") || bytes_eq key (codes "schedule")
 is_key (Cube profile) key = is_cube_key profile key
 is_key (Link profile) key = is_link_key profile key
 

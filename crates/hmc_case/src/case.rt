@@ -8,7 +8,7 @@ ghost use Rattle.hmc_case.specs.Net.{IsNet, net_with};
 ghost use Rattle.hmc_case.specs.Plan.{plan_of};
 ghost use Rattle.hmc_case.specs.Together.{host_count};
 ghost use Rattle.hmc_case.specs.Reading.{Answers};
-ghost use Rattle.hmc_case.specs.Case.{case_of, IsCase};
+ghost use Rattle.hmc_case.specs.Case.{case_of, case_with, IsCase};
 
 use crate::net::{Net, net_of, net_with};
 use crate::parts::{parts_in, table_in};
@@ -47,6 +47,21 @@ impl Model for Case {
     }) };
 }
 
+// The case of these cubes and links, by the texts of its script and its schedule.
+fn case_with(alloc: Global, net: Net, script: &str, schedule: &str) -> Result<Case, CaseFault>
+    ensures exact { Answers (λ case. case) result (case_with net script.now schedule.now) }
+    ensures within { IfOk result IsCase }
+{
+    let cubes = net.cubes.len() as u8;
+    let script = script_of(alloc, net.hosts, cubes, script)?;
+    let schedule = schedule_of(alloc, &net, schedule)?;
+    Ok(Case {
+        net,
+        script,
+        schedule,
+    })
+}
+
 impl Case {
     /// Reads a case. The fault is the first one: the section, the line there, and what is wrong;
     /// `docs/case.md` has their order.
@@ -61,14 +76,7 @@ impl Case {
         let table = table_in(alloc, bytes)?;
         let parts = parts_in(&table)?;
         let net = net_of(alloc, parts.profile, parts.cubes, parts.links)?;
-        let cubes = net.cubes.len() as u8;
-        let script = script_of(alloc, net.hosts, cubes, parts.script)?;
-        let schedule = schedule_of(alloc, &net, parts.schedule)?;
-        Ok(Case {
-            net,
-            script,
-            schedule,
-        })
+        case_with(alloc, net, parts.script, parts.schedule)
     }
 
     /// The case of these cubes and links, this script and this schedule. The cubes and links are

@@ -13,7 +13,7 @@ use std::alloc::AllocError;
 use std::fmt;
 
 /// The part of a case in which something is wrong.
-#[derive(Clone, Copy, PartialEq, Eq)]
+#[derive(Clone, Copy)]
 pub enum Section {
     /// The bytes as a TOML document.
     Toml,
@@ -60,7 +60,7 @@ impl fmt::Display for Section {
 }
 
 /// What is wrong there.
-#[derive(Clone, Copy, PartialEq, Eq)]
+#[derive(Clone, Copy)]
 pub enum CaseKind {
     /// The bytes are not a TOML document.
     Syntax,
@@ -144,7 +144,7 @@ impl fmt::Display for CaseKind {
 }
 
 /// Why bytes are not a case.
-#[derive(Clone, Copy, PartialEq, Eq)]
+#[derive(Clone, Copy)]
 pub enum CaseFault {
     /// Out of memory.
     Memory,

@@ -5,7 +5,7 @@ ghost use Rattle.std.specs.BTreeMap.{keys};
 ghost use Rattle.std.specs.List.{list_all};
 ghost use Rattle.toml.specs.View.{view, table_view, array_view};
 ghost use Rattle.hmc_text.specs.Reading.{Gives};
-ghost use Rattle.hmc_case.specs.Keys.{is_cube_key, is_link_key, is_key, known_keys, table_of, among, value_at, number_at, text_at, count_of, items_at, profile_numbered, profile_at};
+ghost use Rattle.hmc_case.specs.Keys.{is_net_key, is_common_cube_key, is_cube_key, is_end_key, is_common_link_key, is_link_key, is_key, known_keys, table_of, among, value_at, number_at, text_at, count_of, items_at, profile_numbered, profile_at};
 
 use crate::CaseKind;
 use hmc_codes::Profile;
@@ -72,32 +72,51 @@ pub fn text_at<'a>(key: &str, table: &'a Table) -> Result<&'a str, CaseKind>
     }
 }
 
+fn is_net_key(key: &str) -> bool
+    ensures { result ≡ is_net_key key.now }
+{
+    matches!(key, "profile" | "cubes" | "links")
+}
+
 fn is_top_key(key: &str) -> bool
     ensures { result ≡ is_key Part.Top key.now }
 {
-    matches!(key, "profile" | "cubes" | "links" | "script" | "schedule")
+    is_net_key(key) || matches!(key, "script" | "schedule")
+}
+
+fn is_common_cube_key(key: &str) -> bool
+    ensures { result ≡ is_common_cube_key key.now }
+{
+    matches!(key, "vault_bits" | "bank_bits" | "rows" | "queue")
 }
 
 fn is_cube_key(profile: Profile, key: &str) -> bool
     ensures { result ≡ is_cube_key profile key.now }
 {
     match profile {
-        Profile::One => matches!(key, "vault_bits" | "bank_bits" | "rows" | "queue"),
-        Profile::Two => matches!(key, "vault_bits" | "bank_bits" | "rows" | "queue" | "block"),
+        Profile::One => is_common_cube_key(key),
+        Profile::Two => is_common_cube_key(key) || key == "block",
     }
+}
+
+fn is_end_key(key: &str) -> bool
+    ensures { result ≡ is_end_key key.now }
+{
+    matches!(key, "a" | "b")
+}
+
+fn is_common_link_key(key: &str) -> bool
+    ensures { result ≡ is_common_link_key key.now }
+{
+    is_end_key(key) || matches!(key, "line" | "tokens" | "retry" | "output")
 }
 
 fn is_link_key(profile: Profile, key: &str) -> bool
     ensures { result ≡ is_link_key profile key.now }
 {
     match profile {
-        Profile::One => matches!(key, "a" | "b" | "line" | "tokens" | "retry" | "output"),
-        Profile::Two => {
-            matches!(
-                key,
-                "a" | "b" | "line" | "tokens" | "retry" | "output" | "profile"
-            )
-        }
+        Profile::One => is_common_link_key(key),
+        Profile::Two => is_common_link_key(key) || key == "profile",
     }
 }
 

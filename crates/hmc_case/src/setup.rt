@@ -4,7 +4,7 @@ use hmc_codes::{Join, LinkSetup, Shape};
 use std::marker::Model;
 
 /// A cube of a case.
-#[derive(Clone, Copy, PartialEq, Eq)]
+#[derive(Clone, Copy)]
 pub struct CubeSetup {
     /// The shape of its memory.
     pub shape: Shape,
@@ -25,7 +25,7 @@ impl Model for CubeSetup {
 }
 
 /// A link of a case.
-#[derive(Clone, Copy, PartialEq, Eq)]
+#[derive(Clone, Copy)]
 pub struct LinkRow {
     /// Where the link ends.
     pub join: Join,
