@@ -3,8 +3,8 @@
 ghost use Rattle.std.specs.Prelude.{◌≡◌, ◌≤◌, ◌<◌, ◌*◌, ◌^◌, IfOk, length, replicate};
 ghost use Rattle.hmc_codes.specs.Limits.{most_cubes, most_hosts, most_links};
 ghost use Rattle.hmc_case.specs.Case.{IsCase};
-ghost use Rattle.hmc_journal.specs.Setup.{hosts_in};
-ghost use Rattle.hmc_tally.specs.Tally.{no_counters, no_host_steps, no_cube_counts};
+ghost use Rattle.hmc_journal.specs.Setup.{hosts_in, directions_in};
+ghost use Rattle.hmc_tally.specs.Tally.{no_counters, no_host_steps, no_cube_counts, opening_tally};
 ghost use Rattle.hmc_wiring.specs.Wiring.{IsLaidOut};
 ghost use Rattle.hmc_kept.specs.Hosts.{AreNewHosts};
 ghost use Rattle.hmc_kept.specs.Parts.{AreNewParts, topology_in};
@@ -65,8 +65,27 @@ impl Parts {
     {
         let wiring = Wiring::build(alloc, cubes, links)?;
         let tally = new_tally(alloc, cubes, links, hosts)?;
+        Self::with_hosts(alloc, wiring, tally, 2 * links.len(), hosts, script)
+    }
+
+    // The same, with the wiring and the counts. It owns less at each step than one function would.
+    fn with_hosts(
+        alloc: Global,
+        wiring: Wiring,
+        tally: Tally,
+        directions: usize,
+        hosts: u8,
+        script: &Script,
+    ) -> Result<Self, Memory>
+        requires directions { directions ≡ directions_in wiring }
+        requires hosts { hosts ≡ hosts_in wiring }
+        requires few { hosts ≤ most_hosts }
+        requires uncounted { tally ≡ opening_tally wiring }
+        ensures { IfOk result (λ parts. AreNewParts wiring script.now
+            parts.wiring parts.hosts.items parts.piped parts.tally) }
+    {
         let hosts = new_hosts(alloc, hosts, script)?;
-        let piped = Pipes::build(alloc, 2 * links.len())?;
+        let piped = Pipes::build(alloc, directions)?;
         Ok(Parts {
             wiring,
             hosts,

@@ -1,6 +1,6 @@
 //! Pipes: the flits of packets that are forwarded while they are gathered.
 
-ghost use Rattle.std.specs.Prelude.{◌≡◌, ◌<◌, ◌≤◌, ◌+◌, ◌*◌, ◌∷◌, List, IfOk, IfSome, Some, None, true, length, option_map};
+ghost use Rattle.std.specs.Prelude.{◌≡◌, ◌<◌, ◌≤◌, ◌+◌, ◌*◌, ◌∷◌, List, IfOk, IfSome, Some, None, true, length, option_map, replicate};
 ghost use Rattle.hmc_through.specs.Pipe.{is_accepted, is_whole};
 ghost use Rattle.hmc_journal.specs.Piped.{PipeFrom, is_accepted_outcome, while_gathered, with_landing, with_unlock, fed};
 ghost use Rattle.hmc_kept.specs.Pipes.{PipesHeld, AreCounted, AreUnused, AreGathering, IsLastOf, IsPlace, MayLand, MayLose, is_gathered, is_whole_outcome, forwarded_at, pipe_at, changed_pipe, after_begin, after_flit, after_loss};
@@ -75,12 +75,8 @@ impl Pipes {
         ensures counted { IfOk result (AreCounted directions) }
         ensures unused { IfOk result AreUnused }
     {
-        let mut forwarded = Vec::with_capacity(alloc, directions)?;
-        let mut pipes = Vec::with_capacity(alloc, directions)?;
-        'directions: for _ in 0..directions {
-            forwarded.push(None)?;
-            pipes.push(None)?;
-        }
+        let forwarded = empty_places(alloc, directions)?;
+        let pipes = empty_places(alloc, directions)?;
         Ok(Pipes { forwarded, pipes })
     }
 
@@ -146,6 +142,17 @@ impl Pipes {
         lose_in(&mut self.pipes[usize::from(onto)]);
         self.forwarded[usize::from(direction)] = None;
     }
+}
+
+// So many places, with nothing in them.
+fn empty_places<T: Drop>(alloc: Global, count: usize) -> Result<Vec<Option<T>>, Memory>
+    ensures { IfOk result (λ places. places.items ≡ replicate count None) }
+{
+    let mut places = Vec::with_capacity(alloc, count)?;
+    'each: for _ in 0..count {
+        places.push(None)?;
+    }
+    Ok(places)
 }
 
 // A flit lands that belongs to the packet of a pipe, if there is one.
