@@ -34,9 +34,10 @@ use Rattle.hmc_codes.specs.declared.lift.Lift.{Lift}
 use Rattle.hmc_journal.specs.Next.{goal_at}
 use Rattle.hmc_journal.specs.StepView.{view_of}
 use Rattle.hmc_laws.proofs.Wired.{Wired}
+use Rattle.hmc_laws.proofs.Contents.{pop, contents-more}
 use Rattle.hmc_delivery.proofs.Seen.{seen, kind_by, spot_of, spot_by, hop_queue, arriving}
 use Rattle.hmc_delivery.proofs.Underway.{line_on}
-use Rattle.hmc_delivery.proofs.Agreeing.{IsMapOf, EndsAt, IsReal, Agrees, end_at, out_by, arriving_is, same_hops, not_line, pop, contents-more, pop_seen, if_seen}
+use Rattle.hmc_delivery.proofs.Agreeing.{IsMapOf, EndsAt, IsReal, Agrees, end_at, out_by, arriving_is, same_hops, not_line, pop_seen, if_seen}
 use Rattle.hmc_laws.proofs.ForwardingLandings.{back_false}
 use Rattle.hmc_journal.proofs.Packets.{inside_goal}
 

@@ -1,6 +1,7 @@
 pub mod Serial
 pub mod GoesOn
 pub mod Wired
+pub mod Contents
 pub mod LinkHanded
 pub mod KeptPast
 pub mod NoSends

@@ -8,7 +8,7 @@ use Rattle.hmc_journal.specs.Lawful.{Lawful}
 use Rattle.hmc_journal.specs.Queues.{QueueId, same_queue, is_at, leaves, one_if, packet_if, Arrival, arrived, contents}
 use Rattle.hmc_journal.proofs.EntryRule.{HasFront, entry_rule, lawful_past}
 use Rattle.hmc_journal.proofs.Moves.{HasLeaving, has_leaving, same_queue_is, arrives, entering}
-use Rattle.hmc_delivery.proofs.Agreeing.{pop, contents-more}
+use Rattle.hmc_laws.proofs.Contents.{pop, contents-more}
 use Rattle.hmc_laws.proofs.Sound.{kept}
 use Rattle.hmc_laws.proofs.SoundSends.{has_begun}
 use Rattle.hmc_journal.specs.UnderWay.{count_in}

@@ -25,7 +25,7 @@ use Rattle.hmc_journal.specs.Queues.{QueueId, same_queue, buffer_at, is_at, leav
 use Rattle.hmc_journal.specs.Queues.QueueId.{Output, Port, Host, Vault, Bank, Registers, Answers}
 use Rattle.hmc_journal.specs.Setup.{Setup, Topology, end_of}
 use Rattle.hmc_journal.specs.StepView.{view_of}
-use Rattle.hmc_delivery.proofs.Agreeing.{pop, contents-more}
+use Rattle.hmc_laws.proofs.Contents.{pop, contents-more}
 use Rattle.hmc_laws.proofs.Buffers.{IsBuffer, coming}
 use Rattle.hmc_journal.proofs.EntryRule.{entry_rule, lawful_past}
 use Rattle.hmc_journal.proofs.Moves.{begins_off, arrived_first, entering}
