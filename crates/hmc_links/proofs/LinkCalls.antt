@@ -1,16 +1,24 @@
 -- The links after a call of one of them.
-use Rattle.std.proofs.Common.{◌≡◌, ◌<◌, ◌*◌, ◌/◌, ◌∙◌, ℕ, true, List, [], ◌∷◌, length, sym, ap, subst, arith}
+use Rattle.std.proofs.Common.{◌≡◌, ◌<◌, ◌*◌, ◌/◌, ◌∙◌, ℕ, true, List, [], ◌∷◌, length, nat_lt, ltb-true, Option, sym, ap, subst, arith}
 use Rattle.std.specs.Prelude.{slice_set, slice_index_or}
 use Rattle.std.proofs.lemmas.List.{length-set, set-get_or}
 use Rattle.hmc_codes.specs.Link.{LinkFields}
 use Rattle.hmc_case.specs.declared.setup.LinkRow.{LinkRow}
 use Rattle.hmc_ends.specs.Answers.{after_call}
 use Rattle.hmc_link.specs.Held.{LinkHeld, sending_end}
-use Rattle.hmc_ends.specs.End.{is_ready}
-use Rattle.hmc_ends.specs.Parts.{parts_of}
+use Rattle.hmc_ends.specs.End.{EndFields, is_ready}
+use Rattle.hmc_ends.specs.Parts.{EndParts, parts_of, output_queue}
+use Rattle.hmc_ends.specs.StandsFor.{EndStandsFor}
+use Rattle.hmc_codes.specs.declared.profile.Profile.{Profile}
+use Rattle.hmc_packet.specs.Packet.{PacketFields}
+use Rattle.hmc_packet.specs.declared.feed.Feed.{Feed}
+use Rattle.hmc_send.specs.Entries.{UnderWay, under_way}
+use Rattle.hmc_send.specs.Given.{IsTaken}
+use Rattle.hmc_send.specs.IsSender.{IsFed}
+use Rattle.hmc_send.specs.LinkSenders.{sender_entries}
 use Rattle.hmc_link.specs.StandsFor.{LinkStandsFor}
 use Rattle.hmc_packet.specs.declared.feed.Feed.TheVariants.{Waiting}
-use Rattle.hmc_send.specs.LinkCalls.{LinkCall, view_in, may_pass_on}
+use Rattle.hmc_send.specs.LinkCalls.{LinkCall, has_room, view_in, may_pass_on}
 use Rattle.hmc_send.specs.LinkEntries.{LinkEntry}
 use Rattle.hmc_send.specs.declared.toward.Toward.{Toward}
 use Rattle.hmc_send.specs.declared.toward.Toward.TheVariants.{Forth, Back}
@@ -19,7 +27,7 @@ use Rattle.hmc_ends.proofs.Begins.{may-in}
 use Rattle.hmc_wire.specs.LinkLaws.{IsKept}
 use Rattle.hmc_journal.specs.Links.{toward}
 use Rattle.hmc_kept.specs.Called.{sizes_at, sizes_by, called}
-use Rattle.hmc_links.specs.LinkList.{LinksStandFor, IsDirection}
+use Rattle.hmc_links.specs.LinkList.{LinksStandFor, IsDirection, AreGoing}
 use Rattle.hmc_kept.proofs.Elements.{each_set}
 use Rattle.hmc_kept.proofs.Called.{called_here, called_other}
 
@@ -72,6 +80,36 @@ pub stood_at : (rows : List LinkRow) (links own : List LinkHeld) (direction at :
     → LinkStandsFor (sizes_by rows direction) held (entries (direction / 2))
 stood_at rows links own direction at entries held view_is at_is held_is stand there =
     stands_at rows own entries direction held stand there (held_is ∙ ap (λ (l : List LinkHeld). slice_index_or l at held) view_is ∙ ap (λ (n : ℕ). slice_index_or own n held) at_is)
+
+-- of links without a landing that passed, that of a direction has none
+pub goes_at : (links own : List LinkHeld) (direction at : ℕ) (held : LinkHeld) → links ≡ own → at ≡ direction / 2 → held ≡ slice_index_or links at held → AreGoing own → IsDirection own direction → held.going ≡ true
+goes_at links own direction at held view_is at_is held_is going there =
+    ap (λ (h : LinkHeld). h.going) (held_is ∙ ap (λ (l : List LinkHeld). slice_index_or l at held) view_is ∙ ap (λ (n : ℕ). slice_index_or own n held) at_is)
+    ∙ going (direction / 2) held (link_there own direction there)
+
+-- a link's output queue has room where its entries say so
+room_in : (link : LinkFields) (e : EndFields) (p : EndParts) → EndStandsFor link e p → nat_lt (length (output_queue p)) link.output ≡ true → length e.queue < e.setup.output
+room_in link e p stands room =
+    let less = ltb-true (length (output_queue p)) link.output room in
+    let long : length e.queue ≡ length (output_queue p) = ap (λ (l : List PacketFields). length l) stands.queue in
+    let most : e.setup.output ≡ link.output = ap (λ (l : LinkFields). l.output) stands.setup in
+    omega arith
+
+pub room_at : (link : LinkFields) (held : LinkHeld) (past : List LinkEntry) (d : Toward) → LinkStandsFor link held past → has_room link d past ≡ true → length (sending_end d held).queue < (sending_end d held).setup.output
+room_at link held past Forth stands room = room_in link held.a (parts_of link Forth past) stands.a room
+room_at link held past Back stands room = room_in link held.b (parts_of link Back past) stands.b room
+
+-- a packet that fits the link may be handed to it
+pub fit_at : (link : LinkFields) (held : LinkHeld) (past : List LinkEntry) (d : Toward) (packet : PacketFields) → LinkStandsFor link held past → IsTaken link.profile packet → IsTaken (sending_end d held).setup.profile packet
+fit_at link held past Forth packet stands fit = subst (λ (l : LinkFields). IsTaken l.profile packet) (sym stands.a.setup) fit
+fit_at link held past Back packet stands fit = subst (λ (l : LinkFields). IsTaken l.profile packet) (sym stands.b.setup) fit
+
+-- what is fed fits the packet under way, by the link's entries
+pub fed_at : (link : LinkFields) (held : LinkHeld) (past : List LinkEntry) (d : Toward) (feed : Feed) → LinkStandsFor link held past → IsFed (under_way link.profile (sender_entries link d past)) feed → IsFed (sending_end d held).sender.under_way feed
+fed_at link held past Forth feed stands fed =
+    subst (λ (u : Option UnderWay). IsFed u feed) (sym (stands.a.sender.begun ∙ ap (λ (q : Profile). under_way q (sender_entries link Forth past)) stands.a.profile)) fed
+fed_at link held past Back feed stands fed =
+    subst (λ (u : Option UnderWay). IsFed u feed) (sym (stands.b.sender.begun ∙ ap (λ (q : Profile). under_way q (sender_entries link Back past)) stands.b.profile)) fed
 
 -- a link that stays is put back
 pub put_back : (links own : List LinkHeld) (at : ℕ) (held now : LinkHeld) → links ≡ own → held ≡ slice_index_or links at held → now ≡ held → slice_set links at now ≡ own

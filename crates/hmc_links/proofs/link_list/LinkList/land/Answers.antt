@@ -9,7 +9,7 @@ use Rattle.hmc_send.specs.LinkLines.{line}
 use Rattle.hmc_send.specs.declared.toward.Toward.{Toward}
 use Rattle.hmc_links.proofs.LinkCalls.{stood_at}
 use Rattle.hmc_send.specs.LinkCalls.{LinkCall}
-use Rattle.hmc_links.proofs.LinkCalls.{called_at}
+use Rattle.hmc_links.proofs.LinkCalls.{goes_at, called_at}
 use Rattle.hmc_links.proofs.link_list.LinkList.land.Goals as goal
 
 pub returns-clause-stand : goal.returns-clause-stand
@@ -24,3 +24,6 @@ returns-clause-answer c = λ rows entries stand.
     let held = stood_at rows c.self.inside.links.items c.args.self.now c.args.direction c.from.result entries c.index_mut-link.result.now c.self.view_is c.from.ensures c.index_mut-link.ensures.value stand c.requires.there in
     subst (λ (d : Toward). c.land_in_place.result ≡ front_outcome link d past c.args.mask.now (slice_get (line link.profile d past) 0)) c.toward_of.ensures
     (given-without link c.toward_of.result past c.args.mask.now _ c.land_in_place.result _ (c.land_in_place.ensures.answer link past held))
+
+pub land_in_place-requires : goal.land_in_place-requires
+land_in_place-requires c = goes_at c.self.inside.links.items c.args.self.now c.args.direction c.from.result c.index_mut-link.result.now c.self.view_is c.from.ensures c.index_mut-link.ensures.value c.requires.going c.requires.there
