@@ -1,6 +1,0 @@
--- The link is going.
-use Rattle.std.proofs.Common.{◌≡◌, true}
-use Rattle.hmc_tests_links.proofs.link.are_quiet.Given as goal
-
-abbrev pub invariant-landings : goal.invariant-landings
-invariant-landings l = l.link.going ≡ true

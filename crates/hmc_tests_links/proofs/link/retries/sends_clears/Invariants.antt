@@ -1,6 +1,0 @@
--- The link is going.
-use Rattle.std.proofs.Common.{◌≡◌, true}
-use Rattle.hmc_tests_links.proofs.link.retries.sends_clears.Given as goal
-
-abbrev pub invariant-sends : goal.invariant-sends
-invariant-sends l = l.link.going ≡ true

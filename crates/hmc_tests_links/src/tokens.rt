@@ -1,4 +1,0 @@
-//! Queues and buffers of packets.
-
-mod flit_buffer;
-mod moving;
