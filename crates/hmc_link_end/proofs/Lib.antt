@@ -1,2 +1,2 @@
 mod Stored
-mod Starved
+mod Ends

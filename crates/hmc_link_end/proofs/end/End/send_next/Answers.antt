@@ -13,7 +13,7 @@ use Rattle.hmc_send.specs.declared.sent.Sent.{Sent}
 use Rattle.hmc_ends.specs.Answers.{link_sent}
 use Rattle.hmc_ends.proofs.SendNext.{all-drop, line-more, transit-fits, few-of, choice-is, send-next}
 use Rattle.hmc_ends.proofs.SendStands.{front-fit}
-use Rattle.hmc_link_end.proofs.Starved.{as_before}
+use Rattle.hmc_link_end.proofs.Ends.{as_before}
 use Rattle.hmc_link_end.proofs.end.End.send_next.Goals as goal
 
 pub send-requires-clause-front : goal.send-requires-clause-front
