@@ -4,6 +4,8 @@ use Rattle.std.specs.List.{flat_map}
 use Rattle.hmc_codes.specs.Limits.{ports}
 use Rattle.hmc_codes.specs.Numbers.{upto}
 use Rattle.hmc_codes.specs.declared.lift.Lift.TheVariants as lifts
+use Rattle.hmc_schedule.specs.declared.round.Each.{Each}
+use Rattle.hmc_schedule.specs.declared.round.Each.TheVariants as each
 use Rattle.hmc_schedule.specs.declared.round.Part.{Part}
 use Rattle.hmc_schedule.specs.declared.round.Part.TheVariants.{Shifts, Spreads, Banks, Lifts}
 use Rattle.hmc_schedule.specs.declared.step.Step.{Step}
@@ -30,6 +32,14 @@ unfoldable pub lifts_of : PlanFields → ℕ → List Step
 lifts_of plan cube =
     map (λ vault. Lift cube (lifts.Vault vault)) (upto (vaults_at plan cube))
     ++ Lift cube lifts.Registers ∷ []
+
+-- what each host, each direction or the registers of each cube do in a round
+abbrev pub each_of : Each → ℕ → Step
+each_of each.Give = Give
+each_of each.Send = Send
+each_of each.Land = λ direction. Land direction zero_flit
+each_of each.Registers = Registers
+each_of each.Take = Take
 
 -- the steps of a round
 unfoldable pub round_of : PlanFields → List Step

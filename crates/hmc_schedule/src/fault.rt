@@ -6,7 +6,7 @@ use hmc_text::fault::TextFault;
 use std::fmt;
 
 /// What is wrong with a line.
-#[derive(Clone, Copy, PartialEq, Eq)]
+#[derive(Clone, Copy)]
 pub enum ScheduleKind {
     /// The first word is not that of a step, of rounds or of noise.
     Step,

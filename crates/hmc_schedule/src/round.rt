@@ -7,7 +7,7 @@ ghost use Rattle.hmc_schedule.specs.declared.step.Step.TheVariants as steps;
 ghost use Rattle.hmc_codes.specs.declared.lift.Lift.TheVariants as lift;
 ghost use Rattle.hmc_schedule.specs.Plan.{is_joined, vaults_at, banks_at};
 ghost use Rattle.hmc_codes.specs.Flit.{zero_flit};
-ghost use Rattle.hmc_schedule.specs.Round.{shifts_of, spreads_of, banks_of, lifts_of, part_of, round_of};
+ghost use Rattle.hmc_schedule.specs.Round.{each_of, shifts_of, spreads_of, banks_of, lifts_of, part_of, round_of};
 ghost use Rattle.hmc_codes.specs.Numbers.{upto};
 
 use crate::{Plan, Step};
@@ -23,42 +23,39 @@ pub enum Part {
     Lifts,
 }
 
+/// What each host, each direction or the registers of each cube do in a round.
+#[derive(Clone, Copy)]
+pub enum Each {
+    Give,
+    Send,
+    Land,
+    Registers,
+    Take,
+}
+
 type Steps = Result<Vec<Step>, AllocError>;
 
-fn gives(alloc: Global, hosts: u8) -> Steps
-    ensures { IfOk result (λ v. v.items ≡ map steps.Give (upto hosts)) }
-{
-    (0..hosts).map(|host| Step::Give(host)).collect(alloc)
-}
-
-fn sends(alloc: Global, directions: u8) -> Steps
-    ensures { IfOk result (λ v. v.items ≡ map steps.Send (upto directions)) }
-{
-    (0..directions)
-        .map(|direction| Step::Send(direction))
-        .collect(alloc)
-}
-
+// The step of this number.
 #[tactic(auto, unfolding(hmc_codes::specs::Flit::zero_flit))]
-fn lands(alloc: Global, directions: u8) -> Steps
-    ensures { IfOk result
-        (λ v. v.items ≡ map (λ direction. steps.Land direction zero_flit) (upto directions)) }
+fn each_step(each: Each, number: u8) -> Step
+    ensures { result ≡ each_of each number }
 {
-    (0..directions)
-        .map(|direction| Step::Land(direction, ZERO_FLIT))
+    match each {
+        Each::Give => Step::Give(number),
+        Each::Send => Step::Send(number),
+        Each::Land => Step::Land(number, ZERO_FLIT),
+        Each::Registers => Step::Registers(number),
+        Each::Take => Step::Take(number),
+    }
+}
+
+// The steps of the numbers below this one.
+fn each_steps(alloc: Global, each: Each, count: u8) -> Steps
+    ensures { IfOk result (λ v. v.items ≡ map (each_of each) (upto count)) }
+{
+    (0..count)
+        .map(|number| each_step(each, number))
         .collect(alloc)
-}
-
-fn registers(alloc: Global, cubes: u8) -> Steps
-    ensures { IfOk result (λ v. v.items ≡ map steps.Registers (upto cubes)) }
-{
-    (0..cubes).map(|cube| Step::Registers(cube)).collect(alloc)
-}
-
-fn takes(alloc: Global, hosts: u8) -> Steps
-    ensures { IfOk result (λ v. v.items ≡ map steps.Take (upto hosts)) }
-{
-    (0..hosts).map(|host| Step::Take(host)).collect(alloc)
 }
 
 #[tactic(auto, unfolding(crate::specs::Round::shifts_of))]
@@ -159,19 +156,48 @@ fn each_cube(alloc: Global, plan: &Plan, part: Part) -> Steps
     Ok(steps)
 }
 
+// Appends the sends and the landings of a round.
+fn add_flits(alloc: Global, plan: &Plan, into: &mut Vec<Step>) -> Result<(), AllocError>
+    ensures { OnOk result (into.new.items ≡ into.old.items ++
+        map steps.Send (upto plan.now.directions) ++
+        map (λ direction. steps.Land direction zero_flit) (upto plan.now.directions)) }
+{
+    add(into, each_steps(alloc, Each::Send, plan.directions))?;
+    add(into, each_steps(alloc, Each::Land, plan.directions))
+}
+
+// Appends what packets do in a round on their way to the banks, and in them.
+fn add_ways(alloc: Global, plan: &Plan, into: &mut Vec<Step>) -> Result<(), AllocError>
+    ensures { OnOk result (into.new.items ≡ into.old.items ++
+        flat_map (shifts_of plan.now) (upto (length plan.now.cubes)) ++
+        flat_map (spreads_of plan.now) (upto (length plan.now.cubes)) ++
+        flat_map (banks_of plan.now) (upto (length plan.now.cubes))) }
+{
+    add(into, each_cube(alloc, plan, Part::Shifts))?;
+    add(into, each_cube(alloc, plan, Part::Spreads))?;
+    add(into, each_cube(alloc, plan, Part::Banks))
+}
+
+// Appends the steps of the registers in a round, and those of answers.
+fn add_answers(alloc: Global, plan: &Plan, into: &mut Vec<Step>) -> Result<(), AllocError>
+    ensures { OnOk result (into.new.items ≡ into.old.items ++
+        map steps.Registers (upto (length plan.now.cubes)) ++
+        flat_map (lifts_of plan.now) (upto (length plan.now.cubes)) ++
+        map steps.Take (upto plan.now.hosts)) }
+{
+    add(into, each_steps(alloc, Each::Registers, plan.cube_count()))?;
+    add(into, each_cube(alloc, plan, Part::Lifts))?;
+    add(into, each_steps(alloc, Each::Take, plan.hosts))
+}
+
 /// The steps of a round.
 #[tactic(auto, unfolding(crate::specs::Round::round_of))]
 pub fn round(alloc: Global, plan: &Plan) -> Steps
     ensures { IfOk result (λ v. v.items ≡ round_of plan.now) }
 {
-    let mut steps = gives(alloc, plan.hosts)?;
-    add(&mut steps, sends(alloc, plan.directions))?;
-    add(&mut steps, lands(alloc, plan.directions))?;
-    add(&mut steps, each_cube(alloc, plan, Part::Shifts))?;
-    add(&mut steps, each_cube(alloc, plan, Part::Spreads))?;
-    add(&mut steps, each_cube(alloc, plan, Part::Banks))?;
-    add(&mut steps, registers(alloc, plan.cube_count()))?;
-    add(&mut steps, each_cube(alloc, plan, Part::Lifts))?;
-    add(&mut steps, takes(alloc, plan.hosts))?;
+    let mut steps = each_steps(alloc, Each::Give, plan.hosts)?;
+    add_flits(alloc, plan, &mut steps)?;
+    add_ways(alloc, plan, &mut steps)?;
+    add_answers(alloc, plan, &mut steps)?;
     Ok(steps)
 }
