@@ -1,12 +1,13 @@
 //! Calls that take memory. No clause says that they give their value where memory is ample, and
 //! each is made once so; what the value is, its clauses say.
 
-use hmc_codes::{Command, Payload, Request, Shape};
+use hmc_codes::{Command, Memory, Payload, Request, Shape};
 use hmc_memory::Banks;
 use hmc_outside::{MemorySink, MemorySource};
 use hmc_serial::Plain;
-use hmc_units::{Bench, LogicUnit, Reverse};
-use std::test::Fail;
+use hmc_units::{Reverse, Slots};
+use std::alloc::Global;
+use std::process::Abort;
 
 // Four vaults of two banks of three rows.
 const SHAPE: Shape = Shape {
@@ -16,26 +17,34 @@ const SHAPE: Shape = Shape {
     block: 256,
 };
 
-#[test]
-fn cubes(rt: HostRuntime) -> Result<(), Fail> {
-    Banks::new(rt.alloc(), SHAPE)?;
-    Plain::new(rt.alloc(), &[SHAPE, SHAPE])?;
-    Ok(())
+fn are_cubes_made(alloc: Global) -> bool {
+    Banks::new(alloc, SHAPE).is_ok() && Plain::new(alloc, &[SHAPE, SHAPE]).is_ok()
 }
 
 #[test]
-fn a_bench(rt: HostRuntime) -> Result<(), Fail> {
-    let mut units: Vec<Box<dyn LogicUnit>> = Vec::new(rt.alloc());
-    units.push(Box::new(rt.alloc(), Reverse::new(0, 0))?)?;
-    Bench::new(rt.alloc(), units)?;
-    Ok(())
+fn cubes(rt: HostRuntime) {
+    assert!(rt; are_cubes_made(rt.alloc()), "banks and plain machines");
+}
+
+// A bench of one unit.
+fn new_bench(alloc: Global) -> Result<Slots<Reverse>, Memory> {
+    let units = vec![in alloc; Reverse::new(0, 0)]?;
+    Slots::new(alloc, units)
 }
 
 #[test]
-fn sources_and_sinks_in_memory(rt: HostRuntime) -> Result<(), Fail> {
-    MemorySource::new(rt.alloc(), b"quick fox", &[2])?;
-    MemorySink::new(rt.alloc(), 6, &[(2, 2)])?;
-    Ok(())
+fn a_bench(rt: HostRuntime) {
+    assert!(rt; new_bench(rt.alloc()).is_ok(), "a bench");
+}
+
+fn are_ends_made(alloc: Global) -> bool {
+    MemorySource::new(alloc, b"quick fox", &[2]).is_ok()
+        && MemorySink::new(alloc, 6, &[(2, 2)]).is_ok()
+}
+
+#[test]
+fn sources_and_sinks_in_memory(rt: HostRuntime) {
+    assert!(rt; are_ends_made(rt.alloc()), "a source and a sink");
 }
 
 // A read of register 15 of cube 3.
@@ -50,7 +59,6 @@ fn load() -> Request {
 }
 
 #[test]
-fn the_text_of_a_request(rt: HostRuntime) -> Result<(), Fail> {
-    load().text(rt.alloc())?;
-    Ok(())
+fn the_text_of_a_request(rt: HostRuntime) {
+    assert!(rt; load().text(rt.alloc()).is_ok(), "a text");
 }

@@ -121,8 +121,8 @@ fn finishes<O: Sink>(sink: &mut O, outcomes: &[Result<(), Failed>]) -> bool {
     true
 }
 
-// The errors of a stuttering writer, what is written to a sink on it, and the outcome of each finish
-// after that; what the writer took then, and in how many calls.
+// The errors of a stuttering writer, what is written to a sink on it, and the outcome of each
+// finish after that; what the writer took then, and in how many calls.
 struct Handed {
     errors: &'static [(u32, ErrorKind)],
     pieces: &'static [&'static str],
@@ -148,8 +148,8 @@ const HANDED: [Handed; 5] = [
         output: "",
         calls: 0,
     },
-    // The first finish is asked again after two signals, and fails in its sixth call, where it would
-    // block. The second one is asked again when a signal interrupts its flush.
+    // The first finish is asked again after two signals, and fails in its sixth call, where it
+    // would block. The second one is asked again when a signal interrupts its flush.
     Handed {
         errors: &[
             (2, ErrorKind::Interrupted),
