@@ -1,12 +1,16 @@
 -- What a handle keeps: a session, with a tape or without.
-use Rattle.std.specs.Prelude.{◌≡◌, Bool, true, false, List}
+use Rattle.std.specs.Prelude.{◌≡◌, Bool, true, false, List, [], replicate, Option}
+use Rattle.hmc_codes.specs.Limits.{most_hosts}
 use Rattle.hmc_units.specs.Kinds.{unit_of}
 use Rattle.hmc_units.specs.Slots.{units_in}
+use Rattle.hmc_units.specs.Unit.{UnitFields}
 use Rattle.hmc_units.specs.declared.shipped.Shipped.{Shipped}
 use Rattle.hmc_units.specs.declared.slots.Slots.{Slots}
+use Rattle.hmc_case.specs.Case.{CaseFields}
+use Rattle.hmc_case.specs.Plan.{plan_of}
 use Rattle.hmc_entries.specs.declared.entry.Entry.{Entry}
 use Rattle.hmc_journal.specs.Setup.{Setup}
-use Rattle.hmc_session.specs.Session.{SessionFields, SessionParts, StandsIn, session_of}
+use Rattle.hmc_session.specs.Session.{SessionFields, SessionParts, StandsIn, begun, session_of}
 use Rattle.hmc_tape.specs.Tape.{IsTapeOf, TapedFields, TapedParts, taped_of}
 use Rattle.hmc_c.specs.declared.kept.Kept.{Kept}
 use Rattle.hmc_c.specs.declared.kept.Kept.TheVariants.{OnTape, Untaped}
@@ -43,3 +47,12 @@ pub record KeepsParts (old new : Kept) : Type 0 where
 abbrev pub KeptStands : Kept → Setup → List Entry → Type 0
 KeptStands (Untaped session) setup past = StandsIn (plain_fields session) setup past
 KeptStands (OnTape taped) setup past = IsTapeOf (tape_fields taped) setup past
+
+-- a session of a case with these logic units, before its first step, with a tape or without; its
+-- hosts are open, and steps may name the parts of the case
+pub record IsBegun (kept : Kept) (tape : Bool) (case : CaseFields)
+    (slots : List (Option UnitFields)) : Type 0 where
+  pub stands : KeptStands kept (begun case slots) []
+  pub tape_is : has_tape kept ≡ tape
+  pub unfinished : (fields_in kept).finished ≡ replicate most_hosts false
+  pub plan : (fields_in kept).plan ≡ plan_of case.net

@@ -36,8 +36,6 @@ struct FinalLine {
 }
 
 impl Text for FinalLine {
-    ghost use Rattle.std.specs.Prelude.{slice_get};
-    ghost use Rattle.hmc_journal.specs.Final.{final_lines_of};
     ghost use Rattle.hmc_journal.specs.Lawful.{has_passed};
     ghost use Rattle.hmc_c.specs.Values.{LeftLineShown};
 

@@ -1,19 +1,18 @@
 //! What a handle keeps: a session, with a tape or without.
 
-ghost use Rattle.std.specs.Prelude.{◌≡◌, ◌<◌, [], List, replicate, IfOk, false, true};
+ghost use Rattle.std.specs.Prelude.{◌≡◌, ◌<◌, List, IfOk, false, true};
 ghost use Rattle.std.specs.Option.{MatchOption};
 ghost use Rattle.hmc_codes.specs.Limits.{most_hosts};
-ghost use Rattle.hmc_case.specs.Plan.{plan_of};
 ghost use Rattle.hmc_entries.specs.declared.entry.Entry.{Entry};
 ghost use Rattle.hmc_journal.specs.Setup.{Setup};
 ghost use Rattle.hmc_net.specs.Asked.{item_with};
 ghost use Rattle.hmc_session.specs.Refusals.{ask_refusal, step_refusal};
-ghost use Rattle.hmc_session.specs.Session.{StandsIn, begun};
+ghost use Rattle.hmc_session.specs.Session.{StandsIn};
 ghost use Rattle.hmc_tape.specs.Tape.{IsTapeOf};
 ghost use Rattle.hmc_units.specs.Kinds.{unit_of};
 ghost use Rattle.hmc_units.specs.Slots.{units_in};
 ghost use Rattle.hmc_c.specs.Asks.{AsksBy};
-ghost use Rattle.hmc_c.specs.Kept.{KeepsParts, KeptStands, fields_in, has_tape, plain_fields, session_in, tape_fields};
+ghost use Rattle.hmc_c.specs.Kept.{IsBegun, KeepsParts, KeptStands, fields_in, has_tape, plain_fields, session_in, tape_fields};
 ghost use Rattle.hmc_c.specs.Laying.{NextBy, RunBy};
 ghost use Rattle.hmc_c.specs.Steps.{StepsBy, kept_finished};
 ghost use Rattle.hmc_c.specs.Words.{TextAsked};
@@ -192,6 +191,26 @@ fn run_taped(taped: &mut WithTape, laid: &mut Laid, most: u32, stops: &Stops) ->
     }
 }
 
+// A session of a case before its first step, without a tape.
+fn begin_plain(alloc: Global, case: &Case, bench: Slots<Shipped>) -> Result<Kept, Memory>
+    ensures { IfOk result (λ kept. IsBegun kept false case.now (units_in unit_of bench)) }
+{
+    match Session::begin(alloc, case, bench) {
+        Ok(session) => Ok(Kept::Untaped(session)),
+        Err(memory) => Err(memory),
+    }
+}
+
+// The same with a tape.
+fn begin_taped(alloc: Global, case: &Case, bench: Slots<Shipped>) -> Result<Kept, Memory>
+    ensures { IfOk result (λ kept. IsBegun kept true case.now (units_in unit_of bench)) }
+{
+    match Taped::begin(alloc, case, bench) {
+        Ok(taped) => Ok(Kept::OnTape(taped)),
+        Err(memory) => Err(memory),
+    }
+}
+
 impl Kept {
     /// A session of a case before its first step, with a tape or without. `Memory` if out of
     /// memory.
@@ -201,17 +220,13 @@ impl Kept {
         bench: Slots<Shipped>,
         tape: bool,
     ) -> Result<Kept, Memory>
-        ensures stands { IfOk result (λ kept.
-            KeptStands kept (begun case.now (units_in unit_of bench)) []) }
-        ensures tape { IfOk result (λ kept. has_tape kept ≡ tape) }
-        ensures unfinished { IfOk result (λ kept.
-            (fields_in kept).finished ≡ replicate most_hosts false) }
-        ensures plan { IfOk result (λ kept. (fields_in kept).plan ≡ plan_of case.now.net) }
+        ensures { IfOk result (λ kept. IsBegun kept tape case.now (units_in unit_of bench)) }
     {
         if tape {
-            return Ok(Kept::OnTape(Taped::begin(alloc, case, bench)?));
+            begin_taped(alloc, case, bench)
+        } else {
+            begin_plain(alloc, case, bench)
         }
-        Ok(Kept::Untaped(Session::begin(alloc, case, bench)?))
     }
 
     /// The session, with all that it shows.

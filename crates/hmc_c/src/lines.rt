@@ -43,9 +43,6 @@ pub(crate) fn write_text(due: u8, text: &[u8], out: &mut [u8], count: &mut usize
 struct LastLine;
 
 impl Text for LastLine {
-    ghost use Rattle.std.specs.Prelude.{option_map};
-    ghost use Rattle.hmc_entries.specs.Lines.{line_of};
-    ghost use Rattle.hmc_session.specs.Showing.{latest};
     ghost use Rattle.hmc_c.specs.Lines.{LineShown};
 
     ghost shows = { λ text tape setup past status written old new.

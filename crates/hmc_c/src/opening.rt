@@ -5,7 +5,7 @@ ghost use Rattle.std.specs.declared.option.Option.TheVariants.{None};
 ghost use Rattle.hmc_case.specs.Case.{case_of};
 ghost use Rattle.hmc_units.specs.Kinds.{unit_of};
 ghost use Rattle.hmc_units.specs.Slots.{units_in};
-ghost use Rattle.hmc_c.specs.Handles.{HoldsRead, OpenedBy, Reports};
+ghost use Rattle.hmc_c.specs.Handles.{HoldsRead, IsHeld, OpenedBy, Reports};
 ghost use Rattle.hmc_c.specs.Units.{OpenedWith, are_units, slots_of};
 
 use crate::handle::{Handle, close, put};
@@ -14,12 +14,42 @@ use crate::kept::Kept;
 use crate::status::{BAD, MEMORY, NONE, OK};
 use crate::units::{UnitIn, bench_of};
 use hmc_case::{Case, CaseFault};
+use hmc_codes::Memory;
 use hmc_session::Laid;
 use hmc_units::{Shipped, Slots};
 use std::alloc::Global;
 
-// A session of the case that these bytes are, with this bench, with a tape or without, and the
-// steps of the case.
+// A value in a box. It is generic, so that what becomes of the value where there is no memory for
+// the box needs no proof for each of its parts.
+fn boxed<T: Drop>(alloc: Global, value: T) -> Result<Box<T>, Memory>
+    ensures { IfOk result (λ made. made.value ≡ value) }
+{
+    match Box::new(alloc, value) {
+        Ok(made) => Ok(made),
+        Err(_) => Err(Memory),
+    }
+}
+
+// A session of a case with this bench, with a tape or without, and the steps of the case.
+fn held_on(
+    alloc: Global,
+    case: Case,
+    bench: Slots<Shipped>,
+    tape: bool,
+) -> Result<Box<Held>, Memory>
+    ensures { IfOk result (λ held. IsHeld held.value tape case (units_in unit_of bench)) }
+{
+    case.invariant();
+    match Kept::begin(alloc, &case, bench, tape) {
+        Ok(kept) => {
+            let laid = Laid::new(case.into_schedule());
+            boxed(alloc, Held { kept, laid })
+        }
+        Err(memory) => Err(memory),
+    }
+}
+
+// The same of the case that these bytes are.
 fn opened(
     alloc: Global,
     bytes: &[u8],
@@ -30,13 +60,12 @@ fn opened(
         HoldsRead held.value tape (case_of bytes.now) (units_in unit_of bench)) }
     ensures fault { IfErr result (λ fault. Reports fault (case_of bytes.now)) }
 {
-    let case = Case::read(alloc, bytes)?;
-    case.invariant();
-    let kept = Kept::begin(alloc, &case, bench, tape)?;
-    let laid = Laid::new(case.into_schedule());
-    match Box::new(alloc, Held { kept, laid }) {
-        Ok(held) => Ok(held),
-        Err(_) => Err(CaseFault::Memory),
+    match Case::read(alloc, bytes) {
+        Ok(case) => match held_on(alloc, case, bench, tape) {
+            Ok(held) => Ok(held),
+            Err(_) => Err(CaseFault::Memory),
+        },
+        Err(fault) => Err(fault),
     }
 }
 

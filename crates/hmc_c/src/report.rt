@@ -1,6 +1,6 @@
 //! A sink in memory, for the report of a case.
 
-ghost use Rattle.std.specs.Prelude.{◌≡◌, [], false};
+ghost use Rattle.std.specs.Prelude.{◌≡◌};
 ghost use Rattle.hmc_outside.specs.Raised.{raised};
 ghost use Rattle.hmc_c.specs.Report.{empty_report, report_view};
 
