@@ -27,41 +27,19 @@ pub fn step_named(kind: u8, a: u8, b: u8, c: u8, mask: &Flit) -> Option<Step>
     ensures named { result ≡ step_named kind a b c mask.now }
     ensures mask { IfSome result HasFlit }
 {
-    if kind == 0 {
-        return Some(Step::Give(a));
+    match kind {
+        0 => Some(Step::Give(a)),
+        1 => Some(Step::Send(a)),
+        2 => Some(Step::Land(a, *mask)),
+        3 => Some(Step::Shift(a, b)),
+        4 => Some(Step::Spread(a, b)),
+        5 => Some(Step::Bank(a, b, c)),
+        6 => Some(Step::Registers(a)),
+        7 => Some(Step::Lift(a, lift_named(b))),
+        8 => Some(Step::Take(a)),
+        9 => Some(Step::Through(a, b)),
+        10 => Some(Step::Unlock(a)),
+        11 => Some(Step::Retire(a)),
+        _ => None,
     }
-    if kind == 1 {
-        return Some(Step::Send(a));
-    }
-    if kind == 2 {
-        return Some(Step::Land(a, *mask));
-    }
-    if kind == 3 {
-        return Some(Step::Shift(a, b));
-    }
-    if kind == 4 {
-        return Some(Step::Spread(a, b));
-    }
-    if kind == 5 {
-        return Some(Step::Bank(a, b, c));
-    }
-    if kind == 6 {
-        return Some(Step::Registers(a));
-    }
-    if kind == 7 {
-        return Some(Step::Lift(a, lift_named(b)));
-    }
-    if kind == 8 {
-        return Some(Step::Take(a));
-    }
-    if kind == 9 {
-        return Some(Step::Through(a, b));
-    }
-    if kind == 10 {
-        return Some(Step::Unlock(a));
-    }
-    if kind == 11 {
-        return Some(Step::Retire(a));
-    }
-    None
 }

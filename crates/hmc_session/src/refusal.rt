@@ -6,7 +6,7 @@ use hmc_codes::Memory;
 use hmc_script::ScriptKind;
 
 /// Why a step isn't taken. The first of several causes counts.
-#[derive(Clone, Copy, PartialEq, Eq)]
+#[derive(Clone, Copy)]
 pub enum NotTaken {
     /// It names a part that isn't there.
     Unknown,
@@ -17,7 +17,7 @@ pub enum NotTaken {
 }
 
 /// Why a host isn't asked for a request. The first of several causes counts.
-#[derive(Clone, Copy, PartialEq, Eq)]
+#[derive(Clone, Copy)]
 pub enum NotAsked {
     /// There is no such host.
     NoHost,
@@ -42,7 +42,7 @@ impl From<Memory> for NotAsked {
 }
 
 /// Why no host is asked for the request of a text. The first of several causes counts.
-#[derive(Clone, Copy, PartialEq, Eq)]
+#[derive(Clone, Copy)]
 pub enum LineNotAsked {
     /// The text is no script for the hosts and cubes of the session: its first fault, by its line,
     /// counted from 1, and what is wrong there.

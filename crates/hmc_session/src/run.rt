@@ -16,7 +16,7 @@ use hmc_schedule::Step;
 use hmc_units::Workbench;
 
 /// How a run of laid steps ended.
-#[derive(Clone, Copy, PartialEq, Eq)]
+#[derive(Clone, Copy)]
 pub enum Ran {
     /// The latest entry is of a chosen kind.
     Stopped,
