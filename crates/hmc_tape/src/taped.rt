@@ -31,7 +31,7 @@ use std::alloc::Global;
 use std::marker::Model;
 
 /// Why a taped session doesn't take a step.
-#[derive(Clone, Copy, PartialEq, Eq)]
+#[derive(Clone, Copy)]
 pub enum NotTaped {
     /// The session refuses it.
     Refused(NotTaken),
