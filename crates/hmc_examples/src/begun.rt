@@ -25,8 +25,15 @@ pub fn case_of(alloc: Global, text: &str) -> Result<Case, Memory> {
     }
 }
 
+// The session of a case.
+fn begin_case(alloc: Global, case: &Case) -> Result<WithTape, Memory> {
+    Taped::begin(alloc, case, units(alloc)?)
+}
+
 /// The session of a case, by its text.
 pub fn begin(alloc: Global, text: &str) -> Result<WithTape, Memory> {
-    let case = case_of(alloc, text)?;
-    Taped::begin(alloc, &case, units(alloc)?)
+    match case_of(alloc, text) {
+        Ok(case) => begin_case(alloc, &case),
+        Err(memory) => Err(memory),
+    }
 }

@@ -6,7 +6,7 @@ ghost use Rattle.std.specs.Prelude.{◌<◌, length};
 use crate::begun::{case_of, units};
 use crate::orders::Order;
 use crate::reading::Contents;
-use crate::words::push_texts;
+use crate::words::{Fragment, push_all};
 use hmc_case::Case;
 use hmc_codes::{Join, LinkSetup, Memory, Place, Profile, Shape};
 use hmc_net::Net;
@@ -55,18 +55,26 @@ fn is_new(net: &Net<Slots<Shipped>>) -> bool
     is_idle && net.journal().is_empty() && net.tags_out(0) == 0 && net.drained()
 }
 
-// Whether nothing has happened in the network that is built of a case.
-fn is_quiet(alloc: Global, text: &str) -> Result<bool, Memory> {
-    let case = case_of(alloc, text)?;
-    let net = Net::build(alloc, &case, units(alloc)?)?;
-    Ok(is_new(&net))
+// Whether nothing has happened in the network of a case.
+fn is_quiet(alloc: Global, case: &Case) -> Result<bool, Memory> {
+    match Net::build(alloc, case, units(alloc)?) {
+        Ok(net) => Ok(is_new(&net)),
+        Err(memory) => Err(memory),
+    }
 }
 
-// Whether the case of a text has these parts, and its network has done nothing.
+// Whether a case has these parts, and its network has done nothing.
+fn has_the_parts(alloc: Global, case: &Case) -> Result<bool, Memory> {
+    let is_quiet = is_quiet(alloc, case)?;
+    Ok(is_quiet && has_the_cube(case) && has_the_link(case) && has_the_texts(case))
+}
+
+// The same of the case of a text.
 fn is_as_written(alloc: Global, text: &str) -> Result<bool, Memory> {
-    let case = case_of(alloc, text)?;
-    let is_quiet = is_quiet(alloc, text)?;
-    Ok(is_quiet && has_the_cube(&case) && has_the_link(&case) && has_the_texts(&case))
+    match case_of(alloc, text) {
+        Ok(case) => has_the_parts(alloc, &case),
+        Err(memory) => Err(memory),
+    }
 }
 
 /// Appends whether a case is as its file says.
@@ -77,10 +85,17 @@ pub fn push_built(
     into: &mut String,
 ) -> Result<(), Memory> {
     let word = if is_as_written(alloc, contents.input.as_str())? {
-        "as written"
+        ": as written\n"
     } else {
-        "differs"
+        ": differs\n"
     };
-    push_texts(into, &["built of ", order.name, ": ", word, "\n"])?;
+    push_all(
+        into,
+        &[
+            Fragment::Text("built of "),
+            Fragment::Text(order.name),
+            Fragment::Text(word),
+        ],
+    )?;
     Ok(())
 }

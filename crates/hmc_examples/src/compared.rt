@@ -1,10 +1,10 @@
 //! What happened to a drawn session, and how its lines compare with those of the report.
 
-use crate::drawn::{Drawn, drive};
+use crate::drawn::{Drawn, begin_drawn};
 use crate::orders::{Answer, Order};
 use crate::reading::Contents;
 use crate::replayed::reported;
-use crate::words::{is_same, push_counts, push_texts};
+use crate::words::{Fragment, is_same, push_all};
 use hmc_codes::Memory;
 use std::alloc::{AllocError, Global};
 
@@ -22,45 +22,86 @@ fn common_lines(one: &[u8], other: &[u8]) -> u64 {
     lines
 }
 
-// Appends the line of a text before which it has so many.
-fn push_line(into: &mut String, text: &str, before: u64) -> Result<(), AllocError> {
-    let mut number = 0_u64;
-    for line in text.lines() {
-        if number == before {
-            return push_texts(into, &["  ", line, "\n"]);
-        }
-        number = number.saturating_add(1);
-    }
-    into.push_str("  no line more\n")
+// The line of a text before which it has so many.
+fn line_after(text: &str, lines: u64) -> &str {
+    text.lines().nth(lines as usize).unwrap_or("no line more")
+}
+
+// Appends the lines of two texts before which they have so many in common.
+fn push_both<'a>(
+    into: &mut String,
+    seen: &'a str,
+    wanted: &'a str,
+    count: u64,
+) -> Result<(), AllocError> {
+    push_all(
+        into,
+        &[
+            Fragment::Text("  and then these two differ:\n  "),
+            Fragment::Text(line_after(seen, count)),
+            Fragment::Text("\n  "),
+            Fragment::Text(line_after(wanted, count)),
+            Fragment::Text("\n"),
+        ],
+    )
 }
 
 // Appends how many lines of a session are as reported, and the first that differs.
 fn push_compared(into: &mut String, seen: &str, wanted: &str) -> Result<(), AllocError> {
     let count = common_lines(seen.as_bytes(), wanted.as_bytes());
-    into.push_str("  ")?;
-    push_counts(into, &[(count, " lines as run reports them\n")])?;
+    push_all(
+        into,
+        &[
+            Fragment::Text("  "),
+            Fragment::Number(count),
+            Fragment::Text(" lines as run reports them\n"),
+        ],
+    )?;
     if is_same(seen, wanted) {
         return Ok(());
     }
-    into.push_str("  and then these two differ:\n")?;
-    push_line(into, seen, count)?;
-    push_line(into, wanted, count)
+    push_both(into, seen, wanted, count)
 }
 
-// Appends how often something happened to a session.
-fn push_happened(into: &mut String, drawn: &Drawn) -> Result<(), AllocError> {
-    let taken = drawn.taken();
+// Appends how often something happened to the session of an order.
+fn push_happened(into: &mut String, order: &Order<'_>, drawn: &Drawn) -> Result<(), AllocError> {
     let counts = &drawn.counts;
-    push_counts(
+    push_all(
         into,
         &[
-            (u64::from(counts.asked), " requests asked, "),
-            (u64::from(counts.not_asked), " not\n  "),
-            (u64::from(taken), " steps taken, "),
-            (u64::from(counts.waited), " waited, "),
-            (u64::from(counts.refused), " refused\n"),
+            Fragment::Text(order.name),
+            Fragment::Text(" "),
+            Fragment::Number(order.seed),
+            Fragment::Text(": "),
+            Fragment::Number(counts.asked),
+            Fragment::Text(" requests asked, "),
+            Fragment::Number(counts.not_asked),
+            Fragment::Text(" not\n  "),
+            Fragment::Number(drawn.taken() as u64),
+            Fragment::Text(" steps taken, "),
+            Fragment::Number(counts.waited),
+            Fragment::Text(" waited, "),
+            Fragment::Number(counts.refused),
+            Fragment::Text(" refused\n"),
         ],
     )
+}
+
+// Drives a session from its beginning on, and appends what happened and how its lines compare.
+fn push_driven(
+    alloc: Global,
+    drawn: &mut Drawn,
+    order: &Order<'_>,
+    case: &str,
+    into: &mut Answer,
+) -> Result<(), Memory> {
+    drawn.take_turns(alloc, order.count)?;
+    drawn.look_at_end(alloc)?;
+    let wanted = reported(alloc, case, drawn)?;
+    into.memory = drawn.counts.memory;
+    push_happened(&mut into.text, order, drawn)?;
+    push_compared(&mut into.text, drawn.lines.as_str(), wanted.as_str())?;
+    Ok(())
 }
 
 /// Drives a session, and appends what happened and how its lines compare.
@@ -71,13 +112,6 @@ pub fn push_drawn(
     into: &mut Answer,
 ) -> Result<(), Memory> {
     let case = contents.input.as_str();
-    let mut drawn = drive(alloc, case, order.seed, order.count)?;
-    drawn.look_at_end(alloc)?;
-    let wanted = reported(alloc, case, &drawn)?;
-    into.memory = drawn.counts.memory;
-    push_texts(&mut into.text, &[order.name, " "])?;
-    push_counts(&mut into.text, &[(order.seed, ": ")])?;
-    push_happened(&mut into.text, &drawn)?;
-    push_compared(&mut into.text, drawn.lines.as_str(), wanted.as_str())?;
-    Ok(())
+    let mut drawn = begin_drawn(alloc, case, order.seed)?;
+    push_driven(alloc, &mut drawn, order, case, into)
 }

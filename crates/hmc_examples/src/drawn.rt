@@ -7,28 +7,28 @@
 
 use crate::begun::{WithTape, begin};
 use crate::draws::Draws;
-use crate::texts::{drawn_step, request_text};
+use crate::texts::{drawn_step, push_drawn_request};
 use hmc_codes::{LineText, MOST_HOSTS, Memory};
 use hmc_net::Went;
 use hmc_report::Part;
 use hmc_schedule::Step;
 use hmc_session::{LineNotAsked, NotAsked, NotTaken};
 use hmc_tape::NotTaped;
-use std::alloc::Global;
+use std::alloc::{AllocError, Global};
 
 /// How often something happened.
 #[derive(Drop)]
 pub struct Counts {
     /// Requests that were asked.
-    pub asked: u32,
+    pub asked: u64,
     /// Texts that asked for none, and requests of finished hosts.
-    pub not_asked: u32,
+    pub not_asked: u64,
     /// Steps that waited.
-    pub waited: u32,
+    pub waited: u64,
     /// Steps that were refused for another cause, and texts that are no schedule.
-    pub refused: u32,
+    pub refused: u64,
     /// Calls that were out of memory.
-    pub memory: u32,
+    pub memory: u64,
 }
 
 /// A session, and what a caller saw of it.
@@ -63,18 +63,20 @@ impl Drawn {
         if self.looked.last().copied().unwrap_or(0) == taken {
             return Ok(());
         }
-        let mut line = LineText::new();
-        self.session.session().line(&mut line);
-        self.lines.push_str(line.as_str())?;
+        self.keep_line()?;
         self.looked.push(taken)?;
         Ok(())
     }
 
-    // Asks for the request of a text: by its values, or by the text.
-    fn ask(&mut self, alloc: Global, text: &str, by_values: bool) -> Result<(), LineNotAsked> {
-        if !by_values {
-            return self.session.ask_line(alloc, text);
-        }
+    // Keeps the line of the latest step.
+    fn keep_line(&mut self) -> Result<(), AllocError> {
+        let mut line = LineText::new();
+        self.session.session().line(&mut line);
+        self.lines.push_str(line.as_str())
+    }
+
+    // Asks for the request of a text by its values.
+    fn ask_by_values(&mut self, alloc: Global, text: &str) -> Result<(), LineNotAsked> {
         let item = match self.session.session().item_of(alloc, text) {
             Ok(item) => item,
             Err(refusal) => return Err(refusal),
@@ -88,20 +90,39 @@ impl Drawn {
         }
     }
 
-    // Asks for the request of a drawn text.
-    fn ask_drawn(&mut self, alloc: Global) -> Result<(), Memory> {
-        let plan = self.session.session().plan();
-        let (hosts, cubes) = (plan.hosts, plan.cube_count());
-        let text = request_text(alloc, &mut self.draws, hosts, cubes)?;
-        let by_values = self.draws.below(2) == 0;
-        let mut asked = self.ask(alloc, text.as_str(), by_values);
+    // Asks for the request of a text: by its values, or by the text.
+    fn ask(&mut self, alloc: Global, text: &str, by_values: bool) -> Result<(), LineNotAsked> {
+        if by_values {
+            return self.ask_by_values(alloc, text);
+        }
+        self.session.ask_line(alloc, text)
+    }
+
+    // Asks for the request of a text, and returns whether it was asked.
+    fn is_asked(&mut self, alloc: Global, text: &str, by_values: bool) -> bool {
+        let asked = self.ask(alloc, text, by_values);
         if let Err(LineNotAsked::Refused(NotAsked::Memory)) = asked {
             self.count_memory();
-            asked = self.ask(alloc, text.as_str(), by_values);
+            return self.ask(alloc, text, by_values).is_ok();
         }
-        match asked {
-            Ok(()) => self.counts.asked = self.counts.asked.saturating_add(1),
-            Err(_) => self.counts.not_asked = self.counts.not_asked.saturating_add(1),
+        asked.is_ok()
+    }
+
+    // Appends a drawn request.
+    fn push_request(&mut self, text: &mut String) -> Result<(), AllocError> {
+        let plan = self.session.session().plan();
+        push_drawn_request(text, &mut self.draws, plan.hosts, plan.cube_count())
+    }
+
+    // Asks for the request of a drawn text.
+    fn ask_drawn(&mut self, alloc: Global) -> Result<(), AllocError> {
+        let mut text = String::new(alloc);
+        self.push_request(&mut text)?;
+        let by_values = self.draws.below(2) == 0;
+        if self.is_asked(alloc, text.as_str(), by_values) {
+            self.counts.asked = self.counts.asked.saturating_add(1);
+        } else {
+            self.counts.not_asked = self.counts.not_asked.saturating_add(1);
         }
         Ok(())
     }
@@ -138,7 +159,8 @@ impl Drawn {
     fn turn(&mut self, alloc: Global) -> Result<(), Memory> {
         let way = self.draws.below(200);
         if way < 60 {
-            return self.ask_drawn(alloc);
+            self.ask_drawn(alloc)?;
+            return Ok(());
         }
         if way < 130 {
             return self.step_drawn();
@@ -153,33 +175,48 @@ impl Drawn {
         Ok(())
     }
 
-    // Appends the final lines. After a landing that passed there are none.
-    fn push_final(&self, alloc: Global, into: &mut String) -> Result<(), Memory> {
-        let session = self.session.session();
-        if session.has_passed() {
-            return Ok(());
+    /// Takes so many turns.
+    pub fn take_turns(&mut self, alloc: Global, turns: u32) -> Result<(), Memory> {
+        for _ in 0..turns {
+            self.turn(alloc)?;
         }
-        session.final_lines(alloc, Part::Memory, into)
+        Ok(())
     }
 
-    /// Keeps the final lines.
-    pub fn look_at_end(&mut self, alloc: Global) -> Result<(), Memory> {
+    // The final lines.
+    fn final_text(&self, alloc: Global) -> Result<String, Memory> {
         let mut last = String::new(alloc);
-        if let Err(_) = self.push_final(alloc, &mut last) {
-            self.count_memory();
-            last = String::new(alloc);
-            self.push_final(alloc, &mut last)?;
+        self.session
+            .session()
+            .final_lines(alloc, Part::Memory, &mut last)?;
+        Ok(last)
+    }
+
+    // The final lines, asked for once more where the session was out of memory.
+    fn last_lines(&mut self, alloc: Global) -> Result<String, Memory> {
+        if let Ok(last) = self.final_text(alloc) {
+            return Ok(last);
         }
+        self.count_memory();
+        self.final_text(alloc)
+    }
+
+    /// Keeps the final lines. After a landing that passed there are none.
+    pub fn look_at_end(&mut self, alloc: Global) -> Result<(), Memory> {
+        if self.session.session().has_passed() {
+            return Ok(());
+        }
+        let last = self.last_lines(alloc)?;
         self.lines.push_str(last.as_str())?;
         Ok(())
     }
 }
 
-/// Drives the session of a case without requests and steps by so many turns, which follow from a
-/// seed.
-pub fn drive(alloc: Global, net: &str, seed: u64, turns: u32) -> Result<Drawn, Memory> {
-    let mut drawn = Drawn {
-        session: begin(alloc, net)?,
+/// The session of a case without requests and steps. Its turns follow from a seed.
+pub fn begin_drawn(alloc: Global, net: &str, seed: u64) -> Result<Drawn, Memory> {
+    let session = begin(alloc, net)?;
+    Ok(Drawn {
+        session,
         draws: Draws { state: seed },
         looked: Vec::new(alloc),
         lines: String::new(alloc),
@@ -190,9 +227,5 @@ pub fn drive(alloc: Global, net: &str, seed: u64, turns: u32) -> Result<Drawn, M
             refused: 0,
             memory: 0,
         },
-    };
-    for _ in 0..turns {
-        drawn.turn(alloc)?;
-    }
-    Ok(drawn)
+    })
 }

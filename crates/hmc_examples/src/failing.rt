@@ -3,7 +3,7 @@
 use crate::orders::Order;
 use crate::program::answers;
 use crate::reading::Contents;
-use crate::words::{push_counts, push_texts};
+use crate::words::{Fragment, push_all};
 use hmc_codes::Memory;
 use hmc_outside::{MemorySink, MemorySource};
 use std::alloc::Global;
@@ -61,10 +61,12 @@ fn is_one_write(
     before: usize,
     len: usize,
 ) -> Result<bool, Memory> {
-    let none = keeps_taken(alloc, contents, call, before, 0)?;
-    let one = keeps_taken(alloc, contents, call, before, 1)?;
-    let all = keeps_taken(alloc, contents, call, before, len)?;
-    Ok(none && one && all)
+    for taken in [0, 1, len] {
+        if !keeps_taken(alloc, contents, call, before, taken)? {
+            return Ok(false);
+        }
+    }
+    Ok(true)
 }
 
 // How many lines of the report, from the first on, are one write each.
@@ -92,11 +94,13 @@ fn ends_after(alloc: Global, contents: &Contents, count: u32) -> Result<bool, Me
 
 // Whether the first read gets the case, the second one finds its end, and no third one comes.
 fn reads_twice(alloc: Global, contents: &Contents) -> Result<bool, Memory> {
-    let case = contents.input.as_bytes();
-    let first = run_is(alloc, case, &[1], &[], READ, b"")?;
-    let second = run_is(alloc, case, &[2], &[], READ, b"")?;
-    let third = run_is(alloc, case, &[3], &[], 0, contents.stored.as_bytes())?;
-    Ok(first && second && third)
+    let (case, report) = (contents.input.as_bytes(), contents.stored.as_bytes());
+    for call in [1, 2] {
+        if !run_is(alloc, case, &[call], &[], READ, b"")? {
+            return Ok(false);
+        }
+    }
+    run_is(alloc, case, &[3], &[], 0, report)
 }
 
 /// Appends whether a case is read as it should be.
@@ -107,11 +111,18 @@ pub fn push_reads(
     into: &mut String,
 ) -> Result<(), Memory> {
     let word = if reads_twice(alloc, contents)? {
-        "two"
+        ": two\n"
     } else {
-        "others"
+        ": others\n"
     };
-    push_texts(into, &["reads of ", order.name, ": ", word, "\n"])?;
+    push_all(
+        into,
+        &[
+            Fragment::Text("reads of "),
+            Fragment::Text(order.name),
+            Fragment::Text(word),
+        ],
+    )?;
     Ok(())
 }
 
@@ -128,7 +139,15 @@ pub fn push_writes(
     } else {
         ", and others\n"
     };
-    push_texts(into, &["writes of ", order.name, ": "])?;
-    push_counts(into, &[(u64::from(count), end)])?;
+    push_all(
+        into,
+        &[
+            Fragment::Text("writes of "),
+            Fragment::Text(order.name),
+            Fragment::Text(": "),
+            Fragment::Number(count as u64),
+            Fragment::Text(end),
+        ],
+    )?;
     Ok(())
 }

@@ -2,7 +2,7 @@
 
 use crate::drawn::Drawn;
 use crate::draws::Draws;
-use crate::texts::schedule_text;
+use crate::texts::push_drawn_steps;
 use hmc_codes::Memory;
 use hmc_schedule::ScheduleFault;
 use hmc_session::{Laid, Stops};
@@ -94,23 +94,36 @@ impl Drawn {
         }
         let tried = before.saturating_sub(laid.len());
         let done = self.taken().saturating_sub(taken);
-        let left_out = tried.saturating_sub(done);
+        let left_out = tried.saturating_sub(done) as u64;
         self.counts.waited = self.counts.waited.saturating_add(left_out);
         self.look()
     }
 
-    /// Takes the steps of a drawn text.
-    pub fn take_drawn_text(&mut self, alloc: Global) -> Result<(), Memory> {
-        let text = schedule_text(alloc, &mut self.draws)?;
-        let Ok(mut laid) = self.lay(alloc, text.as_str()) else {
-            self.counts.refused = self.counts.refused.saturating_add(1);
-            return Ok(());
-        };
+    // Takes all of the laid steps.
+    fn take_all(&mut self, laid: &mut Laid) -> Result<(), Memory> {
         for _ in 0..laid.len() {
             if laid.len() > 0 {
-                self.go_on(&mut laid)?;
+                self.go_on(laid)?;
             }
         }
         Ok(())
+    }
+
+    // Takes the steps of a text.
+    fn take_text(&mut self, alloc: Global, text: &str) -> Result<(), Memory> {
+        match self.lay(alloc, text) {
+            Ok(mut laid) => self.take_all(&mut laid),
+            Err(_) => {
+                self.counts.refused = self.counts.refused.saturating_add(1);
+                Ok(())
+            }
+        }
+    }
+
+    /// Takes the steps of a drawn text.
+    pub fn take_drawn_text(&mut self, alloc: Global) -> Result<(), Memory> {
+        let mut text = String::new(alloc);
+        push_drawn_steps(&mut text, &mut self.draws)?;
+        self.take_text(alloc, text.as_str())
     }
 }

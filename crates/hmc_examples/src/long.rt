@@ -5,7 +5,7 @@ use crate::draws::Draws;
 use crate::orders::Order;
 use crate::reading::Contents;
 use crate::texts::push_rounds;
-use crate::words::push_counts;
+use crate::words::{Fragment, push_all};
 use hmc_codes::Memory;
 use hmc_schedule::Step;
 use hmc_session::{Laid, NO_STOPS, NotTaken, Ran, Session, Stops};
@@ -15,18 +15,18 @@ use std::alloc::{AllocError, Global};
 /// A session with shipped units, without a tape.
 pub type Plain = Session<Slots<Shipped>>;
 
-// The text of a read of 64 bytes.
-fn read_text(alloc: Global, host: u8, cube: u8, address: u32) -> Result<String, AllocError> {
-    let mut text = String::new(alloc);
-    push_counts(
-        &mut text,
+// Appends a read of 64 bytes.
+fn push_read(text: &mut String, host: u8, cube: u8, address: u32) -> Result<(), AllocError> {
+    push_all(
+        text,
         &[
-            (u64::from(host), " rd64 "),
-            (u64::from(cube), " "),
-            (u64::from(address), ""),
+            Fragment::Number(host as u64),
+            Fragment::Text(" rd64 "),
+            Fragment::Number(cube as u64),
+            Fragment::Text(" "),
+            Fragment::Number(address as u64),
         ],
-    )?;
-    Ok(text)
+    )
 }
 
 // Whether a host has given all that it was asked for.
@@ -37,19 +37,25 @@ fn waits(session: &Plain, host: u8) -> bool {
     )
 }
 
+// Asks a host for a drawn read. Returns whether it was asked.
+fn ask(
+    alloc: Global,
+    session: &mut Plain,
+    draws: &mut Draws,
+    host: u8,
+) -> Result<bool, AllocError> {
+    let cube = draws.byte_below(session.plan().cube_count());
+    let address = draws.below(64).wrapping_mul(16);
+    let mut text = String::new(alloc);
+    push_read(&mut text, host, cube, address)?;
+    Ok(session.ask_line(alloc, text.as_str()).is_ok())
+}
+
 // Asks each host that has given all that it was asked for. Returns how many were asked.
-fn ask_waiting(alloc: Global, session: &mut Plain, draws: &mut Draws) -> Result<u32, Memory> {
-    let hosts = session.plan().hosts;
-    let cubes = session.plan().cube_count();
-    let mut asked = 0_u32;
-    for host in 0..hosts {
-        if !waits(session, host) {
-            continue;
-        }
-        let cube = draws.byte_below(cubes);
-        let address = draws.below(64).wrapping_mul(16);
-        let text = read_text(alloc, host, cube, address)?;
-        if session.ask_line(alloc, text.as_str()).is_ok() {
+fn ask_waiting(alloc: Global, session: &mut Plain, draws: &mut Draws) -> Result<u64, AllocError> {
+    let mut asked = 0_u64;
+    for host in 0..session.plan().hosts {
+        if waits(session, host) && ask(alloc, session, draws, host)? {
             asked = asked.saturating_add(1);
         }
     }
@@ -64,7 +70,7 @@ pub fn reaches(session: &mut Plain, laid: &mut Laid, most: u32, stops: &Stops) -
 /// The steps of so many rounds, laid down for the session.
 pub fn laid_rounds(alloc: Global, session: &Plain, rounds: u32) -> Result<Laid, Memory> {
     let mut text = String::new(alloc);
-    push_rounds(&mut text, rounds)?;
+    push_rounds(&mut text, rounds, "")?;
     match session.lay(alloc, text.as_str()) {
         Ok(laid) => Ok(laid),
         Err(_) => Err(Memory),
@@ -72,8 +78,8 @@ pub fn laid_rounds(alloc: Global, session: &Plain, rounds: u32) -> Result<Laid, 
 }
 
 // Takes all of the laid steps. Returns the number of entries of a chosen kind among theirs.
-fn count_stops(session: &mut Plain, laid: &mut Laid, stops: &Stops) -> u32 {
-    let mut count = 0_u32;
+fn count_stops(session: &mut Plain, laid: &mut Laid, stops: &Stops) -> u64 {
+    let mut count = 0_u64;
     for _ in 0..laid.len() {
         let most = laid.len();
         if !reaches(session, laid, most, stops) {
@@ -85,7 +91,7 @@ fn count_stops(session: &mut Plain, laid: &mut Laid, stops: &Stops) -> u32 {
 }
 
 // Takes so many rounds, and returns how many answers hosts took.
-fn take_rounds(alloc: Global, session: &mut Plain, rounds: u32) -> Result<u32, Memory> {
+fn take_rounds(alloc: Global, session: &mut Plain, rounds: u32) -> Result<u64, Memory> {
     let stops = Stops {
         took: true,
         ..NO_STOPS
@@ -97,8 +103,8 @@ fn take_rounds(alloc: Global, session: &mut Plain, rounds: u32) -> Result<u32, M
 // How many requests were asked, and how many answers hosts took.
 #[derive(Drop)]
 struct Done {
-    asked: u32,
-    answers: u32,
+    asked: u64,
+    answers: u64,
 }
 
 // Asks the hosts that wait and takes ten rounds, and counts what was done.
@@ -117,13 +123,16 @@ fn take_piece(
 
 // Appends what a long session did.
 fn push_done(into: &mut String, done: &Done, taken: u32) -> Result<(), AllocError> {
-    into.push_str("long: ")?;
-    push_counts(
+    push_all(
         into,
         &[
-            (u64::from(done.asked), " asked, "),
-            (u64::from(done.answers), " answers, "),
-            (u64::from(taken), " steps\n"),
+            Fragment::Text("long: "),
+            Fragment::Number(done.asked),
+            Fragment::Text(" asked, "),
+            Fragment::Number(done.answers),
+            Fragment::Text(" answers, "),
+            Fragment::Number(taken as u64),
+            Fragment::Text(" steps\n"),
         ],
     )
 }

@@ -1,6 +1,6 @@
 //! The cases of two numbers. The values are those of another program.
 
-use crate::words::push_counts;
+use crate::words::{Fragment, push_all};
 use hmc_case::Case;
 use hmc_codes::{Command, Join, Memory, Place, ZERO_FLIT};
 use hmc_make::make;
@@ -78,7 +78,13 @@ pub fn push_made(alloc: Global, number: u64, into: &mut String) -> Result<(), Me
     } else {
         ": differs\n"
     };
-    into.push_str("made of ")?;
-    push_counts(into, &[(number, word)])?;
+    push_all(
+        into,
+        &[
+            Fragment::Text("made of "),
+            Fragment::Number(number),
+            Fragment::Text(word),
+        ],
+    )?;
     Ok(())
 }

@@ -64,11 +64,11 @@ pub struct Answer {
     /// The lines.
     pub text: String,
     /// How many calls of a session were out of memory.
-    pub memory: u32,
+    pub memory: u64,
 }
 
 /// The words of orders, what each is about, and the endings of the files that it reads.
-const WORDS: [(&str, Way, &str, &str); 16] = [
+const WORDS: &[(&str, Way, &str, &str)] = &[
     ("report", Way::Report, ".toml", ".report"),
     ("bound", Way::Bound, ".toml", ".bound"),
     ("make", Way::Make, "", ".report"),
@@ -89,7 +89,7 @@ const WORDS: [(&str, Way, &str, &str); 16] = [
 
 // What the first word of an order says.
 fn way_of(first: &str) -> Option<(Way, &'static str, &'static str)> {
-    for (word, way, input_ending, stored_ending) in &WORDS {
+    for (word, way, input_ending, stored_ending) in WORDS {
         if is_same(word, first) {
             return Some((*way, *input_ending, *stored_ending));
         }
@@ -97,11 +97,12 @@ fn way_of(first: &str) -> Option<(Way, &'static str, &'static str)> {
     None
 }
 
-/// The order that a line states, if it states one.
+/// The order that a line states, if its first word is one of an order. A number that it doesn't state
+/// is 0.
 pub fn order_of(line: &str) -> Option<Order<'_>> {
-    let (word, rest) = first_word(line)?;
-    let (name, rest) = first_word(rest)?;
-    let (seed, count) = first_word(rest)?;
+    let (word, rest) = first_word(line);
+    let (name, rest) = first_word(rest);
+    let (seed, count) = first_word(rest);
     let (way, input_ending, stored_ending) = way_of(word)?;
     Some(Order {
         word,
@@ -109,7 +110,7 @@ pub fn order_of(line: &str) -> Option<Order<'_>> {
         input_ending,
         stored_ending,
         name,
-        seed: seed.parse::<u64>().ok()?,
-        count: number_of(count)?,
+        seed: seed.parse::<u64>().unwrap_or(0),
+        count: number_of(count).unwrap_or(0),
     })
 }

@@ -12,7 +12,7 @@ ghost use Rattle.hmc_packet.specs.Spelling.{FitsProfile, spelling};
 
 use crate::orders::Order;
 use crate::reading::Contents;
-use crate::words::{begins_with, first_word, number_of, push_all_hold, push_counts, push_differs};
+use crate::words::{Fragment, first_word, number_of, push_all, push_all_hold, push_differs};
 use arrayvec::ArrayVec;
 use hmc_codes::{Flit, Memory, Profile};
 use hmc_packet::{Bad, Packet, Seen, read, spell};
@@ -25,7 +25,7 @@ type Flits = ArrayVec<Flit, 17>;
 
 // The profile that a row begins with, and the rest.
 fn profile_of(row: &str) -> Option<(Profile, &str)> {
-    let (word, rest) = first_word(row)?;
+    let (word, rest) = first_word(row);
     match number_of(word)? {
         1 => Some((Profile::One, rest)),
         2 => Some((Profile::Two, rest)),
@@ -46,45 +46,51 @@ fn flits_in(line: &str) -> Option<Flits> {
 }
 
 // Appends these numbers, each with a blank after it.
-fn push_numbers(into: &mut String, numbers: &[u8]) -> Result<(), AllocError> {
+fn push_numbers(into: &mut String, numbers: &[u64]) -> Result<(), AllocError> {
     for number in numbers {
-        push_counts(into, &[(u64::from(*number), " ")])?;
+        push_all(into, &[Fragment::Number(*number), Fragment::Text(" ")])?;
     }
     Ok(())
 }
 
-// The words of a packet up to its address.
-fn first_words(alloc: Global, packet: &Packet) -> Result<String, AllocError> {
-    let word = packet.command.word();
-    let text = format!(in alloc; "{word} {} {:#x} ", packet.tag, packet.address)?;
-    Ok(text)
+// Appends the words of a packet up to its address.
+fn push_first_words(into: &mut String, packet: &Packet) -> Result<(), AllocError> {
+    push_all(
+        into,
+        &[
+            Fragment::Text(packet.command.word()),
+            Fragment::Text(" "),
+            Fragment::Number(packet.tag as u64),
+            Fragment::Text(" "),
+            Fragment::Hex(packet.address),
+            Fragment::Text(" "),
+        ],
+    )
+}
+
+// Appends the numbers of a packet after its address.
+fn push_last_numbers(into: &mut String, packet: &Packet, rrp: u16) -> Result<(), AllocError> {
+    push_numbers(
+        into,
+        &[
+            packet.cube as u64,
+            packet.slid as u64,
+            packet.flag as u64,
+            packet.errstat as u64,
+            packet.rtc as u64,
+            packet.seq as u64,
+            packet.frp as u64,
+            packet.poisoned as u64,
+            rrp as u64,
+        ],
+    )
 }
 
 // The words of a packet, each with a blank after it.
 fn words_of(alloc: Global, seen: &Seen) -> Result<String, AllocError> {
-    let packet = &seen.packet;
-    let mut text = first_words(alloc, packet)?;
-    let flag = u8::from(packet.flag);
-    push_numbers(
-        &mut text,
-        &[
-            packet.cube,
-            packet.slid,
-            flag,
-            packet.errstat,
-            packet.rtc,
-            packet.seq,
-        ],
-    )?;
-    let poisoned = u64::from(packet.poisoned);
-    push_counts(
-        &mut text,
-        &[
-            (u64::from(packet.frp), " "),
-            (poisoned, " "),
-            (u64::from(seen.rrp), " "),
-        ],
-    )?;
+    let mut text = String::new(alloc);
+    push_first_words(&mut text, &seen.packet)?;
+    push_last_numbers(&mut text, &seen.packet, seen.rrp)?;
     Ok(text)
 }
 
@@ -116,10 +122,10 @@ fn line_holds(
 ) -> Result<bool, AllocError> {
     match read(flits, profile) {
         Ok(seen) => {
-            let is_same = begins_with(line, words_of(alloc, &seen)?.as_str());
+            let is_same = line.starts_with(words_of(alloc, &seen)?.as_str());
             Ok(is_same && is_spelled_by(&seen, profile, flits))
         }
-        Err(bad) => Ok(begins_with(line, fault_name(bad))),
+        Err(bad) => Ok(line.starts_with(fault_name(bad))),
     }
 }
 

@@ -3,7 +3,7 @@
 use crate::begun::WithTape;
 use crate::drawn::Drawn;
 use crate::program::run_program;
-use crate::words::{push_texts, replaced};
+use crate::words::{Fragment, push_all};
 use hmc_codes::Memory;
 use hmc_outside::{MemorySink, MemorySource};
 use std::alloc::{AllocError, Global};
@@ -14,34 +14,27 @@ const ROOM: usize = 1 << 22;
 /// The status of the program where it is out of memory.
 const MEMORY: u8 = 1;
 
-/// The line of a case without requests.
-const NO_SCRIPT: &str = "script = ''";
+/// The lines of a case without requests and steps.
+const NOTHING: &str = "script = ''\nschedule = ''\n";
 
-/// The line of a case without steps.
-pub const NO_SCHEDULE: &str = "schedule = ''";
-
-// A case with this text under this key, where it has this line for it.
-fn with_text(
-    alloc: Global,
-    case: &str,
-    line: &str,
-    key: &str,
-    text: &str,
-) -> Result<String, AllocError> {
-    let mut lines = String::new(alloc);
-    push_texts(&mut lines, &[key, " = '''\n", text, "'''\n"])?;
-    replaced(alloc, case, line, lines.as_str())
-}
-
-// The case without requests and steps, with those of a tape.
-fn case_of_tape(alloc: Global, case: &str, tape: &WithTape) -> Result<String, AllocError> {
-    let asked = with_text(alloc, case, NO_SCRIPT, "script", tape.script())?;
-    with_text(
-        alloc,
-        asked.as_str(),
-        NO_SCHEDULE,
-        "schedule",
-        tape.schedule(),
+// Appends the case without requests and steps, with those of a tape.
+fn push_case_of_tape<'a>(
+    into: &mut String,
+    case: &'a str,
+    tape: &'a WithTape,
+) -> Result<(), AllocError> {
+    let (before, after) = case.split_once(NOTHING).unwrap_or((case, ""));
+    push_all(
+        into,
+        &[
+            Fragment::Text(before),
+            Fragment::Text("script = '''\n"),
+            Fragment::Text(tape.script()),
+            Fragment::Text("'''\nschedule = '''\n"),
+            Fragment::Text(tape.schedule()),
+            Fragment::Text("'''\n"),
+            Fragment::Text(after),
+        ],
     )
 }
 
@@ -70,7 +63,7 @@ fn lines_at(
         let wanted = numbers.get(at).copied().unwrap_or(0) == number;
         if wanted || number > steps {
             at = at.saturating_add(1);
-            push_texts(&mut text, &[line, "\n"])?;
+            push_all(&mut text, &[Fragment::Text(line), Fragment::Text("\n")])?;
         }
     }
     Ok(text)
@@ -80,8 +73,9 @@ fn lines_at(
 /// are of, and the final lines. The session began with this case, which has no requests and no
 /// steps.
 pub fn reported(alloc: Global, case: &str, drawn: &Drawn) -> Result<String, Memory> {
-    let case = case_of_tape(alloc, case, &drawn.session)?;
-    let sink = report_of(alloc, case.as_str())?;
+    let mut text = String::new(alloc);
+    push_case_of_tape(&mut text, case, &drawn.session)?;
+    let sink = report_of(alloc, text.as_str())?;
     let Ok(report) = str::from_utf8(sink.as_slice()) else {
         return Err(Memory);
     };

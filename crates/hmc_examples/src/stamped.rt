@@ -3,7 +3,7 @@
 use crate::begun::{case_of, units};
 use crate::orders::Order;
 use crate::reading::Contents;
-use crate::words::{push_counts, push_texts};
+use crate::words::{Fragment, push_all};
 use hmc_case::Case;
 use hmc_codes::Memory;
 use hmc_outside::MemorySink;
@@ -53,7 +53,17 @@ pub fn push_stamp(
         Extent::Short
     };
     let next = next_stamp(alloc, contents.input.as_str(), extent)?;
-    push_texts(into, &["stamp after ", order.name, ", "])?;
-    push_counts(into, &[(order.seed, ": "), (u64::from(next), "\n")])?;
+    push_all(
+        into,
+        &[
+            Fragment::Text("stamp after "),
+            Fragment::Text(order.name),
+            Fragment::Text(", "),
+            Fragment::Number(order.seed),
+            Fragment::Text(": "),
+            Fragment::Number(next as u64),
+            Fragment::Text("\n"),
+        ],
+    )?;
     Ok(())
 }

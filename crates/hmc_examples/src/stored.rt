@@ -4,7 +4,7 @@
 use crate::orders::{Order, Way};
 use crate::program::answers;
 use crate::reading::Contents;
-use crate::words::{push_counts, push_texts};
+use crate::words::{Fragment, push_all};
 use hmc_codes::Memory;
 use hmc_outside::{MemorySink, MemorySource};
 use std::alloc::Global;
@@ -35,7 +35,7 @@ fn case_is_answered(
 // nothing is read.
 fn made_is_reported(alloc: Global, number: u64, report: &[u8]) -> Result<bool, Memory> {
     let mut digits = String::new(alloc);
-    push_counts(&mut digits, &[(number, "")])?;
+    push_all(&mut digits, &[Fragment::Number(number)])?;
     let source = MemorySource::new(alloc, &[], &[1])?;
     let sink = MemorySink::new(alloc, ROOM, &[])?;
     let words = ["make", digits.as_str()];
@@ -60,10 +60,18 @@ pub fn push_stored(
     into: &mut String,
 ) -> Result<(), Memory> {
     let word = if is_as_stored(alloc, order, contents)? {
-        "as stored"
+        ": as stored\n"
     } else {
-        "differs"
+        ": differs\n"
     };
-    push_texts(into, &[order.word, " of ", order.name, ": ", word, "\n"])?;
+    push_all(
+        into,
+        &[
+            Fragment::Text(order.word),
+            Fragment::Text(" of "),
+            Fragment::Text(order.name),
+            Fragment::Text(word),
+        ],
+    )?;
     Ok(())
 }

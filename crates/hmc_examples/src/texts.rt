@@ -1,15 +1,15 @@
 //! Texts of requests and of steps, drawn.
 
 use crate::draws::Draws;
-use crate::words::{push_counts, push_texts};
+use crate::words::{Fragment, push_all};
 use hmc_codes::{Flit, ZERO_FLIT};
 use hmc_schedule::Step;
 use hmc_session::step_named;
 use hmc_step_text::step_line;
-use std::alloc::{AllocError, Global};
+use std::alloc::AllocError;
 
 /// Commands, each with what comes before the bytes of its line, and how many these are.
-const COMMANDS: [(&str, &str, u32); 23] = [
+const COMMANDS: &[(&str, &str, u32)] = &[
     ("wr16", " ", 16),
     ("rd16", "", 0),
     ("wr32", " ", 32),
@@ -37,7 +37,7 @@ const COMMANDS: [(&str, &str, u32); 23] = [
 
 /// Texts that ask for no request: a host, a cube and a command that aren't there, bytes that are
 /// missing, a word too many, no request, two requests, and a fence alone.
-const WRONG: [&str; 8] = [
+const WRONG: &[&str] = &[
     "8 rd16 0 0\n",
     "0 rd16 8 0\n",
     "0 rd17 0 0\n",
@@ -69,14 +69,26 @@ fn drawn_address(draws: &mut Draws) -> u32 {
     draws.below(80).wrapping_mul(16)
 }
 
+// A command.
+fn drawn_command(draws: &mut Draws) -> (&'static str, &'static str, u32) {
+    let place = draws.below(23) as usize;
+    COMMANDS.get(place).copied().unwrap_or(("", "", 0))
+}
+
 // Appends a command for this cube.
 fn push_command(text: &mut String, draws: &mut Draws, cube: u8) -> Result<(), AllocError> {
-    let (word, before, count) = COMMANDS[draws.below(23) as usize];
+    let (word, before, count) = drawn_command(draws);
     let address = drawn_address(draws);
-    push_texts(text, &[word, " "])?;
-    push_counts(
+    push_all(
         text,
-        &[(u64::from(cube), " "), (u64::from(address), before)],
+        &[
+            Fragment::Text(word),
+            Fragment::Text(" "),
+            Fragment::Number(cube as u64),
+            Fragment::Text(" "),
+            Fragment::Number(address as u64),
+            Fragment::Text(before),
+        ],
     )?;
     push_bytes(text, draws, count)
 }
@@ -86,8 +98,11 @@ fn push_fence(text: &mut String, draws: &mut Draws, hosts: u8) -> Result<(), All
     if draws.below(6) > 0 {
         return Ok(());
     }
-    let fenced = draws.byte_below(hosts);
-    push_counts(text, &[(u64::from(fenced), " fence\n")])
+    let fenced = draws.byte_below(hosts) as u64;
+    push_all(
+        text,
+        &[Fragment::Number(fenced), Fragment::Text(" fence\n")],
+    )
 }
 
 // Appends a request of one of these hosts to one of these cubes, with a fence before it or without.
@@ -100,29 +115,36 @@ fn push_request(
     let host = draws.byte_below(hosts);
     let cube = draws.byte_below(cubes);
     push_fence(text, draws, hosts)?;
-    push_counts(text, &[(u64::from(host), " ")])?;
-    if draws.below(10) == 0 {
-        text.push_str("poison ")?;
-    }
+    let poison = if draws.below(10) == 0 {
+        " poison "
+    } else {
+        " "
+    };
+    push_all(
+        text,
+        &[Fragment::Number(host as u64), Fragment::Text(poison)],
+    )?;
     push_command(text, draws, cube)
 }
 
-/// The text of a request of one of these hosts to one of these cubes, with a fence before it or
-/// without, or a text that asks for none.
-pub fn request_text(
-    alloc: Global,
+// A text that asks for no request.
+fn drawn_wrong(draws: &mut Draws) -> &'static str {
+    let place = draws.below(8) as usize;
+    WRONG.get(place).copied().unwrap_or("")
+}
+
+/// Appends a request of one of these hosts to one of these cubes, with a fence before it or without,
+/// or what asks for none.
+pub fn push_drawn_request(
+    text: &mut String,
     draws: &mut Draws,
     hosts: u8,
     cubes: u8,
-) -> Result<String, AllocError> {
-    let mut text = String::new(alloc);
+) -> Result<(), AllocError> {
     if draws.below(8) == 0 {
-        let wrong = WRONG[draws.below(8) as usize];
-        text.push_str(wrong)?;
-    } else {
-        push_request(&mut text, draws, hosts, cubes)?;
+        return text.push_str(drawn_wrong(draws));
     }
-    Ok(text)
+    push_request(text, draws, hosts, cubes)
 }
 
 // The number of a kind of step, or of none.
@@ -154,10 +176,17 @@ pub fn drawn_step(draws: &mut Draws) -> Option<Step> {
     step_named(kind, a, b, c, &mask)
 }
 
-/// Appends a line of so many rounds.
-pub fn push_rounds(text: &mut String, rounds: u32) -> Result<(), AllocError> {
-    text.push_str("round ")?;
-    push_counts(text, &[(u64::from(rounds), "\n")])
+/// Appends a line of so many rounds, and what comes after it.
+pub fn push_rounds(text: &mut String, rounds: u32, after: &str) -> Result<(), AllocError> {
+    push_all(
+        text,
+        &[
+            Fragment::Text("round "),
+            Fragment::Number(rounds as u64),
+            Fragment::Text("\n"),
+            Fragment::Text(after),
+        ],
+    )
 }
 
 // Appends a line of noise, or none.
@@ -165,9 +194,15 @@ fn push_noise(text: &mut String, draws: &mut Draws) -> Result<(), AllocError> {
     if draws.below(4) > 0 {
         return Ok(());
     }
-    let every = draws.below(60).wrapping_add(10);
-    text.push_str("noise ")?;
-    push_counts(text, &[(u64::from(every), NOISE)])
+    let every = draws.below(60).wrapping_add(10) as u64;
+    push_all(
+        text,
+        &[
+            Fragment::Text("noise "),
+            Fragment::Number(every),
+            Fragment::Text(NOISE),
+        ],
+    )
 }
 
 // Appends some rounds, with noise or without. After them a packet may go on that is arriving at
@@ -175,28 +210,26 @@ fn push_noise(text: &mut String, draws: &mut Draws) -> Result<(), AllocError> {
 fn push_drawn_rounds(text: &mut String, draws: &mut Draws) -> Result<(), AllocError> {
     push_noise(text, draws)?;
     let rounds = draws.below(16).wrapping_add(1);
-    push_rounds(text, rounds)?;
-    if draws.below(3) == 0 {
-        text.push_str("through 0 0\n")?;
-    }
-    Ok(())
+    let through = if draws.below(3) == 0 {
+        "through 0 0\n"
+    } else {
+        ""
+    };
+    push_rounds(text, rounds, through)
 }
 
 // Appends a single step, or nothing where the numbers name none.
 fn push_drawn_step(text: &mut String, draws: &mut Draws) -> Result<(), AllocError> {
-    if let Some(step) = drawn_step(draws) {
-        text.push_str(step_line(&step).as_str())?;
+    match drawn_step(draws) {
+        Some(step) => text.push_str(step_line(&step).as_str()),
+        None => Ok(()),
     }
-    Ok(())
 }
 
-/// The text of some rounds, or of a single step.
-pub fn schedule_text(alloc: Global, draws: &mut Draws) -> Result<String, AllocError> {
-    let mut text = String::new(alloc);
+/// Appends some rounds, or a single step.
+pub fn push_drawn_steps(text: &mut String, draws: &mut Draws) -> Result<(), AllocError> {
     if draws.below(4) == 0 {
-        push_drawn_step(&mut text, draws)?;
-    } else {
-        push_drawn_rounds(&mut text, draws)?;
+        return push_drawn_step(text, draws);
     }
-    Ok(text)
+    push_drawn_rounds(text, draws)
 }

@@ -5,15 +5,14 @@ use crate::begun::{begin, case_of, units};
 use crate::long::{Plain, laid_rounds, reaches};
 use crate::orders::{Order, Way};
 use crate::reading::Contents;
-use crate::replayed::NO_SCHEDULE;
-use crate::words::{push_counts, push_texts, replaced};
+use crate::words::{Fragment, push_all};
 use hmc_case::Case;
 use hmc_codes::{Lift, Memory, ZERO_FLIT};
 use hmc_outside::MemorySink;
 use hmc_replay::{Extent, replay_on};
 use hmc_schedule::Step;
 use hmc_session::{Laid, NO_STOPS};
-use std::alloc::Global;
+use std::alloc::{AllocError, Global};
 
 /// The steps of a round.
 const ROUND: [Step; 12] = [
@@ -30,6 +29,9 @@ const ROUND: [Step; 12] = [
     Step::Lift(0, Lift::Registers),
     Step::Take(0),
 ];
+
+/// The line of a case without steps.
+const NO_SCHEDULE: &str = "schedule = ''\n";
 
 /// More bytes than the final lines of the case have.
 const ROOM: usize = 4_096;
@@ -80,12 +82,25 @@ fn in_session(alloc: Global, way: Way, case: &str, rounds: u32) -> Result<u32, M
     taken_by(alloc, &mut session, way, rounds)
 }
 
+// Appends the case without steps, with so many rounds.
+fn push_with_rounds(into: &mut String, case: &str, rounds: u32) -> Result<(), AllocError> {
+    let (before, after) = case.split_once(NO_SCHEDULE).unwrap_or((case, ""));
+    push_all(
+        into,
+        &[
+            Fragment::Text(before),
+            Fragment::Text("schedule = 'round "),
+            Fragment::Number(rounds as u64),
+            Fragment::Text("'\n"),
+            Fragment::Text(after),
+        ],
+    )
+}
+
 // The case without steps, with so many rounds.
 fn case_of_rounds(alloc: Global, case: &str, rounds: u32) -> Result<Case, Memory> {
-    let mut schedule = String::new(alloc);
-    schedule.push_str("schedule = 'round ")?;
-    push_counts(&mut schedule, &[(u64::from(rounds), "'\n")])?;
-    let text = replaced(alloc, case, NO_SCHEDULE, schedule.as_str())?;
+    let mut text = String::new(alloc);
+    push_with_rounds(&mut text, case, rounds)?;
     case_of(alloc, text.as_str())
 }
 
@@ -118,7 +133,14 @@ pub fn push_timed(
         Way::Program => by_program(alloc, case, rounds)?,
         _ => in_session(alloc, order.way, case, rounds)?,
     };
-    push_texts(into, &[order.word, ": "])?;
-    push_counts(into, &[(u64::from(done), "\n")])?;
+    push_all(
+        into,
+        &[
+            Fragment::Text(order.word),
+            Fragment::Text(": "),
+            Fragment::Number(done as u64),
+            Fragment::Text("\n"),
+        ],
+    )?;
     Ok(())
 }

@@ -6,7 +6,9 @@ ghost use Rattle.hmc_examples.specs.Values.{value_text};
 
 use crate::orders::Order;
 use crate::reading::{Contents, contents_of};
-use crate::words::{first_word, is_same, number_of, push_all_hold, push_differs, push_texts};
+use crate::words::{
+    Fragment, first_word, is_same, number_of, push_all, push_all_hold, push_differs,
+};
 use hmc_entries::Entry;
 use hmc_trace::{Compiled, compile, value, values};
 use std::alloc::{AllocError, Global};
@@ -24,9 +26,9 @@ struct Row<'a> {
 
 // The row of a line `NAME LINES = VALUES`, if it is one.
 fn row_of(line: &str) -> Option<Row<'_>> {
-    let (name, rest) = first_word(line)?;
-    let (lines, rest) = first_word(rest)?;
-    let (_, values) = first_word(rest)?;
+    let (name, rest) = first_word(line);
+    let (lines, rest) = first_word(rest);
+    let (_, values) = first_word(rest);
     let lines = number_of(lines)? as usize;
     Some(Row {
         name,
@@ -94,7 +96,10 @@ fn all_values(alloc: Global, compiled: &Compiled, journal: &[Entry]) -> Result<S
     for one in found.iter() {
         let digits = value_text(alloc, one)?;
         if is_value(alloc, compiled, load, journal, digits.as_str())? {
-            push_texts(&mut text, &[digits.as_str(), ";"])?;
+            push_all(
+                &mut text,
+                &[Fragment::Text(digits.as_str()), Fragment::Text(";")],
+            )?;
         } else {
             text.push_str("differs;")?;
         }

@@ -1,10 +1,21 @@
 //! Words of lines, and texts that are put together.
 
-use std::alloc::{AllocError, Global};
+use std::alloc::AllocError;
+
+/// A fragment of a text.
+#[derive(Clone, Copy)]
+pub enum Fragment<'a> {
+    /// A text.
+    Text(&'a str),
+    /// A number in decimal digits.
+    Number(u64),
+    /// A number in hexadecimal digits, with 0x before them.
+    Hex(u64),
+}
 
 /// The first word of a line, and what follows the blank after it.
-pub fn first_word(line: &str) -> Option<(&str, &str)> {
-    line.split_once(' ')
+pub fn first_word(line: &str) -> (&str, &str) {
+    line.split_once(' ').unwrap_or((line, ""))
 }
 
 /// The number that a word states in decimal digits, if it is one.
@@ -17,51 +28,45 @@ pub fn is_same(one: &str, other: &str) -> bool {
     one == other
 }
 
-/// Whether a text begins with another one.
-pub fn begins_with(text: &str, front: &str) -> bool {
-    match text.as_bytes().get(..front.len()) {
-        Some(bytes) => bytes == front.as_bytes(),
-        None => false,
+// Appends a fragment.
+fn push(into: &mut String, fragment: Fragment<'_>) -> Result<(), AllocError> {
+    match fragment {
+        Fragment::Text(text) => into.push_str(text),
+        Fragment::Number(number) => write!(into, "{number}"),
+        Fragment::Hex(number) => write!(into, "{number:#x}"),
     }
 }
 
-/// The lines of a text, with these in place of each that is this one.
-pub fn replaced(alloc: Global, text: &str, line: &str, lines: &str) -> Result<String, AllocError> {
-    let mut made = String::new(alloc);
-    for own in text.lines() {
-        if is_same(own, line) {
-            made.push_str(lines)?;
-        } else {
-            push_texts(&mut made, &[own, "\n"])?;
-        }
-    }
-    Ok(made)
-}
-
-/// Appends these texts.
-pub fn push_texts(into: &mut String, texts: &[&str]) -> Result<(), AllocError> {
-    for text in texts {
-        into.push_str(text)?;
-    }
-    Ok(())
-}
-
-/// Appends these numbers in decimal digits, each with its text after it.
-pub fn push_counts(into: &mut String, counts: &[(u64, &str)]) -> Result<(), AllocError> {
-    for (count, text) in counts {
-        write!(into, "{count}")?;
-        into.push_str(text)?;
+/// Appends these fragments.
+pub fn push_all(into: &mut String, fragments: &[Fragment<'_>]) -> Result<(), AllocError> {
+    for fragment in fragments {
+        push(into, *fragment)?;
     }
     Ok(())
 }
 
 /// Appends that all rows of a table of this name hold, so many.
 pub fn push_all_hold(into: &mut String, name: &str, count: u64) -> Result<(), AllocError> {
-    push_texts(into, &[name, ": "])?;
-    push_counts(into, &[(count, " rows hold\n")])
+    push_all(
+        into,
+        &[
+            Fragment::Text(name),
+            Fragment::Text(": "),
+            Fragment::Number(count),
+            Fragment::Text(" rows hold\n"),
+        ],
+    )
 }
 
 /// Appends that this row of a table differs from what it says.
-pub fn push_differs(into: &mut String, name: &str, row: &str) -> Result<(), AllocError> {
-    push_texts(into, &[name, ": the row ", row, " differs\n"])
+pub fn push_differs<'a>(into: &mut String, name: &'a str, row: &'a str) -> Result<(), AllocError> {
+    push_all(
+        into,
+        &[
+            Fragment::Text(name),
+            Fragment::Text(": the row "),
+            Fragment::Text(row),
+            Fragment::Text(" differs\n"),
+        ],
+    )
 }
