@@ -17,10 +17,14 @@ word_form word =
     else (if bytes_eq word (codes "bound") then Some Bound
     else (if bytes_eq word (codes "trace") then Some Trace else None)))
 
+-- the form of two words: `make` with the second
+abbrev pub pair_form : List ℕ → List ℕ → Option Form
+pair_form word other = if bytes_eq word (codes "make") then make_form other else None
+
 -- what the words ask for: `run`, `check`, `bound` or `trace`, or `make` and the number of a case
 abbrev pub form_of : List (List ℕ) → Option Form
 form_of (word ∷ []) = word_form word
-form_of (word ∷ number ∷ []) = if bytes_eq word (codes "make") then make_form number else None
+form_of (word ∷ other ∷ []) = pair_form word other
 form_of _ = None
 
 -- they ask for the case that is read

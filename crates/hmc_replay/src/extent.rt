@@ -1,7 +1,7 @@
 //! What of a report is written.
 
 /// What of a report is written.
-#[derive(Clone, Copy, PartialEq, Eq)]
+#[derive(Clone, Copy)]
 pub enum Extent {
     /// The line of each step, and all final lines. After a landing that passed, no final lines.
     Whole,

@@ -1,12 +1,12 @@
 //! The words that are a defined form.
 
 ghost use Rattle.std.specs.Prelude.{◌≡◌, map, string_bytes, is_some};
-ghost use Rattle.hmc_replay.specs.Words.{make_form, form_of};
+ghost use Rattle.hmc_replay.specs.Words.{make_form, word_form, pair_form, form_of};
 
 use hmc_make::number_of;
 
 /// What the words ask for.
-#[derive(Clone, Copy, PartialEq, Eq)]
+#[derive(Clone, Copy)]
 pub enum Form {
     /// The report of the case that is read.
     Run,
@@ -30,16 +30,37 @@ fn make_form(word: &str) -> Option<Form>
     }
 }
 
+// The form of a word alone.
+fn word_form(word: &str) -> Option<Form>
+    ensures { result ≡ word_form word.now }
+{
+    match word {
+        "run" => Some(Form::Run),
+        "check" => Some(Form::Check),
+        "bound" => Some(Form::Bound),
+        "trace" => Some(Form::Trace),
+        _ => None,
+    }
+}
+
+// The form of two words.
+fn pair_form(word: &str, other: &str) -> Option<Form>
+    ensures { result ≡ pair_form word.now other.now }
+{
+    if word == "make" {
+        make_form(other)
+    } else {
+        None
+    }
+}
+
 /// What the words ask for. `None` if they are no defined form. It takes no memory.
 pub fn form_of(words: &[String]) -> Option<Form>
     ensures { result ≡ form_of (map string_bytes words.now) }
 {
     match words {
-        [word] if word.as_str() == "run" => Some(Form::Run),
-        [word] if word.as_str() == "check" => Some(Form::Check),
-        [word] if word.as_str() == "bound" => Some(Form::Bound),
-        [word] if word.as_str() == "trace" => Some(Form::Trace),
-        [word, number] if word.as_str() == "make" => make_form(number.as_str()),
+        [word] => word_form(word.as_str()),
+        [word, other] => pair_form(word.as_str(), other.as_str()),
         _ => None,
     }
 }

@@ -14,7 +14,7 @@ use std::alloc::{AllocError, Global};
 const PIECE: usize = 4_096;
 
 /// Why an input was not read to its end.
-#[derive(Clone, Copy, PartialEq, Eq)]
+#[derive(Clone, Copy)]
 pub enum InputError {
     /// Out of memory.
     Memory,

@@ -29,7 +29,7 @@ use hmc_units::{LogicUnit, Slots};
 use std::alloc::Global;
 
 /// Why a run ended early.
-#[derive(Clone, Copy, PartialEq, Eq)]
+#[derive(Clone, Copy)]
 pub enum RunError {
     /// Out of memory.
     Memory,
