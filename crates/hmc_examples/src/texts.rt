@@ -133,8 +133,8 @@ fn drawn_wrong(draws: &mut Draws) -> &'static str {
     WRONG.get(place).copied().unwrap_or("")
 }
 
-/// Appends a request of one of these hosts to one of these cubes, with a fence before it or without,
-/// or what asks for none.
+/// Appends a request of one of these hosts to one of these cubes, with a fence before it or
+/// without, or what asks for none.
 pub fn push_drawn_request(
     text: &mut String,
     draws: &mut Draws,
