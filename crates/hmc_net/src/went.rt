@@ -8,7 +8,7 @@ ghost use Rattle.hmc_net.specs.declared.went.Went.TheVariants as wents;
 use hmc_entries::{Cause, IdleStep, LastEntry};
 
 /// How a step went.
-#[derive(Clone, Copy, PartialEq, Eq)]
+#[derive(Clone, Copy)]
 pub enum Went {
     /// Something happened.
     Done,
