@@ -102,7 +102,7 @@ QUANTITIES: dict[str, Quantity] = {
     "calls_that_open": times(HEADER, r"^uint8_t hmc_open\w*\("),
     "catch_up_rounds": of(numbers.stage("CatchesUp")),
     "checks_by_hand": in_letters(
-        "crates/hmc_tests_requests/src/crc.rt", r"The last (\w+)\n//! rows are worked by hand"
+        "crates/hmc_tests_calls/src/crc.rt", r"The last (\w+)\n//! rows are worked by hand"
     ),
     "chain_of_bench": behind("bench/check", r"n, 4, (?=[0-9]+\))"),
     "check_mebibytes": lambda: constant(numbers.LIMITS, "MOST_CHECK_INPUT") >> 20,

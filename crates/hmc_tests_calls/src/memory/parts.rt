@@ -1,5 +1,4 @@
-//! Calls that take memory. No clause says that they give their value where memory is ample, and
-//! each is made once so; what the value is, its clauses say.
+//! What the parts of a network need.
 
 use hmc_codes::{Command, Graph, Join, MOST_ASKED, Memory, Payload, Place, Request, Shape};
 use hmc_cube::Cube;
@@ -9,7 +8,6 @@ use hmc_routes::Routes;
 use hmc_script::Script;
 use hmc_vault::Vault;
 use std::alloc::{AllocError, Global};
-use std::test::Fail;
 
 // Port 1 of cube 0, joined to port 0 of cube 1.
 const JOIN: Join = Join {
@@ -17,16 +15,11 @@ const JOIN: Join = Join {
     b: Place::Port { cube: 1, port: 0 },
 };
 
+// Whether the routes of two cubes are found.
 #[tactic(auto, unfolding(hmc_routes::specs::Neighbours::joined_to, hmc_routes::specs::WellFormed::has_no_gap))]
-fn are_built(alloc: Global) -> Result<bool, AllocError> {
+fn are_routed(alloc: Global) -> Result<bool, AllocError> {
     let graph = Graph::new(2, vec![in alloc; JOIN]?);
     Ok(Routes::build(alloc, &graph).is_ok())
-}
-
-#[test]
-fn routes(rt: HostRuntime) -> Result<(), Fail> {
-    assert!(rt; are_built(rt.alloc())?, "routes of two cubes");
-    Ok(())
 }
 
 // Two vaults of two banks of one row.
@@ -36,26 +29,6 @@ const SHAPE: Shape = Shape {
     rows: 1,
     block: 256,
 };
-
-fn are_parts_made(alloc: Global) -> bool {
-    Vault::new(alloc, 4, 64).is_ok() && Cube::new(alloc, 6, SHAPE, 64).is_ok()
-}
-
-#[test]
-fn a_vault_and_a_cube(rt: HostRuntime) {
-    assert!(rt; are_parts_made(rt.alloc()), "a vault and a cube");
-}
-
-fn is_printed(alloc: Global) -> bool {
-    let mut text = String::new(alloc);
-    Entry::Discarded { host: 2 }.print(alloc, &mut text).is_ok()
-}
-
-#[test]
-fn a_journal_and_a_line(rt: HostRuntime) {
-    assert!(rt; Journal::new(rt.alloc(), 1_000).is_ok(), "a journal");
-    assert!(rt; is_printed(rt.alloc()), "a line");
-}
 
 // A read of cube 3.
 #[tactic(auto, unfolding(hmc_codes::specs::Table::table_line))]
@@ -80,19 +53,23 @@ fn takes_one_more(host: &mut Host) -> bool {
     host.asked() < MOST_ASKED && host.ask(false, false, &read()).is_ok()
 }
 
-// A host that has the requests of a script.
-fn new_host(alloc: Global) -> Result<Host, Memory> {
-    Host::new(alloc, 1, &one_read(alloc)?)
+// Whether a host that has the requests of a script takes one more.
+fn is_asked(alloc: Global) -> Result<bool, Memory> {
+    let mut host = Host::new(alloc, 1, &one_read(alloc)?)?;
+    Ok(takes_one_more(&mut host))
 }
 
-fn is_asked(alloc: Global) -> bool {
-    match new_host(alloc) {
-        Ok(mut host) => takes_one_more(&mut host),
-        Err(_) => false,
-    }
+fn is_printed(alloc: Global) -> bool {
+    let mut text = String::new(alloc);
+    Entry::Discarded { host: 2 }.print(alloc, &mut text).is_ok()
 }
 
-#[test]
-fn a_host(rt: HostRuntime) {
-    assert!(rt; is_asked(rt.alloc()), "a host, and one request more");
+/// Whether routes, a vault, a cube, a journal, a line, a host and one more request of it are made.
+pub fn are_made(alloc: Global) -> bool {
+    matches!(are_routed(alloc), Ok(true))
+        && Vault::new(alloc, 4, 64).is_ok()
+        && Cube::new(alloc, 6, SHAPE, 64).is_ok()
+        && Journal::new(alloc, 1_000).is_ok()
+        && is_printed(alloc)
+        && matches!(is_asked(alloc), Ok(true))
 }
