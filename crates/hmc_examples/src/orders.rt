@@ -97,8 +97,8 @@ fn way_of(first: &str) -> Option<(Way, &'static str, &'static str)> {
     None
 }
 
-/// The order that a line states, if its first word is one of an order. A number that it doesn't
-/// state is 0.
+/// The order that a line states, if its first word is one of an order and its last two words are
+/// numbers.
 pub fn order_of(line: &str) -> Option<Order<'_>> {
     let (word, rest) = first_word(line);
     let (name, rest) = first_word(rest);
@@ -110,7 +110,7 @@ pub fn order_of(line: &str) -> Option<Order<'_>> {
         input_ending,
         stored_ending,
         name,
-        seed: seed.parse::<u64>().unwrap_or(0),
-        count: number_of(count).unwrap_or(0),
+        seed: seed.parse::<u64>().ok()?,
+        count: number_of(count)?,
     })
 }
