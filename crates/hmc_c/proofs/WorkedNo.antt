@@ -28,7 +28,7 @@ use Rattle.hmc_c.specs.Asks.{AsksBy}
 use Rattle.hmc_c.specs.Codec.{FlitsShown, PacketShown}
 use Rattle.hmc_c.specs.Faults.{BytesFault, FaultShown}
 use Rattle.hmc_c.specs.Handles.{HandleKeepsParts, IsHeld, OpenedBy, shown}
-use Rattle.hmc_c.specs.Kept.{KeepsParts, fields_in}
+use Rattle.hmc_c.specs.Kept.{IsBegun, KeepsParts, fields_in}
 use Rattle.hmc_c.specs.Laying.{LaidBy, NextBy, RanBy, ran_status}
 use Rattle.hmc_c.specs.Lines.{IsWritten, TapeShown, TextShown}
 use Rattle.hmc_c.specs.Reports.{CheckedWith, IsChecked, ReportedWith, VerdictShown}
@@ -72,6 +72,15 @@ IsHeld-open held tape case slots more finished is =
 
 IsHeld-taped : (held : Held) (case : CaseFields) (slots : List (Option UnitFields)) → IsHeld held true case slots → IsHeld held false case slots → ⊥
 IsHeld-taped held case slots is other = let no : true ≡ false = sym is.tape_is ∙ other.tape_is in absurd cc
+
+-- a session begins with open hosts, and with a tape or without one
+IsBegun-open : (kept : Kept) (tape : Bool) (case : CaseFields) (slots : List (Option UnitFields)) (more : List Bool) → (fields_in kept).finished ≡ true ∷ more → IsBegun kept tape case slots → ⊥
+IsBegun-open kept tape case slots more finished is =
+    let no : true ∷ more ≡ false ∷ replicate 7 false = sym finished ∙ is.unfinished in
+    absurd cc
+
+IsBegun-taped : (kept : Kept) (case : CaseFields) (slots : List (Option UnitFields)) → IsBegun kept true case slots → IsBegun kept false case slots → ⊥
+IsBegun-taped kept case slots is other = let no : true ≡ false = sym is.tape_is ∙ other.tape_is in absurd cc
 
 -- a call finishes no host
 KeepsParts-finished : (old new : Kept) (more : List Bool) → (fields_in old).finished ≡ replicate 8 false → (fields_in new).finished ≡ true ∷ more → KeepsParts old new → ⊥

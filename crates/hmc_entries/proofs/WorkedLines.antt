@@ -19,7 +19,7 @@ use Rattle.hmc_packet.specs.declared.what.What.TheVariants.{Null, Again}
 use Rattle.hmc_schedule.specs.declared.step.Step.TheVariants as steps
 use Rattle.hmc_entries.specs.declared.event.Event.TheVariants as events
 use Rattle.hmc_entries.specs.declared.idle_step.IdleStep.TheVariants as idles
-use Rattle.hmc_entries.specs.declared.outcome.Cause.TheVariants.{Empty, Full, Starved, NoPacket, Busy}
+use Rattle.hmc_entries.specs.declared.outcome.Cause.TheVariants.{Ended, Fence, Tags, Empty, Full, Starved, NoPacket, Busy}
 use Rattle.hmc_entries.specs.declared.outcome.Goal.TheVariants as goals
 use Rattle.hmc_entries.specs.declared.entry.Entry.TheVariants.{Gave, Sent, Landed, Shifted, Dropped, Spread, Executed, Lifted, Took, Discarded, Through, Unlocked, Retired, Passed, Idle}
 use Rattle.hmc_entries.specs.Event.{event_of, cause_of}
@@ -60,6 +60,12 @@ line_of-link : map line_of (Sent 10 Again zero_flit ∷ Landed 11 zero_flit (Abo
     codes "sent 10 again 00000000000000000000000000000000\n" ∷ codes "landed 11 00000000000000000000000000000000 aborted reserved\n" ∷ codes "unlocked 12\n" ∷ codes "passed 13 00000000000000000000000000000000\n" ∷ codes "idle land 14 empty\n" ∷ codes "idle send 15 full\n" ∷ codes "idle send 16 starved\n" ∷ []
 unfolding line_of encode_with digits zero_flit
 line_of-link = refl
+
+-- a give that is idle, for each of its causes
+line_of-gives : map line_of (Idle (steps.Give 0) Ended ∷ Idle (steps.Give 1) Fence ∷ Idle (steps.Give 2) Tags ∷ Idle (steps.Give 3) Full ∷ []) ≡
+    codes "idle give 0 ended\n" ∷ codes "idle give 1 fence\n" ∷ codes "idle give 2 tags\n" ∷ codes "idle give 3 full\n" ∷ []
+unfolding line_of digits
+line_of-gives = refl
 
 -- lines of packets that are forwarded, and of logic units
 line_of-through : map line_of (Through 1 2 3 ∷ Idle (steps.Through 0 1) NoPacket ∷ Idle (steps.Through 0 1) Full ∷ Idle (steps.Through 0 1) Busy ∷ Retired 3 ∷ Idle (steps.Retire 3) Empty ∷ []) ≡

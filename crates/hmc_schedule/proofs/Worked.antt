@@ -14,6 +14,7 @@ use Rattle.hmc_schedule.specs.declared.fault.ScheduleKind.{ScheduleKind}
 use Rattle.hmc_schedule.specs.declared.fault.ScheduleKind.TheVariants as kinds
 use Rattle.hmc_schedule.specs.declared.meaning.Meaning.{Meaning}
 use Rattle.hmc_schedule.specs.declared.meaning.Meaning.TheVariants as meanings
+use Rattle.hmc_schedule.specs.declared.round.Each.TheVariants as each
 use Rattle.hmc_schedule.specs.declared.step.Step.{Step}
 use Rattle.hmc_schedule.specs.declared.step.Step.TheVariants as steps
 use Rattle.hmc_schedule.specs.declared.verb.Verb.TheVariants as verbs
@@ -25,7 +26,7 @@ use Rattle.hmc_schedule.specs.Meaning.{numbered_step, land_of, port_step, spread
 use Rattle.hmc_schedule.specs.Operands.{port_words, vault_words, vault_lift, lift_word, mask_word, mask_words, due_mask, count_word}
 use Rattle.hmc_schedule.specs.Plan.{PlanFields, IsPlan, IsStepOf, HasFlit}
 use Rattle.hmc_codes.specs.Flit.{zero_flit}
-use Rattle.hmc_schedule.specs.Round.{shifts_of, spreads_of, banks_of, lifts_of, round_of, rounds_of}
+use Rattle.hmc_schedule.specs.Round.{shifts_of, spreads_of, banks_of, lifts_of, each_of, round_of, rounds_of}
 use Rattle.hmc_schedule.specs.Noise.{is_land, noisy, IsNoise}
 use Rattle.hmc_schedule.specs.Schedule.{add_steps, add_rounds, add_one, after_line, schedule_of, IsSchedule}
 use Rattle.hmc_schedule.specs.Verb.{verbs as all_verbs, verb_of}
@@ -51,6 +52,11 @@ round_of-two_cubes : round_of two_cubes ≡
     steps.Lift 1 (lifts.Vault 0) ∷ steps.Lift 1 lifts.Registers ∷ steps.Take 0 ∷ []
 unfolding round_of shifts_of spreads_of banks_of lifts_of
 round_of-two_cubes = refl
+
+-- what a number of each kind does in a round: a landing changes nothing
+each_of-rows : map (λ kind. each_of kind 3) (each.Give ∷ each.Send ∷ each.Land ∷ each.Registers ∷ each.Take ∷ []) ≡
+    steps.Give 3 ∷ steps.Send 3 ∷ steps.Land 3 zero_flit ∷ steps.Registers 3 ∷ steps.Take 3 ∷ []
+each_of-rows = refl
 
 -- a packet that still arrives goes on: a cube and a joined port
 step_of-through : step_of two_cubes verbs.Through (codes "1" ∷ codes "1" ∷ codes "x" ∷ []) ≡ Ok (steps.Through 1 1, codes "x" ∷ [])

@@ -19,7 +19,7 @@ use Rattle.hmc_script.specs.declared.fault.ScriptKind.TheVariants.{Command}
 use Rattle.hmc_script.specs.declared.meaning.Head.TheVariants as heads
 use Rattle.hmc_script.specs.declared.meaning.Meaning.TheVariants.{Ask}
 use Rattle.hmc_script.specs.declared.stored.Short.{Short}
-use Rattle.hmc_script.specs.Commands.{requests, command_of}
+use Rattle.hmc_script.specs.Commands.{requests, command_of, first_tried, second_tried, IsNoneOf}
 use Rattle.hmc_script.specs.Head.{meaning_from, IsOfHost}
 use Rattle.hmc_script.specs.Items.{ItemFields, IsWithin}
 use Rattle.hmc_script.specs.Meaning.{command_word, request_of, ask_of, fence_of, statement_of, meaning_of}
@@ -31,6 +31,20 @@ use Rattle.hmc_script.specs.Text.{item_text, script_text}
 requests-count : length requests ≡ 62
 unfolding requests all_commands table_line
 requests-count = refl
+
+-- how many words are tried first, and how many next
+tried-counts : length first_tried ∷ length second_tried ∷ [] ≡ 18 ∷ 22 ∷ []
+unfolding first_tried second_tried
+tried-counts = refl
+
+-- a word is that of none of two commands, and it is that of the second
+IsNoneOf-other : IsNoneOf (codes "swap16") (commands.Wr16 ∷ commands.Or16 ∷ [])
+unfolding IsNoneOf table_line
+IsNoneOf-other = ((λ same. absurd cc), ((λ same. absurd cc), tt))
+
+IsNoneOf-second : IsNoneOf (codes "or16") (commands.Wr16 ∷ commands.Or16 ∷ []) → ⊥
+unfolding IsNoneOf table_line
+IsNoneOf-second is = is.1.0 refl
 
 -- the lowest byte of a value comes first
 value_bytes-mixed : value_bytes 0x0a0b0c0d ≡ 0x0d ∷ 0x0c ∷ 0x0b ∷ 0x0a ∷ replicate 12 0
