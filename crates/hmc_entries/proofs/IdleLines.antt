@@ -19,3 +19,11 @@ after_digits old word first second third new piece next digits more rest g h fir
     after_digit old word first second new piece digits (next ++ rest) g first_is second_is piece_is digits_is
     (new_is ∙ ap (λ (l : List ℕ). l ++ rest) third_is ∙ append_assoc second next rest)
     ∙ ap (λ (l : List ℕ). old ++ (word ++ (32 ∷ (digits ++ l)))) (ap (λ (l : List ℕ). l ++ rest) next_is ∙ ap (λ (l : List ℕ). 32 ∷ (l ++ rest)) (sym more_is))
+
+-- words of a step are words of its line
+pub pair_flat : (first second rest : List ℕ) → first ++ (32 ∷ (second ++ rest)) ≡ (first ++ (32 ∷ second)) ++ rest
+pair_flat first second rest = sym (append_assoc first (32 ∷ second) rest)
+
+pub three_flat : (first second third rest : List ℕ) → first ++ (32 ∷ (second ++ (32 ∷ (third ++ rest)))) ≡ (first ++ (32 ∷ (second ++ (32 ∷ third)))) ++ rest
+three_flat first second third rest =
+    ap (λ (l : List ℕ). first ++ (32 ∷ l)) (pair_flat second third rest) ∙ pair_flat first (second ++ (32 ∷ third)) rest

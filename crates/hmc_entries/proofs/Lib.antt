@@ -1,6 +1,7 @@
 pub mod InOrder
 mod ZeroDigits
-mod TwoDigits
+mod FlitRows
+mod OwnLine
 mod IdleLines
 mod IdleWords
 mod WorkedLines
