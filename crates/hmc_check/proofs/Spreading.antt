@@ -28,9 +28,9 @@ use Rattle.hmc_check.specs.Kept.{InnerKept, moved}
 use Rattle.hmc_check.specs.Past.{PastFields, IsSized, Holds, IsNextStep, TakesStep, IsNextOfSome}
 use Rattle.hmc_check.proofs.Chosen.{spread_next}
 use Rattle.hmc_check.proofs.Holding.{takes, idle_takes, ends_stay}
-use Rattle.hmc_check.proofs.QueuesLaw.{popped, pushed, fits_with, length_with}
+use Rattle.hmc_check.proofs.QueuesLaw.{popped, pushed, at_with, fits_with, length_with}
 use Rattle.hmc_wiring.proofs.Cases.{step_at}
-use Rattle.hmc_check.proofs.Tests.{lt_is, le_not}
+use Rattle.hmc_check.proofs.Tests.{lt_is, below, le_not}
 use Rattle.std.proofs.lemmas.Bool.{and_from}
 
 -- ---- queues that are there
@@ -179,3 +179,12 @@ still_size p cube room packets sized is =
     let now = moved_fits p cube room packets sized is.some_cube in
     let less : cube < length (with_packets cube room packets p.queues) = omega (arith, is.some_cube, length_with p.queues cube room packets) in
     (now.fits cube less).size ∙ sym (sized.fits cube is.some_cube).size
+
+-- a bank's queue isn't that of its vault: it has the room that it had
+pub bank_room : (p : PastFields) (cube vault bank : ℕ) (packets : List PacketFields) → IsSized p → IsQueue p.queues cube (names.Vault vault) → nat_lt (length (packets_at p.queues cube (names.Bank vault bank))) (size_at p.queues cube) ≡ true
+    → length (packets_at (with_packets cube (names.Vault vault) packets p.queues) cube (names.Bank vault bank)) < size_at (with_packets cube (names.Vault vault) packets p.queues) cube
+bank_room p cube vault bank packets sized is has =
+    let room : length (packets_at p.queues cube (names.Bank vault bank)) < size_at p.queues cube = below (length (packets_at p.queues cube (names.Bank vault bank))) (size_at p.queues cube) has in
+    let still : packets_at (with_packets cube (names.Vault vault) packets p.queues) cube (names.Bank vault bank) ≡ packets_at p.queues cube (names.Bank vault bank) =
+    at_with p.queues cube cube (names.Vault vault) (names.Bank vault bank) packets (is_open p cube (names.Vault vault) sized is) in
+    omega (arith, room, ap length still, still_size p cube (names.Vault vault) packets sized is)

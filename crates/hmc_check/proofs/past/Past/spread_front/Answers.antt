@@ -3,14 +3,14 @@ use Rattle.std.proofs.Common.{◌≡◌, ◌<◌, ◌^◌, ◌++◌, ◌∷◌, 
 use Rattle.std.specs.Prelude.{nat_lt}
 use Rattle.hmc_codes.specs.Shape.{ShapeFields, bank_of}
 use Rattle.hmc_packet.specs.Packet.{PacketFields}
-use Rattle.hmc_queues.specs.Queues.{CubeQueuesFields, IsQueue, packets_at, with_packets}
+use Rattle.hmc_queues.specs.Queues.{CubeQueuesFields, IsQueue, packets_at, size_at, with_packets}
 use Rattle.hmc_queues.specs.declared.queue_name.QueueName.TheVariants as names
 use Rattle.hmc_entries.specs.declared.entry.Entry.{Entry}
 use Rattle.hmc_journal.specs.Setup.{shape_of}
 use Rattle.hmc_schedule.specs.declared.step.Step.TheVariants as steps
 use Rattle.hmc_check.specs.Past.{PastFields, PastParts, past_of, TakesStep, IsNextOfSome}
 use Rattle.hmc_check.proofs.Holding.{of_parts, some_of}
-use Rattle.hmc_check.proofs.Spreading.{some_there, vault_queue, bank_queue, bank_small, queue_still, spread_empty, spread_full, spread_takes, moved_queues}
+use Rattle.hmc_check.proofs.Spreading.{some_there, vault_queue, bank_queue, bank_small, queue_still, spread_empty, spread_full, spread_takes, moved_queues, bank_room}
 use Rattle.hmc_check.proofs.past.Past.spread_front.Goals as goal
 
 pub returns-in_default : goal.returns-in_default
@@ -73,6 +73,20 @@ push-requires-clause-there g c =
     let to = bank_queue old cube vault bank sized there few in
     let first = sym c.front.ensures ∙ c.in-Some.is in
     subst (λ (r : List CubeQueuesFields). IsQueue r cube (names.Bank vault bank)) (sym c.pop.ensures) (queue_still old cube (names.Vault vault) (names.Bank vault bank) (drop 1 (packets_at i.queues cube (names.Vault vault))) sized from to)
+
+pub push-requires-clause-room : goal.push-requires-clause-room
+push-requires-clause-room g c =
+    let i = c.self.inside in
+    let old : PastFields = record { topology = i.wiring; queues = i.queues; cubes = i.plain; slots = g.B.Workbench.slots i.bench; hosts = i.hosts.items; ends = i.ends; piped = i.piped; tally = i.tally; last = i.last } in
+    let some = some_of g.B.Workbench.slots _ c.args.self.now (steps.Spread c.args.cube c.args.vault) c.self.view_is c.requires in
+    let sized = some.is.holds.sized in
+    let there = some_there old (steps.Spread c.args.cube c.args.vault) some in
+    let cube = c.args.cube in
+    let vault = c.args.vault in
+    let bank = c.spot-bank.result.bank in
+    let from = vault_queue old cube vault sized there in
+    subst (λ (r : List CubeQueuesFields). length (packets_at r cube (names.Bank vault bank)) < size_at r cube) (sym c.pop.ensures)
+    (bank_room old cube vault bank (drop 1 (packets_at i.queues cube (names.Vault vault))) sized from (sym c.has_room.ensures ∙ c.if-not-has_room.false))
 
 pub returns : goal.returns
 returns g c =
