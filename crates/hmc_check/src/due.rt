@@ -123,6 +123,18 @@ fn due_after<B: Workbench>(past: &mut Past<B>, schedule: &Schedule, before: u32)
     }
 }
 
+// The line with this number, from 1.
+fn line_in<B: Workbench>(past: &mut Past<B>, schedule: &Schedule, line: u32) -> Option<LineText>
+    requires { (setup : Setup) × IsBefore (past_of B.slots past.old) setup [] schedule.now }
+    ensures { (setup : Setup) → IsBefore (past_of B.slots past.old) setup [] schedule.now →
+        IsDue setup line (option_map (λ text. text.bytes) result) }
+{
+    if line == 0 {
+        return None;
+    }
+    due_after(past, schedule, line - 1)
+}
+
 /// The line that is due: the one with this number, from 1, in the text of the whole lawful journal
 /// of a case, with its line feed. `None` where the text has no such line.
 ///
@@ -136,9 +148,8 @@ pub fn due_line<B: Workbench>(
     ensures { IfOk result (λ due. IsDue (setup_of case.now (B.slots bench)) line
         (option_map (λ text. text.bytes) due)) }
 {
-    let mut past = Past::new(alloc, case, bench)?;
-    if line == 0 {
-        return Ok(None);
-    }
-    Ok(due_after(&mut past, case.schedule(), line - 1))
+    let Ok(mut past) = Past::new(alloc, case, bench) else {
+        return Err(Memory);
+    };
+    Ok(line_in(&mut past, case.schedule(), line))
 }
