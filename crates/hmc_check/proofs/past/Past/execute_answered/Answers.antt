@@ -7,7 +7,7 @@ use Rattle.hmc_codes.specs.declared.answer.Answer.{Answer}
 use Rattle.hmc_packet.specs.Packet.{PacketFields}
 use Rattle.hmc_packet.specs.Transactions.{reply_packet}
 use Rattle.hmc_serial.specs.Machine.{machine_of, answer_to}
-use Rattle.hmc_queues.specs.Queues.{CubeQueuesFields, packets_at, size_at, with_packets}
+use Rattle.hmc_queues.specs.Queues.{CubeQueuesFields, packets_at, size_at, with_packets, IsQueue}
 use Rattle.hmc_queues.specs.declared.queue_name.QueueName.{QueueName}
 use Rattle.hmc_entries.specs.declared.entry.Entry.{Entry}
 use Rattle.hmc_entries.specs.declared.entry.Entry.TheVariants.{Executed}
@@ -15,7 +15,7 @@ use Rattle.hmc_journal.specs.Setup.{unit_cube}
 use Rattle.hmc_check.specs.Past.{PastFields, PastParts}
 use Rattle.hmc_check.specs.Units.{step_of, queue_name, answers_name, IsRequestAt}
 use Rattle.hmc_check.proofs.Holding.{of_parts, some_of}
-use Rattle.hmc_check.proofs.Spreading.{some_there, still_size}
+use Rattle.hmc_check.proofs.Spreading.{some_there, still_size, queue_still}
 use Rattle.hmc_check.proofs.Tests.{lt_is}
 use Rattle.hmc_check.proofs.Executing.{queue_there, answers_there, answered_takes, can_reply, machine_there, answers_still}
 use Rattle.hmc_check.proofs.past.Past.execute_answered.Goals as goal
@@ -120,3 +120,30 @@ returns g c =
     of_parts g.B.Workbench.slots _ c.args.self.now _ (step_of c.args.unit) c.self.view_is
     (answered_takes old _ unit front request c.apply-answer.new.self (g.B.Workbench.slots c.apply-answer.new.bench) some at c.requires.answered has c.apply-answer.ensures.state
     (ap₂ (λ (r : List CubeQueuesFields) (e : Entry). record old { queues = r; cubes = c.apply-answer.new.self; slots = g.B.Workbench.slots c.apply-answer.new.bench; last = e }) pushed entry))
+
+pub pop-requires : goal.pop-requires
+pop-requires g c =
+    let i = c.self.inside in
+    let old : PastFields = record { topology = i.wiring; queues = i.queues; cubes = i.plain; slots = g.B.Workbench.slots i.bench; hosts = i.hosts.items; ends = i.ends; piped = i.piped; tally = i.tally; last = i.last } in
+    let some = some_of g.B.Workbench.slots _ c.args.self.now (step_of c.args.unit) c.self.view_is c.requires.next in
+    let sized = some.is.holds.sized in
+    let there = some_there old (step_of c.args.unit) some in
+    subst (λ (n : ℕ). IsQueue i.queues n c.queue_of.result) (sym c.requires.front.is_cube)
+    (subst (λ (r : QueueName). IsQueue i.queues (unit_cube c.args.unit) r) (sym c.queue_of.ensures) (queue_there old c.args.unit sized there))
+
+pub push-requires-clause-there : goal.push-requires-clause-there
+push-requires-clause-there g c =
+    let i = c.self.inside in
+    let old : PastFields = record { topology = i.wiring; queues = i.queues; cubes = i.plain; slots = g.B.Workbench.slots i.bench; hosts = i.hosts.items; ends = i.ends; piped = i.piped; tally = i.tally; last = i.last } in
+    let some = some_of g.B.Workbench.slots _ c.args.self.now (step_of c.args.unit) c.self.view_is c.requires.next in
+    let sized = some.is.holds.sized in
+    let there = some_there old (step_of c.args.unit) some in
+    let unit = c.args.unit in
+    let is_cube = c.requires.front.is_cube in
+    let rest = drop 1 (packets_at i.queues (unit_cube unit) (queue_name unit)) in
+    let popped : c.pop.new.self ≡ with_packets (unit_cube unit) (queue_name unit) (drop 1 (packets_at i.queues (unit_cube unit) (queue_name unit))) i.queues =
+    c.pop.ensures ∙ ap₂ (λ (n : ℕ) (r : QueueName). with_packets n r (drop 1 (packets_at i.queues n r)) i.queues) is_cube c.queue_of.ensures in
+    subst (λ (r : List CubeQueuesFields). IsQueue r c.args.cube c.answers_of.result) (sym popped)
+    (subst (λ (x : QueueName). IsQueue (with_packets (unit_cube unit) (queue_name unit) rest i.queues) c.args.cube x) (sym c.answers_of.ensures)
+    (subst (λ (n : ℕ). IsQueue (with_packets (unit_cube unit) (queue_name unit) rest i.queues) n (answers_name unit)) (sym is_cube)
+    (queue_still old (unit_cube unit) (queue_name unit) (answers_name unit) rest sized (queue_there old unit sized there) (answers_there old unit sized there))))

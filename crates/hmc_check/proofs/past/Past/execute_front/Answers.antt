@@ -20,11 +20,12 @@ use Rattle.hmc_entries.specs.declared.entry.Entry.{Entry}
 use Rattle.hmc_entries.specs.declared.entry.Entry.TheVariants.{Executed, Idle}
 use Rattle.hmc_journal.specs.Setup.{unit_cube}
 use Rattle.hmc_kept.proofs.Fronts.{no_front}
-use Rattle.hmc_check.specs.Past.{PastFields, PastParts}
+use Rattle.hmc_check.specs.Past.{PastFields, PastParts, past_of}
 use Rattle.hmc_check.specs.Units.{step_of, queue_name, answers_name, IsRequestAt}
 use Rattle.hmc_check.proofs.Holding.{of_parts, some_of, idle_takes}
 use Rattle.hmc_check.proofs.Spreading.{some_there, spread_empty, queue_still}
 use Rattle.hmc_check.proofs.Executing.{queue_there, answers_there, request_own, unit_empty, unit_bare, unit_full, posted_takes, answered_takes, can_reply, machine_there}
+use Rattle.hmc_check.proofs.Tests.{below}
 use Rattle.hmc_check.proofs.past.Past.execute_front.Goals as goal
 
 pub returns-in_default : goal.returns-in_default
@@ -63,3 +64,48 @@ returns-then-not-has_room g c =
     of_parts g.B.Workbench.slots _ c.args.self.now _ (step_of c.args.unit) c.self.view_is
     (idle_takes old _ (step_of unit) (step_of unit) causes.Full (ap (λ (e : Entry). record old { last = e }) (c.idle-then-not-has_room.ensures ∙ ap (λ (s : Step). Idle s causes.Full) c.step_of-then-not-has_room.ensures))
     (λ setup past is. unit_full setup past old unit c.in-Some.front c.in-Some-request_of.request is less (sym none_at ∙ sym c.front.ensures ∙ c.in-Some.is) (sym c.in-Some-request_of.ensures.exact) (ap (λ (r : RequestFields). is_posted r.command) (sym c.request.view_is) ∙ sym c.posted.ensures ∙ c.if-posted.false) full))
+
+pub front-requires : goal.front-requires
+front-requires g c =
+    let i = c.self.inside in
+    let old : PastFields = record { topology = i.wiring; queues = i.queues; cubes = i.plain; slots = g.B.Workbench.slots i.bench; hosts = i.hosts.items; ends = i.ends; piped = i.piped; tally = i.tally; last = i.last } in
+    let some = some_of g.B.Workbench.slots _ c.args.self.now (step_of c.args.unit) c.self.view_is c.requires.next in
+    let sized = some.is.holds.sized in
+    let there = some_there old (step_of c.args.unit) some in
+    subst (λ (n : ℕ). IsQueue i.queues n c.queue_of.result) (sym c.requires.cube)
+    (subst (λ (r : QueueName). IsQueue i.queues (unit_cube c.args.unit) r) (sym c.queue_of.ensures) (queue_there old c.args.unit sized there))
+
+pub has_room-requires : goal.has_room-requires
+has_room-requires g c =
+    let i = c.self.inside in
+    let old : PastFields = record { topology = i.wiring; queues = i.queues; cubes = i.plain; slots = g.B.Workbench.slots i.bench; hosts = i.hosts.items; ends = i.ends; piped = i.piped; tally = i.tally; last = i.last } in
+    let some = some_of g.B.Workbench.slots _ c.args.self.now (step_of c.args.unit) c.self.view_is c.requires.next in
+    let sized = some.is.holds.sized in
+    let there = some_there old (step_of c.args.unit) some in
+    subst (λ (n : ℕ). IsQueue i.queues n c.answers_of.result) (sym c.requires.cube)
+    (subst (λ (r : QueueName). IsQueue i.queues (unit_cube c.args.unit) r) (sym c.answers_of.ensures) (answers_there old c.args.unit sized there))
+
+pub execute_posted-requires : goal.execute_posted-requires
+execute_posted-requires g c =
+    let at : IsRequestAt (past_of g.B.Workbench.slots c.args.self.now) c.args.unit c.args.cube c.in-Some.front c.in-Some-request_of.request = record {
+      is_cube = c.requires.cube;
+      is_front = ap₂ (λ (v : PastParts _) (r : QueueName). slice_get (packets_at v.queues c.args.cube r) 0) (sym c.self.view_is) (sym c.queue_of.ensures) ∙ sym c.front.ensures ∙ c.in-Some.is;
+      carries = sym c.in-Some-request_of.ensures.exact;
+    } in
+    record { next = c.requires.next; front = at; posted = ap (λ (r : RequestFields). is_posted r.command) (sym c.request.view_is) ∙ sym c.posted.ensures ∙ c.if-posted.true }
+
+pub execute_answered-requires : goal.execute_answered-requires
+execute_answered-requires g c =
+    let at : IsRequestAt (past_of g.B.Workbench.slots c.args.self.now) c.args.unit c.args.cube c.in-Some.front c.in-Some-request_of.request = record {
+      is_cube = c.requires.cube;
+      is_front = ap₂ (λ (v : PastParts _) (r : QueueName). slice_get (packets_at v.queues c.args.cube r) 0) (sym c.self.view_is) (sym c.queue_of.ensures) ∙ sym c.front.ensures ∙ c.in-Some.is;
+      carries = sym c.in-Some-request_of.ensures.exact;
+    } in
+    let room : nat_lt (length (packets_at c.args.self.now.queues c.args.cube (answers_name c.args.unit))) (size_at c.args.self.now.queues c.args.cube) ≡ true =
+    ap₂ (λ (v : PastParts _) (r : QueueName). nat_lt (length (packets_at v.queues c.args.cube r)) (size_at v.queues c.args.cube)) (sym c.self.view_is) (sym c.answers_of.ensures) ∙ sym c.has_room.ensures ∙ c.if-not-has_room.false in
+    record {
+      next = c.requires.next;
+      front = at;
+      answered = ap (λ (r : RequestFields). is_posted r.command) (sym c.request.view_is) ∙ sym c.posted.ensures ∙ c.if-posted.false;
+      room = below (length (packets_at c.args.self.now.queues c.args.cube (answers_name c.args.unit))) (size_at c.args.self.now.queues c.args.cube) room;
+    }

@@ -1,5 +1,5 @@
 -- The next flit of a direction lands.
-use Rattle.std.proofs.Common.{ap}
+use Rattle.std.proofs.Common.{ap, arith}
 use Rattle.hmc_codes.specs.Flit.{zero_flit}
 use Rattle.hmc_ends.specs.declared.link_outcome.LinkOutcome.TheVariants as lands
 use Rattle.hmc_schedule.specs.declared.step.Step.TheVariants as steps
@@ -7,7 +7,7 @@ use Rattle.hmc_entries.specs.declared.entry.Entry.{Entry}
 use Rattle.hmc_check.specs.Past.{PastFields}
 use Rattle.hmc_check.proofs.Holding.{of_parts, some_of}
 use Rattle.hmc_check.proofs.Landing.{hold_between, last_landing, land_takes}
-use Rattle.hmc_check.proofs.Sending.{gathering}
+use Rattle.hmc_check.proofs.Sending.{gathering, hold_some}
 use Rattle.hmc_check.proofs.Spreading.{some_there}
 use Rattle.hmc_check.proofs.past.Past.land.Goals as goal
 
@@ -62,3 +62,40 @@ returns-in-Came g c =
     of_parts g.B.Workbench.slots _ c.args.self.now _ step c.self.view_is
     (land_takes old _ c.args.direction c.args.mask.now (lands.Came c.in-Came.flit c.in-Came.outcome) c.land.new.self c.landed.new.self.ends c.flit_is_bytes.ensures c.in-Came.ensures.answer c.in-Came.ensures.stand c.landed.ensures.ends (λ is. absurd (cc))
     c.landed.ensures.parts)
+
+pub land-requires-clause-there : goal.land-requires-clause-there
+land-requires-clause-there g c =
+    let i = c.self.inside in
+    let old : PastFields = record { topology = i.wiring; queues = i.queues; cubes = i.plain; slots = g.B.Workbench.slots i.bench; hosts = i.hosts.items; ends = i.ends; piped = i.piped; tally = i.tally; last = i.last } in
+    let some = some_of g.B.Workbench.slots _ c.args.self.now (steps.Land c.args.direction c.args.mask.now) c.self.view_is c.requires in
+    let sized = some.is.holds.sized in
+    let there = some_there old (steps.Land c.args.direction c.args.mask.now) some in
+    let inside = there.some_direction in
+    omega (arith, inside, sized.ends)
+
+pub land-requires-clause-some : goal.land-requires-clause-some
+land-requires-clause-some g c =
+    let i = c.self.inside in
+    let old : PastFields = record { topology = i.wiring; queues = i.queues; cubes = i.plain; slots = g.B.Workbench.slots i.bench; hosts = i.hosts.items; ends = i.ends; piped = i.piped; tally = i.tally; last = i.last } in
+    let some = some_of g.B.Workbench.slots _ c.args.self.now (steps.Land c.args.direction c.args.mask.now) c.self.view_is c.requires in
+    hold_some old (steps.Land c.args.direction c.args.mask.now) some
+
+pub landed-requires-clause-there : goal.landed-requires-clause-there
+landed-requires-clause-there g c =
+    let i = c.self.inside in
+    let old : PastFields = record { topology = i.wiring; queues = i.queues; cubes = i.plain; slots = g.B.Workbench.slots i.bench; hosts = i.hosts.items; ends = i.ends; piped = i.piped; tally = i.tally; last = i.last } in
+    let some = some_of g.B.Workbench.slots _ c.args.self.now (steps.Land c.args.direction c.args.mask.now) c.self.view_is c.requires in
+    let sized = some.is.holds.sized in
+    let there = some_there old (steps.Land c.args.direction c.args.mask.now) some in
+    let inside = there.some_direction in
+    omega (arith, inside, sized.piped.forwarded)
+
+pub landed-requires-clause-ends : goal.landed-requires-clause-ends
+landed-requires-clause-ends g c =
+    let i = c.self.inside in
+    let old : PastFields = record { topology = i.wiring; queues = i.queues; cubes = i.plain; slots = g.B.Workbench.slots i.bench; hosts = i.hosts.items; ends = i.ends; piped = i.piped; tally = i.tally; last = i.last } in
+    let some = some_of g.B.Workbench.slots _ c.args.self.now (steps.Land c.args.direction c.args.mask.now) c.self.view_is c.requires in
+    let sized = some.is.holds.sized in
+    let there = some_there old (steps.Land c.args.direction c.args.mask.now) some in
+    let inside = there.some_direction in
+    omega (arith, inside, sized.ends, c.land.ensures.count)

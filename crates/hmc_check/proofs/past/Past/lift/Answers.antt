@@ -7,7 +7,8 @@ use Rattle.hmc_queues.specs.Queues.{packets_at}
 use Rattle.hmc_queues.specs.declared.queue_name.QueueName.TheVariants as names
 use Rattle.hmc_check.specs.Past.{PastFields}
 use Rattle.hmc_check.proofs.Holding.{of_parts, some_of}
-use Rattle.hmc_check.proofs.Lifting.{lift_empty}
+use Rattle.hmc_check.proofs.Lifting.{lift_empty, answers_queue}
+use Rattle.hmc_check.proofs.Spreading.{some_there}
 use Rattle.hmc_check.proofs.past.Past.lift.Goals as goal
 
 pub returns-then-is_empty : goal.returns-then-is_empty
@@ -17,3 +18,15 @@ returns-then-is_empty g c =
     let some = some_of g.B.Workbench.slots _ c.args.self.now (steps.Lift c.args.cube c.args.from) c.self.view_is c.requires in
     of_parts g.B.Workbench.slots _ c.args.self.now _ (steps.Lift c.args.cube c.args.from) c.self.view_is
     (lift_empty old _ c.args.cube c.args.from (no_front (packets_at i.queues c.args.cube (names.Answers c.args.from)) (c.is_empty.ensures.0 c.if-is_empty.true)) (ap (λ (e : Entry). record old { last = e }) c.idle.ensures))
+
+pub is_empty-requires : goal.is_empty-requires
+is_empty-requires g c =
+    let i = c.self.inside in
+    let old : PastFields = record { topology = i.wiring; queues = i.queues; cubes = i.plain; slots = g.B.Workbench.slots i.bench; hosts = i.hosts.items; ends = i.ends; piped = i.piped; tally = i.tally; last = i.last } in
+    let some = some_of g.B.Workbench.slots _ c.args.self.now (steps.Lift c.args.cube c.args.from) c.self.view_is c.requires in
+    let sized = some.is.holds.sized in
+    let there = some_there old (steps.Lift c.args.cube c.args.from) some in
+    answers_queue old c.args.cube c.args.from sized there
+
+pub lift_front-requires : goal.lift_front-requires
+lift_front-requires g c = record { next = c.requires }

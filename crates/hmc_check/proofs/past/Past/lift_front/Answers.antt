@@ -9,7 +9,7 @@ use Rattle.hmc_schedule.specs.declared.step.Step.TheVariants as steps
 use Rattle.hmc_queues.specs.Queues.{CubeQueuesFields, packets_at}
 use Rattle.hmc_queues.specs.declared.queue_name.QueueName.TheVariants as names
 use Rattle.hmc_check.specs.Moving.{IsWayOut}
-use Rattle.hmc_check.specs.Past.{PastFields}
+use Rattle.hmc_check.specs.Past.{PastFields, past_of}
 use Rattle.hmc_check.proofs.Holding.{of_parts, some_of}
 use Rattle.hmc_check.proofs.Outgoing.{starts_in}
 use Rattle.hmc_check.proofs.Lifting.{answers_queue, lift_host, lift_empty, lift_full, lift_may, lift_takes, way_in}
@@ -71,3 +71,35 @@ returns g c =
     of_parts g.B.Workbench.slots _ c.args.self.now _ (steps.Lift c.args.cube c.args.from) c.self.view_is
     (lift_takes old _ c.args.cube c.args.from c.in-Some.front c.port_towards-port.result c.in-Some-way_out.onward c.hand.new.self room first towards way c.hand.ensures
     (ap₂ (λ (r : List CubeQueuesFields) (e : Entry). record old { queues = r; ends = c.hand.new.self; last = e }) c.pop.ensures c.lifted.ensures))
+
+pub front-requires : goal.front-requires
+front-requires g c =
+    let i = c.self.inside in
+    let old : PastFields = record { topology = i.wiring; queues = i.queues; cubes = i.plain; slots = g.B.Workbench.slots i.bench; hosts = i.hosts.items; ends = i.ends; piped = i.piped; tally = i.tally; last = i.last } in
+    let some = some_of g.B.Workbench.slots _ c.args.self.now (steps.Lift c.args.cube c.args.from) c.self.view_is c.requires.next in
+    let sized = some.is.holds.sized in
+    let there = some_there old (steps.Lift c.args.cube c.args.from) some in
+    answers_queue old c.args.cube c.args.from sized there
+
+pub pop-requires : goal.pop-requires
+pop-requires g c =
+    let i = c.self.inside in
+    let old : PastFields = record { topology = i.wiring; queues = i.queues; cubes = i.plain; slots = g.B.Workbench.slots i.bench; hosts = i.hosts.items; ends = i.ends; piped = i.piped; tally = i.tally; last = i.last } in
+    let some = some_of g.B.Workbench.slots _ c.args.self.now (steps.Lift c.args.cube c.args.from) c.self.view_is c.requires.next in
+    let sized = some.is.holds.sized in
+    let there = some_there old (steps.Lift c.args.cube c.args.from) some in
+    answers_queue old c.args.cube c.args.from sized there
+
+pub port_towards-port-requires-clause-cube : goal.port_towards-port-requires-clause-cube
+port_towards-port-requires-clause-cube g c =
+    let i = c.self.inside in
+    let old : PastFields = record { topology = i.wiring; queues = i.queues; cubes = i.plain; slots = g.B.Workbench.slots i.bench; hosts = i.hosts.items; ends = i.ends; piped = i.piped; tally = i.tally; last = i.last } in
+    let some = some_of g.B.Workbench.slots _ c.args.self.now (steps.Lift c.args.cube c.args.from) c.self.view_is c.requires.next in
+    let there = some_there old (steps.Lift c.args.cube c.args.from) some in
+    there.some_cube
+
+pub way_out-requires-clause-there : goal.way_out-requires-clause-there
+way_out-requires-clause-there g c = (some_there (past_of g.B.Workbench.slots c.args.self.now) (steps.Lift c.args.cube c.args.from) c.requires.next).some_cube
+
+pub way_out-requires-clause-some : goal.way_out-requires-clause-some
+way_out-requires-clause-some g c = (steps.Lift c.args.cube c.args.from, c.requires.next)

@@ -4,10 +4,12 @@ use Rattle.hmc_entries.specs.declared.entry.Entry.{Entry}
 use Rattle.hmc_entries.specs.declared.outcome.Goal.TheVariants as goals
 use Rattle.hmc_schedule.specs.declared.step.Step.TheVariants as steps
 use Rattle.hmc_check.specs.Moving.{IsShifting, IsWayOut}
-use Rattle.hmc_check.specs.Past.{PastFields}
+use Rattle.hmc_check.specs.Past.{PastFields, past_of}
 use Rattle.hmc_check.proofs.Holding.{of_parts, some_of}
 use Rattle.hmc_check.proofs.Lifting.{way_in}
 use Rattle.hmc_check.proofs.Shifting.{ends_in, shift_out_may, onward_after, shift_out_full, shift_out_takes, shifting_in}
+use Rattle.hmc_check.proofs.Spreading.{some_there}
+use Rattle.hmc_check.proofs.Sending.{hold_some}
 use Rattle.hmc_check.proofs.past.Past.shift_out.Goals as goal
 
 pub returns-in_default : goal.returns-in_default
@@ -54,3 +56,16 @@ returns g c =
     of_parts g.B.Workbench.slots _ c.args.self.now _ (steps.Shift c.args.cube c.args.port) c.self.view_is
     (shift_out_takes old _ c.args.cube c.args.port c.args.direction c.args.out c.in-Some.onward c.args.front c.take.new.self c.hand.new.self shifts way c.take.ensures c.hand.ensures
     (ap (λ (e : Entry). record old { ends = c.hand.new.self; last = e }) c.shifted.ensures))
+
+pub way_out-requires-clause-there : goal.way_out-requires-clause-there
+way_out-requires-clause-there g c = (some_there (past_of g.B.Workbench.slots c.args.self.now) (steps.Shift c.args.cube c.args.port) c.requires.next).some_cube
+
+pub way_out-requires-clause-some : goal.way_out-requires-clause-some
+way_out-requires-clause-some g c = (steps.Shift c.args.cube c.args.port, c.requires.next)
+
+pub take-requires-clause-some : goal.take-requires-clause-some
+take-requires-clause-some g c =
+    let i = c.self.inside in
+    let old : PastFields = record { topology = i.wiring; queues = i.queues; cubes = i.plain; slots = g.B.Workbench.slots i.bench; hosts = i.hosts.items; ends = i.ends; piped = i.piped; tally = i.tally; last = i.last } in
+    let some = some_of g.B.Workbench.slots _ c.args.self.now (steps.Shift c.args.cube c.args.port) c.self.view_is c.requires.next in
+    hold_some old (steps.Shift c.args.cube c.args.port) some

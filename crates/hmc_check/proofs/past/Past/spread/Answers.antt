@@ -21,7 +21,7 @@ use Rattle.hmc_kept.proofs.Fronts.{no_front}
 use Rattle.hmc_check.specs.Past.{PastFields, PastParts}
 use Rattle.hmc_check.specs.Units.{step_of, queue_name, answers_name, IsRequestAt}
 use Rattle.hmc_check.proofs.Holding.{of_parts, some_of, idle_takes}
-use Rattle.hmc_check.proofs.Spreading.{some_there, spread_empty, queue_still}
+use Rattle.hmc_check.proofs.Spreading.{some_there, spread_empty, queue_still, vault_queue}
 use Rattle.hmc_check.proofs.Executing.{queue_there, answers_there, request_own, unit_empty, unit_bare, unit_full, posted_takes, answered_takes, can_reply, machine_there}
 use Rattle.hmc_check.proofs.past.Past.spread.Goals as goal
 
@@ -31,3 +31,15 @@ returns-then-is_empty g c =
     let old : PastFields = record { topology = i.wiring; queues = i.queues; cubes = i.plain; slots = g.B.Workbench.slots i.bench; hosts = i.hosts.items; ends = i.ends; piped = i.piped; tally = i.tally; last = i.last } in
     of_parts g.B.Workbench.slots _ c.args.self.now _ (steps.Spread c.args.cube c.args.vault) c.self.view_is
     (spread_empty old _ c.args.cube c.args.vault (no_front (packets_at i.queues c.args.cube (names.Vault c.args.vault)) (c.is_empty.ensures.0 c.if-is_empty.true)) (ap (λ (e : Entry). record old { last = e }) c.idle.ensures))
+
+pub is_empty-requires : goal.is_empty-requires
+is_empty-requires g c =
+    let i = c.self.inside in
+    let old : PastFields = record { topology = i.wiring; queues = i.queues; cubes = i.plain; slots = g.B.Workbench.slots i.bench; hosts = i.hosts.items; ends = i.ends; piped = i.piped; tally = i.tally; last = i.last } in
+    let some = some_of g.B.Workbench.slots _ c.args.self.now (steps.Spread c.args.cube c.args.vault) c.self.view_is c.requires in
+    let sized = some.is.holds.sized in
+    let there = some_there old (steps.Spread c.args.cube c.args.vault) some in
+    vault_queue old c.args.cube c.args.vault sized there
+
+pub spread_front-requires : goal.spread_front-requires
+spread_front-requires g c = c.requires

@@ -109,3 +109,29 @@ returns g c =
     of_parts g.B.Workbench.slots _ c.args.self.now _ (steps.Spread c.args.cube c.args.vault) c.self.view_is
     (spread_takes old _ cube vault bank c.in-Some.front from to first (bank_is ∙ ap (λ (p : PacketFields). bank_of (shape_of i.wiring cube) p.address) c.front-2.view_is) (sym c.has_room.ensures ∙ c.if-not-has_room.false)
     (ap₂ (λ (r : List CubeQueuesFields) (e : Entry). record old { queues = r; last = e }) now c.spread.ensures))
+
+pub front-requires : goal.front-requires
+front-requires g c =
+    let i = c.self.inside in
+    let old : PastFields = record { topology = i.wiring; queues = i.queues; cubes = i.plain; slots = g.B.Workbench.slots i.bench; hosts = i.hosts.items; ends = i.ends; piped = i.piped; tally = i.tally; last = i.last } in
+    let some = some_of g.B.Workbench.slots _ c.args.self.now (steps.Spread c.args.cube c.args.vault) c.self.view_is c.requires in
+    let sized = some.is.holds.sized in
+    let there = some_there old (steps.Spread c.args.cube c.args.vault) some in
+    vault_queue old c.args.cube c.args.vault sized there
+
+pub pop-requires : goal.pop-requires
+pop-requires g c =
+    let i = c.self.inside in
+    let old : PastFields = record { topology = i.wiring; queues = i.queues; cubes = i.plain; slots = g.B.Workbench.slots i.bench; hosts = i.hosts.items; ends = i.ends; piped = i.piped; tally = i.tally; last = i.last } in
+    let some = some_of g.B.Workbench.slots _ c.args.self.now (steps.Spread c.args.cube c.args.vault) c.self.view_is c.requires in
+    let sized = some.is.holds.sized in
+    let there = some_there old (steps.Spread c.args.cube c.args.vault) some in
+    vault_queue old c.args.cube c.args.vault sized there
+
+pub shape-requires : goal.shape-requires
+shape-requires g c =
+    let i = c.self.inside in
+    let old : PastFields = record { topology = i.wiring; queues = i.queues; cubes = i.plain; slots = g.B.Workbench.slots i.bench; hosts = i.hosts.items; ends = i.ends; piped = i.piped; tally = i.tally; last = i.last } in
+    let some = some_of g.B.Workbench.slots _ c.args.self.now (steps.Spread c.args.cube c.args.vault) c.self.view_is c.requires in
+    let there = some_there old (steps.Spread c.args.cube c.args.vault) some in
+    there.some_cube

@@ -53,3 +53,14 @@ returns-then-not-has_arrived g c =
 
 pub take_front-requires-clause-to : goal.take_front-requires-clause-to
 take_front-requires-clause-to g c = subst (λ (v : PastParts _). direction_to v.topology (places.Host c.args.host) ≡ Some c.to_host-direction.result) c.self.view_is c.to_host-direction.ensures.to
+
+pub take_front-requires-clause-next : goal.take_front-requires-clause-next
+take_front-requires-clause-next g c = c.requires
+
+pub to_host-direction-requires : goal.to_host-direction-requires
+to_host-direction-requires g c =
+    let i = c.self.inside in
+    let old : PastFields = record { topology = i.wiring; queues = i.queues; cubes = i.plain; slots = g.B.Workbench.slots i.bench; hosts = i.hosts.items; ends = i.ends; piped = i.piped; tally = i.tally; last = i.last } in
+    let some = some_of g.B.Workbench.slots _ c.args.self.now (steps.Take c.args.host) c.self.view_is c.requires in
+    let there = some_there old (steps.Take c.args.host) some in
+    there

@@ -109,3 +109,12 @@ returns g c =
     of_parts g.B.Workbench.slots _ c.args.self.now _ (steps.Take c.args.host) c.self.view_is
     (take_takes old _ c.args.host d c.in-Some.front c.settle-settled.result c.take.new.self there to (subst (IsFrontAt EndsHold i.ends d) c.in-Some.is c.front.ensures) c.settle-settled.ensures.answer c.take.ensures
     (ap₂ (λ (l : List HostFields) (e : Entry). record old { hosts = l; ends = c.take.new.self; last = e }) hosts c.note_settled.ensures))
+
+pub index_mut-requires : goal.index_mut-requires
+index_mut-requires g c =
+    let i = c.self.inside in
+    let old : PastFields = record { topology = i.wiring; queues = i.queues; cubes = i.plain; slots = g.B.Workbench.slots i.bench; hosts = i.hosts.items; ends = i.ends; piped = i.piped; tally = i.tally; last = i.last } in
+    let some = some_of g.B.Workbench.slots _ c.args.self.now (steps.Take c.args.host) c.self.view_is c.requires.next in
+    let sized = some.is.holds.sized in
+    let there = some_there old (steps.Take c.args.host) some in
+    omega (arith, there, sized.hosts, c.from.ensures)
