@@ -1,9 +1,9 @@
-use Rattle.std.proofs.Common.{rules, ◌≡◌, ◌∙◌, ◌*◌, ◌++◌, List, Option, IfSome, length, sym, subst, ap}
+use Rattle.std.proofs.Common.{rules, ◌≡◌, ◌∙◌, ◌≤◌, ◌*◌, ◌++◌, ℕ, List, Option, Some, None, option_map, IfSome, length, sym, subst, ap}
 use Rattle.std.specs.List.{All}
 use Rattle.hmc_codes.specs.Flit.{IsFlit}
 use Rattle.hmc_schedule.specs.declared.noise.Noise.{Noise}
 use Rattle.hmc_schedule.specs.declared.step.Step.{Step}
-use Rattle.hmc_schedule.specs.Noise.{lands_of, noisy_if}
+use Rattle.hmc_schedule.specs.Noise.{lands_of, new_noise, noisy_if}
 use Rattle.hmc_schedule.specs.Plan.{PlanFields, HasFlit}
 use Rattle.hmc_schedule.specs.Round.{repeated, round_of, rounds_of}
 use Rattle.hmc_schedule.specs.Written.{round_at}
@@ -22,6 +22,21 @@ append-requires-clause-count c =
     let one = round_at c.keep.new.self.kept c.in_ok-kept.kept in
     let len : c.len.result ≡ length c.in_ok-steps.steps.items = search rules in
     sym (noisy_if-length c.new_noise.result (repeated c.args.n one) ∙ length-rounds c.args.n one ∙ ap (λ (l : List Step). c.args.n * length l) (c.in_ok-kept.ensures.round ∙ c.deref.ensures.value) ∙ ap (λ k. c.args.n * k) (sym len))
+
+noisy_some : (given : Option (ℕ × List ℕ)) (made : Option Noise) → made ≡ option_map new_noise given → IfSome given (λ noise. 1 ≤ noise.0) → IfSome made (λ noise. 1 ≤ noise.every)
+noisy_some None made is some = subst (λ (o : Option Noise). IfSome o (λ noise. 1 ≤ noise.every)) (sym is) tt
+noisy_some (Some noise) made is some = subst (λ (o : Option Noise). IfSome o (λ noise. 1 ≤ noise.every)) (sym is) some
+
+pub append-requires-clause-stretch : goal.append-requires-clause-stretch
+append-requires-clause-stretch c = record {
+  round = c.in_ok-kept.ensures.kept;
+  noise = noisy_some c.args.noise c.new_noise.result c.new_noise.ensures.value c.requires.noise;
+}
+
+pub append-requires-clause-room : goal.append-requires-clause-room
+append-requires-clause-room c =
+    let len : c.len.result ≡ length c.in_ok-steps.steps.items = search rules in
+    rw (c.in_ok-kept.ensures.steps ∙ c.self.view_is, len ∙ ap length c.in_ok-steps.ensures) c.requires.room
 
 pub invariant_of-self-2 : goal.invariant_of-self-2
 invariant_of-self-2 c =
