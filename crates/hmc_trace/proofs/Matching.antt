@@ -52,6 +52,14 @@ next_given journal i e found tag less at given is =
     next_mapped gave_tag journal i e less at
     ∙ ap (λ o. cons_option o (filter_map gave_tag (drop (i + 1) journal))) (sym given ∙ is)
 
+-- an entry that gives none
+pub nothing_given : (journal : List Entry) (i : ℕ) (e : Entry) (found : Option (Option ℕ)) →
+    i < length journal → e ≡ slice_index_or journal i e → found ≡ gave_tag e → found ≡ None →
+    filter_map gave_tag (drop i journal) ≡ filter_map gave_tag (drop (i + 1) journal)
+nothing_given journal i e found less at given is =
+    next_mapped gave_tag journal i e less at
+    ∙ ap (λ o. cons_option o (filter_map gave_tag (drop (i + 1) journal))) (sym given ∙ is)
+
 -- nothing is left
 pub none_left : {X Y : Type 0} (f : X → Option Y) (xs : List X) (i : ℕ) → length xs ≤ i →
     filter_map f (drop i xs) ≡ []

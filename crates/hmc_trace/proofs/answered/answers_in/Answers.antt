@@ -2,8 +2,26 @@
 use Rattle.std.proofs.Common.{◌+◌, ℕ, drop, sym, subst}
 use Rattle.std.specs.List.{filter_map}
 use Rattle.hmc_accesses.specs.InOrder.{gave_tag, took_answer}
-use Rattle.hmc_trace.proofs.Matching.{Matches, matched_one, matched_all, next_given, none_left}
+use Rattle.hmc_trace.proofs.Matching.{Matches, matched_start, matched_one, matched_all, next_given, nothing_given, none_left}
 use Rattle.hmc_trace.proofs.answered.answers_in.Goals as goal
+
+pub entries-init : goal.entries-init
+entries-init c =
+    let journal = c.args.journal.now in
+    let given = filter_map gave_tag journal in
+    let took = λ (t : ℕ). filter_map (took_answer t) journal in
+    subst (Matches given given took c.in_ok-queues.queues) (sym c.new-answers.ensures.items)
+    (matched_start given took c.in_ok-queues.queues c.in_ok-queues.ensures)
+
+pub entries-preserved-in_default : goal.entries-preserved-in_default
+entries-preserved-in_default c =
+    let journal = c.args.journal.now in
+    let given = filter_map gave_tag journal in
+    let took = λ (t : ℕ). filter_map (took_answer t) journal in
+    let none = nothing_given journal c.entries.entry-index c.entry-item.result c.gave_tag.result
+    c.entries-test.true c.entry-item.is c.gave_tag.ensures c.in_default.is in
+    subst (λ l. Matches given l took c.entries.queues c.entries.answers.items) none
+    c.entries.invariant
 
 pub entries-preserved : goal.entries-preserved
 entries-preserved c =
