@@ -1,6 +1,6 @@
 //! The line that is due.
 
-ghost use Rattle.std.specs.Prelude.{◌≡◌, ◌≤◌, ◌+◌, ◌∷◌, [], List, ℕ, length, slice_get, option_map, IfOk};
+ghost use Rattle.std.specs.Prelude.{◌≡◌, ◌≤◌, ◌+◌, ◌∷◌, [], List, ℕ, length, slice_get, option_map, IfOk, OnOk};
 ghost use Rattle.hmc_entries.specs.declared.entry.Entry.{Entry};
 ghost use Rattle.hmc_entries.specs.Lines.{line_of};
 ghost use Rattle.hmc_journal.specs.Lawful.{journal_of};
@@ -123,16 +123,41 @@ fn due_after<B: Workbench>(past: &mut Past<B>, schedule: &Schedule, before: u32)
     }
 }
 
-// The line with this number, from 1.
-fn line_in<B: Workbench>(past: &mut Past<B>, schedule: &Schedule, line: u32) -> Option<LineText>
+// Puts the line with this number, from 1, into a place.
+fn put_line<B: Workbench>(
+    past: &mut Past<B>,
+    schedule: &Schedule,
+    line: u32,
+    due: &mut Option<LineText>,
+)
     requires { (setup : Setup) × IsBefore (past_of B.slots past.old) setup [] schedule.now }
     ensures { (setup : Setup) → IsBefore (past_of B.slots past.old) setup [] schedule.now →
-        IsDue setup line (option_map (λ text. text.bytes) result) }
+        IsDue setup line (option_map (λ text. text.bytes) due.new) }
 {
     if line == 0 {
-        return None;
+        *due = None;
+        return;
     }
-    due_after(past, schedule, line - 1)
+    *due = due_after(past, schedule, line - 1);
+}
+
+// The same by a case. It holds no line beside what it keeps of the case: proofs of functions that
+// own both take long.
+fn find_line<B: Workbench>(
+    alloc: Global,
+    case: &Case,
+    bench: B,
+    line: u32,
+    due: &mut Option<LineText>,
+) -> Result<(), Memory>
+    ensures { OnOk result (IsDue (setup_of case.now (B.slots bench)) line
+        (option_map (λ text. text.bytes) due.new)) }
+{
+    let Ok(mut past) = Past::new(alloc, case, bench) else {
+        return Err(Memory);
+    };
+    put_line(&mut past, case.schedule(), line, due);
+    Ok(())
 }
 
 /// The line that is due: the one with this number, from 1, in the text of the whole lawful journal
@@ -148,8 +173,9 @@ pub fn due_line<B: Workbench>(
     ensures { IfOk result (λ due. IsDue (setup_of case.now (B.slots bench)) line
         (option_map (λ text. text.bytes) due)) }
 {
-    let Ok(mut past) = Past::new(alloc, case, bench) else {
-        return Err(Memory);
-    };
-    Ok(line_in(&mut past, case.schedule(), line))
+    let mut due = None;
+    match find_line(alloc, case, bench, line, &mut due) {
+        Ok(()) => Ok(due),
+        Err(memory) => Err(memory),
+    }
 }

@@ -3,7 +3,7 @@ use Rattle.std.proofs.Common.{◌≡◌, ◌-◌, ◌∙◌, ℕ, suc, sym, ap, 
 use Rattle.hmc_journal.specs.Report.{report_lines}
 use Rattle.hmc_check.specs.Due.{line_at}
 use Rattle.hmc_check.proofs.DueLines.{due_by}
-use Rattle.hmc_check.proofs.due.line_in.Goals as goal
+use Rattle.hmc_check.proofs.due.put_line.Goals as goal
 
 pub returns-then-line-eq0 : goal.returns-then-line-eq0
 returns-then-line-eq0 g c = λ setup before journal whole.
