@@ -1,11 +1,12 @@
-use Rattle.std.proofs.Common.{◌≡◌, ◌∙◌, ℕ, List, None, ap}
+use Rattle.std.proofs.Common.{◌≡◌, ◌∙◌, ℕ, List, Option, None, ap, drop, subst, sym}
 use Rattle.std.specs.Prelude.{slice_get}
 use Rattle.hmc_packet.specs.declared.feed.Feed.TheVariants.{Waiting}
 use Rattle.hmc_packet.specs.declared.what.What.TheVariants as what
 use Rattle.hmc_send.specs.declared.sent.Sent.TheVariants.{Out}
 use Rattle.hmc_send.specs.declared.state.State.{State}
 use Rattle.hmc_send.specs.Choice.{irtry_sent, first_time}
-use Rattle.hmc_send.specs.Given.{given_of}
+use Rattle.hmc_send.specs.Entries.{UnderWay}
+use Rattle.hmc_send.specs.Given.{given_of, account_after, fronts_taken, IsTakenFit}
 use Rattle.hmc_send.specs.Sender.{view_held, again_sent, again_begun, after_first}
 use Rattle.hmc_send.proofs.SendLemmas.{choice-train, choice-part, choice-irtry, choice-again, choice-first, left-again, left-first, may-send, nothing-there, same-state, first-given}
 use Rattle.hmc_send.proofs.state.State.choose.Goals as goal
@@ -80,3 +81,26 @@ returns-clause-left g c =
     ∙ first-given held waits given c.first_time.result (λ i. c.args.own) (λ i. given.front) (λ i. given.due)
     ∙ left-first held given c.first_time.result nothing c.requires.sender.profile
     (c.first_time.ensures.flit ∙ ap (λ (t : State). first_time t.profile (view_held t waits)) same) c.first_time.ensures.lng
+
+pub returns-in-Some-clause-may : goal.returns-in-Some-clause-may
+returns-in-Some-clause-may g c = may-send c.args.self.now _ c.requires.sender c.fits.ensures.fits c.fits.ensures.part
+
+pub returns-in-Some-begin_again-clause-may : goal.returns-in-Some-begin_again-clause-may
+returns-in-Some-begin_again-clause-may g c = may-send c.args.self.now _ c.requires.sender c.fits.ensures.fits c.fits.ensures.part
+
+pub returns-clause-may : goal.returns-clause-may
+returns-clause-may g c = may-send c.args.self.now _ c.requires.sender c.fits.ensures.fits c.fits.ensures.part
+
+-- nothing is under way, so the front of the queue may begin
+
+pub returns-clause-begun : goal.returns-clause-begun
+returns-clause-begun g c =
+    subst (λ (u : Option UnderWay). IsTakenFit u c.first_time.result (slice_get (g.Q.Intake.packets c.args.queue.now) 0)) (sym (nothing-there c.args.self.now.under_way c.if-has_part.ensures)) c.first_time.ensures.begun
+
+pub returns-clause-queue : goal.returns-clause-queue
+returns-clause-queue g c =
+    c.first_time.ensures.queue ∙ ap (λ (u : Option UnderWay). drop (fronts_taken u c.first_time.result) (g.Q.Intake.packets c.args.queue.now)) (sym (nothing-there c.args.self.now.under_way c.if-has_part.ensures))
+
+pub returns-clause-account : goal.returns-clause-account
+returns-clause-account g c =
+    c.first_time.ensures.account ∙ ap (λ (u : Option UnderWay). account_after u (slice_get (g.Q.Intake.packets c.args.queue.now) 0) c.first_time.result c.args.account.now) (sym (nothing-there c.args.self.now.under_way c.if-has_part.ensures))
