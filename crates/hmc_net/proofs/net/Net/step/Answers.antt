@@ -20,6 +20,15 @@ returns-clause-stands g c = λ setup is.
       most = subst (λ most. length setup.schedule ≤ most) (sym c.note.ensures.most) here.stands.most;
     }
 
+pub returns-clause-past : goal.returns-clause-past
+returns-clause-past g c = λ setup is.
+    let slots = g.B.Workbench.slots in
+    let here = subst (λ (n : JournaledNet). IsNetNext n setup c.args.step.now) (sym (ap (journaled_of slots) c.self.view_is)) is in
+    let past = c.self.inside.journal.past in
+    let due : IsNext (net_of slots c.self.inside.network) setup past c.args.step.now = record { stands = here.stands.stands; goes_on = here.goes_on; step_is = here.step_is } in
+    let entry : c.entry.result ≡ next setup past c.args.step.now = c.entry.ensures ∙ c.last.ensures ∙ c.step-went.ensures.last setup past due in
+    c.note.ensures.past ∙ ap (λ e. e ∷ past) entry ∙ ap (λ (n : JournaledNet). next setup n.journal.past c.args.step.now ∷ n.journal.past) (ap (journaled_of slots) c.self.view_is)
+
 pub returns-clause-guarantees : goal.returns-clause-guarantees
 returns-clause-guarantees g c = λ setup is.
     let now = (returns-clause-stands g c setup is).stands in

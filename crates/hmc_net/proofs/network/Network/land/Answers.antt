@@ -1,11 +1,18 @@
 -- What lands is the entry of the definition.
 use Rattle.std.proofs.Common.{◌<◌, length, ap, sym, subst, arith}
-use Rattle.hmc_links.specs.LinkList.{LinksStandFor}
+use Rattle.hmc_links.specs.LinkList.{AreGoing, IsDirection, LinksStandFor}
 use Rattle.hmc_net.specs.Links.{MayForward}
 use Rattle.hmc_net.specs.NetState.{net_of, NetState}
 use Rattle.hmc_net.proofs.LinkDoes.{land_for}
 use Rattle.hmc_net.proofs.Forwarding.{may_forward_landed}
 use Rattle.hmc_net.proofs.network.Network.land.Goals as goal
+
+pub land-landed-requires-clause-there : goal.land-landed-requires-clause-there
+land-landed-requires-clause-there g c =
+    subst (λ (n : NetState). IsDirection n.links c.args.direction) (sym (ap (net_of g.B.Workbench.slots) c.self.view_is)) (omega (arith, c.requires.there.some_direction, c.requires.ready.sees.shows.links.count))
+
+pub land-landed-requires-clause-going : goal.land-landed-requires-clause-going
+land-landed-requires-clause-going g c = subst (λ (n : NetState). AreGoing n.links) (sym (ap (net_of g.B.Workbench.slots) c.self.view_is)) c.requires.ready.sees.shows.links.going
 
 pub forward_landed-requires-clause-count : goal.forward_landed-requires-clause-count
 forward_landed-requires-clause-count g c =
