@@ -89,7 +89,7 @@ NUMBERS: dict[str, tuple[Number, ...]] = {
         Number("what a send sees, and the {} cases; the same", ROWS_OF_SENDS),
         Number("the same as {} rows in a list", ROWS_OF_SENDS),
         Number("So a crate has at most {} mutants", spelled(most_mutants)),
-        Number("So all tests are in {} crates that", spelled(crates_of_tests)),
+        Number("So all tests are in {} crate that", spelled(crates_of_tests)),
     ),
     "docs/DECISIONS.md": (
         Number("Most libraries have about {} mutants", spelled(usual_mutants)),
