@@ -7,6 +7,7 @@ pub mod Parts
 pub mod Sends
 pub mod CopyLemmas
 pub mod KeptLemmas
+mod FirstLemmas
 pub mod SendLemmas
 mod WorkedLife
 mod WorkedThrough
