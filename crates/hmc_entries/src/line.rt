@@ -7,7 +7,10 @@ ghost use Rattle.hex.specs.Hex.{encode_lower};
 ghost use Rattle.hmc_codes.specs.Text.{line, request_text, answer_text};
 ghost use Rattle.hmc_entries.specs.Lines.{line_of, tag_text, request_words, unit_text, what_text, outcome_text, goal_text, lift_text};
 
-use crate::flit_words::{landed_null, landed_word, sent_null, sent_word};
+use crate::flit_words::{
+    landed_long_null, landed_long_word, landed_null, landed_word, sent_long_null, sent_long_word,
+    sent_null, sent_word,
+};
 use crate::idle_line::idle_line;
 use crate::idle_step::without_mask;
 use crate::pieces::{
@@ -47,8 +50,10 @@ fn push_sent_word<const N: usize>(into: &mut ArrayString<N>, direction: u8)
     ensures text { into.new.bytes ≡ into.old.bytes ++ (codes "sent" ++ (32 ∷ decimal direction)) }
     ensures few { length into.new.bytes ≤ length into.old.bytes + 25 }
 {
-    if direction < 40 {
+    if direction < 10 {
         into.push_str(sent_word(direction));
+    } else if direction < 40 {
+        into.push_str(sent_long_word(direction));
     } else {
         push_numbered(into, "sent", direction);
     }
@@ -62,8 +67,10 @@ fn push_landed_word<const N: usize>(into: &mut ArrayString<N>, direction: u8)
         (codes "landed" ++ (32 ∷ decimal direction)) }
     ensures few { length into.new.bytes ≤ length into.old.bytes + 27 }
 {
-    if direction < 40 {
+    if direction < 10 {
         into.push_str(landed_word(direction));
+    } else if direction < 40 {
+        into.push_str(landed_long_word(direction));
     } else {
         push_numbered(into, "landed", direction);
     }
@@ -87,7 +94,11 @@ pub(crate) fn sent_line<const N: usize>(
     ensures short { length into.new.bytes < length into.old.bytes + 2048 }
 {
     if direction < 40 && matches!(what, What::Null) && is_null(flit) {
-        into.push_str(sent_null(direction));
+        if direction < 10 {
+            into.push_str(sent_null(direction));
+        } else {
+            into.push_str(sent_long_null(direction));
+        }
     } else {
         any_sent_line(into, direction, what, flit);
     }
@@ -123,7 +134,11 @@ pub(crate) fn landed_line<const N: usize>(
     ensures short { length into.new.bytes < length into.old.bytes + 2048 }
 {
     if direction < 40 && matches!(outcome, Outcome::Quiet) && is_null(flit) {
-        into.push_str(landed_null(direction));
+        if direction < 10 {
+            into.push_str(landed_null(direction));
+        } else {
+            into.push_str(landed_long_null(direction));
+        }
     } else {
         any_landed_line(into, direction, flit, outcome);
     }

@@ -87,64 +87,21 @@ pub(crate) fn push_flit<const N: usize>(into: &mut ArrayString<N>, flit: &Flit)
     }
 }
 
-// What a flit is sent as, after a space.
-#[inline(always)]
-fn what_word(what: What) -> &'static str
-    ensures text { result.now ≡ 32 ∷ what_text what }
-    ensures few { length result.now ≤ 6 }
-{
-    match what {
-        What::Train => " train",
-        What::Clear => " clear",
-        What::Start => " start",
-        What::Null => " null",
-        What::Pret => " pret",
-        What::Tret => " tret",
-        What::New => " new",
-        What::Again => " again",
-    }
-}
-
 #[inline(always)]
 pub(crate) fn push_what<const N: usize>(into: &mut ArrayString<N>, what: What)
     requires room { length into.old.bytes + 6 ≤ N }
     ensures text { into.new.bytes ≡ into.old.bytes ++ (32 ∷ what_text what) }
     ensures few { length into.new.bytes ≤ length into.old.bytes + 6 }
 {
-    into.push_str(what_word(what));
-}
-
-// Why flits are no packet, after a space and with the end of the line.
-#[inline(always)]
-fn bad_end(bad: Bad) -> &'static str
-    ensures text { result.now ≡ 32 ∷ (bad_text bad ++ (10 ∷ [])) }
-    ensures few { length result.now ≤ 18 }
-{
-    match bad {
-        Bad::Length => " aborted length\n",
-        Bad::Command => " aborted command\n",
-        Bad::Reserved => " aborted reserved\n",
-        Bad::Crc => " aborted crc\n",
-    }
-}
-
-// The outcome, after a space and with the end of the line.
-#[inline(always)]
-fn outcome_end(outcome: Outcome) -> &'static str
-    ensures text { result.now ≡ 32 ∷ (outcome_text outcome ++ (10 ∷ [])) }
-    ensures few { length result.now ≤ 18 }
-{
-    match outcome {
-        Outcome::Quiet => " quiet\n",
-        Outcome::Trained => " trained\n",
-        Outcome::Gathered => " gathered\n",
-        Outcome::Accepted => " accepted\n",
-        Outcome::Poisoned => " poisoned\n",
-        Outcome::Repeat => " repeat\n",
-        Outcome::AbortedBad(bad) => bad_end(bad),
-        Outcome::AbortedOrder => " aborted order\n",
-        Outcome::Ran(Kind::Start) => " ran start\n",
-        Outcome::Ran(Kind::Clear) => " ran clear\n",
+    match what {
+        What::Train => into.push_str(" train"),
+        What::Clear => into.push_str(" clear"),
+        What::Start => into.push_str(" start"),
+        What::Null => into.push_str(" null"),
+        What::Pret => into.push_str(" pret"),
+        What::Tret => into.push_str(" tret"),
+        What::New => into.push_str(" new"),
+        What::Again => into.push_str(" again"),
     }
 }
 
@@ -155,24 +112,30 @@ pub(crate) fn push_outcome<const N: usize>(into: &mut ArrayString<N>, outcome: O
     ensures text { into.new.bytes ≡ into.old.bytes ++ (32 ∷ (outcome_text outcome ++ (10 ∷ []))) }
     ensures few { length into.new.bytes ≤ length into.old.bytes + 18 }
 {
-    into.push_str(outcome_end(outcome));
+    match outcome {
+        Outcome::Quiet => into.push_str(" quiet\n"),
+        Outcome::Trained => into.push_str(" trained\n"),
+        Outcome::Gathered => into.push_str(" gathered\n"),
+        Outcome::Accepted => into.push_str(" accepted\n"),
+        Outcome::Poisoned => into.push_str(" poisoned\n"),
+        Outcome::Repeat => into.push_str(" repeat\n"),
+        Outcome::AbortedBad(bad) => push_aborted(into, bad),
+        Outcome::AbortedOrder => into.push_str(" aborted order\n"),
+        Outcome::Ran(Kind::Start) => into.push_str(" ran start\n"),
+        Outcome::Ran(Kind::Clear) => into.push_str(" ran clear\n"),
+    }
 }
 
-// The cause, after a space and with the end of the line.
-#[inline(always)]
-fn cause_end(cause: Cause) -> &'static str
-    ensures text { result.now ≡ 32 ∷ (cause_text cause ++ (10 ∷ [])) }
-    ensures few { length result.now ≤ 10 }
+pub(crate) fn push_aborted<const N: usize>(into: &mut ArrayString<N>, bad: Bad)
+    requires room { length into.old.bytes + 18 ≤ N }
+    ensures text { into.new.bytes ≡ into.old.bytes ++ (32 ∷ (bad_text bad ++ (10 ∷ []))) }
+    ensures few { length into.new.bytes ≤ length into.old.bytes + 18 }
 {
-    match cause {
-        Cause::Ended => " ended\n",
-        Cause::Fence => " fence\n",
-        Cause::Tags => " tags\n",
-        Cause::Empty => " empty\n",
-        Cause::Full => " full\n",
-        Cause::Starved => " starved\n",
-        Cause::NoPacket => " nopacket\n",
-        Cause::Busy => " busy\n",
+    match bad {
+        Bad::Length => into.push_str(" aborted length\n"),
+        Bad::Command => into.push_str(" aborted command\n"),
+        Bad::Reserved => into.push_str(" aborted reserved\n"),
+        Bad::Crc => into.push_str(" aborted crc\n"),
     }
 }
 
@@ -183,7 +146,16 @@ pub(crate) fn push_cause<const N: usize>(into: &mut ArrayString<N>, cause: Cause
     ensures text { into.new.bytes ≡ into.old.bytes ++ (32 ∷ (cause_text cause ++ (10 ∷ []))) }
     ensures few { length into.new.bytes ≤ length into.old.bytes + 10 }
 {
-    into.push_str(cause_end(cause));
+    match cause {
+        Cause::Ended => into.push_str(" ended\n"),
+        Cause::Fence => into.push_str(" fence\n"),
+        Cause::Tags => into.push_str(" tags\n"),
+        Cause::Empty => into.push_str(" empty\n"),
+        Cause::Full => into.push_str(" full\n"),
+        Cause::Starved => into.push_str(" starved\n"),
+        Cause::NoPacket => into.push_str(" nopacket\n"),
+        Cause::Busy => into.push_str(" busy\n"),
+    }
 }
 
 // The request ends the line.
