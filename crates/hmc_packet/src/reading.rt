@@ -7,7 +7,7 @@ ghost use Rattle.hmc_packet.specs.Packet.{PacketFields, IsPacket};
 ghost use Rattle.hmc_packet.specs.Spelling.{FitsProfile, spelling};
 ghost use Rattle.hmc_codes.specs.Flit.{zero_flit};
 ghost use Rattle.hmc_packet.specs.Parts.{word_of, half_of, header_in, payload_in, tail_in, check_in, lng_of};
-ghost use Rattle.hmc_packet.specs.Reading.{is_null, is_null_alone, has_length, fitting, command_in, is_clean, poison_in, packet_from, seen_in, judgement_of, read_of, IsSpelled};
+ghost use Rattle.hmc_packet.specs.Reading.{is_null, is_null_alone, has_length, fitting, command_in, is_clean, poison_in, packet_from, poison_read, seen_in, judgement_of, read_of, IsSpelled};
 
 use crate::header::Header;
 use crate::tail::Tail;
@@ -149,18 +149,25 @@ fn poison_in(layout: Layout, check: u32, right: u32) -> Option<bool>
     }
 }
 
+// Whether bytes of a layout are poisoned, or the first test of Reserved and Crc that fails.
+fn poison_read(profile: Profile, layout: Layout, bytes: &[u8]) -> Result<bool, Bad>
+    requires { 16 ≤ length bytes.now }
+    ensures { result ≡ poison_read profile layout bytes.now }
+{
+    if !is_clean(profile, layout, bytes) {
+        return Err(Bad::Reserved);
+    }
+    let right = crc_fast(&bytes[..bytes.len() - 4]);
+    poison_in(layout, check_in(bytes), right).ok_or(Bad::Crc)
+}
+
 #[tactic(auto, unfolding(crate::specs::Reading::judgement_of))]
 pub fn judgement_of(profile: Profile, bytes: &[u8]) -> Result<(Command, bool), Bad>
     requires { 16 ≤ length bytes.now }
     ensures { result ≡ judgement_of profile bytes.now }
 {
     let command = command_in(header_in(bytes)).ok_or(Bad::Command)?;
-    let layout = command.layout();
-    if !is_clean(profile, layout, bytes) {
-        return Err(Bad::Reserved);
-    }
-    let right = crc_fast(&bytes[..bytes.len() - 4]);
-    let poisoned = poison_in(layout, check_in(bytes), right).ok_or(Bad::Crc)?;
+    let poisoned = poison_read(profile, command.layout(), bytes)?;
     Ok((command, poisoned))
 }
 

@@ -120,11 +120,17 @@ impl Tail {
         match layout {
             Layout::Ask | Layout::Reply => true,
             Layout::Tret => self.slid == 0,
-            Layout::Irtry => (self.seq == 0 && self.slid == 0)
-                && (self.rtc == 0 && (self.frp == 1 || self.frp == 2)),
-            Layout::Pret => (self.frp == 0 && self.seq == 0) && (self.slid == 0 && self.rtc == 0),
-            Layout::Null => (self.rrp == 0 && self.frp == 0)
-                && (self.seq == 0 && (self.slid == 0 && self.rtc == 0)),
+            Layout::Irtry => {
+                ((self.seq == 0) & (self.slid == 0))
+                    & ((self.rtc == 0) & ((self.frp == 1) | (self.frp == 2)))
+            }
+            Layout::Pret => {
+                ((self.frp == 0) & (self.seq == 0)) & ((self.slid == 0) & (self.rtc == 0))
+            }
+            Layout::Null => {
+                ((self.rrp == 0) & (self.frp == 0))
+                    & ((self.seq == 0) & ((self.slid == 0) & (self.rtc == 0)))
+            }
         }
     }
 
