@@ -113,7 +113,7 @@ impl Tail {
     }
 
     // Whether each field of a flow packet that has to be zero is, and an IRTRY is a start or a
-    // clear.
+    // clear. `&` and `|` need no branch where `&&` and `||` have one a field.
     fn has_zeros(&self, layout: Layout) -> bool
         ensures { result ≡ has_zeros layout self.now }
     {
