@@ -3,9 +3,8 @@ use Rattle.std.specs.Prelude.{◌≡◌, ◌⊎◌, ℕ, Bool, List, Option, Som
 use Rattle.hmc_codes.specs.Request.{RequestFields}
 use Rattle.hmc_entries.specs.declared.entry.Entry.{Entry}
 use Rattle.hmc_journal.specs.Setup.{Setup}
-use Rattle.hmc_script.specs.Items.{ItemFields}
+use Rattle.hmc_script.specs.Items.{ItemFields, asked_item}
 use Rattle.hmc_growing.specs.Growing.{with_item}
-use Rattle.hmc_net.specs.Asked.{item_with}
 use Rattle.hmc_session.specs.Refusals.{ask_refusal}
 use Rattle.hmc_session.specs.declared.refusal.NotAsked.{NotAsked}
 use Rattle.hmc_c.specs.Handles.{Stands, shown}
@@ -30,7 +29,7 @@ Asked status old new setup past host fenced poisoned None =
     (status ≡ bad) × Stands new setup past
 Asked status old new setup past host fenced poisoned (Some request) =
     AsksBy status (ask_refusal (shown old) host request.cube) (Stands new) setup past
-    (item_with host fenced poisoned request)
+    (asked_item host fenced poisoned request)
 
 -- the same of handles: it is open then
 abbrev pub IsAsked : (status : ℕ) → (old new : Option Held) → Setup → List Entry → (host : ℕ) →

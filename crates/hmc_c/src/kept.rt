@@ -5,7 +5,7 @@ ghost use Rattle.std.specs.Option.{MatchOption};
 ghost use Rattle.hmc_codes.specs.Limits.{most_hosts};
 ghost use Rattle.hmc_entries.specs.declared.entry.Entry.{Entry};
 ghost use Rattle.hmc_journal.specs.Setup.{Setup};
-ghost use Rattle.hmc_net.specs.Asked.{item_with};
+ghost use Rattle.hmc_script.specs.Items.{asked_item};
 ghost use Rattle.hmc_session.specs.Refusals.{ask_refusal, step_refusal};
 ghost use Rattle.hmc_session.specs.Session.{StandsIn};
 ghost use Rattle.hmc_tape.specs.Tape.{IsTapeOf};
@@ -80,7 +80,7 @@ fn ask_plain(session: &mut Plain, host: u8, fenced: bool, poisoned: bool, reques
         StandsIn (plain_fields session.old) setup past →
         AsksBy result (ask_refusal (plain_fields session.old) host request.now.cube)
         (StandsIn (plain_fields session.new)) setup past
-        (item_with host fenced poisoned request.now) }
+        (asked_item host fenced poisoned request.now) }
     ensures finished { session.new.finished ≡ session.old.finished }
     ensures plan { session.new.plan ≡ session.old.plan }
 {
@@ -96,7 +96,7 @@ fn ask_taped(taped: &mut WithTape, host: u8, fenced: bool, poisoned: bool, reque
         IsTapeOf (tape_fields taped.old) setup past →
         AsksBy result (ask_refusal (plain_fields taped.old.session) host request.now.cube)
         (IsTapeOf (tape_fields taped.new)) setup past
-        (item_with host fenced poisoned request.now) }
+        (asked_item host fenced poisoned request.now) }
     ensures finished { taped.new.session.finished ≡ taped.old.session.finished }
     ensures plan { taped.new.session.plan ≡ taped.old.session.plan }
 {
@@ -267,7 +267,7 @@ impl Kept {
     pub(crate) fn ask(&mut self, host: u8, fenced: bool, poisoned: bool, request: &Request) -> u8
         ensures does { (setup : Setup) (past : List Entry) → KeptStands self.old setup past →
             AsksBy result (ask_refusal (fields_in self.old) host request.now.cube)
-            (KeptStands self.new) setup past (item_with host fenced poisoned request.now) }
+            (KeptStands self.new) setup past (asked_item host fenced poisoned request.now) }
         ensures parts { KeepsParts self.old self.new }
     {
         match self {

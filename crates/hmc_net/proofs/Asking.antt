@@ -3,7 +3,7 @@ use Rattle.std.proofs.Common.{◌≡◌, ◌∙◌, ◌<◌, ◌==◌, ◌++◌,
 use Rattle.std.specs.Prelude.{slice_set, Result, Ok, Err, OnOk}
 use Rattle.std.proofs.lemmas.List.{append-nil, drop-append-le}
 use Rattle.hmc_codes.specs.Request.{RequestFields, IsRequest}
-use Rattle.hmc_script.specs.Items.{ItemFields}
+use Rattle.hmc_script.specs.Items.{ItemFields, asked_item}
 use Rattle.hmc_units.specs.Unit.{UnitFields}
 use Rattle.hmc_link.specs.Held.{LinkHeld}
 use Rattle.hmc_cube.specs.Cube.{CubeFields}
@@ -20,7 +20,7 @@ use Rattle.hmc_kept.specs.Pipes.{PipesHeld}
 use Rattle.hmc_kept.proofs.Elements.{changed_at}
 use Rattle.hmc_growing.specs.Growing.{with_item, IsOpen}
 use Rattle.hmc_growing.proofs.AddedItem.{more_items, one_of, given_within, lawful_with_item, network_with_item}
-use Rattle.hmc_net.specs.Asked.{item_with, net_asked}
+use Rattle.hmc_net.specs.Asked.{net_asked}
 use Rattle.hmc_net.specs.NetState.{NetState}
 use Rattle.hmc_net.specs.Stands.{StandsFor}
 use Rattle.hmc_net.proofs.Indexed.{net_with}
@@ -80,21 +80,21 @@ unfolding host_of
 numbered net setup past host s there = ap (λ (h : HostFields). h.number) (s.hosts host there)
 
 pub asked_stands : (net now : NetState) (setup : Setup) (past : List Entry) (host : ℕ) (fenced poisoned : Bool) (request : RequestFields) → host < length net.hosts
-    → now ≡ net_asked (item_with host fenced poisoned request) net → StandsFor net setup past → IsOpen host past → IsRequest request → request.cube < cubes_in setup.topology
-    → StandsFor now (with_item setup (item_with host fenced poisoned request)) past
+    → now ≡ net_asked (asked_item host fenced poisoned request) net → StandsFor net setup past → IsOpen host past → IsRequest request → request.cube < cubes_in setup.topology
+    → StandsFor now (with_item setup (asked_item host fenced poisoned request)) past
 asked_stands net now setup past host fenced poisoned request there is s free good cube =
     let many : length net.hosts ≡ hosts_in setup.topology = s.sized.hosts ∙ ap hosts_in s.topology in
-    subst (λ (n : NetState). StandsFor n (with_item setup (item_with host fenced poisoned request)) past) (sym is)
-    (stands_with_item net setup (item_with host fenced poisoned request) past s free (record { within = record { host = subst (λ (n : ℕ). host < n) many there; cube = cube }; request = good }))
+    subst (λ (n : NetState). StandsFor n (with_item setup (asked_item host fenced poisoned request)) past) (sym is)
+    (stands_with_item net setup (asked_item host fenced poisoned request) past s free (record { within = record { host = subst (λ (n : ℕ). host < n) many there; cube = cube }; request = good }))
 
 -- the network with one host asked, as the code leaves it
 pub host_asked_is : {tally : TallyFields} {piped : PipesHeld} {slots : List (Option UnitFields)} (topology : Topology) (net : NetState) (cubes : List CubeFields) (hosts : List HostFields) (at host : ℕ) (x y : HostFields) (fenced poisoned : Bool) (request : RequestFields) (links : List LinkHeld) (last : Entry)
-    → net_with tally piped topology cubes hosts slots links last ≡ net → at ≡ host → x ≡ host_in net.hosts host → x.number ≡ host → y ≡ asked (item_with x.number fenced poisoned request) x
-    → net_with tally piped topology cubes (slice_set hosts at y) slots links last ≡ net_asked (item_with host fenced poisoned request) net
+    → net_with tally piped topology cubes hosts slots links last ≡ net → at ≡ host → x ≡ host_in net.hosts host → x.number ≡ host → y ≡ asked (asked_item x.number fenced poisoned request) x
+    → net_with tally piped topology cubes (slice_set hosts at y) slots links last ≡ net_asked (asked_item host fenced poisoned request) net
 host_asked_is topology net cubes hosts at host x y fenced poisoned request links last same at_is x_is number y_is =
     ap (λ (n : NetState). record n { hosts = slice_set n.hosts at y }) same
     ∙ ap₂ (λ (n : ℕ) (z : HostFields). record net { hosts = slice_set net.hosts n z }) at_is
-    (y_is ∙ ap (λ (k : ℕ). asked (item_with k fenced poisoned request) x) number ∙ ap (asked (item_with host fenced poisoned request)) x_is)
+    (y_is ∙ ap (λ (k : ℕ). asked (asked_item k fenced poisoned request) x) number ∙ ap (asked (asked_item host fenced poisoned request)) x_is)
 
 pub on_ok : {A E P Q : Type 0} (r : Result A E) → (P → Q) → OnOk r P → OnOk r Q
 on_ok (Ok x) f p = f p

@@ -14,8 +14,8 @@ use crate::output::{finish, write_line};
 use crate::run::{RunError, refuse_line};
 use hmc_codes::{LineText, MOST_INPUT};
 use hmc_outside::{Failed, Sink, Source};
-use hmc_script::Script;
-use hmc_trace::{TraceFault, TraceKind, bad_line, compile, item_line, no_text_line};
+use hmc_script::{Script, item_lines};
+use hmc_trace::{TraceFault, TraceKind, bad_line, compile, no_text_line};
 use std::alloc::Global;
 use std::str::from_utf8;
 
@@ -26,7 +26,8 @@ fn write_items<O: Sink>(sink: &mut O, script: &Script) -> Result<(), Failed>
     let mut text = LineText::new();
     'items: for at in 0..script.len() {
         text.clear();
-        item_line(&mut text, &script.item(at));
+        let item = script.item(at);
+        item_lines(&mut text, item.host, item.fenced, item.poisoned, &item.request);
         match write_line(sink, text.as_str()) {
             Ok(()) => {}
             Err(failed) => return Err(failed),

@@ -1,53 +1,67 @@
 //! Scripts are printed.
 
-ghost use Rattle.std.specs.Prelude.{◌≡◌, ◌++◌, ℕ, Ok, IfOk, OnOk, string_bytes};
+ghost use Rattle.std.specs.Prelude.{◌≡◌, ◌++◌, ◌+◌, ◌≤◌, ◌<◌, ℕ, [], length, Ok, IfOk, OnOk, string_bytes};
 ghost use Rattle.std.specs.List.{All};
-ghost use Rattle.hmc_codes.specs.Text.{request_text};
-ghost use Rattle.hmc_script.specs.Items.{IsWithin};
+ghost use Rattle.hmc_script.specs.Items.{IsWithin, asked_item};
 ghost use Rattle.hmc_script.specs.Script.{script_of};
 ghost use Rattle.hmc_script.specs.Text.{fence_text, request_line, item_text, script_text};
 
 use crate::{Item, Script};
-use hmc_codes::{Memory, Request};
+use hmc_codes::{LineText, Memory, Request, append_decimal};
 use std::alloc::Global;
 
-// The line of a fence.
-fn print_fence(into: &mut String, host: u8, fenced: bool) -> Result<(), Memory>
-    ensures { OnOk result
-        (string_bytes into.new ≡ string_bytes into.old ++ fence_text host fenced) }
+// The line of a fence, if there is one.
+fn append_fence(into: &mut LineText, host: u8, fenced: bool)
+    requires room { length into.old.bytes + 27 ≤ 2048 }
+    ensures text { into.new.bytes ≡ into.old.bytes ++ fence_text host fenced }
+    ensures few { length into.new.bytes ≤ length into.old.bytes + 27 }
 {
     if fenced {
-        write!(into, "{host} fence\n")?;
+        append_decimal(into, u64::from(host));
+        into.push_str(" fence\n");
     }
-    Ok(())
 }
 
 // The line of a request.
-fn print_request(
-    alloc: Global,
-    into: &mut String,
-    host: u8,
-    poisoned: bool,
-    request: &Request,
-) -> Result<(), Memory>
-    ensures { OnOk result
-        (string_bytes into.new ≡ string_bytes into.old ++ request_line host poisoned request.now) }
+fn append_request(into: &mut LineText, host: u8, poisoned: bool, request: &Request)
+    requires room { length into.old.bytes + 591 ≤ 2048 }
+    ensures text { into.new.bytes ≡ into.old.bytes ++ request_line host poisoned request.now }
+    ensures some { length into.old.bytes < length into.new.bytes }
 {
-    let request = request.text(alloc)?;
+    append_decimal(into, u64::from(host));
     if poisoned {
-        write!(into, "{host} poison {request}\n")?;
-    } else {
-        write!(into, "{host} {request}\n")?;
+        into.push_str(" poison");
     }
-    Ok(())
+    into.push_str(" ");
+    request.print(into);
+    into.push_str("\n");
 }
 
+/// Writes the lines of an item into an empty text, as a script is printed: that of its fence, if
+/// it has one, and that of its request. It takes no memory.
 #[tactic(auto, unfolding(crate::specs::Text::item_text))]
-fn print_item(alloc: Global, into: &mut String, item: &Item) -> Result<(), Memory>
+pub fn item_lines(into: &mut LineText, host: u8, fenced: bool, poisoned: bool, request: &Request)
+    requires empty { into.old.bytes ≡ [] }
+    ensures text { into.new.bytes ≡ item_text (asked_item host fenced poisoned request.now) }
+    ensures some { 0 < length into.new.bytes }
+{
+    append_fence(into, host, fenced);
+    append_request(into, host, poisoned, request);
+}
+
+fn print_item(into: &mut String, item: &Item) -> Result<(), Memory>
     ensures { OnOk result (string_bytes into.new ≡ string_bytes into.old ++ item_text item.now) }
 {
-    print_fence(into, item.host, item.fenced)?;
-    print_request(alloc, into, item.host, item.poisoned, &item.request)
+    let mut lines = LineText::new();
+    item_lines(
+        &mut lines,
+        item.host,
+        item.fenced,
+        item.poisoned,
+        &item.request,
+    );
+    into.push_str(lines.as_str())?;
+    Ok(())
 }
 
 fn print_items(alloc: Global, script: &Script) -> Result<String, Memory>
@@ -55,7 +69,7 @@ fn print_items(alloc: Global, script: &Script) -> Result<String, Memory>
 {
     let mut text = String::new(alloc);
     'items: for at in 0..script.len() {
-        if let Err(memory) = print_item(alloc, &mut text, &script.item(at)) {
+        if let Err(memory) = print_item(&mut text, &script.item(at)) {
             return Err(memory);
         }
     }

@@ -9,7 +9,7 @@ ghost use Rattle.hmc_entries.specs.declared.entry.Entry.{Entry};
 ghost use Rattle.hmc_journal.specs.Next.{next};
 ghost use Rattle.hmc_journal.specs.Setup.{Setup};
 ghost use Rattle.hmc_growing.specs.Growing.{with_step, with_item};
-ghost use Rattle.hmc_net.specs.Asked.{item_with};
+ghost use Rattle.hmc_script.specs.Items.{asked_item};
 ghost use Rattle.hmc_net.specs.Went.{went_of};
 ghost use Rattle.hmc_session.specs.Session.{session_of, StandsIn, IsHostOf, IsWaiting, MayAsk, begun, is_finished, waits_in};
 ghost use Rattle.hmc_session.specs.Refusals.{step_refusal, ask_refusal, has_step, refusal_in};
@@ -233,7 +233,7 @@ impl<B: Workbench> Session<B> {
         ensures stands { (setup : Setup) (past : List Entry) →
             StandsIn (session_of B.slots self.old) setup past →
             OnOk result (StandsIn (session_of B.slots self.new)
-            (with_item setup (item_with host fenced poisoned request.now)) past) }
+            (with_item setup (asked_item host fenced poisoned request.now)) past) }
         ensures finished { self.new.finished ≡ self.old.finished }
         ensures plan { self.new.plan ≡ self.old.plan }
     {

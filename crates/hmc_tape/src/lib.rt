@@ -7,8 +7,8 @@
 //! In `specs/`, `Tape` has what a tape is, `Calls` what the calls leave of it, and `Laws` the law.
 #![tactic(auto)]
 
+mod append;
 mod laws;
-mod lines;
 mod run;
 mod taped;
 

@@ -7,7 +7,7 @@ ghost use Rattle.hmc_codes.specs.Limits.{most_hosts, most_requests, most_steps};
 ghost use Rattle.hmc_entries.specs.declared.entry.Entry.{Entry};
 ghost use Rattle.hmc_growing.specs.Growing.{with_item};
 ghost use Rattle.hmc_journal.specs.Setup.{Setup};
-ghost use Rattle.hmc_net.specs.Asked.{item_with};
+ghost use Rattle.hmc_script.specs.Items.{asked_item};
 ghost use Rattle.hmc_schedule.specs.Schedule.{schedule_of};
 ghost use Rattle.hmc_schedule.specs.declared.step.Step.{Step};
 ghost use Rattle.hmc_script.specs.Script.{script_of};
@@ -18,12 +18,13 @@ ghost use Rattle.hmc_session.specs.declared.refusal.NotAsked.TheVariants as caus
 ghost use Rattle.hmc_tape.specs.Calls.{TapesBy, TapesNext, TapesNone, TapesAsked};
 ghost use Rattle.hmc_tape.specs.Tape.{taped_of, IsTapeOf};
 
-use crate::lines::{append, request_lines};
+use crate::append::append;
 use hmc_case::Case;
-use hmc_codes::{Memory, Request};
+use hmc_codes::{LineText, Memory, Request};
 use hmc_entries::step_fits;
 use hmc_net::Went;
 use hmc_schedule::Step;
+use hmc_script::item_lines;
 use hmc_session::{Laid, LineNotAsked, NotAsked, NotTaken, Session};
 use hmc_step_text::step_line;
 use hmc_units::Workbench;
@@ -186,14 +187,15 @@ impl<B: Workbench> Taped<B> {
         ensures tape { (setup : Setup) (past : List Entry) →
             IsTapeOf (taped_of B.slots self.old) setup past →
             OnOk result (IsTapeOf (taped_of B.slots self.new)
-            (with_item setup (item_with host fenced poisoned request.now)) past) }
+            (with_item setup (asked_item host fenced poisoned request.now)) past) }
         ensures finished { self.new.session.finished ≡ self.old.session.finished }
         ensures plan { self.new.session.plan ≡ self.old.session.plan }
     {
         if let Some(refusal) = self.session.ask_refusal(host, request.cube) {
             return Err(refusal);
         }
-        let lines = request_lines(host, fenced, poisoned, request);
+        let mut lines = LineText::new();
+        item_lines(&mut lines, host, fenced, poisoned, request);
         if let Err(_) = self.script.reserve(lines.len()) {
             return Err(NotAsked::Memory);
         }

@@ -19,5 +19,5 @@ pub use hmc_accesses::{
     Load, TraceFault, TraceKind, all_are_loaded, compiled_is_performed, read_is_trace,
     values_are_loaded,
 };
-pub use line::{bad_line, item_line, no_text_line};
+pub use line::{bad_line, no_text_line};
 pub use loaded_value::{value, values};

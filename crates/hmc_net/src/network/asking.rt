@@ -8,7 +8,8 @@ ghost use Rattle.hmc_entries.specs.declared.entry.Entry.{Entry};
 ghost use Rattle.hmc_journal.specs.Setup.{Setup, cubes_in};
 ghost use Rattle.hmc_growing.specs.Growing.{with_item, IsOpen};
 ghost use Rattle.hmc_kept.specs.Hosts.{host_in};
-ghost use Rattle.hmc_net.specs.Asked.{item_with, net_asked};
+ghost use Rattle.hmc_script.specs.Items.{asked_item};
+ghost use Rattle.hmc_net.specs.Asked.{net_asked};
 ghost use Rattle.hmc_net.specs.NetState.{net_of};
 ghost use Rattle.hmc_net.specs.Stands.{StandsFor};
 
@@ -51,13 +52,13 @@ impl<B: Workbench> Network<B> {
             StandsFor (net_of B.slots self.old) setup past → IsOpen host past →
             request.now.cube < cubes_in setup.topology →
             OnOk result (StandsFor (net_of B.slots self.new)
-            (with_item setup (item_with host fenced poisoned request.now)) past) }
+            (with_item setup (asked_item host fenced poisoned request.now)) past) }
 
         // The host has the request, and nothing else changes.
         ensures asks { (setup : Setup) (past : List Entry) →
             StandsFor (net_of B.slots self.old) setup past →
             OnOk result (net_of B.slots self.new
-            ≡ net_asked (item_with host fenced poisoned request.now) (net_of B.slots self.old)) }
+            ≡ net_asked (asked_item host fenced poisoned request.now) (net_of B.slots self.old)) }
         ensures err { OnErr result (net_of B.slots self.new ≡ net_of B.slots self.old) }
     {
         request.invariant();

@@ -14,8 +14,8 @@ items-preserved g c =
     let before = c.items.invariant in
     let here = subst (λ l. WritesLines (g.O.Sink.shows c.items.sink)
     (g.O.Sink.shows c.write_line.new.sink) (l ∷ []))
-    (c.as_str.ensures.value ∙ c.item_line.ensures.text) c.in-Ok.ensures in
-    let next = next_line item_text c.args.script.now c.items.at _ _ c.item.ensures.item
+    (c.as_str.ensures.value ∙ c.item_lines.ensures.text) c.in-Ok.ensures in
+    let next = next_line item_text c.args.script.now c.items.at _ _ c.item-item.ensures.item
     (omega arith) in
     lines-one _ _ _ _ before.0 _ _ _ before.1 next before.2 here
 
@@ -24,8 +24,8 @@ returns-in-Err g c =
     let before = c.items.invariant in
     let here = subst (λ l. BreaksOff (g.O.Sink.shows c.items.sink)
     (g.O.Sink.shows c.write_line.new.sink) (l ∷ []))
-    (c.as_str.ensures.value ∙ c.item_line.ensures.text) c.in-Err.ensures in
-    let next = next_line item_text c.args.script.now c.items.at _ _ c.item.ensures.item refl in
+    (c.as_str.ensures.value ∙ c.item_lines.ensures.text) c.in-Err.ensures in
+    let next = next_line item_text c.args.script.now c.items.at _ _ c.item-item.ensures.item refl in
     lines-broken _ _ _ _ before.0 _ _ _ before.1 next before.2 here
 
 pub returns : goal.returns
