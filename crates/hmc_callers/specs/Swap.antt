@@ -1,5 +1,5 @@
--- A unit that swaps the halves of a block, and counts how often it worked.
-use Rattle.std.specs.Prelude.{ℕ, ◌+◌, ◌%◌, ◌^◌, false, List, [], ◌∷◌, ◌++◌, take, drop, slice_index}
+-- A unit that swaps the halves of a block.
+use Rattle.std.specs.Prelude.{ℕ, false, List, [], ◌++◌, take, drop}
 use Rattle.std.proofs.Common.{arith, length-append, length-drop}
 use Rattle.std.proofs.lemmas.List.{length-take}
 use Rattle.hmc_codes.proofs.BytesLemmas.{IsBytes-append, IsBytes-take, IsBytes-drop}
@@ -25,14 +25,14 @@ IsBlock-swapped block is = record {
       (IsBytes-take 8 block is.are_bytes);
 }
 
--- the unit: its state is the count, its answer the old block
-unfoldable pub swap_unit : (cube code count : ℕ) → UnitFields
-swap_unit cube code count =
+-- the unit: it has no state, and its answer is the old block
+unfoldable pub swap_unit : (cube code : ℕ) → UnitFields
+swap_unit cube code =
     record {
       cube = cube;
       code = code;
-      state = count ∷ [];
-      next_state = λ state block operand. (slice_index state 0 + 1) % 2 ^ 64 ∷ [];
+      state = [];
+      next_state = λ state block operand. [];
       acted = λ state block operand.
           record { block = swapped block; answer = block; flag = false };
       has_blocks = λ state block operand is by.

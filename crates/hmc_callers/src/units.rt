@@ -7,12 +7,11 @@ use hmc_codes::{Acted, Memory};
 use hmc_units::{Bench, LogicUnit, Workbench};
 use std::alloc::Global;
 
-/// A unit that swaps the halves of a block, and counts how often it worked.
+/// A unit that swaps the halves of a block. It keeps nothing.
 #[derive(Drop)]
 pub struct Swap {
     cube: u8,
     code: u8,
-    count: u64,
     pub ghost cube_below: { cube < 8 },
     pub ghost code_below: { code < 8 },
 }
@@ -21,7 +20,7 @@ pub struct Swap {
 impl LogicUnit for Swap {
     ghost use Rattle.hmc_callers.specs.Swap.{swap_unit};
 
-    ghost meaning = { λ unit. swap_unit unit.cube unit.code unit.count };
+    ghost meaning = { λ unit. swap_unit unit.cube unit.code };
 
     fn cube(&self) -> u8 {
         self.cube
@@ -32,7 +31,6 @@ impl LogicUnit for Swap {
     }
 
     fn work(&mut self, block: [u8; 16], _operand: [u8; 16]) -> Acted {
-        self.count = self.count.wrapping_add(1);
         let mut swapped = block;
         swapped.rotate_left(8);
         Acted {
@@ -44,17 +42,13 @@ impl LogicUnit for Swap {
 }
 
 impl Swap {
-    /// A unit of this cube and code, both below 8, that never worked.
+    /// A unit of this cube and code, both below 8.
     pub fn new(cube: u8, code: u8) -> Self
         requires cube { cube < 8 }
         requires code { code < 8 }
-        ensures { ⟦<Swap as LogicUnit>⟧.meaning result ≡ swap_unit cube code 0 }
+        ensures { ⟦<Swap as LogicUnit>⟧.meaning result ≡ swap_unit cube code }
     {
-        Swap {
-            cube,
-            code,
-            count: 0,
-        }
+        Swap { cube, code }
     }
 }
 
