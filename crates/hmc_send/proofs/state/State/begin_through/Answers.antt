@@ -1,5 +1,5 @@
-use Rattle.std.proofs.Common.{◌≡◌, ◌∙◌, ◌<◌, false, ℕ, [], ◌∷◌, Some, ap, sym, subst}
-use Rattle.hmc_tokens.specs.Account.{code_for}
+use Rattle.std.proofs.Common.{◌≡◌, ◌∙◌, ◌<◌, ◌-◌, false, ℕ, [], ◌∷◌, Some, ap, sym, subst}
+use Rattle.hmc_tokens.specs.Account.{code_for, tokens_of_code}
 use Rattle.hmc_tokens.specs.declared.account.Account.{Account}
 use Rattle.hmc_send.specs.declared.state.State.{State}
 use Rattle.hmc_send.specs.Entries.{SenderEntry}
@@ -43,3 +43,10 @@ returns-clause-stands c = λ past stands.
     let held = c.args.self.now in
     subst (λ (t : State). StandsFor t (SenderEntry.through c.args.head c.args.flits c.args.account.now.due ∷ past)) (left c)
     (stands-through held past c.args.head c.args.flits c.args.account.now.due stands (free-ends held c.requires.sender c.requires.free))
+
+pub returns-clause-account : goal.returns-clause-account
+returns-clause-account c =
+    let spent = c.spend.new.self in
+    c.pay-rtc.ensures.left
+    ∙ ap (λ (code : ℕ). record spent { due = spent.due - tokens_of_code code }) c.pay-rtc.ensures.code
+    ∙ ap (λ (a : Account). record a { due = a.due - tokens_of_code (code_for a.due) }) c.spend.ensures
