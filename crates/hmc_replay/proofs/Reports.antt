@@ -23,6 +23,7 @@ use Rattle.hmc_replay.specs.Reported.{EndsAtPass, IsReport}
 use Rattle.hmc_replay.specs.Answered.{IsAnswered, IsCutOff}
 use Rattle.hmc_replay.specs.Steps.{TookAll}
 use Rattle.hmc_replay.specs.declared.extent.Extent.{Extent}
+use Rattle.hmc_replay.specs.declared.extent.Extent.TheVariants.{Whole, Short, Bound}
 use Rattle.hmc_replay.proofs.Passes.{passes_is}
 
 -- ---- lines that are made one after another
@@ -91,26 +92,32 @@ end_by : (extent : Extent) (setup : Setup) (passed : Bool) → passes setup ≡ 
 unfolding end_of
 end_by extent setup passed is = ap (λ (p : Bool). end_lines p extent setup (journal_of setup)) (sym is)
 
+-- that is due where the extent isn't the whole report
+due_at_end : (extent : Extent) (setup : Setup) → (extent ≡ Whole → ⊥) → end_of extent setup ≡ lines_in extent setup
+due_at_end Whole setup other = absurd (other refl)
+due_at_end Short setup other = refl
+due_at_end Bound setup other = refl
+
 -- where a landing passed, its line
 end_line : (extent : Extent) (net : NetState) (setup : Setup) (passed : Bool) (entry : Entry) → passed ≡ true → TookAll net setup passed → entry ≡ net.last → line_of entry ∷ [] ≡ end_of extent setup
 end_line extent net setup passed entry is took entry_is =
     ap (λ (e : Entry). line_of e ∷ []) entry_is ∙ sym (ap last_line (took.last is).1) ∙ end_by extent setup true (sym took.passed_is ∙ is)
 
-pub end-passed : (extent : Extent) (net : NetState) (setup : Setup) (passed : Bool) (entry : Entry) (a b : SinkView) → passed ≡ true → TookAll net setup passed → entry ≡ net.last → WritesLines a b (line_of entry ∷ []) → WritesLines a b (end_of extent setup) × (passed ≡ passes setup)
-end-passed extent net setup passed entry a b is took entry_is written = (subst (WritesLines a b) (end_line extent net setup passed entry is took entry_is) written, took.passed_is)
+pub end-passed : (extent : Extent) (net : NetState) (setup : Setup) (passed : Bool) (entry : Entry) (a b : SinkView) → (extent ≡ Whole → ⊥) → passed ≡ true → TookAll net setup passed → entry ≡ net.last → WritesLines a b (line_of entry ∷ []) → WritesLines a b (lines_in extent setup) × (passed ≡ passes setup)
+end-passed extent net setup passed entry a b other is took entry_is written = (subst (WritesLines a b) (end_line extent net setup passed entry is took entry_is ∙ due_at_end extent setup other) written, took.passed_is)
 
-pub end-broken : (extent : Extent) (net : NetState) (setup : Setup) (passed : Bool) (entry : Entry) (a b : SinkView) → passed ≡ true → TookAll net setup passed → entry ≡ net.last → BreaksOff a b (line_of entry ∷ []) → BreaksOff a b (end_of extent setup)
-end-broken extent net setup passed entry a b is took entry_is broken = subst (BreaksOff a b) (end_line extent net setup passed entry is took entry_is) broken
+pub end-broken : (extent : Extent) (net : NetState) (setup : Setup) (passed : Bool) (entry : Entry) (a b : SinkView) → (extent ≡ Whole → ⊥) → passed ≡ true → TookAll net setup passed → entry ≡ net.last → BreaksOff a b (line_of entry ∷ []) → BreaksOff a b (lines_in extent setup)
+end-broken extent net setup passed entry a b other is took entry_is broken = subst (BreaksOff a b) (end_line extent net setup passed entry is took entry_is ∙ due_at_end extent setup other) broken
 
 -- else what would follow the lines of the steps
 end_ending : (extent : Extent) (net : NetState) (setup : Setup) (passed : Bool) → passed ≡ false → TookAll net setup passed → ending_of extent setup (journal_of setup) ≡ end_of extent setup
 end_ending extent net setup passed is took = end_by extent setup false (sym took.passed_is ∙ is)
 
-pub end-written : (extent : Extent) (net : NetState) (setup : Setup) (passed : Bool) (a b : SinkView) → passed ≡ false → TookAll net setup passed → WritesLines a b (ending_of extent setup (journal_of setup)) → WritesLines a b (end_of extent setup) × (passed ≡ passes setup)
-end-written extent net setup passed a b is took written = (subst (WritesLines a b) (end_ending extent net setup passed is took) written, took.passed_is)
+pub end-written : (extent : Extent) (net : NetState) (setup : Setup) (passed : Bool) (a b : SinkView) → (extent ≡ Whole → ⊥) → passed ≡ false → TookAll net setup passed → WritesLines a b (ending_of extent setup (journal_of setup)) → WritesLines a b (lines_in extent setup) × (passed ≡ passes setup)
+end-written extent net setup passed a b other is took written = (subst (WritesLines a b) (end_ending extent net setup passed is took ∙ due_at_end extent setup other) written, took.passed_is)
 
-pub end-broken_late : (extent : Extent) (net : NetState) (setup : Setup) (passed : Bool) (a b : SinkView) → passed ≡ false → TookAll net setup passed → BreaksOff a b (ending_of extent setup (journal_of setup)) → BreaksOff a b (end_of extent setup)
-end-broken_late extent net setup passed a b is took broken = subst (BreaksOff a b) (end_ending extent net setup passed is took) broken
+pub end-broken_late : (extent : Extent) (net : NetState) (setup : Setup) (passed : Bool) (a b : SinkView) → (extent ≡ Whole → ⊥) → passed ≡ false → TookAll net setup passed → BreaksOff a b (ending_of extent setup (journal_of setup)) → BreaksOff a b (lines_in extent setup)
+end-broken_late extent net setup passed a b other is took broken = subst (BreaksOff a b) (end_ending extent net setup passed is took ∙ due_at_end extent setup other) broken
 
 -- that was written by its extent
 pub ending_written : (extent shown : Extent) (setup : Setup) (past : List Entry) (a b : SinkView) (lines : List (List ℕ)) (result : Result (Unit {0}) Failed) → extent ≡ shown → lines ≡ ending_of shown setup past → Writes result a b lines → Writes result a b (ending_of extent setup past)

@@ -79,30 +79,8 @@ fn write_whole<O: Sink, B: Workbench>(
     Ok(passed)
 }
 
-// Writes what would follow the lines of the steps; where a landing passed, its line alone.
-fn write_end<O: Sink, B: Workbench>(
-    sink: &mut O,
-    extent: Extent,
-    network: &mut Network<B>,
-    schedule: &Schedule,
-) -> Result<bool, Failed>
-    requires { IsUnstarted (net_of B.slots network.old) schedule.now }
-    ensures written { WritesFromStart (end_of extent) (net_of B.slots network.old) schedule.now
-        result (O.shows sink.old) (O.shows sink.new) }
-    ensures stepped { (setup : Setup) →
-        IsBefore (net_of B.slots network.old) setup [] schedule.now →
-        StandsFor (net_of B.slots network.new) setup (journal_of setup) }
-{
-    let passed = take_steps(network, schedule);
-    if passed {
-        write_entry(sink, network.last())?;
-    } else {
-        write_ending(sink, extent, network)?;
-    }
-    Ok(passed)
-}
-
-// Writes what is due by the extent.
+// Writes what is due by the extent: the whole report, or what would follow the lines of its steps;
+// where a landing passed, that is its line alone.
 fn write_lines<O: Sink, B: Workbench>(
     sink: &mut O,
     extent: Extent,
@@ -115,11 +93,16 @@ fn write_lines<O: Sink, B: Workbench>(
     ensures stepped { StepsFromStart extent (net_of B.slots network.old)
         (net_of B.slots network.new) schedule.now result (O.shows sink.old) (O.shows sink.new) }
 {
-    match extent {
-        Extent::Whole => write_whole(sink, network, schedule),
-        Extent::Short => write_end(sink, Extent::Short, network, schedule),
-        Extent::Bound => write_end(sink, Extent::Bound, network, schedule),
+    if let Extent::Whole = extent {
+        return write_whole(sink, network, schedule);
     }
+    let passed = take_steps(network, schedule);
+    if passed {
+        write_entry(sink, network.last())?;
+    } else {
+        write_ending(sink, extent, network)?;
+    }
+    Ok(passed)
 }
 
 /// Steps the network by this schedule, writes the report and hands it on. Returns whether a landing

@@ -27,7 +27,13 @@ fn write_items<O: Sink>(sink: &mut O, script: &Script) -> Result<(), Failed>
     'items: for at in 0..script.len() {
         text.clear();
         let item = script.item(at);
-        item_lines(&mut text, item.host, item.fenced, item.poisoned, &item.request);
+        item_lines(
+            &mut text,
+            item.host,
+            item.fenced,
+            item.poisoned,
+            &item.request,
+        );
         match write_line(sink, text.as_str()) {
             Ok(()) => {}
             Err(failed) => return Err(failed),
