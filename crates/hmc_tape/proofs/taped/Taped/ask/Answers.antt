@@ -1,5 +1,5 @@
 -- The lines of the request are the last of the tape.
-use Rattle.std.proofs.Common.{◌≡◌, ◌∙◌, ◌++◌, List, ℕ, string_bytes, refl, sym, ap, ap₂, subst}
+use Rattle.std.proofs.Common.{◌≡◌, ◌∙◌, ◌++◌, List, ℕ, string_bytes, length, refl, sym, ap, ap₂, subst, arith}
 use Rattle.hmc_script.specs.Items.{ItemFields, asked_item}
 use Rattle.hmc_tape.specs.Tape.{TapedFields, IsTapeOf, taped_of}
 use Rattle.hmc_tape.proofs.Taping.{tape_with_item}
@@ -16,3 +16,7 @@ returns-clause-tape g c = λ setup past is.
     let item : ItemFields = asked_item c.args.host c.args.fenced c.args.poisoned c.args.request.now in
     tape_with_item before now setup past item tape (c.in_default-ask.ensures.stands setup past tape.stands) c.in_default-ask.ensures.plan
     (c.append.ensures ∙ ap₂ (λ (a b : List ℕ). a ++ b) c.in_default-reserve.ensures.bytes (c.as_str.ensures.value ∙ c.item_lines.ensures.text)) refl
+
+pub append-requires : goal.append-requires
+append-requires g c =
+    omega (arith, c.in_default-reserve.ensures.ok, c.in_default-reserve.ensures.len, c.len.ensures.value, ap length c.as_str.ensures.value)
