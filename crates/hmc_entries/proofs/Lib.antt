@@ -1,6 +1,5 @@
 pub mod InOrder
-mod ZeroDigits
-mod FlitRows
+mod NullLines
 mod OwnLine
 mod IdleLines
 mod IdleWords

@@ -8,7 +8,6 @@
 mod entry;
 mod event;
 mod fits;
-mod flit_words;
 mod head;
 mod idle_line;
 mod idle_step;

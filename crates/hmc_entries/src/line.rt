@@ -7,10 +7,6 @@ ghost use Rattle.hex.specs.Hex.{encode_lower};
 ghost use Rattle.hmc_codes.specs.Text.{line, request_text, answer_text};
 ghost use Rattle.hmc_entries.specs.Lines.{line_of, tag_text, request_words, unit_text, what_text, outcome_text, goal_text, lift_text};
 
-use crate::flit_words::{
-    landed_long_null, landed_long_word, landed_null, landed_word, sent_long_null, sent_long_word,
-    sent_null, sent_word,
-};
 use crate::idle_line::idle_line;
 use crate::idle_step::without_mask;
 use crate::pieces::{
@@ -43,44 +39,11 @@ pub(crate) fn gave_line<const N: usize>(
     push_request_end(into, poisoned, request);
 }
 
-// `sent` and the direction.
-#[inline(always)]
-fn push_sent_word<const N: usize>(into: &mut ArrayString<N>, direction: u8)
-    requires room { length into.old.bytes + 25 ≤ N }
-    ensures text { into.new.bytes ≡ into.old.bytes ++ (codes "sent" ++ (32 ∷ decimal direction)) }
-    ensures few { length into.new.bytes ≤ length into.old.bytes + 25 }
-{
-    if direction < 10 {
-        into.push_str(sent_word(direction));
-    } else if direction < 40 {
-        into.push_str(sent_long_word(direction));
-    } else {
-        push_numbered(into, "sent", direction);
-    }
-}
-
-// `landed` and the direction.
-#[inline(always)]
-fn push_landed_word<const N: usize>(into: &mut ArrayString<N>, direction: u8)
-    requires room { length into.old.bytes + 27 ≤ N }
-    ensures text { into.new.bytes ≡ into.old.bytes ++
-        (codes "landed" ++ (32 ∷ decimal direction)) }
-    ensures few { length into.new.bytes ≤ length into.old.bytes + 27 }
-{
-    if direction < 10 {
-        into.push_str(landed_word(direction));
-    } else if direction < 40 {
-        into.push_str(landed_long_word(direction));
-    } else {
-        push_numbered(into, "landed", direction);
-    }
-}
-
 /// The line of a flit that was sent.
 ///
 /// Most are NULLs, and of one piece. Others stand out of line, so that nothing is saved for a call
 /// where there is none.
-#[tactic(auto, using(crate::proofs::ZeroDigits::zero_digits))]
+#[tactic(auto, using(crate::proofs::NullLines::zero_digits))]
 #[inline(always)]
 pub(crate) fn sent_line<const N: usize>(
     into: &mut ArrayString<N>,
@@ -93,12 +56,9 @@ pub(crate) fn sent_line<const N: usize>(
         line (codes "sent" ∷ decimal direction ∷ what_text what ∷ encode_lower flit.now ∷ []) }
     ensures short { length into.new.bytes < length into.old.bytes + 2048 }
 {
-    if direction < 40 && matches!(what, What::Null) && is_null(flit) {
-        if direction < 10 {
-            into.push_str(sent_null(direction));
-        } else {
-            into.push_str(sent_long_null(direction));
-        }
+    if matches!(what, What::Null) && is_null(flit) {
+        push_numbered(into, "sent", direction);
+        into.push_str(" null 00000000000000000000000000000000\n");
     } else {
         any_sent_line(into, direction, what, flit);
     }
@@ -112,14 +72,14 @@ fn any_sent_line<const N: usize>(into: &mut ArrayString<N>, direction: u8, what:
         line (codes "sent" ∷ decimal direction ∷ what_text what ∷ encode_lower flit.now ∷ []) }
     ensures short { length into.new.bytes < length into.old.bytes + 2048 }
 {
-    push_sent_word(into, direction);
+    push_numbered(into, "sent", direction);
     push_what(into, what);
     push_flit(into, flit);
     into.push_str("\n");
 }
 
 /// The line of a flit that landed, as that of one that was sent.
-#[tactic(auto, using(crate::proofs::ZeroDigits::zero_digits))]
+#[tactic(auto, using(crate::proofs::NullLines::zero_digits))]
 #[inline(always)]
 pub(crate) fn landed_line<const N: usize>(
     into: &mut ArrayString<N>,
@@ -133,12 +93,9 @@ pub(crate) fn landed_line<const N: usize>(
         []) }
     ensures short { length into.new.bytes < length into.old.bytes + 2048 }
 {
-    if direction < 40 && matches!(outcome, Outcome::Quiet) && is_null(flit) {
-        if direction < 10 {
-            into.push_str(landed_null(direction));
-        } else {
-            into.push_str(landed_long_null(direction));
-        }
+    if matches!(outcome, Outcome::Quiet) && is_null(flit) {
+        push_numbered(into, "landed", direction);
+        into.push_str(" 00000000000000000000000000000000 quiet\n");
     } else {
         any_landed_line(into, direction, flit, outcome);
     }
@@ -158,7 +115,7 @@ fn any_landed_line<const N: usize>(
         []) }
     ensures short { length into.new.bytes < length into.old.bytes + 2048 }
 {
-    push_landed_word(into, direction);
+    push_numbered(into, "landed", direction);
     push_flit(into, flit);
     push_outcome(into, outcome);
 }

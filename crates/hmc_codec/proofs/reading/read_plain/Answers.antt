@@ -9,4 +9,5 @@ use Rattle.hmc_codec.proofs.reading.read_plain.Goals as goal
 pub returns-in-Ok : goal.returns-in-Ok
 returns-in-Ok c =
     let done : PlainPacket → Result PlainPacket Bad = λ plain. Ok plain in
-    ap done c.plain_of.ensures ∙ ap plain_read (c.in-Ok.ensures.exact ∙ ap (λ (profile : Profile). read_of profile c.args.flits.now) c.profile_of.ensures)
+    ap done c.plain_of.ensures ∙ ap plain_read (c.in-Ok.ensures.exact
+    ∙ ap (λ (profile : Profile). read_of profile c.args.flits.now) c.profile_of.ensures)

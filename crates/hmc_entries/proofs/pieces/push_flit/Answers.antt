@@ -1,7 +1,7 @@
 -- The digits of a NULL are known.
 use Rattle.std.proofs.Common.{◌∙◌, ℕ, List, ◌∷◌, ◌++◌, ap, sym}
 use Rattle.hex.specs.Hex.{encode_lower}
-use Rattle.hmc_entries.proofs.ZeroDigits.{zero_digits}
+use Rattle.hmc_entries.proofs.NullLines.{zero_digits}
 use Rattle.hmc_entries.proofs.pieces.push_flit.Goals as goal
 
 pub returns-then-is_null-clause-text : goal.returns-then-is_null-clause-text

@@ -5,4 +5,5 @@ use Rattle.hmc_kept.specs.LinkAnswers.{landed_by}
 use Rattle.hmc_kept.proofs.answers.note_landed.Goals as goal
 
 pub returns-in-Passed-clause-entry : goal.returns-in-Passed-clause-entry
-returns-in-Passed-clause-entry c = c.passed.ensures ∙ ap (λ (landing : LinkOutcome). landed_by c.args.direction landing) (sym c.in-Passed.is)
+returns-in-Passed-clause-entry c = c.passed.ensures
+    ∙ ap (λ (landing : LinkOutcome). landed_by c.args.direction landing) (sym c.in-Passed.is)

@@ -33,4 +33,5 @@ returns g c =
     let before = c.items.invariant in
     let end : length c.args.script.now ≤ c.items.at =
     omega (arith, c.items-test.false, c.len-at-end.ensures) in
-    lines-all _ _ _ before.0 _ before.1 (no_line item_text c.args.script.now c.items.at end) before.2
+    lines-all _ _ _ before.0 _ before.1 (no_line item_text c.args.script.now c.items.at end)
+    before.2

@@ -2,7 +2,8 @@
 use Rattle.std.proofs.Common.{◌≤◌, ◌⊎◌, inl, inr, arith}
 use Rattle.hmc_accesses.specs.Requests.{read_at}
 use Rattle.hmc_trace.proofs.Runs.{run_none, run_one, run_two, run_ended}
-use Rattle.hmc_trace.proofs.requests.add_reads.Goals.{then-blocks-le8-via-then-blocks-le8, then-blocks-le8-via-else-blocks-le8+then-blocks-eq16}
+use Rattle.hmc_trace.proofs.requests.add_reads.Goals.{then-blocks-le8-via-then-blocks-le8}
+use Rattle.hmc_trace.proofs.requests.add_reads.Goals.{then-blocks-le8-via-else-blocks-le8+then-blocks-eq16}
 use Rattle.hmc_trace.proofs.requests.add_reads.Goals as goal
 
 pub returns-then-blocks-eq0 : goal.returns-then-blocks-eq0

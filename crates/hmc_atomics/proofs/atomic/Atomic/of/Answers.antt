@@ -5,7 +5,8 @@ use Rattle.hmc_atomics.specs.declared.atomic.Atomic.TheVariants as atomics
 use Rattle.hmc_atomics.specs.Operations.{atomic_of}
 use Rattle.hmc_atomics.proofs.atomic.Atomic.of.Goals as goal
 
-atomic_of-increment : (command : Command) → (command ≡ commands.Inc8) ⊎ (command ≡ commands.Pinc8) → Some atomics.Inc8 ≡ atomic_of command
+atomic_of-increment : (command : Command) → (command ≡ commands.Inc8) ⊎ (command ≡ commands.Pinc8) →
+    Some atomics.Inc8 ≡ atomic_of command
 unfolding atomic_of
 atomic_of-increment command (inl is) = rw is refl
 atomic_of-increment command (inr is) = rw is refl

@@ -13,8 +13,20 @@ one_shifted (suc (suc (suc (suc (suc (suc n)))))) h = absurd (omega (arith, h))
 
 pub returns-clause-vault : goal.returns-clause-vault
 returns-clause-vault c =
-    rw (c.from-bytes.ensures, one_shifted c.self.inside.vault_bits (omega (arith, c.self.invariant.vault_bits)), ← c.self.view_is) refl
+    rw (
+      c.from-bytes.ensures,
+      one_shifted c.self.inside.vault_bits
+          (omega (arith, c.self.invariant.vault_bits)),
+      ← c.self.view_is,
+    ) refl
 
 pub returns-clause-bank : goal.returns-clause-bank
 returns-clause-bank c =
-    rw (c.from-bytes.ensures, one_shifted c.self.inside.vault_bits (omega (arith, c.self.invariant.vault_bits)), one_shifted c.self.inside.bank_bits (omega (arith, c.self.invariant.bank_bits)), ← c.self.view_is) refl
+    rw (
+      c.from-bytes.ensures,
+      one_shifted c.self.inside.vault_bits
+          (omega (arith, c.self.invariant.vault_bits)),
+      one_shifted c.self.inside.bank_bits
+          (omega (arith, c.self.invariant.bank_bits)),
+      ← c.self.view_is,
+    ) refl

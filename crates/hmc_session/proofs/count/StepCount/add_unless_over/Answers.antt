@@ -5,4 +5,11 @@ use Rattle.hmc_session.proofs.count.StepCount.add_unless_over.Goals as goal
 
 pub returns-clause-taken : goal.returns-clause-taken
 returns-clause-taken c = λ on.
-    omega (arith, c.self.invariant.some, c.self.invariant.within, c.if-left-eq0.false, ap (λ (count : CountFields). count.taken) c.self.view_is)
+    omega (
+      arith,
+      c.self.invariant.some,
+      c.self.invariant.within,
+      c.if-left-eq0.false,
+      ap
+          (λ (count : CountFields). count.taken) c.self.view_is,
+    )

@@ -13,7 +13,13 @@ pub returns-in-Err-Memory-clause-steps : goal.returns-in-Err-Memory-clause-steps
 returns-in-Err-Memory-clause-steps g c = λ step rest is.
     let before : TapedFields = taped_of g.B.Workbench.slots c.args.self.now in
     let now : TapedFields = taped_of g.B.Workbench.slots c.step.new.self in
-    let first : Some c.in-Some.step ≡ Some step = c.in-Some.ensures ∙ ap (λ (steps : List Step). slice_get steps 0) is in
+    let first : Some c.in-Some.step ≡ Some step =
+    c.in-Some.ensures ∙ ap (λ (steps : List Step). slice_get steps 0) is in
     let same : c.in-Some.step ≡ step = cc in
-    let cause : c.step.result ≡ Err causes.Memory = c.in-Err-Memory.is ∙ ap (λ (cause : NotTaped). Err cause) c.in-Err-Memory.field-0-is in
-    (is, subst (λ (s : Step). TapesBy before now s (Err causes.Memory)) same (subst (λ (r : Result Went NotTaped). TapesBy before now c.in-Some.step r) cause c.step.ensures.steps))
+    let cause : c.step.result ≡ Err causes.Memory =
+    c.in-Err-Memory.is ∙ ap (λ (cause : NotTaped). Err cause) c.in-Err-Memory.field-0-is in (
+      is,
+      subst (λ (s : Step). TapesBy before now s (Err causes.Memory)) same
+          (subst (λ (r : Result Went NotTaped). TapesBy before now c.in-Some.step r) cause
+          c.step.ensures.steps),
+    )

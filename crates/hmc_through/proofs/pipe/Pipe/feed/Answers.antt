@@ -9,11 +9,15 @@ returns-then-at-self c =
     let pipe = c.args.self.now in
     let flits = ap (λ (p : PipeFields). p.flits) c.self.view_is in
     c.last_fed.ensures
-    ∙ ap (λ (b : Bool). if b then last_fed pipe c.args.at pipe.good else whole_fed pipe c.args.at pipe.good) (sym (eq-eqb (suc c.args.at) pipe.flits (omega (arith, c.if-at-self.true, flits))))
+    ∙ ap (λ (b : Bool). if b then last_fed pipe c.args.at pipe.good else whole_fed pipe c.args.at
+    pipe.good) (sym (eq-eqb (suc c.args.at) pipe.flits
+    (omega (arith, c.if-at-self.true, flits))))
 
 pub returns-else-at-self : goal.returns-else-at-self
 returns-else-at-self c =
     let pipe = c.args.self.now in
     let flits = ap (λ (p : PipeFields). p.flits) c.self.view_is in
     c.whole_fed.ensures
-    ∙ ap (λ (b : Bool). if b then last_fed pipe c.args.at pipe.good else whole_fed pipe c.args.at pipe.good) (sym (ne_eqb (suc c.args.at) pipe.flits (λ same. c.if-at-self.false (omega (arith, same, flits)))))
+    ∙ ap (λ (b : Bool). if b then last_fed pipe c.args.at pipe.good else whole_fed pipe c.args.at
+    pipe.good) (sym (ne_eqb (suc c.args.at) pipe.flits
+    (λ same. c.if-at-self.false (omega (arith, same, flits)))))

@@ -8,7 +8,8 @@ use Rattle.hmc_through.proofs.pipe.Pipe.flit_at.Goals as goal
 pub returns : goal.returns
 unfolding zero_flit
 returns c =
-    let found : unwrap_or c.copied.result zero_flit ≡ get_or c.args.self.now.came c.args.at zero_flit = first_of (
+    let found : unwrap_or c.copied.result zero_flit
+    ≡ get_or c.args.self.now.came c.args.at zero_flit = first_of (
       search rules,
       grind (arith, common_steps),
       grind (arith, elements),
