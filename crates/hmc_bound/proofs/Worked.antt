@@ -1,6 +1,6 @@
 -- Worked values of the drain bound: how many whole rounds are enough where nothing is under way, or
 -- two packets.
-use Rattle.std.proofs.Common.{◌≡◌, ◌≤◌, ◌+◌, ◌*◌, inl, inr, ℕ, List, ap, arith}
+use Rattle.std.proofs.Common.{◌≡◌, ◌+◌, ◌*◌, inl, inr, ℕ, List, ap, arith}
 use Rattle.hmc_entries.specs.declared.entry.Entry.{Entry}
 use Rattle.hmc_journal.specs.Settled.{AreSettled}
 use Rattle.hmc_journal.specs.Setup.{Setup, Topology}

@@ -1,14 +1,14 @@
 -- What has come of a report and of a text, and where they differ.
-use Rattle.std.proofs.Common.{◌≡◌, ◌≤◌, ◌<◌, ◌+◌, ◌-◌, ◌∙◌, ℕ, zero, suc, Bool, true, false, not, if◌then◌else◌, nat_lt, Option, Some, None, List, [], ◌∷◌, ◌++◌, length, take, drop, min, get_or, slice_get, ◌==◌, refl, sym, ap, subst, arith, append_assoc, append-nil, lt-ltb, eq-eqb, ne_eqb, eqb-true}
+use Rattle.std.proofs.Common.{◌≡◌, ◌≤◌, ◌<◌, ◌+◌, ◌-◌, ◌∙◌, ℕ, zero, suc, Bool, true, false, not, if◌then◌else◌, nat_lt, Some, None, List, [], ◌∷◌, ◌++◌, length, take, drop, min, get_or, slice_get, ◌==◌, refl, sym, ap, subst, arith, append_assoc, append-nil, lt-ltb, eq-eqb, ne_eqb, eqb-true}
 use Rattle.std.proofs.Math.Seq.{take-append_seam, drop-append_seam, take-suc}
 use Rattle.std.specs.Str.{bytes_eq}
 use Rattle.std.specs.List.{concat}
 use Rattle.std.proofs.lemmas.Bool.Decides.{Decides-eqb}
 use Rattle.std.proofs.lemmas.Slice.Eq.{starts_is}
 use Rattle.std.proofs.lemmas.List.{take-append-drop, length-append, length-take-le}
-use Rattle.hmc_check.specs.Fronts.{is_feed, front_lines, feeds_in, is_open_after, lines_in}
+use Rattle.hmc_check.specs.Fronts.{is_feed, feeds_in, is_open_after, lines_in}
 use Rattle.hmc_check.specs.Verdict.{capped}
-use Rattle.hmc_check.specs.Differs.{BeginsWith, DiffersAt, Compares, HaveInCommon, HasCome, ends_open, differs_line}
+use Rattle.hmc_check.specs.Differs.{DiffersAt, Compares, HaveInCommon, HasCome, differs_line}
 use Rattle.hmc_check.proofs.Fronts.{differs_here, differs_end}
 
 pub line_came : (text report rest due more left now : List ℕ) → HasCome text report rest left → left ≡ due ++ now → rest ≡ due ++ more → HasCome text report more now

@@ -1,6 +1,6 @@
 -- The step through.
-use Rattle.std.proofs.Common.{◌≡◌, ◌≤◌, ◌<◌, ◌/◌, ◌&&◌, ◌||◌, ◌∙◌, ℕ, Bool, true, false, not, if◌then◌else◌, Option, Some, None, List, [], ◌∷◌, length, refl, sym, ap, ap₂, subst, arith}
-use Rattle.std.specs.Prelude.{is_some, is_none, slice_get, slice_index_or, option_and_then}
+use Rattle.std.proofs.Common.{◌≡◌, ◌≤◌, ◌<◌, ◌/◌, ◌&&◌, ◌∙◌, ℕ, Bool, true, false, not, Option, Some, None, List, [], length, refl, sym, ap, ap₂, subst, arith}
+use Rattle.std.specs.Prelude.{is_some, slice_get, slice_index_or, option_and_then}
 use Rattle.hmc_codes.specs.declared.place.Place.{Place}
 use Rattle.hmc_codes.specs.declared.place.Place.TheVariants as places
 use Rattle.hmc_codes.specs.declared.profile.Profile.{Profile}
@@ -8,11 +8,9 @@ use Rattle.hmc_case.specs.declared.setup.LinkRow.{LinkRow}
 use Rattle.hmc_packet.specs.declared.feed.Feed.TheVariants.{Waiting}
 use Rattle.hmc_packet.specs.declared.head.Head.{Head}
 use Rattle.hmc_packet.specs.Head.{head_in}
-use Rattle.hmc_packet.specs.Packet.{PacketFields}
 use Rattle.hmc_packet.specs.Parts.{lng_of}
-use Rattle.hmc_send.specs.LinkCalls.{LinkCall, next_entry, with_entry, entry_if, view_in, may_pass_on, names_flits}
+use Rattle.hmc_send.specs.LinkCalls.{LinkCall, view_in, may_pass_on, names_flits}
 use Rattle.hmc_send.specs.LinkEntries.{LinkEntry}
-use Rattle.hmc_ends.specs.Answers.{after_call, front_in}
 use Rattle.hmc_ends.specs.End.{EndFields}
 use Rattle.hmc_through.specs.Pipe.{PipeFields}
 use Rattle.hmc_schedule.specs.declared.step.Step.{Step}
@@ -24,20 +22,17 @@ use Rattle.hmc_journal.specs.Directions.{profile_of}
 use Rattle.hmc_journal.specs.Lawful.{has_passed}
 use Rattle.hmc_journal.specs.Links.{toward, direction_to, forwarded_on}
 use Rattle.hmc_journal.specs.Next.{choice, next}
-use Rattle.hmc_journal.specs.Queues.{landing_buffer, buffer_at}
-use Rattle.hmc_journal.specs.Queues.QueueId.{Port}
-use Rattle.hmc_journal.specs.Setup.{Topology, Setup, directions_in, direction_from}
-use Rattle.hmc_journal.specs.StepView.{StepView, view_of}
-use Rattle.hmc_journal.specs.ThroughSteps.{gathered_head, onward_port, is_forwarded, takes_on, forwarded_entry, through_head}
+use Rattle.hmc_journal.specs.Setup.{Topology, Setup, directions_in}
+use Rattle.hmc_journal.specs.StepView.{view_of}
+use Rattle.hmc_journal.specs.ThroughSteps.{gathered_head, onward_port, forwarded_entry}
 use Rattle.hmc_kept.specs.After.{entries_after, gathered_from, begun_from}
 use Rattle.hmc_kept.specs.Pipes.{forwarded_at, after_begin}
-use Rattle.hmc_kept.specs.Shown.{ShowsDirection, AreShort, gathered, some_flits}
+use Rattle.hmc_kept.specs.Shown.{AreShort, gathered, some_flits}
 use Rattle.hmc_kept.specs.Throughs.{pipe_fields, IsOnto, is_free}
-use Rattle.hmc_journal.proofs.DirectionEnds.{ends_at, starts_there}
+use Rattle.hmc_journal.proofs.DirectionEnds.{ends_at}
 use Rattle.hmc_kept.proofs.Called.{called_puts, begin_call}
 use Rattle.hmc_kept.proofs.PipeLemmas.{begin_counted}
-use Rattle.hmc_kept.proofs.LawsShown.{direction_shown}
-use Rattle.hmc_kept.proofs.Found.{found_by, none_by, short_by, names_lng, flits_first, not_some, head_here}
+use Rattle.hmc_kept.proofs.Found.{found_by, none_by, short_by, names_lng, head_here}
 use Rattle.hmc_journal.proofs.Packets.{head_lng}
 use Rattle.hmc_directions.specs.Ends.{EndsHold}
 use Rattle.hmc_kept.specs.ByDirection.{IsArrival, IsGathered, IsTaking, MayBegin}
@@ -45,10 +40,10 @@ use Rattle.hmc_kept.specs.Called.{sizes_by, called}
 use Rattle.hmc_check.specs.Inside.{inside_of}
 use Rattle.hmc_check.specs.Moving.{IsHeadAt, IsFree, IsComing}
 use Rattle.hmc_check.specs.Past.{PastFields, Holds, IsNextStep, TakesStep, IsNextOfSome}
-use Rattle.hmc_check.proofs.Holding.{takes, idle_takes, law_of, same_hold, laws_of}
+use Rattle.hmc_check.proofs.Holding.{takes, idle_takes, same_hold, laws_of}
 use Rattle.hmc_check.proofs.Landing.{forwarded_seen}
 use Rattle.hmc_check.proofs.Outer.{outer_queues}
-use Rattle.hmc_kept.proofs.Throughs.{onto_by, by_head, busy_by, free_entry, forwarded_first, all_found as all_seen, head_found as head_seen, free_seen, free_found as found_free, free_takes as takes_seen}
+use Rattle.hmc_kept.proofs.Throughs.{onto_by, by_head, free_entry, forwarded_first, all_found as all_seen, head_found as head_seen, free_seen, free_found as found_free, free_takes as takes_seen}
 use Rattle.hmc_check.proofs.Outgoing.{view_hold}
 
 -- ---- what is kept is what is seen

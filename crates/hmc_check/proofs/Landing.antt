@@ -9,7 +9,7 @@ use Rattle.hmc_send.specs.LinkCalls as calls
 use Rattle.hmc_send.specs.LinkEntries.{LinkEntry}
 use Rattle.hmc_send.specs.LinkLines.{StampedFlit, line}
 use Rattle.hmc_ends.specs.End.{EndFields}
-use Rattle.hmc_ends.specs.Outcomes.{front_outcome, came_as, outcome_passed}
+use Rattle.hmc_ends.specs.Outcomes.{front_outcome, outcome_passed}
 use Rattle.hmc_ends.specs.declared.link_outcome.LinkOutcome.{LinkOutcome}
 use Rattle.hmc_ends.specs.declared.link_outcome.LinkOutcome.TheVariants as lands
 use Rattle.hmc_serial.specs.Machine.{machine_of}

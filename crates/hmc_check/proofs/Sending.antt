@@ -5,7 +5,6 @@ use Rattle.hmc_packet.specs.declared.feed.Feed.{Feed}
 use Rattle.hmc_send.specs.Choice.{choice as send_choice}
 use Rattle.hmc_send.specs.LinkCalls.{LinkCall, is_full, view_in}
 use Rattle.hmc_send.specs.LinkEntries.{LinkEntry}
-use Rattle.hmc_send.specs.declared.sent.Sent.TheVariants.{Out, Starved}
 use Rattle.hmc_ends.specs.Answers.{link_sent}
 use Rattle.hmc_ends.specs.declared.link_sent.LinkSent.{LinkSent}
 use Rattle.hmc_ends.specs.declared.link_sent.LinkSent.TheVariants as sends

@@ -1,16 +1,12 @@
 -- What the comparison with the one whole journal's text says of a report.
-use Rattle.std.proofs.Common.{◌≡◌, ◌≤◌, ◌<◌, ◌∙◌, ◌⊎◌, inl, inr, ℕ, zero, suc, Option, Some, None, Result, Ok, Err, List, [], ◌∷◌, ◌++◌, length, refl, sym, ap, subst, arith, append_assoc}
-use Rattle.hmc_entries.specs.declared.entry.Entry.{Entry}
-use Rattle.hmc_journal.specs.Lawful.{IsWhole, journal_of}
+use Rattle.std.proofs.Common.{◌≡◌, ◌≤◌, ◌<◌, ◌∙◌, ◌⊎◌, inl, inr, ℕ, zero, suc, Option, Some, None, Ok, List, length, refl, sym, ap, subst, arith}
+use Rattle.hmc_journal.specs.Lawful.{journal_of}
 use Rattle.hmc_journal.specs.Setup.{Setup}
 use Rattle.hmc_journal.proofs.OneJournal.{journal_of-whole}
 use Rattle.hmc_journal.proofs.Whole.{journal_is_whole}
-use Rattle.hmc_check.specs.declared.checker.CheckFault.{CheckFault}
-use Rattle.hmc_check.specs.declared.checker.CheckFault.TheVariants.{Memory, Unlawful}
 use Rattle.hmc_check.specs.Fronts.{front_lines, lines_in}
-use Rattle.std.specs.List.{concat}
-use Rattle.hmc_journal.specs.Report.{report_lines, report_text}
-use Rattle.hmc_check.specs.Verdict.{IsLawfulReport, Fits, IsLeastUnfit, capped, IsVerdict}
+use Rattle.hmc_journal.specs.Report.{report_text}
+use Rattle.hmc_check.specs.Verdict.{IsLawfulReport, Fits, IsLeastUnfit, IsVerdict}
 use Rattle.hmc_check.specs.Differs.{BeginsWith, DiffersAt, Compares, verdict_by}
 use Rattle.hmc_check.proofs.Fronts.{front_begins}
 

@@ -1,5 +1,5 @@
 -- Rows: lines of reports, computed, and answers that are no verdict.
-use Rattle.std.proofs.Common.{◌≡◌, ◌<◌, ℕ, List, [], ◌∷◌, Some, None, Ok, Err, refl, ap, arith}
+use Rattle.std.proofs.Common.{◌≡◌, ◌<◌, ℕ, List, [], ◌∷◌, Some, None, Ok, Err, refl, arith}
 use Rattle.hmc_journal.specs.Setup.{Setup}
 use Rattle.hmc_check.specs.declared.checker.CheckFault.TheVariants.{Unlawful}
 use Rattle.hmc_check.specs.Due.{line_at}

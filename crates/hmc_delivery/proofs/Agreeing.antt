@@ -1,5 +1,5 @@
 -- The queues of a journal hold what they hold after its moves.
-use Rattle.std.proofs.Common.{◌≡◌, ◌≤◌, ◌<◌, ◌+◌, ◌∙◌, ◌==◌, ◌&&◌, ℕ, zero, suc, Bool, true, false, if◌then◌else◌, Option, Some, None, List, [], ◌∷◌, ◌++◌, map, drop, length, refl, sym, ap, arith, zero-add, eqb-true, eq-eqb}
+use Rattle.std.proofs.Common.{◌≡◌, ◌<◌, ◌∙◌, ◌==◌, ℕ, Bool, true, false, if◌then◌else◌, Option, Some, None, List, [], ◌∷◌, map, refl, sym, ap, eqb-true, eq-eqb}
 use Rattle.std.specs.Prelude.{option_and_then, nat_lt}
 use Rattle.std.proofs.lemmas.Bool.{false_from_ne_true}
 use mathlib.Core.Bool.{and-false, and-true}
@@ -12,8 +12,8 @@ use Rattle.hmc_routes.specs.Route.{Goal as goals}
 use Rattle.hmc_hops.specs.Queues.{same_queue as same_hop, QueueId as hops}
 use Rattle.hmc_hops.specs.Moves.{Move, without, without_if, packet_if as hop_if, contents as hop_contents}
 use Rattle.hmc_entries.specs.declared.entry.Entry.{Entry}
-use Rattle.hmc_journal.specs.Queues.{QueueId, same_queue, is_at, buffer_at, one_if, packet_if, leaves, left, entered, contents, QueueId as queues}
-use Rattle.hmc_journal.specs.Setup.{Topology, Setup, graph_of, cubes_in, hosts_in, directions_in, start_of, end_of, direction_from}
+use Rattle.hmc_journal.specs.Queues.{QueueId, same_queue, buffer_at, packet_if, contents, QueueId as queues}
+use Rattle.hmc_journal.specs.Setup.{Topology, graph_of, cubes_in, hosts_in, directions_in, start_of, end_of, direction_from}
 use Rattle.hmc_journal.proofs.Moves.{same_queue_refl}
 use Rattle.hmc_laws.proofs.Contents.{pop}
 use Rattle.hmc_laws.proofs.Wired.{Wired, ends_there, same_buffers}

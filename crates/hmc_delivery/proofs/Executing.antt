@@ -1,5 +1,5 @@
 -- What a journal says that units executed is what its moves say.
-use Rattle.std.proofs.Common.{◌≡◌, ◌∙◌, ◌==◌, ◌&&◌, ℕ, Bool, true, false, if◌then◌else◌, Option, List, [], ◌∷◌, ◌++◌, refl, sym, ap, ap₂}
+use Rattle.std.proofs.Common.{◌≡◌, ◌∙◌, ◌==◌, ◌&&◌, ℕ, Bool, if◌then◌else◌, Option, List, [], ◌∷◌, ◌++◌, refl, sym, ap, ap₂}
 use Rattle.hmc_codes.specs.Commands.{is_posted}
 use Rattle.hmc_codes.specs.Request.{RequestFields}
 use Rattle.hmc_codes.specs.declared.answer.Answer.{Answer}
@@ -10,7 +10,7 @@ use Rattle.hmc_packet.specs.Packet.{PacketFields}
 use Rattle.hmc_packet.specs.Transactions.{request_packet, request_in}
 use Rattle.hmc_packet.specs.declared.what.What.TheVariants as what
 use Rattle.hmc_hops.specs.Packets.{same_spot}
-use Rattle.hmc_hops.specs.Flows.{item_if, tag_by, executed_requests, executed_by as hop_executed_by}
+use Rattle.hmc_hops.specs.Flows.{tag_by, executed_requests, executed_by as hop_executed_by}
 use Rattle.hmc_hops.specs.Moves.Move.{Executes}
 use Rattle.hmc_journal.specs.Answers.{tag_of}
 use Rattle.hmc_entries.specs.declared.entry.Entry.{Entry}

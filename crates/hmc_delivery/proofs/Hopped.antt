@@ -49,7 +49,6 @@ use Rattle.hmc_laws.proofs.Entering.{Kept, front_stands, has_direction, runs_req
 use Rattle.hmc_laws.proofs.Sound.{kept}
 use Rattle.hmc_laws.proofs.SoundSends.{has_begun}
 use Rattle.hmc_laws.proofs.SoundTakes.{through_of}
-use Rattle.hmc_packet.specs.Landings.{pending}
 use Rattle.hmc_journal.specs.Piped.{forwarded_onto, pipe_onto}
 use Rattle.hmc_laws.proofs.PipeSteps.{IsUp}
 use Rattle.hmc_laws.proofs.UnsentFlits.{AreGathered}

@@ -1,5 +1,5 @@
 -- The ends after a call in a direction.
-use Rattle.std.proofs.Common.{◌≡◌, ◌≢◌, ◌<◌, ◌*◌, ◌+◌, ◌-◌, ◌/◌, ◌%◌, ◌==◌, ◌∙◌, ◌⊎◌, inl, inr, ℕ, zero, suc, Bool, true, false, if◌then◌else◌, List, [], ◌∷◌, length, refl, sym, ap, subst, arith, eqb-true, eq-eqb}
+use Rattle.std.proofs.Common.{◌≡◌, ◌≢◌, ◌<◌, ◌*◌, ◌+◌, ◌-◌, ◌/◌, ◌%◌, ◌==◌, ◌∙◌, ℕ, zero, suc, Bool, true, false, if◌then◌else◌, List, [], ◌∷◌, length, refl, sym, ap, subst, arith, eqb-true, eq-eqb}
 use Rattle.std.specs.Prelude.{slice_set, slice_index_or}
 use Rattle.std.proofs.lemmas.List.{length-set, get_or-set_same, get_or-set_other}
 use Rattle.hmc_codes.specs.Link.{LinkFields}
@@ -12,9 +12,7 @@ use Rattle.hmc_send.specs.declared.toward.Toward.{Toward}
 use Rattle.hmc_send.specs.declared.toward.Toward.TheVariants.{Forth, Back}
 use Rattle.hmc_ends.specs.Answers.{after_call}
 use Rattle.hmc_ends.specs.End.{EndFields}
-use Rattle.hmc_ends.specs.Parts.{parts_of}
-use Rattle.hmc_ends.specs.StandsFor.{EndStandsFor, EndsStandFor}
-use Rattle.hmc_ends.proofs.Steps.{Steps}
+use Rattle.hmc_ends.specs.StandsFor.{EndsStandFor}
 use Rattle.hmc_journal.specs.Links.{toward}
 use Rattle.hmc_journal.proofs.Joins.{other_other, other_half, other_inside}
 use Rattle.hmc_directions.specs.Ends.{EndsHold}

@@ -1,5 +1,5 @@
 -- Ends that did nothing.
-use Rattle.std.proofs.Common.{◌≡◌, ◌<◌, ◌*◌, ◌+◌, ◌/◌, ◌==◌, ◌∙◌, ℕ, Bool, true, false, List, [], ◌∷◌, ◌++◌, length, refl, sym, ap, subst, arith, eqb-true, eq-eqb}
+use Rattle.std.proofs.Common.{◌≡◌, ◌<◌, ◌*◌, ◌+◌, ◌==◌, ◌∙◌, ℕ, Bool, true, false, List, [], ◌∷◌, ◌++◌, length, refl, sym, subst, arith, eqb-true, eq-eqb}
 use Rattle.std.specs.Prelude.{slice_index_or}
 use Rattle.std.proofs.lemmas.List.{get_or_push, length_push, get_or_append_left}
 use Rattle.hmc_codes.specs.Link.{LinkFields, IsLinkSetup}
@@ -8,12 +8,10 @@ use Rattle.hmc_routes.specs.Directions.{other}
 use Rattle.hmc_send.specs.LinkCalls.{IsLawful}
 use Rattle.hmc_send.specs.LinkSenders.{sender_entries}
 use Rattle.hmc_send.specs.LinkEntries as ways
-use Rattle.hmc_send.specs.LinkEntries.{LinkEntry}
 use Rattle.hmc_send.specs.declared.toward.Toward.{Toward}
-use Rattle.hmc_send.specs.declared.toward.Toward.TheVariants.{Forth, Back}
 use Rattle.hmc_ends.specs.End.{EndFields}
 use Rattle.hmc_ends.specs.Parts.{parts_of}
-use Rattle.hmc_ends.specs.StandsFor.{EndStandsFor, EndsStandFor}
+use Rattle.hmc_ends.specs.StandsFor.{EndStandsFor}
 use Rattle.hmc_wire.specs.Conditions.{AreHanded, AreFed}
 use Rattle.hmc_wire.specs.LinkLaws.{IsKept}
 use Rattle.hmc_journal.specs.Links.{toward}

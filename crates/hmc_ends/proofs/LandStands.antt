@@ -11,7 +11,7 @@ use Rattle.hmc_packet.specs.declared.kind.Kind.TheVariants.{Start}
 use Rattle.hmc_packet.specs.declared.landed.Landed.{Landed}
 use Rattle.hmc_packet.specs.declared.outcome.Outcome.{Outcome}
 use Rattle.hmc_packet.specs.declared.outcome.Outcome.TheVariants.{Quiet, Trained, Gathered, Accepted, Poisoned, Repeat, AbortedBad, AbortedOrder, Ran}
-use Rattle.hmc_packet.specs.Landings.{ReceiverEntry, accepted}
+use Rattle.hmc_packet.specs.Landings.{accepted}
 use Rattle.hmc_packet.specs.Landings.ReceiverEntry.{Land}
 use Rattle.hmc_packet.specs.Landings as packets
 use Rattle.hmc_packet.specs.Packet.{PacketFields, flits_of}

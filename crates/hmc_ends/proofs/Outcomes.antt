@@ -1,6 +1,5 @@
 -- What a landing gives without the packet that is accepted, and with it.
 use Rattle.std.proofs.Common.{◌≡◌, ◌∙◌, ℕ, Bool, true, false, List, Option, Some, None, refl, sym, ap}
-use Rattle.std.specs.Prelude.{slice_get}
 use Rattle.hmc_codes.specs.Link.{LinkFields}
 use Rattle.hmc_packet.specs.Masks.{under_mask}
 use Rattle.hmc_packet.specs.Packet.{PacketFields}

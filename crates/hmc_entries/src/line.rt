@@ -41,8 +41,8 @@ pub(crate) fn gave_line<const N: usize>(
 
 /// The line of a flit that was sent.
 ///
-/// Most are NULLs, and of one piece. Others stand out of line, so that nothing is saved for a call
-/// where there is none.
+/// Most are NULLs, whose digits are known. Others stand out of line, so that nothing is saved for a
+/// call where there is none.
 #[tactic(auto, using(crate::proofs::NullLines::zero_digits))]
 #[inline(always)]
 pub(crate) fn sent_line<const N: usize>(

@@ -9,7 +9,7 @@ use Rattle.hmc_send.specs.LinkEntries.{LinkEntry}
 use Rattle.hmc_send.specs.LinkLines.{line}
 use Rattle.hmc_ends.specs.Answers.{link_sent, sends_none}
 use Rattle.hmc_link.specs.Held.{LinkHeld}
-use Rattle.hmc_ends.specs.Outcomes.{front_outcome, came_as, outcome_passed, outcome_none}
+use Rattle.hmc_ends.specs.Outcomes.{front_outcome, outcome_passed, outcome_none}
 use Rattle.hmc_ends.specs.declared.link_outcome.LinkOutcome.{LinkOutcome}
 use Rattle.hmc_ends.specs.declared.link_outcome.LinkOutcome.TheVariants as lands
 use Rattle.hmc_ends.specs.declared.link_sent.LinkSent.{LinkSent}

@@ -1,5 +1,5 @@
 -- What several reads in a row come to.
-use Rattle.std.proofs.Common.{◌≡◌, ◌≤◌, ◌<◌, ◌+◌, ◌∙◌, ℕ, zero, suc, refl, sym, ap, arith}
+use Rattle.std.proofs.Common.{◌≡◌, ◌≤◌, ◌<◌, ◌∙◌, ℕ, zero, suc, refl, sym, ap, arith}
 use Rattle.hmc_outside.specs.Raised.{raised, raised_by}
 use Rattle.hmc_outside.specs.Reading.{empty_after, ReadsOnce, ReadsFew}
 use Rattle.hmc_outside.specs.Views.{SourceView}

@@ -4,7 +4,7 @@ use Rattle.hmc_case.specs.Case.{CaseFields, case_of}
 use Rattle.hmc_case.specs.Line.{bad_line}
 use Rattle.hmc_case.specs.Reading.{Fault}
 use Rattle.hmc_replay.specs.Answered.{IsLine}
-use Rattle.hmc_replay.specs.RunAnswer.{IsRefusal, IsRefused}
+use Rattle.hmc_replay.specs.RunAnswer.{IsRefused}
 use Rattle.hmc_replay.specs.Top.{NoneOf}
 
 pub same_case : (result : Result CaseFields Fault) (case other : CaseFields) → result ≡ Ok case →

@@ -1,7 +1,7 @@
 -- What is sent is a flit of 16 bytes, whatever is sent, and stays one under a mask. Used by Senders,
 -- Choices, Ways and Links.
-use Rattle.std.proofs.Common.{◌≡◌, ◌≢◌, ◌∙◌, ◌<◌, ◌≤◌, ◌*◌, ℕ, zero, suc, List, [], ◌∷◌, ◌++◌, length, get_or, drop, take, Some, refl, sym, ap, subst, arith}
-use Rattle.std.specs.Prelude.{slice_get, bit_xor, replicate}
+use Rattle.std.proofs.Common.{◌≡◌, ◌∙◌, ◌<◌, ◌*◌, ℕ, zero, suc, List, [], ◌∷◌, ◌++◌, length, get_or, drop, Some, refl, sym, ap, subst, arith}
+use Rattle.std.specs.Prelude.{slice_get, replicate}
 use Rattle.std.proofs.lemmas.List.{length-take, length-drop}
 use Rattle.std.proofs.lemmas.Nat.{xor_of_8}
 use Rattle.hmc_codes.specs.Bytes.{IsBytes}
@@ -14,7 +14,7 @@ use Rattle.hmc_codes.proofs.BytesLemmas.{IsBytes-append, IsBytes-take, IsBytes-d
 use Rattle.hmc_packet.specs.declared.kind.Kind.{Kind}
 use Rattle.hmc_packet.specs.Irtry.{irtry_flit, irtry_packet}
 use Rattle.hmc_packet.specs.Packet.{PacketFields, IsPacket, flits_of, null_packet}
-use Rattle.hmc_packet.specs.Spelling.{bytes_of, covered, cut, half_bytes, spelling, training_flit, word_bytes}
+use Rattle.hmc_packet.specs.Spelling.{bytes_of, covered, cut, training_flit, word_bytes}
 use Rattle.hmc_packet.proofs.AloneLemmas.{IsPacket-irtry_packet}
 use Rattle.hmc_packet.proofs.DraftLemmas.{cut-at}
 use Rattle.hmc_packet.proofs.PacketLemmas.{IsPacket-pret}

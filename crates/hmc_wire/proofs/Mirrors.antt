@@ -25,7 +25,7 @@ use Rattle.hmc_packet.specs.Reading.{read_of}
 use Rattle.hmc_packet.specs.Receptions.{LandingView, landing_view, reception_of, reception_by, is_next, is_repeat, packet_reception}
 use Rattle.hmc_wire.proofs.LandingCases.{Case, Case as case, case_of}
 use Rattle.hmc_wire.proofs.Grammar.{Read as reads}
-use Rattle.hmc_wire.proofs.GrammarLandings.{Mode, Mode as modes, Outcome, Outcome as outcomes, Landings, Landing as lands, mode_at, mode_by, pending_by, run_by, training_by, taken_by, is_of, is_steady}
+use Rattle.hmc_wire.proofs.GrammarLandings.{Mode, Landings, Landing as lands, mode_at, mode_by, pending_by, run_by, training_by, taken_by, is_of, is_steady}
 use Rattle.hmc_wire.proofs.GrammarLandings as inner
 use Rattle.hmc_wire.proofs.GrammarCounted.{counted}
 use Rattle.hmc_wire.proofs.Words.{kind_as, mode_as, outcome_as}

@@ -1,7 +1,6 @@
 -- The directions of places, by what a wiring keeps.
-use Rattle.std.proofs.Common.{◌≡◌, ◌≤◌, ◌<◌, ◌*◌, ◌+◌, ◌/◌, ◌%◌, ◌↔◌, ◌∙◌, ℕ, Bool, IsTrue, nat_lt, true, Option, Some, None, List, length, refl, sym, ap, arith, ltb-true, lt-ltb}
+use Rattle.std.proofs.Common.{◌≡◌, ◌≤◌, ◌<◌, ◌*◌, ◌+◌, ◌/◌, ◌%◌, ◌↔◌, ◌∙◌, ℕ, Bool, IsTrue, true, Option, Some, None, List, length, refl, sym, ap, arith, ltb-true, lt-ltb}
 use Rattle.std.specs.Prelude.{is_some, slice_index_or, IfSome}
-use Rattle.std.proofs.lemmas.Bool.Decides.{nat_tests}
 use Rattle.hmc_codes.specs.Graph.{GraphFields}
 use Rattle.hmc_codes.specs.declared.place.Place.{Place}
 use Rattle.hmc_codes.specs.declared.place.Place.TheVariants as places

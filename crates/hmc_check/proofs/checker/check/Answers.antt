@@ -1,6 +1,6 @@
 -- The network stands for the case.
-use Rattle.std.proofs.Common.{refl, sym}
-use Rattle.hmc_check.proofs.Following.{opening_at, memory_verdict}
+use Rattle.std.proofs.Common.{sym}
+use Rattle.hmc_check.proofs.Following.{opening_at}
 use Rattle.hmc_check.proofs.checker.check.Goals as goal
 
 pub check_in-requires : goal.check_in-requires

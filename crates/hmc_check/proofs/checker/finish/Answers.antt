@@ -1,5 +1,5 @@
 -- By whether a landing passed.
-use Rattle.std.proofs.Common.{true, false, Bool, [], subst, sym, ap, ◌∙◌}
+use Rattle.std.proofs.Common.{Bool, [], subst, sym}
 use Rattle.hmc_check.specs.Past.{past_of}
 use Rattle.hmc_check.specs.Following.{FollowedAll}
 use Rattle.hmc_check.proofs.Following.{ended_passed, before_final}

@@ -1,7 +1,6 @@
 -- One line more; or one by which they differ.
-use Rattle.std.proofs.Common.{[], ◌∷◌, ◌++◌, List, ℕ, ap, subst, sym, ◌∙◌}
+use Rattle.std.proofs.Common.{◌∙◌}
 use Rattle.std.specs.List.{concat}
-use Rattle.hmc_check.specs.Differs.{HasCome}
 use Rattle.hmc_check.proofs.Following.{final_come}
 use Rattle.hmc_check.proofs.checker.follow_final.Goals as goal
 

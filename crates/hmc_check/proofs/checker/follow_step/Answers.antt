@@ -1,7 +1,7 @@
 -- The line of the step is gathered, or the report differs before it.
 use Rattle.std.proofs.Common.{◌∙◌, ◌+◌, ◌++◌, ap}
 use Rattle.hmc_entries.specs.Lines.{line_of}
-use Rattle.hmc_check.proofs.Following.{next_due, some_number, line_come, line_has, rest_few}
+use Rattle.hmc_check.proofs.Following.{next_due, line_come, line_has, rest_few}
 use Rattle.hmc_check.proofs.Rounds.{followed_step}
 use Rattle.hmc_check.proofs.checker.follow_step.Goals as goal
 

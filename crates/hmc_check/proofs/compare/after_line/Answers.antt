@@ -1,5 +1,4 @@
 -- By what they have in common.
-use Rattle.std.proofs.Common.{arith}
 use Rattle.hmc_check.proofs.Comparing.{line_follows, line_parts}
 use Rattle.hmc_check.proofs.compare.after_line.Goals as goal
 

@@ -1,5 +1,5 @@
 -- One more is made.
-use Rattle.std.proofs.Common.{◌≤◌, ◌∙◌, ap, arith, length}
+use Rattle.std.proofs.Common.{◌∙◌, ap, arith}
 use Rattle.hmc_case.specs.Setup.{CubeSetupFields}
 use Rattle.hmc_check.specs.Opening.{queues_setup}
 use Rattle.hmc_check.proofs.Lists.{one_made, all_made}

@@ -1,4 +1,4 @@
-use Rattle.std.proofs.Common.{◌∙◌, ap, nat_eq, ℕ, take, drop}
+use Rattle.std.proofs.Common.{◌∙◌, ap, nat_eq, take}
 use Rattle.hmc_crc.specs.Remainder.{crc_of}
 use Rattle.hmc_packet.proofs.AloneLemmas.{checked_front, covered_twelve}
 use Rattle.hmc_packet.proofs.alone.is_checked.Goals as goal

@@ -1,5 +1,5 @@
 -- The parts of the input, if it has them.
-use Rattle.std.proofs.Common.{◌≤◌, length, sym, arith}
+use Rattle.std.proofs.Common.{sym, arith}
 use Rattle.hmc_replay.specs.Units.{slots_of}
 use Rattle.hmc_replay.proofs.CheckAnswers.{answers_parts, parts_few}
 use Rattle.hmc_replay.proofs.check.answer.Goals as goal

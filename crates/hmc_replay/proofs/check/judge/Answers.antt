@@ -1,6 +1,5 @@
 -- By the verdict. The slots of the bench are the units.
 use Rattle.std.proofs.Common.{◌∙◌, Err, ap}
-use Rattle.hmc_check.specs.declared.checker.CheckFault.TheVariants.{Unlawful}
 use Rattle.hmc_units.specs.Slots.{units_in}
 use Rattle.hmc_replay.specs.Units.{slots_of}
 use Rattle.hmc_replay.proofs.CheckAnswers.{verdict_lawful, verdict_unlawful}

@@ -1,5 +1,5 @@
 -- One entry more.
-use Rattle.std.proofs.Common.{◌∙◌, ℕ, Bool, sym, ap, subst}
+use Rattle.std.proofs.Common.{◌∙◌, Bool, sym, ap, subst}
 use Rattle.hmc_entries.specs.Event.{event_of, IsLongFlit}
 use Rattle.hmc_entries.specs.declared.event.Event.{Event}
 use Rattle.hmc_tally.specs.Tally.{tallied, step_changes, IsWithin}

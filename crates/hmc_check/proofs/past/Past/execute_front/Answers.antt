@@ -1,30 +1,22 @@
 -- There is no front, or it waits.
-use Rattle.std.proofs.Common.{◌≡◌, ◌≤◌, ◌<◌, ◌++◌, ◌∷◌, ◌∙◌, [], List, ℕ, Bool, true, false, Option, Some, None, length, drop, refl, sym, ap, ap₂, subst, arith}
+use Rattle.std.proofs.Common.{◌≡◌, ◌∙◌, ℕ, true, false, length, sym, ap, ap₂, subst}
 use Rattle.std.specs.Prelude.{nat_lt, slice_get}
-use Rattle.std.proofs.lemmas.Bool.Decides.{nat_tests}
-use Rattle.hmc_codes.specs.Answer.{CanReply}
 use Rattle.hmc_codes.specs.Commands.{is_posted}
 use Rattle.hmc_codes.specs.Request.{RequestFields}
-use Rattle.hmc_codes.specs.declared.answer.Answer.{Answer}
-use Rattle.hmc_packet.specs.Packet.{PacketFields}
-use Rattle.hmc_packet.specs.Transactions.{request_in, reply_packet}
-use Rattle.hmc_units.specs.Unit.{UnitFields}
-use Rattle.hmc_serial.specs.Machine.{machine_of, answer_to}
-use Rattle.hmc_queues.specs.Queues.{CubeQueuesFields, IsQueue, packets_at, size_at, with_packets}
+use Rattle.hmc_queues.specs.Queues.{IsQueue, packets_at, size_at}
 use Rattle.hmc_queues.specs.declared.queue_name.QueueName.{QueueName}
 use Rattle.hmc_queues.specs.declared.queue_name.QueueName.TheVariants as names
 use Rattle.hmc_schedule.specs.declared.step.Step.{Step}
 use Rattle.hmc_schedule.specs.declared.step.Step.TheVariants as steps
 use Rattle.hmc_entries.specs.declared.outcome.Cause.TheVariants as causes
 use Rattle.hmc_entries.specs.declared.entry.Entry.{Entry}
-use Rattle.hmc_entries.specs.declared.entry.Entry.TheVariants.{Executed, Idle}
+use Rattle.hmc_entries.specs.declared.entry.Entry.TheVariants.{Idle}
 use Rattle.hmc_journal.specs.Setup.{unit_cube}
-use Rattle.hmc_kept.proofs.Fronts.{no_front}
 use Rattle.hmc_check.specs.Past.{PastFields, PastParts, past_of}
 use Rattle.hmc_check.specs.Units.{step_of, queue_name, answers_name, IsRequestAt}
 use Rattle.hmc_check.proofs.Holding.{of_parts, some_of, idle_takes}
-use Rattle.hmc_check.proofs.Spreading.{some_there, spread_empty, queue_still}
-use Rattle.hmc_check.proofs.Executing.{queue_there, answers_there, request_own, unit_empty, unit_bare, unit_full, posted_takes, answered_takes, can_reply, machine_there}
+use Rattle.hmc_check.proofs.Spreading.{some_there}
+use Rattle.hmc_check.proofs.Executing.{queue_there, answers_there, unit_empty, unit_bare, unit_full}
 use Rattle.hmc_check.proofs.Tests.{below}
 use Rattle.hmc_check.proofs.past.Past.execute_front.Goals as goal
 

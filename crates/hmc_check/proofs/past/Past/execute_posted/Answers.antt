@@ -1,28 +1,21 @@
 -- A posted request is executed.
-use Rattle.std.proofs.Common.{◌≡◌, ◌≤◌, ◌<◌, ◌++◌, ◌∷◌, ◌∙◌, [], List, ℕ, Bool, true, false, Option, Some, None, length, drop, refl, sym, ap, ap₂, subst, arith}
-use Rattle.std.specs.Prelude.{nat_lt, slice_get}
-use Rattle.std.proofs.lemmas.Bool.Decides.{nat_tests}
-use Rattle.hmc_codes.specs.Answer.{CanReply}
+use Rattle.std.proofs.Common.{◌≡◌, ◌∙◌, List, ℕ, None, drop, refl, sym, ap, ap₂}
+use Rattle.std.specs.Prelude.{slice_get}
 use Rattle.hmc_codes.specs.declared.answer.Answer.{Answer}
 use Rattle.hmc_packet.specs.Packet.{PacketFields}
-use Rattle.hmc_packet.specs.Transactions.{request_in, reply_packet}
-use Rattle.hmc_units.specs.Unit.{UnitFields}
 use Rattle.hmc_serial.specs.Machine.{machine_of, answer_to}
-use Rattle.hmc_queues.specs.Queues.{CubeQueuesFields, IsQueue, packets_at, size_at, with_packets}
+use Rattle.hmc_queues.specs.Queues.{CubeQueuesFields, packets_at, with_packets}
 use Rattle.hmc_queues.specs.declared.queue_name.QueueName.{QueueName}
 use Rattle.hmc_queues.specs.declared.queue_name.QueueName.TheVariants as names
-use Rattle.hmc_schedule.specs.declared.step.Step.{Step}
 use Rattle.hmc_schedule.specs.declared.step.Step.TheVariants as steps
 use Rattle.hmc_entries.specs.declared.outcome.Cause.TheVariants as causes
 use Rattle.hmc_entries.specs.declared.entry.Entry.{Entry}
-use Rattle.hmc_entries.specs.declared.entry.Entry.TheVariants.{Executed, Idle}
+use Rattle.hmc_entries.specs.declared.entry.Entry.TheVariants.{Executed}
 use Rattle.hmc_journal.specs.Setup.{unit_cube}
-use Rattle.hmc_kept.proofs.Fronts.{no_front}
 use Rattle.hmc_check.specs.Past.{PastFields, PastParts}
-use Rattle.hmc_check.specs.Units.{step_of, queue_name, answers_name, IsRequestAt}
-use Rattle.hmc_check.proofs.Holding.{of_parts, some_of, idle_takes}
-use Rattle.hmc_check.proofs.Spreading.{some_there, spread_empty, queue_still}
-use Rattle.hmc_check.proofs.Executing.{queue_there, answers_there, request_own, unit_empty, unit_bare, unit_full, posted_takes, answered_takes, can_reply, machine_there}
+use Rattle.hmc_check.specs.Units.{step_of, queue_name, IsRequestAt}
+use Rattle.hmc_check.proofs.Holding.{of_parts, some_of}
+use Rattle.hmc_check.proofs.Executing.{posted_takes, machine_there}
 use Rattle.hmc_check.proofs.past.Past.execute_posted.Goals as goal
 
 pub apply-answer-requires : goal.apply-answer-requires

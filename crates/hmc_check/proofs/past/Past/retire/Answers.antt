@@ -1,5 +1,5 @@
 -- A slot loses its unit, or has none.
-use Rattle.std.proofs.Common.{◌≡◌, ◌∙◌, Option, List, sym, ap, ap₂}
+use Rattle.std.proofs.Common.{◌∙◌, Option, List, sym, ap₂}
 use Rattle.hmc_units.specs.Unit.{UnitFields}
 use Rattle.hmc_entries.specs.declared.entry.Entry.{Entry}
 use Rattle.hmc_schedule.specs.declared.step.Step.TheVariants as steps

@@ -1,5 +1,5 @@
 -- A flit is sent in a direction.
-use Rattle.std.proofs.Common.{◌≡◌, ◌<◌, ◌∙◌, List, length, sym, ap, ap₂, subst, arith}
+use Rattle.std.proofs.Common.{ap, arith}
 use Rattle.hmc_entries.specs.declared.entry.Entry.{Entry}
 use Rattle.hmc_schedule.specs.declared.step.Step.TheVariants as steps
 use Rattle.hmc_check.specs.Past.{PastFields}

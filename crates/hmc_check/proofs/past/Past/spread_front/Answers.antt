@@ -1,6 +1,5 @@
 -- The front of a vault's queue goes to its bank, or waits.
-use Rattle.std.proofs.Common.{◌≡◌, ◌<◌, ◌^◌, ◌++◌, ◌∷◌, ◌∙◌, [], List, ℕ, Bool, true, Some, false, not, length, drop, refl, sym, ap, ap₂, subst}
-use Rattle.std.specs.Prelude.{nat_lt}
+use Rattle.std.proofs.Common.{◌≡◌, ◌<◌, ◌^◌, ◌++◌, ◌∷◌, ◌∙◌, [], List, ℕ, length, drop, sym, ap, ap₂, subst}
 use Rattle.hmc_codes.specs.Shape.{ShapeFields, bank_of}
 use Rattle.hmc_packet.specs.Packet.{PacketFields}
 use Rattle.hmc_queues.specs.Queues.{CubeQueuesFields, IsQueue, packets_at, size_at, with_packets}
@@ -8,7 +7,7 @@ use Rattle.hmc_queues.specs.declared.queue_name.QueueName.TheVariants as names
 use Rattle.hmc_entries.specs.declared.entry.Entry.{Entry}
 use Rattle.hmc_journal.specs.Setup.{shape_of}
 use Rattle.hmc_schedule.specs.declared.step.Step.TheVariants as steps
-use Rattle.hmc_check.specs.Past.{PastFields, PastParts, past_of, TakesStep, IsNextOfSome}
+use Rattle.hmc_check.specs.Past.{PastFields}
 use Rattle.hmc_check.proofs.Holding.{of_parts, some_of}
 use Rattle.hmc_check.proofs.Spreading.{some_there, vault_queue, bank_queue, bank_small, queue_still, spread_empty, spread_full, spread_takes, moved_queues, bank_room}
 use Rattle.hmc_check.proofs.past.Past.spread_front.Goals as goal

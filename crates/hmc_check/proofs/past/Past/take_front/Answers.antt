@@ -1,13 +1,12 @@
 -- The host takes the front of its buffer.
-use Rattle.std.proofs.Common.{◌≡◌, ◌<◌, ◌∙◌, List, ℕ, Option, Some, None, length, sym, ap, ap₂, subst, arith}
+use Rattle.std.proofs.Common.{◌≡◌, ◌<◌, ◌∙◌, List, ℕ, Some, length, sym, ap, ap₂, subst, arith}
 use Rattle.std.specs.Prelude.{slice_set}
 use Rattle.hmc_codes.specs.declared.place.Place.TheVariants as places
 use Rattle.hmc_host.specs.Host.{HostFields}
-use Rattle.hmc_host.specs.Settle.{IsAwaited, settle_says, after_settle}
-use Rattle.hmc_packet.specs.Packet.{PacketFields}
+use Rattle.hmc_host.specs.Settle.{IsAwaited, after_settle}
 use Rattle.hmc_entries.specs.declared.entry.Entry.{Entry}
 use Rattle.hmc_journal.specs.Links.{direction_to}
-use Rattle.hmc_kept.specs.Hosts.{with_host, host_in}
+use Rattle.hmc_kept.specs.Hosts.{with_host}
 use Rattle.hmc_journal.proofs.DirectionEnds.{ends_at}
 use Rattle.hmc_schedule.specs.declared.step.Step.TheVariants as steps
 use Rattle.hmc_directions.specs.Ends.{EndsHold}
@@ -15,7 +14,7 @@ use Rattle.hmc_kept.specs.ByDirection.{IsFrontAt}
 use Rattle.hmc_check.specs.Past.{PastFields, PastParts}
 use Rattle.hmc_check.proofs.Holding.{of_parts, some_of}
 use Rattle.hmc_check.proofs.Sending.{hold_some}
-use Rattle.hmc_check.proofs.Taking.{none_arrived, host_read, awaited, nothing_taken, take_takes}
+use Rattle.hmc_check.proofs.Taking.{host_read, awaited, nothing_taken, take_takes}
 use Rattle.hmc_check.proofs.Spreading.{some_there}
 use Rattle.hmc_check.proofs.past.Past.take_front.Goals as goal
 

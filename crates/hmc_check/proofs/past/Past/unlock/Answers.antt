@@ -1,5 +1,5 @@
 -- The receiver of a direction loses its framing.
-use Rattle.std.proofs.Common.{◌≡◌, ◌<◌, ◌∙◌, List, length, sym, ap, ap₂, subst, arith}
+use Rattle.std.proofs.Common.{ap₂, arith}
 use Rattle.hmc_entries.specs.declared.entry.Entry.{Entry}
 use Rattle.hmc_kept.specs.Pipes.{PipesHeld}
 use Rattle.hmc_schedule.specs.declared.step.Step.TheVariants as steps

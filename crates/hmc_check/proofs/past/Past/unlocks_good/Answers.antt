@@ -1,6 +1,6 @@
 -- The end of the direction knows what its receiver waits for.
 use Rattle.std.proofs.Common.{◌∙◌, ap}
-use Rattle.hmc_check.specs.Past.{PastFields, PastParts, past_of}
+use Rattle.hmc_check.specs.Past.{PastParts, past_of}
 use Rattle.hmc_check.proofs.Counting.{good_seen}
 use Rattle.hmc_check.proofs.past.Past.unlocks_good.Goals as goal
 

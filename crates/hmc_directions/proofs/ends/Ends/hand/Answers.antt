@@ -1,21 +1,16 @@
 -- The end that sends in a direction has one more packet.
-use Rattle.std.proofs.Common.{◌≡◌, ◌≤◌, ◌<◌, ◌/◌, ◌++◌, ◌∷◌, ◌∙◌, [], List, ℕ, Bool, Option, Some, length, refl, sym, ap, subst, arith}
-use Rattle.std.specs.Prelude.{slice_index_or, slice_get, is_some}
+use Rattle.std.proofs.Common.{◌/◌, sym, subst}
+use Rattle.std.specs.Prelude.{slice_index_or}
 use Rattle.hmc_routes.specs.Directions.{other}
-use Rattle.hmc_packet.specs.Landings.{ReceiverEntry, mode, pending}
-use Rattle.hmc_packet.specs.Packet.{PacketFields}
 use Rattle.hmc_send.specs.LinkCalls.{LinkCall}
 use Rattle.hmc_ends.specs.Answers.{after_call}
-use Rattle.hmc_ends.specs.End.{EndFields, flits_seen, row_held}
+use Rattle.hmc_ends.specs.End.{EndFields}
 use Rattle.hmc_ends.specs.StandsFor.{EndsStandFor}
-use Rattle.hmc_ends.proofs.Calls.{hand-steps, take-from, due-few, unlock-steps}
-use Rattle.hmc_ends.proofs.Begins.{begin-both}
-use Rattle.hmc_ends.proofs.SendNext.{send-steps, answer-is}
-use Rattle.hmc_ends.proofs.TokenRows.{row-is}
+use Rattle.hmc_ends.proofs.Calls.{hand-steps}
 use Rattle.hmc_journal.specs.Links.{toward}
 use Rattle.hmc_kept.specs.Called.{sizes_by}
-use Rattle.hmc_directions.proofs.Calls.{hold_after, changed_here, changed_there, other_there}
-use Rattle.hmc_directions.proofs.Standing.{read_at, any_at, both_at, room_of, fit_of, front_by, received_by, fed_of, ready_of, can_pass, put_is}
+use Rattle.hmc_directions.proofs.Calls.{hold_after, changed_here, other_there}
+use Rattle.hmc_directions.proofs.Standing.{read_at, any_at, both_at, room_of, fit_of, put_is}
 use Rattle.hmc_directions.proofs.ends.Ends.hand.Goals as goal
 
 pub returns : goal.returns

@@ -1,20 +1,16 @@
 -- The front of the line of the end that sends lands at the other end.
-use Rattle.std.proofs.Common.{◌≡◌, ◌≤◌, ◌<◌, ◌/◌, ◌-◌, ◌∙◌, List, ℕ, Some, length, refl, sym, ap, subst}
+use Rattle.std.proofs.Common.{◌≤◌, ◌/◌, ◌-◌, ◌∙◌, ℕ, sym, ap, subst}
 use Rattle.std.specs.Prelude.{slice_index_or, slice_get}
-use Rattle.hmc_case.specs.declared.setup.LinkRow.{LinkRow}
 use Rattle.hmc_packet.specs.Receptions.{landed_with}
 use Rattle.hmc_routes.specs.Directions.{other}
 use Rattle.hmc_send.specs.LinkCalls.{LinkCall}
 use Rattle.hmc_send.specs.LinkEntries as ways
-use Rattle.hmc_send.specs.LinkEntries.{LinkEntry}
 use Rattle.hmc_ends.specs.End.{EndFields}
 use Rattle.hmc_ends.specs.declared.link_outcome.LinkOutcome.TheVariants as outcomes
-use Rattle.hmc_ends.specs.StandsFor.{EndsStandFor}
 use Rattle.hmc_ends.proofs.CrossLemmas.{empty-answer, empty-stands, lands-of, transit-few, passed-answer, came-answer, came-stands}
 use Rattle.hmc_ends.proofs.Outcomes.{given-without}
 use Rattle.hmc_send.specs.LinkLines.{line}
 use Rattle.hmc_journal.specs.Links.{toward}
-use Rattle.hmc_directions.specs.Ends.{EndsHold}
 use Rattle.hmc_kept.specs.Called.{sizes_by}
 use Rattle.hmc_directions.proofs.Calls.{hold_after, changed_here, other_there}
 use Rattle.hmc_directions.proofs.Standing.{read_at, any_at, both_at, put_is, far_after, near_after, changed_both, put_three}

@@ -1,14 +1,10 @@
 -- One end more did nothing.
-use Rattle.std.proofs.Common.{◌≡◌, ◌<◌, ◌*◌, ◌+◌, ◌/◌, ◌∙◌, ℕ, [], List, length, sym, ap, subst, arith}
-use Rattle.std.specs.Prelude.{slice_index_or}
-use Rattle.std.proofs.lemmas.List.{get_or_default, length_push}
+use Rattle.std.proofs.Common.{◌≡◌, ◌+◌, ◌∙◌, ℕ, [], List, length, sym, ap, subst, arith}
+use Rattle.std.proofs.lemmas.List.{length_push}
 use Rattle.hmc_codes.specs.Link.{LinkFields, IsLinkSetup}
-use Rattle.hmc_case.specs.declared.setup.LinkRow.{LinkRow}
-use Rattle.hmc_send.specs.declared.toward.Toward.{Toward}
 use Rattle.hmc_ends.specs.End.{EndFields}
 use Rattle.hmc_ends.specs.Parts.{parts_of}
 use Rattle.hmc_ends.specs.StandsFor.{EndStandsFor}
-use Rattle.hmc_journal.specs.Setup.{no_link}
 use Rattle.hmc_kept.specs.Called.{sizes_by}
 use Rattle.hmc_directions.proofs.New.{IsNewEnd, AreNewEnds, one_more, all_new}
 use Rattle.hmc_directions.proofs.ends.Ends.new.Goals as goal

@@ -1,9 +1,8 @@
 -- For all entries after which the flit lands.
-use Rattle.std.proofs.Common.{◌∷◌, ◌∙◌, sym, ap, subst}
+use Rattle.std.proofs.Common.{◌∙◌, sym, ap, subst}
 use Rattle.std.proofs.lemmas.Bool.{true≢false}
-use Rattle.hmc_packet.specs.Landings.ReceiverEntry.{Land}
 use Rattle.hmc_packet.specs.Packet.{PacketFields}
-use Rattle.hmc_packet.specs.Receptions.{reception_of, landed_with}
+use Rattle.hmc_packet.specs.Receptions.{landed_with}
 use Rattle.hmc_send.specs.LinkEntries.{other, receiver_entries}
 use Rattle.hmc_send.specs.LinkSenders.{sender_entries}
 use Rattle.hmc_ends.specs.End.{EndFields}

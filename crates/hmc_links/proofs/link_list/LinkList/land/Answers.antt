@@ -1,7 +1,6 @@
 -- A flit of one link lands.
 use Rattle.std.proofs.Common.{◌≡◌, ◌∙◌, ◌/◌, not, ap, subst}
 use Rattle.std.specs.Prelude.{slice_get}
-use Rattle.hmc_journal.specs.Links.{toward}
 use Rattle.hmc_ends.specs.Outcomes.{front_outcome}
 use Rattle.hmc_ends.proofs.Outcomes.{given-without}
 use Rattle.hmc_kept.specs.Called.{sizes_by}

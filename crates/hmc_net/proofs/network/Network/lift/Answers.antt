@@ -4,17 +4,13 @@ use Rattle.std.specs.Prelude.{slice_get, option_map}
 use Rattle.hmc_codes.specs.declared.place.Place.TheVariants as places
 use Rattle.hmc_packet.specs.Packet.{PacketFields}
 use Rattle.hmc_cube.specs.Cube.{CubeFields}
-use Rattle.hmc_cube.specs.After.{after_lift}
-use Rattle.hmc_cube.specs.Parts.{AreParts}
 use Rattle.hmc_cube.specs.Places.{HasLift, answers_at}
 use Rattle.hmc_journal.specs.Routes.{port_towards}
 use Rattle.hmc_journal.specs.Setup.{hosts_in}
-use Rattle.hmc_links.specs.LinkList.{IsDirection, MayHand, LinksStandFor}
 use Rattle.hmc_net.specs.NetState.{net_of, NetState, cube_in}
 use Rattle.hmc_net.specs.Ports.{IsWayOut}
-use Rattle.hmc_net.proofs.Doing.{starts_in}
-use Rattle.hmc_net.proofs.Indexed.{cube_found, cube_changed, entry_changed}
-use Rattle.hmc_net.proofs.PortSteps.{lift_here, lift_none, lift_answer, lift_full, lift_may, lift_does}
+use Rattle.hmc_net.proofs.Indexed.{cube_found, entry_changed}
+use Rattle.hmc_net.proofs.PortSteps.{lift_here, lift_none, lift_answer, lift_full}
 use Rattle.hmc_net.proofs.network.Network.lift.Goals as goal
 
 pub lift_front_ref-requires : goal.lift_front_ref-requires
