@@ -1,7 +1,7 @@
 -- From a cut-through until a packet leaves the line, no packet of its flow enters the buffer or the output queue.
 use Rattle.std.proofs.Common.{◌≡◌, ◌∙◌, ◌==◌, ◌&&◌, ℕ, zero, suc, Bool, true, false, not, Option, Some, None, List, [], ◌∷◌, ◌++◌, refl, sym, ap, ap₂, subst, eqb-true, eq-eqb}
 use Rattle.std.proofs.lemmas.Bool.{and_parts, and_from, false_from_ne_true}
-use Rattle.hmc_hops.specs.Packets.{Packet, Spot, Kind, is_live, is_request, is_reply, same_spot, reply_to}
+use Rattle.hmc_hops.specs.Packets.{Packet, Kind, is_live, is_request, is_reply, reply_to}
 use Rattle.hmc_hops.specs.Packets.Kind.{Asks, Posts, Replies, Returns}
 use Rattle.hmc_routes.specs.Route.{Goal}
 use Rattle.hmc_hops.specs.Map.{Map, IsMap, goal_of, first_of, leg, after}
@@ -10,15 +10,15 @@ use Rattle.hmc_hops.specs.Queues.{QueueId, same_queue, is_at, next_queue}
 use Rattle.hmc_hops.specs.Queues.QueueId.{Output, Line, Buffer, Vault, UnitQueue, Answers}
 use Rattle.hmc_hops.specs.Moves.{Move, packet_if, leaves, enters, answer_queue, without, without_if, remaining, contents, same_flow, same_work, IsPlaced, IsSource, May, MayAll}
 use Rattle.hmc_hops.specs.Moves.Move.{Rests, Comes, Goes, Executes}
-use Rattle.hmc_hops.specs.Flows.{Flow, requests_to, answers_to}
+use Rattle.hmc_hops.specs.Flows.{Flow, requests_at, answers_to}
 use Rattle.hmc_hops.specs.CutThrough.{NoneOfFlow, HasFreeWay}
-use Rattle.hmc_hops.proofs.SameQueue.{spot_is, spot_same, queue_is, queue_same, at_is, live_parts}
+use Rattle.hmc_hops.proofs.SameQueue.{queue_is, queue_same, at_is, live_parts}
 use Rattle.hmc_hops.proofs.Legs.{Follows, follow, no_leg}
 use Rattle.hmc_hops.proofs.QueueLaws.{IsFlow}
 use Rattle.hmc_hops.specs.OnWay.{IsOnWay}
 use Rattle.hmc_hops.proofs.OnRoute.{mover_on_way, reply_goal, reply_if_live}
 use Rattle.hmc_hops.proofs.Junctions.{buffer_to, at_cube_output, buffer_output, buffer_back, answer_queue_off}
-use Rattle.hmc_hops.proofs.Requests.{requests_flow}
+use Rattle.hmc_hops.proofs.Arrivals.{requests_at_flow}
 use Rattle.hmc_hops.proofs.Replies.{answers_flow, reply_kind}
 
 -- what two packets of one flow share
@@ -27,31 +27,31 @@ pub record IsSameFlow (x y : Packet) : Type 0 where
   pub live_too : is_live y ≡ true
   pub host : x.host ≡ y.host
   pub cube : x.cube ≡ y.cube
-  pub party : same_work (is_request x.kind && is_request y.kind) (is_reply x.kind && is_reply y.kind) (same_spot x.spot y.spot) ≡ true
+  pub party : same_work (is_request x.kind && is_request y.kind) (is_reply x.kind && is_reply y.kind) ≡ true
 
 is_same_flow : (x y : Packet) → same_flow x y ≡ true → IsSameFlow x y
 is_same_flow x y is =
-    let one = and_parts (is_live x && is_live y) (((x.host == y.host) && (x.cube == y.cube)) && same_work (is_request x.kind && is_request y.kind) (is_reply x.kind && is_reply y.kind) (same_spot x.spot y.spot)) is in
+    let one = and_parts (is_live x && is_live y) (((x.host == y.host) && (x.cube == y.cube)) && same_work (is_request x.kind && is_request y.kind) (is_reply x.kind && is_reply y.kind)) is in
     let live = and_parts (is_live x) (is_live y) one.0 in
-    let two = and_parts ((x.host == y.host) && (x.cube == y.cube)) (same_work (is_request x.kind && is_request y.kind) (is_reply x.kind && is_reply y.kind) (same_spot x.spot y.spot)) one.1 in
+    let two = and_parts ((x.host == y.host) && (x.cube == y.cube)) (same_work (is_request x.kind && is_request y.kind) (is_reply x.kind && is_reply y.kind)) one.1 in
     let three = and_parts (x.host == y.host) (x.cube == y.cube) two.0 in
     record { live = live.0; live_too = live.1; host = eqb-true x.host y.host three.0; cube = eqb-true x.cube y.cube three.1; party = two.1 }
 
-mine_request : (h c : ℕ) (s : Spot) (x : Packet) → is_live x ≡ true → is_request x.kind ≡ true → x.host ≡ h → x.cube ≡ c → x.spot ≡ s → (requests_to h c s).mine x ≡ true
-mine_request h c s x live request host cube spot =
-    and_from (not x.poisoned && is_request x.kind) (((x.host == h) && (x.cube == c)) && same_spot x.spot s)
+mine_request : (h c : ℕ) (x : Packet) → is_live x ≡ true → is_request x.kind ≡ true → x.host ≡ h → x.cube ≡ c → (requests_at h c).mine x ≡ true
+mine_request h c x live request host cube =
+    and_from (not x.poisoned && is_request x.kind) ((x.host == h) && (x.cube == c))
     (and_from (not x.poisoned) (is_request x.kind) (ap not (live_parts x live).0) request)
-    (and_from ((x.host == h) && (x.cube == c)) (same_spot x.spot s) (and_from (x.host == h) (x.cube == c) (eq-eqb x.host h host) (eq-eqb x.cube c cube)) (ap (same_spot x.spot) (sym spot) ∙ spot_same x.spot))
+    (and_from (x.host == h) (x.cube == c) (eq-eqb x.host h host) (eq-eqb x.cube c cube))
 
 mine_answer : (c h : ℕ) (x : Packet) → is_live x ≡ true → x.kind ≡ Replies → x.host ≡ h → x.cube ≡ c → (answers_to c h).mine x ≡ true
 mine_answer c h x live reply host cube =
     and_from (not x.poisoned && is_reply x.kind) ((x.host == h) && (x.cube == c)) (and_from (not x.poisoned) (is_reply x.kind) (ap not (live_parts x live).0) (ap is_reply reply))
     (and_from (x.host == h) (x.cube == c) (eq-eqb x.host h host) (eq-eqb x.cube c cube))
 
--- the other is a request to the same unit, or an answer
-party_request : (q r spots : Bool) → same_work (true && q) r spots ≡ true → r ≡ false → (q ≡ true) × (spots ≡ true)
-party_request true r spots is off = (refl, is)
-party_request false r spots is off = absurd (cc)
+-- the other is a request too, or an answer too
+party_request : (q r : Bool) → same_work (true && q) r ≡ true → r ≡ false → q ≡ true
+party_request true r is off = refl
+party_request false r is off = absurd (cc)
 
 request_no_reply : (k l : Kind) → is_request k ≡ true → (is_reply k && is_reply l) ≡ false
 request_no_reply Asks l is = refl
@@ -80,18 +80,18 @@ from_there m map f goal first e d i x y flow mine more at goes =
 
 one_source : (m : Map) → IsMap m → (e d i : ℕ) (x y : Packet) (request : Bool) → is_request x.kind ≡ request → IsSameFlow x y → leg m (goal_of x) (first_of m x) i ≡ Some e → next_queue m (Buffer e) x ≡ Some (Output d) → FromThere m e d y
 one_source m map e d i x y true request both at goes =
-    let party = party_request (is_request y.kind) (is_reply x.kind && is_reply y.kind) (same_spot x.spot y.spot)
-    (ap (λ (b : Bool). same_work (b && is_request y.kind) (is_reply x.kind && is_reply y.kind) (same_spot x.spot y.spot)) (sym request) ∙ both.party) (request_no_reply x.kind y.kind request) in
-    from_there m map (requests_to x.host x.cube x.spot) (ToCube x.cube) (m.from_host x.host) e d i x y (requests_flow m x.host x.cube x.spot)
-    (mine_request x.host x.cube x.spot x both.live request refl refl refl)
-    (mine_request x.host x.cube x.spot y both.live_too party.0 (sym both.host) (sym both.cube) (sym (spot_is x.spot y.spot party.1))) at goes
+    let party = party_request (is_request y.kind) (is_reply x.kind && is_reply y.kind)
+    (ap (λ (b : Bool). same_work (b && is_request y.kind) (is_reply x.kind && is_reply y.kind)) (sym request) ∙ both.party) (request_no_reply x.kind y.kind request) in
+    from_there m map (requests_at x.host x.cube) (ToCube x.cube) (m.from_host x.host) e d i x y (requests_at_flow m x.host x.cube)
+    (mine_request x.host x.cube x both.live request refl refl)
+    (mine_request x.host x.cube y both.live_too party (sym both.host) (sym both.cube)) at goes
 one_source m map e d i x y false request both at goes = by (m.next (ToHost x.host) x.cube) refl
   where
     kind : x.kind ≡ Replies
     kind = reply_if_live x.kind (live_parts x both.live).1 request
 
     other : y.kind ≡ Replies
-    other = reply_kind y.kind (and_parts (is_reply x.kind) (is_reply y.kind) (ap (λ (b : Bool). same_work (b && is_request y.kind) (is_reply x.kind && is_reply y.kind) (same_spot x.spot y.spot)) (sym request) ∙ both.party)).1
+    other = reply_kind y.kind (and_parts (is_reply x.kind) (is_reply y.kind) (ap (λ (b : Bool). same_work (b && is_request y.kind) (is_reply x.kind && is_reply y.kind)) (sym request) ∙ both.party)).1
 
     by : (o : Option ℕ) → m.next (ToHost x.host) x.cube ≡ o → FromThere m e d y
     by None next = absurd (no_leg m (goal_of x) i e (ap (λ (o : Option ℕ). leg m (goal_of x) o i) (sym ((reply_goal m x kind).1 ∙ next)) ∙ at))

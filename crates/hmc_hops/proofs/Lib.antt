@@ -6,12 +6,14 @@ pub mod Junctions
 pub mod Telescope
 pub mod Requests
 pub mod Replies
+pub mod Arrivals
 pub mod Delivering
 pub mod Feeds
 pub mod Strangers
 pub mod Phases
 pub mod PhaseSteps
 pub mod Order
+pub mod Serving
 pub mod Forwarding
 pub mod FreeWay
 pub mod Drops

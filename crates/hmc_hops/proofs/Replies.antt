@@ -2,7 +2,7 @@
 use Rattle.std.proofs.Common.{◌≡◌, ◌≤◌, ◌∙◌, ◌+◌, ◌==◌, ◌&&◌, ℕ, zero, suc, Bool, true, false, not, Option, Some, None, List, [], ◌++◌, refl, sym, ap, ap₂, eqb-true, eq-eqb, arith}
 use Rattle.std.proofs.lemmas.Bool.{and_parts, and_from, not-true, false_from_ne_true}
 use Rattle.hmc_codes.specs.declared.lift.Lift.{Lift}
-use Rattle.hmc_hops.specs.Packets.{Packet, Kind, is_live, is_token, is_request, is_reply, reply_to, same_spot}
+use Rattle.hmc_hops.specs.Packets.{Packet, Kind, is_live, is_token, is_request, is_reply, reply_to}
 use Rattle.hmc_hops.specs.Packets.Kind.{Asks, Posts, Replies, Returns}
 use Rattle.hmc_routes.specs.Route.{Goal}
 use Rattle.hmc_hops.specs.Map.{Map, IsMap, End, goal_of, leg, after, after_end, hops_at, route}
@@ -48,7 +48,7 @@ answers_same_flow : (c h : ℕ) (x y : Packet) → IsAnswerOf c h x → IsAnswer
 answers_same_flow c h x y a b =
     and_from _ _ (and_from _ _ (live_answer c h x a) (live_answer c h y b))
     (and_from _ _ (and_from _ _ (eq-eqb x.host y.host (a.host ∙ sym b.host)) (eq-eqb x.cube y.cube (a.cube ∙ sym b.cube)))
-    (ap₂ (λ (k l : Kind). same_work (is_request k && is_request l) (is_reply k && is_reply l) (same_spot x.spot y.spot)) a.reply b.reply))
+    (ap₂ (λ (k l : Kind). same_work (is_request k && is_request l) (is_reply k && is_reply l)) a.reply b.reply))
 
 pub answers_flow : (m : Map) (c h first : ℕ) → m.next (ToHost h) c ≡ Some first → IsFlow m (answers_to c h) (ToHost h) first
 answers_flow m c h first next = record {

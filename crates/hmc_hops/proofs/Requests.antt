@@ -37,7 +37,7 @@ request_of_flow h c s x mine =
     let three = and_parts (x.host == h) (x.cube == c) two.0 in
     record { clean = not-true x.poisoned kind.0; request = kind.1; host = eqb-true x.host h three.0; cube = eqb-true x.cube c three.1; spot = spot_is x.spot s two.1 }
 
-request_token : (k : Kind) → is_request k ≡ true → is_token k ≡ true
+pub request_token : (k : Kind) → is_request k ≡ true → is_token k ≡ true
 request_token Asks is = refl
 request_token Posts is = refl
 request_token Replies is = refl
@@ -50,12 +50,12 @@ requests_same_flow : (h c : ℕ) (s : Spot) (x y : Packet) → IsRequestOf h c s
 requests_same_flow h c s x y a b =
     and_from _ _ (and_from _ _ (live_request h c s x a) (live_request h c s y b))
     (and_from _ _ (and_from _ _ (eq-eqb x.host y.host (a.host ∙ sym b.host)) (eq-eqb x.cube y.cube (a.cube ∙ sym b.cube)))
-    (party (is_request x.kind) (is_request y.kind) (is_reply x.kind && is_reply y.kind) a.request b.request (ap (same_spot x.spot) (b.spot ∙ sym a.spot) ∙ spot_same x.spot)))
+    (party (is_request x.kind) (is_request y.kind) (is_reply x.kind && is_reply y.kind) a.request b.request))
   where
-    party : (p q r : Bool) → p ≡ true → q ≡ true → same_spot x.spot y.spot ≡ true → Rattle.hmc_hops.specs.Moves.same_work (p && q) r (same_spot x.spot y.spot) ≡ true
-    party true true r p q same = same
-    party true false r p q same = cc
-    party false q r p q' same = cc
+    party : (p q r : Bool) → p ≡ true → q ≡ true → Rattle.hmc_hops.specs.Moves.same_work (p && q) r ≡ true
+    party true true r p q = refl
+    party true false r p q = cc
+    party false q r p q' = cc
 
 pub requests_flow : (m : Map) (h c : ℕ) (s : Spot) → IsFlow m (requests_to h c s) (ToCube c) (m.from_host h)
 requests_flow m h c s = record {

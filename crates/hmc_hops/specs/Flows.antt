@@ -94,6 +94,30 @@ requests_to h c s = record {
   value = tagged_request;
 }
 
+-- the requests of a host to a cube, except poisoned ones
+abbrev pub requests_at : (host cube : ℕ) → Flow TaggedRequest
+requests_at h c = record {
+  mine = λ x. (not x.poisoned && is_request x.kind) && ((x.host == h) && (x.cube == c));
+  value = tagged_request;
+}
+
+-- a request with the host that gave it, and its tag
+pub record HostRequest : Type 0 where
+  pub host : ℕ
+  pub tag : Option ℕ
+  pub request : RequestFields
+
+-- the request of a packet
+abbrev pub host_request : Packet → HostRequest
+host_request x = record { host = x.host; tag = tag_by x.kind x.tag; request = x.request }
+
+-- the requests to a unit, of whichever host, except poisoned ones
+abbrev pub requests_for : (cube : ℕ) → Spot → Flow HostRequest
+requests_for c s = record {
+  mine = λ x. (not x.poisoned && is_request x.kind) && ((x.cube == c) && same_spot x.spot s);
+  value = host_request;
+}
+
 -- the answers of a cube to a host, except poisoned ones
 abbrev pub answers_to : (cube host : ℕ) → Flow TaggedAnswer
 answers_to c h = record {
@@ -126,6 +150,38 @@ is_host (Cube c) h = false
 abbrev pub taken_packets : Map → (host : ℕ) → Move → List Packet
 taken_packets m h (Goes (Buffer d) n x) = packet_if (is_host (m.end_of d) h) x
 taken_packets m h _ = []
+
+-- an end is some port of this cube
+abbrev pub is_cube : End → (cube : ℕ) → Bool
+is_cube (Host h) c = false
+is_cube (Cube k) c = k == c
+
+-- what leaves a buffer at a cube: it goes on, or arrives
+abbrev pub arriving_packets : Map → (cube : ℕ) → Move → List Packet
+arriving_packets m c (Goes (Buffer d) n x) = packet_if (is_cube (m.end_of d) c) x
+arriving_packets m c _ = []
+
+-- the requests that a host gave to a cube
+abbrev pub given_at : (host cube : ℕ) → List Move → List TaggedRequest
+given_at h c past = collect (λ move. pick (requests_at h c) (given_packets move)) past
+
+-- those that arrived at the cube: they left its port's buffer
+abbrev pub arrived_at : Map → (host cube : ℕ) → List Move → List TaggedRequest
+arrived_at m h c past = collect (λ move. pick (requests_at h c) (arriving_packets m c move)) past
+
+-- the requests to a unit that arrived at its cube
+abbrev pub arrived_for : Map → (cube : ℕ) → Spot → List Move → List HostRequest
+arrived_for m c s past = collect (λ move. pick (requests_for c s) (arriving_packets m c move)) past
+
+-- what a unit executes
+abbrev pub executed_here : (cube : ℕ) → Spot → Move → List HostRequest
+executed_here c s (Executes d t n x answer) =
+    item_if (same_queue (UnitQueue d t) (UnitQueue c s)) (host_request x)
+executed_here c s _ = []
+
+-- the requests that a unit executed, of whichever host
+abbrev pub executed_for : (cube : ℕ) → Spot → List Move → List HostRequest
+executed_for c s past = collect (executed_here c s) past
 
 -- the requests that a host gave to a unit
 abbrev pub given_to : (host cube : ℕ) → Spot → List Move → List TaggedRequest

@@ -1,7 +1,7 @@
 -- Moves of packets between queues, and what the queues hold after a list of moves, newest first.
 use Rattle.std.specs.Prelude.{◌≡◌, ℕ, zero, suc, Bool, true, false, ◌==◌, ◌&&◌, List, [], ◌∷◌, ◌++◌, Option, Some, None}
 use Rattle.hmc_codes.specs.declared.answer.Answer.{Answer}
-use Rattle.hmc_hops.specs.Packets.{Packet, Spot, Kind, same_spot, is_request, is_reply, is_live, reply_to}
+use Rattle.hmc_hops.specs.Packets.{Packet, Spot, Kind, is_request, is_reply, is_live, reply_to}
 use Rattle.hmc_hops.specs.Packets.Kind.{Asks}
 use Rattle.hmc_hops.specs.Map.{Map}
 use Rattle.hmc_routes.specs.Route.Goal.{ToHost, ToCube}
@@ -64,18 +64,17 @@ contents m [] queue = []
 contents m (move ∷ past) queue =
     remaining move queue (contents m past queue) ++ enters m move queue
 
--- two requests to one unit, or two answers
-abbrev pub same_work : (requests replies spots : Bool) → Bool
-same_work true replies spots = spots
-same_work false replies spots = replies
+-- two requests, or two answers
+abbrev pub same_work : (requests replies : Bool) → Bool
+same_work true replies = true
+same_work false replies = replies
 
--- Two packets are of one flow: both count, between the same host and cube, and both are requests
--- to one unit, or both answers.
+-- Two packets are of one flow: both count, between the same host and cube, and both are requests,
+-- whatever their units are, or both answers.
 abbrev pub same_flow : Packet → Packet → Bool
 same_flow x y =
     (is_live x && is_live y) && (((x.host == y.host) && (x.cube == y.cube)) &&
-    same_work (is_request x.kind && is_request y.kind) (is_reply x.kind && is_reply y.kind)
-    (same_spot x.spot y.spot))
+    same_work (is_request x.kind && is_request y.kind) (is_reply x.kind && is_reply y.kind))
 
 -- the packet has this place in a list, counted from 0, and none before it is of its flow
 abbrev pub IsPlaced : ℕ → Packet → List Packet → Type 0

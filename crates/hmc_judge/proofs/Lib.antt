@@ -1,0 +1,5 @@
+pub mod Explaining
+pub mod Firsts
+pub mod Placing
+pub mod Walking
+mod Worked

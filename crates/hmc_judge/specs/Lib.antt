@@ -1,0 +1,3 @@
+pub mod Explaining
+pub mod Picked
+pub mod Walk

@@ -1,0 +1,7 @@
+pub mod Fitting
+pub mod Writing
+pub mod Noting
+pub mod Cutting
+pub mod Turns
+pub mod Printed
+mod Worked

@@ -1,0 +1,10 @@
+pub mod Kind
+pub mod Log
+pub mod Before
+pub mod Answers
+pub mod Counts
+pub mod Lines
+pub mod Meaning
+pub mod Text
+pub mod Fault
+pub mod Progress

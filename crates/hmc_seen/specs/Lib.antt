@@ -1,0 +1,4 @@
+pub mod End
+pub mod Explained
+pub mod Seen
+pub mod Stepwise
