@@ -6,6 +6,7 @@ pub mod KeptLemmas
 pub mod LeftAlike
 pub mod Named
 pub mod Known
+pub mod Bits
 mod Worked
 mod WorkedCalls
 mod WorkedEntries

@@ -51,7 +51,7 @@ pub use entry::{EntryOut, hmc_entry};
 pub use faults::{FaultOut, hmc_ask_fault, hmc_fault, hmc_lay_fault};
 pub use final_lines::hmc_final_line;
 pub use handle::Handle;
-pub use laws::a_laid_step_is_known;
+pub use laws::{a_bit_stands_for_a_kind, a_laid_step_is_known};
 pub use laying::{hmc_lay, hmc_next, hmc_run};
 pub use left::{hmc_block, hmc_counters, hmc_cube, hmc_host, hmc_register, hmc_tokens};
 pub use lines::hmc_line;

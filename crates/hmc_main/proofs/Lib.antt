@@ -1,1 +1,2 @@
 pub mod ShippedUnits
+pub mod WithoutUnits

@@ -1,8 +1,10 @@
 -- What the program does.
-use Rattle.std.specs.Prelude.{◌≡◌, ◌⊎◌, ℕ, true, false, List, is_some, Result, Ok, Err}
+use Rattle.std.specs.Prelude.{◌≡◌, ◌⊎◌, ℕ, true, false, List, Option, Some, is_some, Result, Ok, Err}
 use Rattle.hmc_outside.specs.Views.{SourceView, SinkView}
+use Rattle.hmc_replay.specs.Complete.{IsComplete}
 use Rattle.hmc_replay.specs.Top.{Replayed}
 use Rattle.hmc_replay.specs.Words.{form_of}
+use Rattle.hmc_replay.specs.declared.form.Form.{Form}
 use Rattle.hmc_main.specs.Shipped.{shipped_slots}
 
 -- Nothing is read or written, and this is the status.
@@ -36,6 +38,18 @@ EndsBy text_of (Ok words) source_view sink_view source source' sink sink' status
     Ends source_view sink_view (text_of words) source source' sink sink' status
 EndsBy text_of (Err due) source_view sink_view source source' sink sink' status =
     EndsWith due source source' sink sink' status
+
+-- When what is due comes, where the words are a form: always, unless memory runs out (1), or the
+-- source (3) or the sink (4) fails. `left` are the bytes that the source had, where it shows them.
+abbrev pub Completes : (words : List (List ℕ)) → (left : Option (List ℕ)) → (status : ℕ) → Type 0
+Completes words left status =
+    (form : Form) → form_of words ≡ Some form → IsComplete form shipped_slots left status
+
+-- the same of words that could be had
+abbrev pub CompletesBy : {W : Type 0} → (text_of : W → List (List ℕ)) → Result W ℕ →
+    (left : Option (List ℕ)) → (status : ℕ) → Type 0
+CompletesBy text_of (Ok words) left status = Completes (text_of words) left status
+CompletesBy text_of (Err due) left status = Unit {0}
 
 -- There is no memory for the sink. Nothing is read.
 pub record IsWithoutSink {S : Type 0} (source source' : S) (status : ℕ) : Type 0 where

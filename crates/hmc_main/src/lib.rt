@@ -10,7 +10,7 @@
 ghost use Rattle.std.specs.Prelude.{◌≡◌, ◌≢◌, drop, map, string_bytes, is_some, true, false, IsOk, IfOk, IfErr, OnErr, Err};
 ghost use Rattle.std.specs.IoError.{error_kind};
 ghost use Rattle.std.specs.Vec.Iter.{into_iter_items};
-ghost use Rattle.hmc_main.specs.Ends.{EndsBy, Ends, IsWithoutSink};
+ghost use Rattle.hmc_main.specs.Ends.{Completes, CompletesBy, EndsBy, Ends, IsWithoutSink};
 ghost use Rattle.hmc_main.specs.Shipped.{shipped_slots};
 ghost use Rattle.hmc_replay.specs.Top.{Replayed};
 ghost use Rattle.hmc_replay.specs.Words.{form_of};
@@ -106,6 +106,8 @@ fn replay_shipped<S: Source, O: Sink>(
     ensures replayed { IfOk result (λ status. Replayed S.shows O.shows
         (map string_bytes words.now) shipped_slots
         source.old source.new sink.old sink.new status) }
+    ensures complete { IfOk result (λ status.
+        Completes (map string_bytes words.now) (S.shows source.old).left status) }
     ensures source { OnErr result (source.new ≡ source.old) }
     ensures sink { OnErr result (sink.new ≡ sink.old) }
 {
@@ -130,8 +132,9 @@ fn replay_words<S: Source, O: Sink>(
     source: &mut S,
     sink: &mut O,
 ) -> u8
-    ensures { Ends S.shows O.shows (map string_bytes words.now)
+    ensures ended { Ends S.shows O.shows (map string_bytes words.now)
         source.old source.new sink.old sink.new result }
+    ensures complete { Completes (map string_bytes words.now) (S.shows source.old).left result }
 {
     match replay_shipped(alloc, words, source, sink) {
         Ok(status) => status,
@@ -146,8 +149,10 @@ fn end<S: Source, O: Sink>(
     source: &mut S,
     sink: &mut O,
 ) -> u8
-    ensures { EndsBy (λ words. map string_bytes words.items) words S.shows O.shows
+    ensures ended { EndsBy (λ words. map string_bytes words.items) words S.shows O.shows
         source.old source.new sink.old sink.new result }
+    ensures complete { CompletesBy (λ words. map string_bytes words.items) words
+        (S.shows source.old).left result }
 {
     match words {
         Ok(words) => replay_words(alloc, &words, source, sink),
@@ -167,6 +172,8 @@ pub fn run_program<S: Source, O: Sink + Drop>(
     ensures ended { IfOk sink (λ sink. (sink' : O) ×
         EndsBy (λ words. map string_bytes words.items) words S.shows O.shows
         source.old source.new sink sink' result) }
+    ensures complete { IfOk sink (λ _. CompletesBy (λ words. map string_bytes words.items) words
+        (S.shows source.old).left result) }
     ensures without_sink { IfErr sink (λ _. IsWithoutSink source.old source.new result) }
 {
     match sink {

@@ -1,8 +1,9 @@
 //! A writer of std as a sink.
-ghost use Rattle.std.specs.Prelude.{◌≡◌, ◌≢◌, ◌<◌, ◌≤◌, ◌+◌, [], length, take, true, false, IfOk, IfErr, OnOk, OnErr};
+ghost use Rattle.std.specs.Prelude.{◌≡◌, ◌≢◌, ◌<◌, ◌≤◌, ◌+◌, [], length, take, true, false, IsErr, IfOk, IfErr, OnOk, OnErr};
 ghost use Rattle.std.specs.IoError.{error_kind};
 ghost use Rattle.std.specs.Io.Buffered.{writer_buffer, writer_contents};
 ghost use Rattle.std.specs.Io.KnownBytes.{Appends, Keeps};
+ghost use Rattle.hmc_outside.specs.Answered.{HasAnswered};
 ghost use Rattle.hmc_outside.specs.Counts.{opened};
 ghost use Rattle.hmc_outside.specs.Finish.{Finishes};
 ghost use Rattle.hmc_outside.specs.Pieces.{pieces_of, with_pieces, WritesPrefix};
@@ -229,14 +230,29 @@ fn flush<W: Write + Drop>(writer: &mut BufWriter<W>) -> io::Result<()>
     ensures none_gathered { OnOk result (writer_buffer writer.new ≡ []) }
     ensures tried { IfErr result (λ e. error_kind e ≢ ErrorKind.Interrupted) }
 {
+    let mut answered = false;
     'tries: for _ in 0..u64::MAX {
-        match writer.flush() {
+        match ask_flush(writer, &mut answered) {
             Ok(()) => return Ok(()),
-            Err(e) if e.kind() == ErrorKind::Interrupted => {}
-            Err(e) => return Err(e),
+            Err(error) if error.kind() == ErrorKind::Interrupted => {}
+            Err(error) => return Err(error),
         }
     }
     Err(io::Error::from(ErrorKind::TimedOut))
+}
+
+// One flush. A writer that has answered is not asked again.
+fn ask_flush<W: Write + Drop>(writer: &mut BufWriter<W>, answered: &mut bool) -> io::Result<()>
+    requires { answered.old ≡ false }
+    ensures kept { Keeps
+        (writer_contents W.contents writer.old) (writer_contents W.contents writer.new) }
+    ensures none_gathered { OnOk result (writer_buffer writer.new ≡ []) }
+    ensures answered { HasAnswered
+        (λ e. error_kind e ≡ ErrorKind.Interrupted) result answered.new }
+{
+    let flushed = writer.flush();
+    *answered = is_answer(&flushed);
+    flushed
 }
 
 // Writes the pieces that the writer takes, one after the other.
@@ -277,13 +293,54 @@ fn write_some<W: Write>(writer: &mut W, piece: &[u8]) -> io::Result<usize>
     ensures unchanged { OnErr result (Keeps (W.contents writer.old) (W.contents writer.new)) }
     ensures tried { IfErr result (λ e. error_kind e ≢ ErrorKind.Interrupted) }
 {
+    let mut answered = false;
     'tries: for _ in 0..u64::MAX {
-        match writer.write(piece) {
-            Ok(0) => return Err(io::Error::from(ErrorKind::WriteZero)),
+        match ask_write(writer, piece, &mut answered) {
             Ok(taken) => return Ok(taken),
             Err(e) if e.kind() == ErrorKind::Interrupted => {}
             Err(e) => return Err(e),
         }
     }
     Err(io::Error::from(ErrorKind::TimedOut))
+}
+
+// One write. A writer that has answered is not asked again.
+fn ask_write<W: Write>(writer: &mut W, piece: &[u8], answered: &mut bool) -> io::Result<usize>
+    requires { answered.old ≡ false }
+    ensures some { IfOk result (λ n. 0 < n) }
+    ensures within { IfOk result (λ n. n ≤ length piece.now) }
+    ensures appended { IfOk result
+        (λ n. Appends (W.contents writer.old) (W.contents writer.new) (take n piece.now)) }
+    ensures unchanged { OnErr result (Keeps (W.contents writer.old) (W.contents writer.new)) }
+    ensures answered { HasAnswered
+        (λ e. error_kind e ≡ ErrorKind.Interrupted) result answered.new }
+{
+    let written = match writer.write(piece) {
+        Ok(taken) => some_taken(taken),
+        Err(e) => Err(e),
+    };
+    *answered = is_answer(&written);
+    written
+}
+
+// How many bytes a writer took, where it took any: no bytes are an error.
+fn some_taken(taken: usize) -> io::Result<usize>
+    ensures some { 0 < taken → result ≡ Ok taken }
+    ensures nothing { taken ≡ 0 → IsErr result }
+    ensures kind { IfErr result (λ e. error_kind e ≡ ErrorKind.WriteZero) }
+{
+    if taken == 0 {
+        return Err(io::Error::from(ErrorKind::WriteZero));
+    }
+    Ok(taken)
+}
+
+// Whether this is an answer of a writer: an interruption is none.
+fn is_answer<T>(answer: &io::Result<T>) -> bool
+    ensures { HasAnswered (λ e. error_kind e ≡ ErrorKind.Interrupted) answer.now result }
+{
+    match answer {
+        Ok(_) => true,
+        Err(e) => e.kind() != ErrorKind::Interrupted,
+    }
 }

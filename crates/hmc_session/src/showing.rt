@@ -1,6 +1,6 @@
 //! What a session shows: its latest entry, the line of it, and the final lines.
 
-ghost use Rattle.std.specs.Prelude.{◌≡◌, ◌++◌, [], List, false, OnErr, OnOk, option_map, string_bytes};
+ghost use Rattle.std.specs.Prelude.{◌≡◌, ◌++◌, [], List, false, true, IsOk, OnErr, OnOk, option_map, string_bytes};
 ghost use Rattle.hmc_entries.specs.declared.entry.Entry.{Entry};
 ghost use Rattle.hmc_journal.specs.Final.{values_of};
 ghost use Rattle.hmc_journal.specs.Setup.{Setup};
@@ -43,7 +43,7 @@ impl<B: Workbench> Session<B> {
     }
 
     /// Appends the final lines that a report of the steps so far has, from this part on. After a
-    /// landing that passed, when a report has none, it says nothing. `Memory` if out of memory:
+    /// landing that passed a report has none, and nothing is appended. `Memory` if out of memory:
     /// then the first of the lines have been appended, each of them whole.
     pub fn final_lines(&self, alloc: Global, from: Part, into: &mut String) -> Result<(), Memory>
         ensures text { (setup : Setup) (past : List Entry) →
@@ -54,7 +54,13 @@ impl<B: Workbench> Session<B> {
             StandsIn (session_of B.slots self.now) setup past → self.now.passed ≡ false →
             OnErr result (AppendsSome (string_bytes into.old) (string_bytes into.new)
             (lines_from from (values_of setup past))) }
+        ensures nothing { self.now.passed ≡ true →
+            string_bytes into.new ≡ string_bytes into.old }
+        ensures passed { self.now.passed ≡ true → IsOk result }
     {
+        if self.has_passed() {
+            return Ok(());
+        }
         let network = self.network();
         network.shows_journal();
         finish(alloc, network, from, into)

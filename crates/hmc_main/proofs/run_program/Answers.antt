@@ -6,4 +6,7 @@ of_ok : (T E : Type 0) (r : Result T E) (x : T) (P : T → Type 0) → r ≡ Ok 
 of_ok T E r x P is p = subst (λ (q : Result T E). IfOk q P) (sym is) p
 
 pub returns-in-Ok-clause-ended : goal.returns-in-Ok-clause-ended
-returns-in-Ok-clause-ended g c = of_ok _ _ c.args.sink c.in-Ok.sink _ c.in-Ok.is (c.end.new.sink, c.end.ensures)
+returns-in-Ok-clause-ended g c = of_ok _ _ c.args.sink c.in-Ok.sink _ c.in-Ok.is (c.end.new.sink, c.end.ensures.ended)
+
+pub returns-in-Ok-clause-complete : goal.returns-in-Ok-clause-complete
+returns-in-Ok-clause-complete g c = of_ok _ _ c.args.sink c.in-Ok.sink _ c.in-Ok.is c.end.ensures.complete
