@@ -9,7 +9,8 @@
  * than HMC_OK, HMC_PASSED and HMC_UNLAWFUL it did nothing, except that hmc_next and hmc_run take a
  * step that is refused off the list, and that hmc_run may have taken steps before: `steps` counts
  * them. What a call would write through a pointer isn't written then, except that `written` is 0,
- * and a length as is said. No pointer may be null, also where a length is 0.
+ * and a length as is said. "No null pointer" in a comment: what the call does with one is undefined,
+ * also where a length is 0.
  * Numbers of hosts, cubes, ports, vaults, banks and directions begin with 0. docs/c-library.md says
  * more.
  *
@@ -29,6 +30,10 @@
 #include <stdbool.h>
 #include <stddef.h>
 #include <stdint.h>
+
+/* The version of these calls: docs/release.md says what raises it. A program that finds another one
+ * by hmc_version() was compiled with the header of another library. */
+#define HMC_VERSION 1
 
 #ifdef __cplusplus
 extern "C" {
@@ -219,75 +224,100 @@ typedef struct {
     uint32_t dropped;  /* poisoned packets dropped */
 } hmc_cube_t;
 
+/* The library was compiled with these sizes. Where a compiler lays out structs otherwise, by a
+ * pragma or for another kind of processor, it refuses this header. */
+#if defined(__cplusplus) && __cplusplus >= 201103L
+#define HMC_SIZE(type, bytes) static_assert(sizeof(type) == (bytes), #type)
+#elif defined(__STDC_VERSION__) && __STDC_VERSION__ >= 201112L
+#define HMC_SIZE(type, bytes) _Static_assert(sizeof(type) == (bytes), #type)
+#else
+#define HMC_SIZE(type, bytes) typedef char type##_size[sizeof(type) == (bytes) ? 1 : -1]
+#endif
+HMC_SIZE(hmc_session, 8);
+HMC_SIZE(hmc_entry_t, 568);
+HMC_SIZE(hmc_unit_t, 3);
+HMC_SIZE(hmc_packet_t, 288);
+HMC_SIZE(hmc_fault_t, 24);
+HMC_SIZE(hmc_tokens_t, 20);
+HMC_SIZE(hmc_counters_t, 24);
+HMC_SIZE(hmc_host_t, 12);
+HMC_SIZE(hmc_cube_t, 8);
+#undef HMC_SIZE
+
 /* ---- A handle ---- */
 
 /* Opens a handle on a session of a case (docs/case.md) with no logic units: with the requests of
  * its script asked, the steps of its schedule laid down, and none of them taken. With HMC_OK what
- * the handle had is dropped; else the handle is as it was. HMC_OK, HMC_MEMORY, HMC_BAD. */
+ * the handle had is dropped; else the handle is as it was. HMC_OK, HMC_MEMORY, HMC_BAD.
+ * No null pointer. */
 uint8_t hmc_open(const uint8_t *text, size_t length, hmc_session *s);
 /* The same with at most 8 logic units: the one at place i is in slot i. HMC_NONE: there are more,
- * or the numbers of one name no unit. HMC_OK, HMC_MEMORY, HMC_BAD, HMC_NONE. */
+ * or the numbers of one name no unit. HMC_OK, HMC_MEMORY, HMC_BAD, HMC_NONE. No null pointer. */
 uint8_t hmc_open_with(const uint8_t *text, size_t length, const hmc_unit_t *units, size_t count,
                       hmc_session *s);
 /* The same with a tape: the requests and the steps are kept as a script and a schedule, which
  * hmc_tape_script and hmc_tape_schedule write. Requests and steps take memory then. HMC_OK,
- * HMC_MEMORY, HMC_BAD, HMC_NONE. */
+ * HMC_MEMORY, HMC_BAD, HMC_NONE. No null pointer. */
 uint8_t hmc_open_taped(const uint8_t *text, size_t length, const hmc_unit_t *units, size_t count,
                        hmc_session *s);
-/* Closes a handle; a closed one stays closed. */
+/* Closes a handle; a closed one stays closed. No null pointer. */
 void hmc_close(hmc_session *s);
-/* The first fault of a text that is no case. HMC_OK, HMC_MEMORY, HMC_NONE (it is a case). */
+/* The first fault of a text that is no case. HMC_OK, HMC_MEMORY, HMC_NONE (it is a case).
+ * No null pointer. */
 uint8_t hmc_fault(const uint8_t *text, size_t length, hmc_fault_t *out);
 
 /* ---- Requests ---- */
 
 /* Asks a host for one request more, in the words of a script (docs/script.md), as "0 rd16 0 0x40";
  * a fence of its host may be on a line before it. HMC_OK, HMC_MEMORY, HMC_BAD (also where there is
- * no such host or cube), HMC_CLOSED, HMC_FINISHED, HMC_FULL. */
+ * no such host or cube), HMC_CLOSED, HMC_FINISHED, HMC_FULL. No null pointer. */
 uint8_t hmc_ask(hmc_session *s, const uint8_t *text, size_t length);
 /* Asks a host for one request more: the code of its command (docs/packets.md), its cube, an
  * address below 2^34, and as many bytes as the command has, of which the first four count for mdwr.
- * HMC_OK, HMC_MEMORY, HMC_BAD, HMC_CLOSED, HMC_NO_HOST to HMC_FULL. */
+ * HMC_OK, HMC_MEMORY, HMC_BAD, HMC_CLOSED, HMC_NO_HOST to HMC_FULL. No null pointer. */
 uint8_t hmc_request(hmc_session *s, uint8_t host, bool fenced, bool poisoned, uint8_t code,
                     uint8_t cube, uint64_t address, const uint8_t *payload, size_t length);
 /* From now on the host is asked for nothing more: a request for it is refused, and where it has
  * given all of its requests a give of it is taken, and does nothing. HMC_OK, HMC_CLOSED,
- * HMC_NO_HOST. */
+ * HMC_NO_HOST. No null pointer. */
 uint8_t hmc_finish(hmc_session *s, uint8_t host);
 /* The first fault of a text that hmc_ask finds bad: of section script; where it states no request,
  * or more than one, its line is 0 and its word "one"; where it isn't UTF-8, 0 and "utf8". HMC_OK,
- * HMC_MEMORY, HMC_CLOSED, HMC_NONE (it states one request). */
+ * HMC_MEMORY, HMC_CLOSED, HMC_NONE (it states one request). No null pointer. */
 uint8_t hmc_ask_fault(hmc_session *s, const uint8_t *text, size_t length, hmc_fault_t *out);
 
 /* ---- Steps ---- */
 
 /* Takes the step of this kind (HMC_GIVE ..) with these numbers; of a landing with this mask, which
  * the other kinds don't read. HMC_MEMORY: the tape is out of memory. HMC_NONE: the network has no
- * such part. HMC_OK, HMC_MEMORY, HMC_PASSED, HMC_NONE, HMC_CLOSED, HMC_WAITS, HMC_OVER. */
+ * such part. HMC_OK, HMC_MEMORY, HMC_PASSED, HMC_NONE, HMC_CLOSED, HMC_WAITS, HMC_OVER.
+ * No null pointer. */
 uint8_t hmc_step(hmc_session *s, uint8_t kind, uint8_t a, uint8_t b, uint8_t c,
                  const uint8_t mask[16]);
 /* Lays down steps, in the words of a schedule (docs/schedule.md), as "round 100", in place of those
- * that are left. HMC_OK, HMC_MEMORY, HMC_BAD, HMC_CLOSED. */
+ * that are left. HMC_OK, HMC_MEMORY, HMC_BAD, HMC_CLOSED. No null pointer. */
 uint8_t hmc_lay(hmc_session *s, const uint8_t *text, size_t length);
 /* Takes the next of the steps that are laid down, as hmc_step does; one that is refused is off the
  * list too, and one that the tape has no memory for stays. HMC_OK, HMC_MEMORY, HMC_PASSED, HMC_NONE
- * (none is left), HMC_CLOSED, HMC_WAITS, HMC_OVER. */
+ * (none is left), HMC_CLOSED, HMC_WAITS, HMC_OVER. No null pointer. */
 uint8_t hmc_next(hmc_session *s);
 /* Takes steps that are laid down, and tries at most so many, up to an entry whose kind k has the
  * bit k set in `stops`, as 1u << HMC_TOOK; one that waits is passed over. `steps` is how many were
  * taken. HMC_OK (the latest entry is of such a kind, or so many were tried), HMC_MEMORY (the tape
  * is out of memory for the next one, which stays), HMC_NONE (none is left, and fewer were tried),
- * HMC_CLOSED, HMC_OVER (the next step may not be taken; it is off the list). */
+ * HMC_CLOSED, HMC_OVER (the next step may not be taken; it is off the list). No null pointer. */
 uint8_t hmc_run(hmc_session *s, uint32_t most, uint32_t stops, uint32_t *steps);
 /* The first fault of a text that hmc_lay finds bad: of section schedule; where it isn't UTF-8, its
- * line is 0 and its word "utf8". HMC_OK, HMC_MEMORY, HMC_CLOSED, HMC_NONE (it is a schedule). */
+ * line is 0 and its word "utf8". HMC_OK, HMC_MEMORY, HMC_CLOSED, HMC_NONE (it is a schedule).
+ * No null pointer. */
 uint8_t hmc_lay_fault(hmc_session *s, const uint8_t *text, size_t length, hmc_fault_t *out);
 
 /* ---- What it shows ---- */
 
-/* Shows the latest entry. HMC_OK, HMC_NONE, HMC_CLOSED. */
+/* Shows the latest entry. HMC_OK, HMC_NONE, HMC_CLOSED. No null pointer. */
 uint8_t hmc_entry(hmc_session *s, hmc_entry_t *out);
-/* The line of the latest entry; 2,048 bytes hold each. HMC_OK, HMC_NONE, HMC_CLOSED. */
+/* The line of the latest entry; 2,048 bytes hold each. HMC_OK, HMC_NONE, HMC_CLOSED.
+ * No null pointer. */
 uint8_t hmc_line(hmc_session *s, uint8_t *out, size_t room, size_t *written);
 
 /* The tape of a session that was opened with one: the requests that were asked, as a script, and
@@ -295,35 +325,35 @@ uint8_t hmc_line(hmc_session *s, uint8_t *out, size_t room, size_t *written);
  * own, and with the same logic units, has the session's journal, and its report begins with the
  * session's lines, unless there are more than 65,536 requests or 1,000,000 steps. `length` is that of
  * the text also where there is no room for it, and 0 where there is no tape. HMC_OK, HMC_NONE (no
- * room, or no tape), HMC_CLOSED. */
+ * room, or no tape), HMC_CLOSED. No null pointer. */
 uint8_t hmc_tape_script(hmc_session *s, uint8_t *out, size_t room, size_t *length);
 uint8_t hmc_tape_schedule(hmc_session *s, uint8_t *out, size_t room, size_t *length);
 
 /* What the steps so far leave. After a landing that passed each of these is HMC_OVER. */
 
 /* The 16 bytes of a cube at an address, a multiple of 16 below the size of its memory. HMC_OK,
- * HMC_NONE, HMC_CLOSED, HMC_OVER. */
+ * HMC_NONE, HMC_CLOSED, HMC_OVER. No null pointer. */
 uint8_t hmc_block(hmc_session *s, uint8_t cube, uint64_t address, uint8_t out[16]);
-/* A register of a cube, 0 to 15. HMC_OK, HMC_NONE, HMC_CLOSED, HMC_OVER. */
+/* A register of a cube, 0 to 15. HMC_OK, HMC_NONE, HMC_CLOSED, HMC_OVER. No null pointer. */
 uint8_t hmc_register(hmc_session *s, uint8_t cube, uint8_t number, uint32_t *out);
 /* The tokens and the counts of a direction. Link i has the directions 2i, from its end a to its end
- * b, and 2i + 1. HMC_OK, HMC_NONE, HMC_CLOSED, HMC_OVER. */
+ * b, and 2i + 1. HMC_OK, HMC_NONE, HMC_CLOSED, HMC_OVER. No null pointer. */
 uint8_t hmc_tokens(hmc_session *s, uint8_t direction, hmc_tokens_t *out);
 uint8_t hmc_counters(hmc_session *s, uint8_t direction, hmc_counters_t *out);
-/* The counts of a host, and of a cube. HMC_OK, HMC_NONE, HMC_CLOSED, HMC_OVER. */
+/* The counts of a host, and of a cube. HMC_OK, HMC_NONE, HMC_CLOSED, HMC_OVER. No null pointer. */
 uint8_t hmc_host(hmc_session *s, uint8_t host, hmc_host_t *out);
 uint8_t hmc_cube(hmc_session *s, uint8_t cube, hmc_cube_t *out);
-/* Whether nothing is on its way. HMC_OK, HMC_CLOSED, HMC_OVER. */
+/* Whether nothing is on its way. HMC_OK, HMC_CLOSED, HMC_OVER. No null pointer. */
 uint8_t hmc_drained(hmc_session *s, bool *out);
-/* How many requests and responses are under way. HMC_OK, HMC_CLOSED, HMC_OVER. */
+/* How many requests and responses are under way. HMC_OK, HMC_CLOSED, HMC_OVER. No null pointer. */
 uint8_t hmc_under_way(hmc_session *s, uint32_t *out);
 /* The final line of this number, from 0, that a report of the steps so far has; 2,048 bytes hold
  * each. It takes as long as all final lines up to it. HMC_NONE: there are fewer, or no room for it.
- * HMC_OK, HMC_NONE, HMC_CLOSED, HMC_OVER. */
+ * HMC_OK, HMC_NONE, HMC_CLOSED, HMC_OVER. No null pointer. */
 uint8_t hmc_final_line(hmc_session *s, uint32_t number, uint8_t *out, size_t room,
                        size_t *written);
 /* So many rounds without noise drain a network of one cube and one link; of another network the
- * number says nothing. HMC_OK, HMC_CLOSED, HMC_OVER. */
+ * number says nothing. HMC_OK, HMC_CLOSED, HMC_OVER. No null pointer. */
 uint8_t hmc_drain_bound(hmc_session *s, uint64_t *out);
 
 /* ---- Without a session ---- */
@@ -331,25 +361,25 @@ uint8_t hmc_drain_bound(hmc_session *s, uint64_t *out);
 /* The whole report (docs/report.md) of a case with at most 8 logic units. It is made in memory, and
  * then written. `report_length` is its length also where there is no room for it, and else 0 where
  * nothing is written. HMC_OK, HMC_PASSED (it ends with a landing that passed), HMC_MEMORY, HMC_BAD,
- * HMC_NONE (no room, or a unit is none). */
+ * HMC_NONE (no room, or a unit is none). No null pointer. */
 uint8_t hmc_run_case(const uint8_t *text, size_t length, const hmc_unit_t *units, size_t count,
                      uint8_t *out, size_t room, size_t *report_length);
 /* Whether a report is that of a case with at most 8 logic units. HMC_OK: it is, and `number` is
  * how many entries it has. HMC_UNLAWFUL: it isn't, and `number` is the first line, from 1, that
- * shows it. HMC_MEMORY, HMC_BAD (no case), HMC_NONE (a unit is none). */
+ * shows it. HMC_MEMORY, HMC_BAD (no case), HMC_NONE (a unit is none). No null pointer. */
 uint8_t hmc_check(const uint8_t *text, size_t length, const uint8_t *report, size_t report_length,
                   const hmc_unit_t *units, size_t count, uint32_t *number);
 /* The flits of a packet as it is sent in profile two, or one, of 16 bytes each: `room` and
  * `written` are numbers of flits. 17 hold each packet. HMC_BAD: the numbers are no packet, or one
- * that doesn't fit the profile. HMC_OK, HMC_BAD, HMC_NONE (no room). */
+ * that doesn't fit the profile. HMC_OK, HMC_BAD, HMC_NONE (no room). No null pointer. */
 uint8_t hmc_spell(const hmc_packet_t *packet, bool two, uint8_t *out, size_t room,
                   size_t *written);
 /* The packet that so many flits of 16 bytes are in profile two, or one. HMC_OK, HMC_BAD_LENGTH to
- * HMC_BAD_CRC. */
+ * HMC_BAD_CRC. No null pointer. */
 uint8_t hmc_read(const uint8_t *flits, size_t count, bool two, hmc_packet_t *out);
-/* The check of a packet: the CRC of its bytes (docs/crc.md). */
+/* The check of a packet: the CRC of its bytes (docs/crc.md). No null pointer. */
 uint32_t hmc_crc(const uint8_t *bytes, size_t length);
-/* The version of these calls: 1. */
+/* The version of these calls, as the library was compiled: HMC_VERSION of its header. */
 uint32_t hmc_version(void);
 
 #ifdef __cplusplus

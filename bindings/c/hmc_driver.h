@@ -26,21 +26,23 @@ typedef struct hmc_driver hmc_driver;
 
 /* Opens a driver on a case whose script has no requests (docs/case.md). It takes one round, in
  * which it learns which parts the network has. NULL with a status: HMC_MEMORY, HMC_BAD (the text is
- * no case, or its script has requests). */
+ * no case, or its script has requests). No null pointer. */
 hmc_driver *hmc_driver_open(const uint8_t *text, size_t length, uint8_t *status);
 /* Closes a driver and its session. NULL is allowed. */
 void hmc_driver_close(hmc_driver *d);
 /* Its session, for hmc_entry, hmc_line and the calls that only look. To step it or to ask it past
- * the driver spoils the pairing of answers with requests. */
+ * the driver spoils the pairing of answers with requests. No null pointer. */
 hmc_session *hmc_driver_session(hmc_driver *d);
-/* The hosts of the network, 1 to 8, and the steps of a round, up to 4,752. */
+/* The hosts of the network, 1 to 8, and the steps of a round, up to 4,752. No null pointer. */
 uint8_t hmc_driver_hosts(const hmc_driver *d);
 uint32_t hmc_driver_steps_of_round(const hmc_driver *d);
-/* The requests that were asked and are not done: neither answered nor, if posted, given. */
+/* The requests that were asked and are not done: neither answered nor, if posted, given.
+ * No null pointer. */
 uint64_t hmc_driver_waiting(const hmc_driver *d);
 
 /* Asks a host for a request, as hmc_request does, without a fence or poison; `id` is any number.
- * `payload` may be NULL where `length` is 0. The statuses are those of hmc_request. */
+ * `payload` may be NULL where `length` is 0; no other null pointer. The statuses are those of
+ * hmc_request. */
 uint8_t hmc_driver_request(hmc_driver *d, uint8_t host, uint8_t code, uint8_t cube,
                            uint64_t address, const uint8_t *payload, size_t length, uint64_t id);
 /* Takes the next steps of the round, up to one with which a request is done: it is answered, or, if
@@ -49,11 +51,11 @@ uint8_t hmc_driver_request(hmc_driver *d, uint8_t host, uint8_t code, uint8_t cu
  * posted request what was given (kind HMC_GAVE).
  * HMC_NONE: the round has ended, and the next call begins another.
  * HMC_PASSED: a landing passed, of a packet whose flits a mask had changed.
- * HMC_OVER: no step may be taken any more. */
+ * HMC_OVER: no step may be taken any more. No null pointer. */
 uint8_t hmc_driver_go(hmc_driver *d, uint64_t *id, hmc_entry_t *entry);
 /* Takes a step of the caller's own; the driver's round goes on afterwards where it was. The statuses
  * are those of hmc_step. `is_done` says whether the step did a request: only then do `id` and `entry`
- * mean something. */
+ * mean something. No null pointer. */
 uint8_t hmc_driver_step(hmc_driver *d, uint8_t kind, uint8_t a, uint8_t b, uint8_t c,
                         const uint8_t mask[16], bool *is_done, uint64_t *id, hmc_entry_t *entry);
 

@@ -448,7 +448,7 @@ int main(int count, char **words) {
     if (count != 2)
         return 2;
     length = read_file(words[1], text, sizeof text - 1);
-    want(hmc_version(), 1, "version");
+    want(hmc_version(), HMC_VERSION, "version");
     want(strcmp(hmc_status_name(HMC_FULL), "full"), 0, "the name of a status");
     want(strcmp(hmc_status_name(HMC_UNLAWFUL), "unlawful"), 0, "the name of the last status");
     want(strcmp(hmc_status_name(HMC_UNLAWFUL + 1), "?"), 0, "the name of none");

@@ -1,13 +1,25 @@
-//! Says where the library is that `make -C bindings` leaves.
+//! Says where libhmc.a is: in the folder that HMC_LIB_DIR names, or in this package, or where
+//! `make -C bindings` leaves it, or where pkg-config finds it.
+use std::env::var_os;
 use std::path::PathBuf;
+use std::process::Command;
+
+fn by_pkg_config() -> Option<PathBuf> {
+    let words = ["--variable=libdir", "hmc"];
+    let said = Command::new("pkg-config").args(words).output().ok()?;
+    let folder = PathBuf::from(String::from_utf8(said.stdout).ok()?.trim());
+    said.status.success().then_some(folder)
+}
 
 fn main() {
-    let folder = std::env::var_os("HMC_LIB_DIR")
+    let here = PathBuf::from(var_os("CARGO_MANIFEST_DIR").expect("cargo sets it"));
+    let beside = [here.join("lib"), here.join("../build")];
+    let folder = var_os("HMC_LIB_DIR")
         .map(PathBuf::from)
-        .unwrap_or_else(|| {
-            PathBuf::from(std::env::var_os("CARGO_MANIFEST_DIR").expect("cargo sets it"))
-                .join("../build")
-        });
+        .or_else(|| beside.into_iter().find(|it| it.join("libhmc.a").is_file()))
+        .or_else(by_pkg_config)
+        .expect("no libhmc.a: run make -C bindings, install the library, or set HMC_LIB_DIR");
     println!("cargo:rustc-link-search=native={}", folder.display());
     println!("cargo:rerun-if-env-changed=HMC_LIB_DIR");
+    println!("cargo:rerun-if-env-changed=PKG_CONFIG_PATH");
 }

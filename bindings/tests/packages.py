@@ -15,17 +15,25 @@ def _has(tool: str) -> Callable[[], bool]:
     return lambda: shutil.which(tool) is not None
 
 
-def _has_pip() -> bool:
-    words = [sys.executable, "-m", "pip", "--version"]
-    return subprocess.run(words, capture_output=True, check=False).returncode == 0
+def packer() -> str | None:
+    """A Python that makes wheels: this one, or that of the distribution."""
+    for python in (sys.executable, "/usr/bin/python3"):
+        words = [python, "-c", "import pip, setuptools, wheel"]
+        if not Path(python).exists():
+            continue
+        if subprocess.run(words, capture_output=True, check=False).returncode == 0:
+            return python
+    return None
 
 
 # Each package, and whether what it brings is there.
 PACKAGES: dict[str, Callable[[], bool]] = {
     "g++": _has("g++"),
+    "ghdl": _has("ghdl"),
+    "iverilog": _has("iverilog"),
     "libsystemc-dev": lambda: Path("/usr/include/systemc").exists(),
     "mypy": _has("mypy"),
-    "python3-pip": _has_pip,
+    "python3-pip": lambda: packer() is not None,
     "rustc": _has("rustc"),
     "verilator": _has("verilator"),
 }

@@ -26,8 +26,8 @@ ARCHIVE = BUILD / "libhmc.a"
 sys.path.insert(0, str(TOP))
 
 # pylint: disable=wrong-import-position,import-error
-import archive  # noqa: E402
-from tool import build  # noqa: E402
+import packages  # noqa: E402
+from tool import build, compiled as from_kit  # noqa: E402
 
 CHAIN = HERE / "chain.toml"
 SECONDS = 600
@@ -38,6 +38,7 @@ SANITIZED = ["-g", "-O1", "-fsanitize=address,undefined", "-fno-sanitize-recover
 STRICT = ["-Wall", "-Wextra", "-Wpedantic"]
 WRAPPED = [f"-Wl,--wrap={name}" for name in ("malloc", "calloc", "realloc", "free")]
 SVDPI = Path("/usr/share/verilator/include/vltstd")
+OFFLINE = ["--no-index", "--no-build-isolation", "--no-deps", "--quiet"]
 # A block of a page: its language, and what it has.
 BLOCK = re.compile(r"^```(\w*)\n(.*?)^```$", re.MULTILINE | re.DOTALL)
 
@@ -163,6 +164,57 @@ def test_header(_: Path) -> str:
     return f"{len(declared)} calls"
 
 
+# A program with the names of the kit's heap, as another library that is made with the kit has them.
+COLLIDES = """\
+#include "hmc.h"
+int rattle_alloc, rattle_realloc, rattle_dealloc;
+int main(void) { return hmc_version() != HMC_VERSION; }
+"""
+
+
+def defined_in(*words: object) -> set[str]:
+    """The names that nm shows as defined."""
+    rows = [row.split() for row in run("nm", *words).splitlines()]
+    return {row[2].split("@")[0] for row in rows if len(row) == 3}
+
+
+def test_symbols(room: Path) -> str:
+    """The libraries define no global name but hmc_*, and link beside another of the kit. The shared
+    one has a version of its interface."""
+    shared = BUILD / "shared" / "libhmc.so.1"
+    names = defined_in("-g", "--defined-only", ARCHIVE)
+    others = defined_in("-D", "--defined-only", shared) - {"HMC_1"}
+    wrong = {name for name in names | others if not name.startswith("hmc_")} | (names ^ others)
+    if wrong:
+        raise Failed(f"{', '.join(sorted(wrong))}: not a name of both libraries")
+    if "Library soname: [libhmc.so.1]" not in run("readelf", "-d", shared):
+        raise Failed("the shared library has another name than libhmc.so.1")
+    source = room / "collides.c"
+    source.write_text(COLLIDES, encoding="utf-8")
+    run("cc", *INCLUDES, "-o", room / "collides", source, ARCHIVE)
+    run(room / "collides")
+    return f"{len(names)} names"
+
+
+# A call that a header declares with a pointer, after the comment that is its own.
+POINTED = re.compile(r"/\*((?:(?!\*/).)*)\*/\n((?:(?!/\*)[^\n]+\n)+)", re.DOTALL)
+
+
+def test_pointers(_: Path) -> str:
+    """The comment of each call that takes a pointer says what a null one does."""
+    found = 0
+    for header in ("hmc.h", "hmc_driver.h"):
+        text = (BINDINGS / "c" / header).read_text(encoding="utf-8")
+        for comment, declared in POINTED.findall(text):
+            names = DECLARED.findall(declared)
+            if not names or "*" not in declared.partition("(")[2]:
+                continue
+            if not re.search(r"\b(No null pointer|NULL (is allowed|may be)|may be NULL)", comment):
+                raise Failed(f"{', '.join(names)}: the comment is silent about null pointers")
+            found += len(names)
+    return f"{found} calls"
+
+
 def test_drive(room: Path) -> str:
     """Random requests and steps, and the tape of them replayed by the program."""
     program = compiled(room, "drive", [HERE / "drive.c"], [])
@@ -260,26 +312,63 @@ def test_verilator(room: Path) -> str:
     return counted[-1]
 
 
+def test_icarus(room: Path) -> str:
+    """A bench of Icarus Verilog over VPI."""
+    require("iverilog", "iverilog")
+    flags = run("iverilog-vpi", "--cflags").split()
+    words = ["cc", "-std=c11", "-O2", *STRICT[:2], *flags, "-shared", *INCLUDES]
+    source = BINDINGS / "icarus" / "hmc_vpi.c"
+    run(*words, "-o", room / "hmc.vpi", source, ARCHIVE)
+    bench = BINDINGS / "icarus" / "test.v"
+    run("iverilog", "-g2012", f'-DCASE="{CHAIN}"', "-o", room / "test", bench)
+    said = run("vvp", "-M", room, "-m", "hmc", room / "test")
+    if "icarus: 2000 answers, 0 wrong" not in said:
+        raise Failed(said[-1000:])
+    return next(line for line in said.splitlines() if line.startswith("icarus: "))
+
+
+def test_ghdl(room: Path) -> str:
+    """A bench of GHDL over VHPIDIRECT."""
+    require("ghdl", "ghdl")
+    folder = BINDINGS / "ghdl"
+    words = ["cc", "-std=c99", "-O2", *STRICT, "-fPIC", "-shared", *INCLUDES]
+    run(*words, "-o", room / "libhmc_ghdl.so", folder / "hmc_ghdl.c", ARCHIVE)
+    shutil.copy(CHAIN, room)
+    run("ghdl", "-a", "--std=08", folder / "hmc_vhdl.vhd", folder / "test.vhd", at=room)
+    run("ghdl", "-e", "--std=08", "test", at=room)
+    said = run("ghdl", "-r", "--std=08", "test", at=room)
+    if "ghdl: 2000 answers, 0 wrong" not in said:
+        raise Failed(said[-1000:])
+    return "2000 answers, 0 wrong"
+
+
 def test_examples(_: Path) -> str:
     """The stored examples step by step."""
     return last_line(run(sys.executable, HERE / "steps.py", TOP / "examples"))
 
 
 def test_python(room: Path) -> str:
-    """The package as it is installed, without a network."""
-    pip = [sys.executable, "-m", "pip"]
-    try:
-        run(*pip, "--version")
-    except Failed as failed:
-        raise Skipped("python3-pip is not installed") from failed
-    words = ["install", "--no-index", "--quiet", "--target", room / "packages"]
-    run(*pip, *words, BINDINGS / "python", at=room)
+    """The package as it is installed, without a network: its wheel has the same bytes whoever makes
+    it, and its library asks for no later system than the wheel's name states."""
+    python = packages.packer()
+    if python is None:
+        raise Skipped("python3-pip is not installed")
+    words = [python, "-m", "pip", "wheel", *OFFLINE, BINDINGS / "python", "-w"]
+    run(*words, room / "one", at=room)
+    run("sh", "-c", 'umask 077 && exec "$@"', "sh", *words, room / "two", at=room)
+    (one,), (two,) = [list((room / it).glob("*.whl")) for it in ("one", "two")]
+    if one.read_bytes() != two.read_bytes():
+        raise Failed("two wheels of the same sources differ")
+    asked = re.findall(r"GLIBC_2\.([0-9]+)", run("objdump", "-T", BUILD / "shared" / "libhmc.so"))
+    if one.name.split("-")[-1] != "manylinux_2_17_x86_64.whl" or max(map(int, asked)) > 17:
+        raise Failed(f"{one.name}: its library asks for glibc 2.{max(map(int, asked))}")
+    run(python, "-m", "pip", "install", *OFFLINE, "--target", room / "packages", one, at=room)
     # The test stands away from the sources, so that it finds the package that was installed.
     test = shutil.copy(BINDINGS / "python" / "test.py", room)
-    packages = {"PYTHONPATH": str(room / "packages")}
-    said = run(sys.executable, test, CHAIN, at=room, env=packages)
+    installed = {"PYTHONPATH": str(room / "packages")}
+    said = run(sys.executable, test, CHAIN, at=room, env=installed)
     for code, printed in benches("python.md"):
-        if run(sys.executable, "-c", code, at=TOP, env=packages) != printed:
+        if run(sys.executable, "-c", code, at=TOP, env=installed) != printed:
             raise Failed(f"a bench of docs/python.md doesn't print\n{printed}")
     return last_line(said.replace("\nOK", "")).strip()
 
@@ -298,13 +387,32 @@ def test_rust(room: Path) -> str:
     return last_line(run(room / "rust", env={"HMC_TEST_CASE": str(CHAIN)}))
 
 
+def test_fields(room: Path) -> str:
+    """What C, Python and Rust read says what the lines say, and is laid out as hmc.h has it."""
+    require("rustc", "rustc")
+    rustc = ["rustc", "--edition", "2021", "-O", "-D", "warnings", "-L", f"native={BUILD}"]
+    words = ["--crate-type", "rlib", "--crate-name", "hmc", "-o", room / "libhmc.rlib"]
+    run(*rustc, *words, BINDINGS / "rust" / "src" / "lib.rs")
+    words = ["--extern", f"hmc={room / 'libhmc.rlib'}", "-o", room / "rust"]
+    run(*rustc, *words, HERE / "fields.rs")
+    program = compiled(room, "fields", [HERE / "fields.c"], [])
+    words = [HERE / "fields.py", program, room / "rust", TOP / "examples"]
+    return last_line(run(sys.executable, *words))
+
+
+def test_hosts(room: Path) -> str:
+    """A driver of a network with two hosts."""
+    sources = [HERE / "two_hosts.c", BINDINGS / "c" / "driver.c"]
+    return run(compiled(room, "hosts", sources, []), HERE / "net.toml").strip()
+
+
 def test_types(_: Path) -> str:
     """The types of the package and of the tests in Python."""
     require("mypy", "mypy")
     mypy = ["mypy", "--strict", f"--cache-dir={os.devnull}"]
     env = {"MYPYPATH": f"{BINDINGS / 'python'}:{TOP}"}
-    sources = [BINDINGS / "python" / name for name in ("hmc", "backend.py", "test.py")]
-    sources += [HERE / name for name in ("run.py", "steps.py", "packages.py", "archive.py")]
+    sources = [BINDINGS / "python" / name for name in ("hmc", "test.py")]
+    sources += [HERE / f"{name}.py" for name in ("run", "steps", "fields", "packages")]
     return last_line(run(*mypy, *sources, at=HERE, env=env))
 
 
@@ -312,10 +420,16 @@ TESTS: dict[str, Callable[[Path], str]] = {
     "c": test_c,
     "drive": test_drive,
     "header": test_header,
+    "pointers": test_pointers,
     "refuse": test_refuse,
+    "symbols": test_symbols,
     "threads": test_threads,
     "cpp": test_cpp,
     "examples": test_examples,
+    "fields": test_fields,
+    "ghdl": test_ghdl,
+    "hosts": test_hosts,
+    "icarus": test_icarus,
     "python": test_python,
     "rust": test_rust,
     "systemc": test_systemc,
@@ -354,7 +468,8 @@ def main(names: list[str]) -> int:
         print(f"no test of the bindings: {' '.join(unknown)}")
         return 2
     try:
-        why = archive.make() if archive.is_after_gate() and not is_built() else ""
+        is_left = from_kit.is_after_gate(from_kit.ARCHIVE) and not is_built()
+        why = from_kit.make(from_kit.ARCHIVE) if is_left else ""
         if why:
             raise Failed(why)
         run("make", "-C", BINDINGS)
