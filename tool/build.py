@@ -11,11 +11,12 @@ import os
 import re
 import subprocess
 import sys
-from collections.abc import Iterable, Iterator
+from collections.abc import Iterable
 from pathlib import Path
 
-from tool import kit, processes
-from tool.kit import TOP
+from tool import kit, processes, release
+from tool.crates import DIGEST_BYTES, LIST, crates_below, digest_of, libraries, source_files
+from tool.kit import INSTALLED, TOP
 from tool.trouble import NO_OUTPUT, UNAVAILABLE, Trouble, note, say
 
 CRATE = TOP / "crates" / "hmc_prog"
@@ -26,53 +27,17 @@ LOG = OUT / "hmc_prog.log"
 # What the program writes for an input of no bytes, and its status then.
 OF_NOTHING = (6, b"bad top 0 missing\n")
 SHOWN = 30
-DIGEST_BYTES = 32
 # One build at a time in a checkout: each locks this file, which is always there.
-LOCKED = TOP / "crates.txt"
+LOCKED = TOP / LIST
 WAITS = "another build of this checkout is at work: this one waits for it"
 
 NAME = re.compile(r"\b(hmc_[a-z_]+)\b")
 PROGRESS = re.compile(r"so far: ([0-9]+) of ([0-9]+) functions")
 
 
-def libraries() -> dict[str, list[str]]:
-    """The crates of crates.txt, each with the libraries that it names."""
-    crates = {}
-    for line in (TOP / "crates.txt").read_text(encoding="utf-8").splitlines():
-        name, found, below = line.partition("#")[0].partition(":")
-        if found:
-            crates[name.split()[0]] = below.split()
-    return crates
-
-
-def crates_below(name: str, known: dict[str, list[str]]) -> set[str]:
-    """The crate and all crates of the repository that it uses."""
-    wanted = {name}
-    for below in known[name]:
-        if below in known:
-            wanted |= crates_below(below, known)
-    return wanted
-
-
-def source_files() -> Iterator[str]:
-    """Yields the paths, from the top on, of what the program is built from and proved with."""
-    yield "crates.txt"
-    for name in sorted(crates_below(CRATE.name, libraries())):
-        for part in ("src", "specs", "proofs"):
-            folder = TOP / "crates" / name / part
-            found = [os.path.join(at, it) for at, _, names in os.walk(folder) for it in names]
-            yield from sorted(path.removeprefix(f"{TOP}{os.sep}") for path in found)
-
-
 def digest() -> str:
-    """The digest of the sources: of their names and of what they hold."""
-    whole = hashlib.blake2b(digest_size=DIGEST_BYTES)
-    for path in source_files():
-        with open(os.path.join(TOP, path), "rb", buffering=0) as file:
-            held = file.read()
-        whole.update(f"{path} {len(held)}\n".encode())
-        whole.update(held)
-    return whole.hexdigest()
+    """The digest of the sources of the program."""
+    return digest_of(source_files([CRATE.name]))
 
 
 def record_of(sources: str, program: Path) -> str:
@@ -93,9 +58,29 @@ def record(sources: str) -> None:
     RECORD.write_text(record_of(sources, PROGRAM), encoding="utf-8")
 
 
+class Choice:
+    """Which program is taken: with `--released` that of the release, whatever sources it is of."""
+
+    is_released = False
+
+
 def proved_program() -> Path:
-    """The proved program of these sources, which is built first where it is not there."""
+    """The proved program of these sources: the one that was built here, or that of a release of
+    these sources, or else one that is built now."""
+    if INSTALLED.is_file():
+        return (TOP / INSTALLED.read_text(encoding="utf-8").strip()).resolve()
+    if Choice.is_released:
+        return release.program()
+    if not is_current() and release.is_of_these_sources():
+        return release.program()
+    return built_program()
+
+
+def built_program() -> Path:
+    """The proved program of these sources, built here: now, where it wasn't before."""
     if not is_current():
+        if not kit.is_here():
+            raise Trouble(UNAVAILABLE, release.how())
         with processes.lock(LOCKED, WAITS):
             if not is_current():
                 build()

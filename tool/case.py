@@ -7,12 +7,11 @@ place of a fault. The program decides what a valid case is.
 from __future__ import annotations
 
 import re
-import tomllib
 from collections.abc import Callable, Iterator
 from dataclasses import dataclass
 from typing import Any
 
-from tool import schedule, script, texts
+from tool import schedule, script, texts, toml_reader
 from tool.texts import CubeParts, Plan, TextFault
 
 TOP_KEYS = {"profile": int, "cubes": list, "links": list, "script": str, "schedule": str}
@@ -32,7 +31,7 @@ INTEGERS = range(-(1 << 63), 1 << 63)
 
 # A place in the document: keys and numbers from the top down, as ("links", 0, "tokens").
 Path = tuple[Any, ...]
-# A document as tomllib reads it, or a table of it.
+# A document as it is read, or a table of it.
 Document = dict[str, Any]
 # The least and the greatest value of keys.
 Ranges = dict[str, tuple[int, int]]
@@ -89,8 +88,8 @@ def read(data: bytes) -> tuple[Document, Fault | None]:
 def document_of(data: bytes) -> tuple[Document, Fault | None]:
     """The TOML document that the bytes are, or the fault of its syntax."""
     try:
-        document = tomllib.loads(data.decode("utf-8").removeprefix("\ufeff"))
-    except (tomllib.TOMLDecodeError, UnicodeDecodeError, RecursionError) as error:
+        document = toml_reader.loads(data.decode("utf-8").removeprefix("\ufeff"))
+    except (ValueError, RecursionError) as error:
         return {}, Fault("toml", 0, "syntax", said=str(error))
     if has_large_integer(document):
         said = "an integer is outside the range of signed 64-bit numbers"

@@ -5,7 +5,8 @@ from __future__ import annotations
 import gc
 import sys
 
-from tool import build, files, kit, processes, trial
+from tool import build, files, kit, processes, release, trial
+from tool.kit import CALLED
 from tool.trouble import (
     BAD_DATA,
     CLOSED_PIPE,
@@ -33,7 +34,7 @@ def overview() -> str:
     rows = [(command.usage, command.summary) for command in COMMANDS.values()]
     rows.append((HELP, "this text, or that of a command"))
     lines = [f"  {usage:<20}{summary}\n" for usage, summary in rows]
-    return f"usage: ./zehimbado COMMAND ..\n\n{''.join(lines)}\n{END}"
+    return f"usage: {CALLED} COMMAND ..\n\n{''.join(lines)}\n{END}"
 
 
 def help_command(words: list[str]) -> int:
@@ -46,14 +47,18 @@ def help_command(words: list[str]) -> int:
 
 
 def version_command() -> int:
-    """Prints what identifies these sources, the kit, and whether the programs are built."""
-    proved = "is built" if build.is_current() else "is not built yet: ./zehimbado build"
+    """Prints what identifies these sources, the kit, the release, and which programs are built."""
+    if kit.INSTALLED.is_file():
+        files.write_lines([f"zehimbado {kit.project_version()}, installed", *release.lines()])
+        return 0
+    proved = "is built" if build.is_current() else "is not built: ./zehimbado build"
     unproved = "is built" if build.is_current(trial.PROGRAM, trial.RECORD) else "is not built"
     lines = [
         f"zehimbado {kit.project_version()}, sources {build.digest()[:16]}",
         f"kit: {kit_line()}",
         f"the proved program of these sources {proved}",
         f"the unproved program of these sources {unproved}",
+        *release.lines(),
     ]
     files.write_lines(lines)
     return 0
@@ -80,10 +85,12 @@ def dispatch(words: list[str]) -> int:
         return version_command()
     command = COMMANDS.get(words[0])
     if command is None:
-        raise Trouble(USAGE, f"there is no command {words[0]}; ./zehimbado help lists them")
+        raise Trouble(USAGE, f"there is no command {words[0]}; {CALLED} help lists them")
     if any(word in HELP_WORDS[1:] for word in before_dashes(words[1:])):
         return help_command(words[:1])
-    return command.load().run(command.parser().parse_args(words[1:]))
+    given = command.parser().parse_args(words[1:])
+    build.Choice.is_released = vars(given).pop("released", False)
+    return command.load().run(given)
 
 
 def before_dashes(words: list[str]) -> list[str]:

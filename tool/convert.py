@@ -46,7 +46,7 @@ class Packet:
 
 def returns_of(tokens: int) -> int:
     """How many TRETs return so many tokens: each returns the greatest power of two, up to 64."""
-    return tokens // MOST_RETURNED + (tokens % MOST_RETURNED).bit_count()
+    return tokens // MOST_RETURNED + bin(tokens % MOST_RETURNED).count("1")
 
 
 def preamble(document: Document) -> list[str]:

@@ -10,7 +10,7 @@ from collections.abc import Callable, Iterable, Iterator
 from pathlib import Path
 
 from tool import numbers, phrases, quotes, stated
-from tool.build import crates_below, libraries
+from tool.crates import crates_below, libraries
 from tool.durations import duration_table
 from tool.kit import TOP
 from tool.promises import promise_table, reading_table, word_table

@@ -13,10 +13,13 @@ from itertools import islice, zip_longest
 
 from tool import explain, packets, report
 from tool.subjects import Subject, name_of, parts_of, pattern_of, subjects_of
+from tool.trouble import cut
 
 # How many earlier lines of a request or a direction are shown.
 SHOWN = 6
 ENDED = "(the report ends here)"
+# So many characters of a line are shown at most: those of the program are shorter.
+MOST_OF_LINE = 2048
 Lines = Callable[[], Iterable[str]]
 # What a line is about.
 About = Callable[[str], list[Subject]]
@@ -139,7 +142,7 @@ def shown(difference: Difference, before: Before, how: How) -> list[str]:
     kind = ", a final line" if is_final else ""
     lines = [f"the reports differ at line {difference.number}{kind}"]
     for name, side in zip(how.names, difference.sides):
-        lines.append(f"{name}: {ENDED if side is None else side}")
+        lines.append(f"{name}: {ENDED if side is None else cut(side, MOST_OF_LINE)}")
     lines += flit_difference(difference, before, how)
     for subject, earlier in before.lines.items() if how.context else ():
         lines.append(f"before, in both reports, {name_of(subject)}:")

@@ -6,7 +6,8 @@ from __future__ import annotations
 import re
 from dataclasses import dataclass
 
-from tool.build import CRATE, crates_below, libraries
+from tool.build import CRATE
+from tool.crates import crates_below, libraries
 from tool.kit import TOP
 
 MEASURED = TOP / "bench" / "measured"

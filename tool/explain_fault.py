@@ -10,6 +10,7 @@ from tool.case import Document, Fault, net_advice
 from tool.commands import BY_WORD, REQUEST
 from tool.nearest import nearest
 from tool.places import Places, Span
+from tool.trouble import quoted
 
 LINE = re.compile(r"bad (toml|top|cube|net|link|script|schedule|trace) ([0-9]+) ([a-z]+)")
 CASE_PAGE = "docs/case.md#faults"
@@ -17,8 +18,11 @@ TEXT_PAGE = {"script": "docs/script.md#faults", "schedule": "docs/schedule.md#fa
 # The fault that a case has for `bound` alone.
 SINGLE = "bad net 0 single"
 TRACE, TRACE_PAGE = "trace", "docs/trace.md#faults"
-# So many characters of a line of a trace are shown at most.
+# So many characters of a line of a trace are shown at most, and of a line of a case; of those that
+# many are before the place that is shown, if there are more after it.
 MOST_SHOWN = 90
+MOST_OF_LINE = 600
+MOST_BEFORE = 60
 
 
 @dataclass(frozen=True)
@@ -200,9 +204,14 @@ def caret_lines(places: Places, span: Span | None, name: str) -> list[str]:
 
 
 def caret_at(line: str, span: Span, title: str) -> list[str]:
-    """The title, the line, and carets under the span. Tabs are kept, so that the carets fit."""
-    front = re.sub(r"[^\t]", " ", line[: span.column].ljust(span.column))
-    return [title, f"    {line}", f"    {front}{'^' * max(span.width, 1)}"]
+    """The title, the line, and carets under the span. Tabs are kept, so that the carets fit. Of a
+    long line only what is beside the span is shown."""
+    start = span.column - MOST_BEFORE if len(line) > MOST_OF_LINE else 0
+    shown_part = line[max(start, 0) :][:MOST_OF_LINE]
+    column = span.column - max(start, 0)
+    front = re.sub(r"[^\t]", " ", shown_part[:column].ljust(column))
+    width = max(min(span.width, MOST_OF_LINE - column), 1)
+    return [title, f"    {shown_part}", f"    {front}{'^' * width}"]
 
 
 def syntax_lines(fault: Fault, text: str, name: str) -> list[str]:
@@ -248,7 +257,7 @@ def text_advice(fault: Fault, words: list[texts.Word]) -> str:
         return "a word is missing here"
     word = words[fault.word].text
     if fault.kind == "words":
-        return f"`{word}` is left over"
+        return f"{quoted(word)} is left over"
     if fault.section == "schedule" and fault.kind == "range":
         return range_advice(words[0].text, word, fault.word)
     if fault.kind == "payload" and words[fault.word - 3].text != "mdwr":
@@ -256,7 +265,7 @@ def text_advice(fault: Fault, words: list[texts.Word]) -> str:
     known = KNOWN_WORDS.get((fault.section, fault.kind))
     near = nearest(word, known) if known else ""
     suggested = f"; the nearest word is `{near}`" if near else ""
-    return f"`{word}`: {MEANINGS[fault.section][fault.kind]}{suggested}"
+    return f"{quoted(word)}: {MEANINGS[fault.section][fault.kind]}{suggested}"
 
 
 def payload_advice(command: str, word: str) -> str:
@@ -271,13 +280,13 @@ def range_advice(step: str, word: str, place: int) -> str:
     """Which part of the network the word of a schedule does not name."""
     operand = schedule.STEPS[step][place - 1]
     if operand in ("rounds", "landings"):
-        return f"`{word}`: the number of {operand} is 1 to {texts.MOST_ROUNDS:,}"
+        return f"{quoted(word)}: the number of {operand} is 1 to {texts.MOST_ROUNDS:,}"
     if operand == "slot":
-        return f"`{word}`: the slots of logic units are 0 to {texts.SLOTS - 1}"
+        return f"{quoted(word)}: the slots of logic units are 0 to {texts.SLOTS - 1}"
     if operand == "port":
-        return f"`{word}`: no link ends at such a port of this cube"
+        return f"{quoted(word)}: no link ends at such a port of this cube"
     part = "vault" if operand == "place" else operand
-    return f"`{word}`: the network of the case has no such {part}"
+    return f"{quoted(word)}: the network of the case has no such {part}"
 
 
 def advice(fault: Fault, document: Document) -> str:
@@ -288,7 +297,7 @@ def advice(fault: Fault, document: Document) -> str:
     if fault.kind == "unknown":
         near = nearest(str(key), case.keys_at(fault.path[:-1], document))
         suggested = f"; the nearest one is `{near}`" if near else ""
-        return f"`{key}` is not a key of a case here{suggested}"
+        return f"{quoted(str(key))} is not a key of a case here{suggested}"
     if fault.section == "net":
         return f"{MEANINGS['net'][fault.kind]}: {net_advice(fault.kind, document)}"
     if fault.kind == "range":

@@ -19,6 +19,7 @@ from itertools import chain
 from typing import BinaryIO
 
 from tool.trouble import (
+    BAD_DATA,
     NO_INPUT,
     NO_OUTPUT,
     NO_STANDARD_OUTPUT,
@@ -82,6 +83,20 @@ def read_bytes(name: str) -> bytes:
             return file.read()
         except OSError as error:
             raise _unread(name, error) from error
+
+
+def read_input(name: str, most: int, what: str) -> bytes:
+    """The bytes of a file that may have so many; of a longer one no more are read. `what`
+    says what it is to be, as a case."""
+    with opened_to_read(name) as file:
+        try:
+            data = file.read(most + 1)
+        except OSError as error:
+            raise _unread(name, error) from error
+    if len(data) > most:
+        said = f"{shown_name(name)} is longer than {most:,} bytes, which {what} has at most"
+        raise Trouble(BAD_DATA, said)
+    return data
 
 
 def blocks_of(name: str) -> Iterator[list[bytes]]:

@@ -12,11 +12,18 @@ import unittest
 from concurrent.futures import ProcessPoolExecutor
 from pathlib import Path
 
-from tool import build
+from tool import build, release
 
 COUNT = re.compile(r"([0-9]+) passed, ([0-9]+) failed(.*)")
 
 
+# What a gate that passed says, by the words that a release states it with.
+SAID = {
+    "gate": re.compile(r"^([0-9]+ passed, 0 failed)$", re.MULTILINE),
+    "checked": re.compile(r"^rt: (ok; .*)$", re.MULTILINE),
+    "script": re.compile(r"^zehimbado: ([0-9]+ tests) of the script$", re.MULTILINE),
+    "bindings": re.compile(r"^bindings: ([0-9]+ passed, .*)$", re.MULTILINE),
+}
 # The modules of tests that take longest: they build a program, or run one often.
 LONGEST = ("test_quoted", "test_run", "test_files", "test_docs", "test_numbers")
 
@@ -77,13 +84,15 @@ def count(line: str, status: str) -> str:
 
 
 def main(words: list[str]) -> int:
-    """Does one of the four things that .ci/run asks for."""
+    """Does one of the things that .ci/run asks for."""
     if words == ["sources"]:
-        print(build.digest())
+        print(release.digest())
     elif words == ["tests"]:
         return tests()
     elif words[:1] == ["record"]:
         return record(words[1])
+    elif words[:1] == ["passed"]:
+        note_passed(words[1], [Path(word).read_text("utf-8", "replace") for word in words[2:]])
     else:
         print(count(words[1], words[2]))
     return 0
@@ -91,11 +100,20 @@ def main(words: list[str]) -> int:
 
 def record(sources: str) -> int:
     """Records the program that the kit left, if the sources are still those."""
-    if build.digest() != sources or not build.PROGRAM.is_file():
+    if release.digest() != sources or not build.PROGRAM.is_file():
         print("zehimbado: the gate left no program of these sources")
         return 1
-    build.record(sources)
+    build.record(build.digest())
     return 0
+
+
+def note_passed(sources: str, logs: list[str]) -> None:
+    """Records what a gate that passed has said, for the release of these sources."""
+    rows = [f"sources {sources}"]
+    for log in logs:
+        for word, pattern in SAID.items():
+            rows += [f"{word} {found}" for found in pattern.findall(log)[-1:]]
+    release.GATE.write_text("".join(f"{row}\n" for row in rows), encoding="utf-8")
 
 
 if __name__ == "__main__":

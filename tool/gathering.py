@@ -3,36 +3,36 @@
 from __future__ import annotations
 
 from tool import packets
-from tool.lines import Landed
 from tool.trouble import NotALine
+
+NONE = -1
 
 
 class Gathering:
     """What one receiver has gathered of a packet."""
 
-    __slots__ = ("first", "_goes_on")
+    __slots__ = ("first", "packet", "ahead")
 
     def __init__(self) -> None:
-        # The first flit of the packet; empty where none has landed.
+        # The first flit of the packet; empty where none has landed. Then its number.
         self.first = ""
-        self._goes_on = False
+        self.packet = NONE
+        # The direction in which it goes on.
+        self.ahead = NONE
 
-    def go_on(self) -> int:
-        """The packet goes on by `through`. Returns how many flits it has, as its first one says."""
+    def add(self, flit: str, packet: int) -> None:
+        """A flit is gathered."""
+        if not self.first:
+            self.first, self.packet = flit, packet
+
+    def go_on(self, ahead: int) -> int:
+        """The packet goes on in a direction by `through`. Returns how many flits it has, as its
+        first one says."""
         if not self.first:
             raise NotALine("no packet is gathered there")
-        self._goes_on = True
-        return packets.length_of(bytes.fromhex(self.first))
-
-    def land(self, line: Landed) -> bool:
-        """Counts a landing. Returns whether it accepted a packet that goes on, and isn't stored."""
-        if line.outcome == "gathered":
-            self.first = self.first or line.flit
-            return False
-        leaves = self._goes_on and line.outcome == "accepted"
-        self.first, self._goes_on = "", False
-        return leaves
+        self.ahead = ahead
+        return packets.length_of(bytes.fromhex(self.first[:4]))
 
     def end(self) -> None:
         """Nothing is gathered any more."""
-        self.first, self._goes_on = "", False
+        self.first, self.ahead = "", NONE

@@ -10,6 +10,10 @@ from pathlib import Path
 from tool.trouble import UNAVAILABLE, Trouble, note
 
 TOP = Path(__file__).resolve().parent.parent
+# Where the script is installed this file has the path of its program; a checkout has none.
+INSTALLED = TOP / "installed"
+# How the script is called, in its help and messages.
+CALLED = "zehimbado" if INSTALLED.is_file() else "./zehimbado"
 NAMED = re.compile(r"`rt version`:\s+(\S+),\s+logic\s+([0-9a-f]+)")
 SECONDS = 30
 
@@ -25,6 +29,11 @@ def command() -> str:
     if found is None:
         raise Trouble(UNAVAILABLE, "the Rattle kit's command rt is not on the path")
     return found
+
+
+def is_here() -> bool:
+    """Whether the kit's command is on the path."""
+    return shutil.which("rt") is not None
 
 
 def named() -> str:

@@ -2,13 +2,16 @@
 
 from __future__ import annotations
 
+import sys
 from dataclasses import dataclass
 from typing import ClassVar
 
 REGISTERS = "r"
+# Millions of records are made: without a dictionary for each, where Python can, from 3.10 on.
+SLOTS: dict[str, bool] = {"slots": True} if sys.version_info >= (3, 10) else {}
 
 
-@dataclass(frozen=True, slots=True)
+@dataclass(frozen=True, **SLOTS)
 class Request:
     """A request as a script prints it, without its host."""
 
@@ -20,7 +23,7 @@ class Request:
     value: int | None = None
 
 
-@dataclass(frozen=True, slots=True)
+@dataclass(frozen=True, **SLOTS)
 class Answer:
     """An answer: its first word, and what it carries."""
 
@@ -49,7 +52,7 @@ class Entry(Line):
         raise NotImplementedError
 
 
-@dataclass(frozen=True, slots=True)
+@dataclass(frozen=True, **SLOTS)
 class Gave(Entry):
     host: int
     tag: int | None
@@ -61,7 +64,7 @@ class Gave(Entry):
         return f"give {self.host}"
 
 
-@dataclass(frozen=True, slots=True)
+@dataclass(frozen=True, **SLOTS)
 class Sent(Entry):
     direction: int
     what: str
@@ -73,7 +76,7 @@ class Sent(Entry):
         return f"send {self.direction}"
 
 
-@dataclass(frozen=True, slots=True)
+@dataclass(frozen=True, **SLOTS)
 class Landed(Entry):
     direction: int
     flit: str
@@ -85,7 +88,7 @@ class Landed(Entry):
         return f"land {self.direction}"
 
 
-@dataclass(frozen=True, slots=True)
+@dataclass(frozen=True, **SLOTS)
 class Passed(Entry):
     direction: int
     flit: str
@@ -96,7 +99,7 @@ class Passed(Entry):
         return f"land {self.direction}"
 
 
-@dataclass(frozen=True, slots=True)
+@dataclass(frozen=True, **SLOTS)
 class Shifted(Entry):
     cube: int
     port: int
@@ -108,7 +111,7 @@ class Shifted(Entry):
         return f"shift {self.cube} {self.port}"
 
 
-@dataclass(frozen=True, slots=True)
+@dataclass(frozen=True, **SLOTS)
 class Dropped(Entry):
     cube: int
     port: int
@@ -119,7 +122,7 @@ class Dropped(Entry):
         return f"shift {self.cube} {self.port}"
 
 
-@dataclass(frozen=True, slots=True)
+@dataclass(frozen=True, **SLOTS)
 class Spread(Entry):
     cube: int
     vault: int
@@ -131,7 +134,7 @@ class Spread(Entry):
         return f"spread {self.cube} {self.vault}"
 
 
-@dataclass(frozen=True, slots=True)
+@dataclass(frozen=True, **SLOTS)
 class Executed(Entry):
     cube: int
     vault: int | str
@@ -149,7 +152,7 @@ class Executed(Entry):
         return f"bank {self.cube} {self.vault} {self.bank}"
 
 
-@dataclass(frozen=True, slots=True)
+@dataclass(frozen=True, **SLOTS)
 class Lifted(Entry):
     cube: int
     from_: int | str
@@ -161,7 +164,7 @@ class Lifted(Entry):
         return f"lift {self.cube} {self.from_}"
 
 
-@dataclass(frozen=True, slots=True)
+@dataclass(frozen=True, **SLOTS)
 class Took(Entry):
     host: int
     tag: int
@@ -173,7 +176,7 @@ class Took(Entry):
         return f"take {self.host}"
 
 
-@dataclass(frozen=True, slots=True)
+@dataclass(frozen=True, **SLOTS)
 class Discarded(Entry):
     host: int
     line: ClassVar[str] = "discarded"
@@ -183,7 +186,7 @@ class Discarded(Entry):
         return f"take {self.host}"
 
 
-@dataclass(frozen=True, slots=True)
+@dataclass(frozen=True, **SLOTS)
 class Through(Entry):
     cube: int
     port: int
@@ -195,7 +198,7 @@ class Through(Entry):
         return f"through {self.cube} {self.port}"
 
 
-@dataclass(frozen=True, slots=True)
+@dataclass(frozen=True, **SLOTS)
 class Unlocked(Entry):
     direction: int
     line: ClassVar[str] = "unlocked"
@@ -205,7 +208,7 @@ class Unlocked(Entry):
         return f"unlock {self.direction}"
 
 
-@dataclass(frozen=True, slots=True)
+@dataclass(frozen=True, **SLOTS)
 class Retired(Entry):
     slot: int
     line: ClassVar[str] = "retired"
@@ -215,7 +218,7 @@ class Retired(Entry):
         return f"retire {self.slot}"
 
 
-@dataclass(frozen=True, slots=True)
+@dataclass(frozen=True, **SLOTS)
 class Idle(Entry):
     idle_step: str
     cause: str
@@ -226,7 +229,7 @@ class Idle(Entry):
         return self.idle_step
 
 
-@dataclass(frozen=True, slots=True)
+@dataclass(frozen=True, **SLOTS)
 class Memory(Line):
     cube: int
     address: int
@@ -234,7 +237,7 @@ class Memory(Line):
     line: ClassVar[str] = "memory"
 
 
-@dataclass(frozen=True, slots=True)
+@dataclass(frozen=True, **SLOTS)
 class Register(Line):
     cube: int
     register: int
@@ -242,7 +245,7 @@ class Register(Line):
     line: ClassVar[str] = "register"
 
 
-@dataclass(frozen=True, slots=True)
+@dataclass(frozen=True, **SLOTS)
 class Tokens(Line):
     direction: int
     held: int
@@ -254,7 +257,7 @@ class Tokens(Line):
     line: ClassVar[str] = "tokens"
 
 
-@dataclass(frozen=True, slots=True)
+@dataclass(frozen=True, **SLOTS)
 class Counters(Line):
     direction: int
     sent: int
@@ -266,7 +269,7 @@ class Counters(Line):
     line: ClassVar[str] = "counters"
 
 
-@dataclass(frozen=True, slots=True)
+@dataclass(frozen=True, **SLOTS)
 class Host(Line):
     host: int
     given: int
@@ -275,7 +278,7 @@ class Host(Line):
     line: ClassVar[str] = "host"
 
 
-@dataclass(frozen=True, slots=True)
+@dataclass(frozen=True, **SLOTS)
 class Cube(Line):
     cube: int
     executed: int
@@ -283,13 +286,13 @@ class Cube(Line):
     line: ClassVar[str] = "cube"
 
 
-@dataclass(frozen=True, slots=True)
+@dataclass(frozen=True, **SLOTS)
 class State(Line):
     state: str
     line: ClassVar[str] = "state"
 
 
-@dataclass(frozen=True, slots=True)
+@dataclass(frozen=True, **SLOTS)
 class Bad(Line):
     section: str
     number: int

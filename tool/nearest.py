@@ -23,8 +23,10 @@ def nearest(word: str, known: Iterable[str]) -> str:
     """The known word with the fewest changes, of those with a common beginning the longest; or
     nothing where none is near."""
     word = word.lower()
+    # A word so much longer than each has too many changes: that needn't be counted.
+    known = [it for it in known if LETTERS_A_CHANGE * len(it) >= len(word)]
     rows = [(changes_between(word, it), -_common(word, it), it) for it in known]
-    changes, _, found = min(rows)
+    changes, _, found = min(rows, default=(len(word), 0, ""))
     return found if LETTERS_A_CHANGE * changes <= max(len(word), len(found)) else ""
 
 

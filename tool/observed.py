@@ -8,7 +8,7 @@ from dataclasses import dataclass
 from tool import script, texts
 from tool.case import Document, Endpoint, endpoint_of, plan_of
 from tool.lines import Request
-from tool.trouble import BAD_DATA, Trouble
+from tool.trouble import BAD_DATA, Trouble, cut, quoted
 
 # The words after each event.
 EVENTS = {
@@ -47,6 +47,8 @@ def wrong(line: int, said: str) -> Trouble:
 def events_of(lines: Iterable[str], document: Document, by_cycle: bool) -> list[Event]:
     """The events of a log, in the order of their steps."""
     found = list(_read(lines, document))
+    if not found:
+        raise Trouble(BAD_DATA, "the log has no event: each line is empty or a comment")
     for before, after in zip(found, found[1:]):
         if after.time < before.time:
             raise wrong(after.line, f"time {after.time} is before that of line {before.line}")
@@ -63,15 +65,15 @@ def _read(lines: Iterable[str], document: Document) -> Iterator[Event]:
             continue
         time = texts.number_of(words[0])
         if time is None:
-            raise wrong(number, f"`{words[0]}` is not a time: a number is expected")
+            raise wrong(number, f"{quoted(words[0])} is not a time: a number is expected")
         word = words[1] if len(words) > 1 else ""
         if word not in EVENTS:
-            raise wrong(number, f"`{word}` is not an event; these are: {', '.join(EVENTS)}")
+            raise wrong(number, f"{quoted(word)} is not an event; these are: {', '.join(EVENTS)}")
         if len(words) < 3:
             raise wrong(number, f"after `{word}` comes {EVENTS[word]}")
         event = _event(number, time, words[1:], document)
         if word in ("out", "in", "begin") and event.end not in ends:
-            raise wrong(number, f"no link of the case ends at {words[2]}")
+            raise wrong(number, f"no link of the case ends at {cut(words[2])}")
         yield event
 
 

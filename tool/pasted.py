@@ -6,7 +6,7 @@ import re
 
 from tool.packets import FLIT_BYTES
 from tool.report import not_a_line
-from tool.trouble import USAGE, Trouble
+from tool.trouble import USAGE, Trouble, quoted
 
 DIGITS = 2 * FLIT_BYTES
 # A line of a report with a flit, perhaps with its number in front as `diff` writes it.
@@ -37,7 +37,8 @@ def flits_in(text: str, is_reversed: bool = False) -> list[bytes]:
         if found:
             digits += found[1]
         elif begun:
-            raise Trouble(USAGE, f"`{begun[1]}` is not a line of a report: {not_a_line(begun[1])}")
+            shown = quoted(begun[1])
+            raise Trouble(USAGE, f"{shown} is not a line of a report: {not_a_line(begun[1])}")
         elif OTHER.fullmatch(line):
             other = other or line.strip()
         else:
@@ -46,7 +47,8 @@ def flits_in(text: str, is_reversed: bool = False) -> list[bytes]:
     if wrong:
         raise Trouble(USAGE, f"`{wrong[0]}` is not a hexadecimal digit: a flit is {DIGITS} digits")
     if other and not digits:
-        raise Trouble(USAGE, f"`{other}` has no flit: docs/report.md explains each kind of line")
+        shown = quoted(other)
+        raise Trouble(USAGE, f"{shown} has no flit: docs/report.md explains each kind of line")
     if not digits or len(digits) % DIGITS:
         raise Trouble(USAGE, f"a flit is {DIGITS} hexadecimal digits, and here are {len(digits)}")
     flits = [digits[at : at + DIGITS] for at in range(0, len(digits), DIGITS)]

@@ -209,7 +209,7 @@ WORDS = {
     f"{REPLAY}/Complete.antt": ("IsComplete",),
     f"{CODE}/top.rt": ("replay",),
     "crates/hmc_main/src/lib.rt": ("run_program",),
-    "crates/hmc_main/specs/Ends.antt": ("Ends",),
+    "crates/hmc_main/specs/Ends.antt": ("Ends", "Completes"),
     "crates/hmc_main/specs/Shipped.antt": ("shipped_slots",),
 }
 

@@ -14,8 +14,10 @@ from tool.kinds import ERRORS, HEADER, KINDS, setting
 from tool.lines import Tokens
 from tool.numbers import named, round_of, text_of
 from tool.promises import HEADLINE, PROMISES, definitions_of
+from tool.rounds import STILL_ROUNDS
 from tool.sources import Quantity, behind, bits_of, constant, greatest, in_letters, int_of, of
 from tool.sources import times, times_before, within
+from tool.stats import PERCENT
 
 # A quantity, and what is done with it: `PIECE`, `MOST_CUBES - 1`.
 EXPRESSION = re.compile(r"([^ ]+)(?: ([-+*/]) ([0-9]+))?")
@@ -133,7 +135,7 @@ QUANTITIES: dict[str, Quantity] = {
     "lines_of_headline": lambda: count_of(definitions_of(HEADLINE)),
     "lines_of_report": lambda: count_of(definitions_of(PROMISES["the one report of a case"])),
     "landings_of_training": times_before(THROUGH, "\ngave ", "^landed 0 "),
-    "last_task": behind("docs/many-cases.md", "--array=0-"),
+    "last_task": behind("engines/slurm", "--array=0-"),
     "laws_of_wire": times("crates/hmc_wire/src/laws.rt", "^pub fn "),
     "least_cubes": lambda: case.CUBES[0],
     "least_digits": lambda: 1,
@@ -149,6 +151,8 @@ QUANTITIES: dict[str, Quantity] = {
     "line_bytes": behind("crates/hmc_codes/src/pieces.rt", "LineText = ArrayString<"),
     "levels_of_a_function": lambda: style.FUNCTION_LEVELS,
     "lines_of_a_function": lambda: style.FUNCTION_LINES,
+    "still_rounds": lambda: STILL_ROUNDS,
+    "percent_of_steps": lambda: PERCENT,
     "lines_of_bound": of(numbers.lines("examples/bound-two-requests.bound")),
     "lines_of_make": lines_of_make,
     "longest_short": lambda: int(LONG[-2] - 1) * packets.FLIT_BYTES,

@@ -17,6 +17,7 @@ from tool.commands import BY_WORD, REQUEST
 from tool.final import FINAL
 from tool.lines import (
     REGISTERS,
+    SLOTS,
     Answer,
     Bad,
     Counters,
@@ -45,7 +46,7 @@ from tool.lines import (
     Took,
     Unlocked,
 )
-from tool.trouble import NotALine
+from tool.trouble import NotALine, quoted
 
 # The first words of the lines after which those of other steps may come.
 GOES_ON = frozenset(kind.line for kind in Entry.__subclasses__()) - {Passed.line}
@@ -120,7 +121,7 @@ def request_of(text: str) -> Request:
     word, cube, address, *rest = words[is_poisoned:]
     command = BY_WORD.get(word)
     if command is None or command.family != REQUEST:
-        raise NotALine(f"unexpected `{word}`: the word of a request is expected")
+        raise NotALine(f"unexpected {quoted(word)}: the word of a request is expected")
     front = (is_poisoned, word, int(cube), int(address, 16))
     if word == "mdwr":
         if not rest or not rest[0].isdigit():
@@ -237,7 +238,7 @@ def not_a_line(text: str) -> NotALine:
         return NotALine("it has a carriage return, and lines of reports have none")
     first = text.partition(" ")[0]
     if first not in LINES:
-        return NotALine(f"no line begins with `{first.strip()}`")
+        return NotALine(f"no line begins with {quoted(first.strip())}")
     return NotALine(_fault_of(text[len(first) :].removesuffix("\n"), LINES[first][1]))
 
 
@@ -250,9 +251,9 @@ def _fault_of(text: str, form: tuple[Words, ...]) -> str:
             word = text[at:].removeprefix(" ").partition(" ")[0]
             if not word:
                 return f"a word is missing: {words.what} is expected"
-            return f"unexpected `{word}`: {words.what} is expected"
+            return f"unexpected {quoted(word)}: {words.what} is expected"
         at = found.end()
-    return f"unexpected `{text[at:].strip()}`: the line ends before it"
+    return f"unexpected {quoted(text[at:].strip())}: the line ends before it"
 
 
 class Known(dict[str, Made]):
@@ -270,7 +271,7 @@ class Known(dict[str, Made]):
         return made
 
 
-@dataclass(frozen=True, slots=True)
+@dataclass(frozen=True, **SLOTS)
 class Block(Generic[Made]):
     """Lines of a report that follow one another: the number of the first one, their texts, and what
     was made of each. The number of an entry is that of its step."""

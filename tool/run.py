@@ -12,7 +12,7 @@ from dataclasses import dataclass
 from pathlib import Path
 from typing import IO, BinaryIO
 
-from tool import case, explain_fault, files, processes
+from tool import case, explain_fault, files, processes, toml_reader
 from tool.final import FINAL
 from tool.trouble import SIGNALLED, USAGE, ClosedPipe, Trouble, note, say
 
@@ -156,7 +156,10 @@ def explain_status(status: int, options: Options) -> None:
 
 
 def show_fault(name: str) -> None:
-    """Shows on standard error where the first fault of a case is."""
+    """Shows on standard error where the first fault of a case is, if this Python can read cases."""
+    if not toml_reader.is_here():
+        note(f"where the fault is isn't shown: {toml_reader.MISSING}")
+        return
     data = files.read_bytes(name)
     fault = case.read(data)[1]
     if fault:

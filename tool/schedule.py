@@ -154,16 +154,13 @@ def steps_in(text: str, plan: Plan) -> Iterator[Step]:
 def _pieces(text: str, plan: Plan) -> Iterator[Sequence[Step] | Iterator[Step]]:
     """Yields the steps of each line."""
     one_round = [(step, "") for step in round_of(plan)]
-    landings = [place for place, (step, _) in enumerate(one_round) if step.startswith("land ")]
-    noise = Noise(landings, 0, "")
+    noise = noise_of(["noise", "off"], one_round)
     for line in texts.lines_of(text):
         words = texts.plain_words_of(line)
         if not words:
             continue
         if words[0] == "noise":
-            is_off = words[1] == "off"
-            every, mask = (0, "") if is_off else (texts.value_of(words[1]), words[2].lower())
-            noise = Noise(landings, every, mask)
+            noise = noise_of(words, one_round)
         elif words[0] != "round":
             yield [_single(words)]
         elif noise.every:
@@ -192,6 +189,14 @@ class Noise:
         for place in self._landings[first - 1 :: self.every]:
             masked[place] = (steps[place][0], self._mask)
         return masked
+
+
+def noise_of(words: list[str], one_round: Sequence[Step]) -> Noise:
+    """The masks of the landings of rounds from a line `noise` on."""
+    landings = [place for place, (step, _) in enumerate(one_round) if step.startswith("land ")]
+    if words[1] == "off":
+        return Noise(landings, 0, "")
+    return Noise(landings, texts.value_of(words[1]), words[2].lower())
 
 
 def _single(words: list[str]) -> Step:

@@ -74,7 +74,7 @@ NUMBERS: dict[str, tuple[Number, ...]] = {
         Number("single steps takes {} bytes a line", LINE_BYTES),
     ),
     "README.md": (
-        Number("They need Python {} or later and", versions.of_script),
+        Number("It needs Python {} or later, and", versions.of_script),
         Number("](docs/report.md) has {} lines", lines(f"{FIRST}.report")),
         Number("with `--no-idle` {}", lines(f"{FIRST}.report", "(?!idle )")),
         Number("about {} rounds train the link", rounds_of_training),
@@ -130,7 +130,7 @@ NUMBERS: dict[str, tuple[Number, ...]] = {
     "docs/check.md": (Number("in a text of {} KiB", TEXT_BYTES),),
     "docs/crc.md": CHECKS,
     "docs/co-simulation.md": (
-        Number("With the Rattle kit, Python {}, `make`", versions.of_script),
+        Number("With Python {}, `make`", versions.of_script),
         Number("Links train first, for about {} rounds", rounds_of_training),
         Number("A round of the largest network has {} steps", largest_round),
         Number("a random drive of {} choices", named("bindings/tests/run.py", "CHOICES = ")),

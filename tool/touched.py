@@ -8,7 +8,7 @@ import re
 from collections.abc import Iterator
 from pathlib import Path
 
-from tool.build import libraries
+from tool.crates import libraries
 from tool.kit import TOP
 
 FOLDERS = {"src": "*.rt", "specs": "*.antt", "proofs": "*.antt"}

@@ -16,6 +16,7 @@ import tempfile
 from pathlib import Path
 
 from tool import build, kit, processes
+from tool.kit import INSTALLED
 from tool.trouble import UNAVAILABLE, Trouble, note
 
 PROGRAM = build.OUT / "hmc_prog.unproved"
@@ -40,6 +41,8 @@ ELF = b"\x7fELF"
 
 def program() -> Path:
     """The unproved program of these sources, which is built first where it is not there."""
+    if INSTALLED.is_file():
+        raise Trouble(UNAVAILABLE, "there are no sources to build: `run` has the proved program")
     if not build.is_current(PROGRAM, RECORD):
         with processes.lock(build.LOCKED, build.WAITS):
             if not build.is_current(PROGRAM, RECORD):

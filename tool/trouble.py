@@ -17,6 +17,8 @@ NO_STANDARD_OUTPUT = 74
 SIGNALLED = 128
 INTERRUPTED = SIGNALLED + 2
 CLOSED_PIPE = SIGNALLED + 13
+# So many characters of a word of an input are shown at most.
+MOST_QUOTED = 80
 
 
 class Trouble(Exception):
@@ -47,6 +49,17 @@ def _escape(character: str) -> str:
     if 0xDC80 <= code <= 0xDCFF:
         return f"\\x{code - 0xDC00:02x}"
     return character.encode("unicode_escape").decode("ascii")
+
+
+def cut(text: str, most: int = MOST_QUOTED) -> str:
+    """The text, or the front of a longer one: messages quote inputs, whose words may be of any
+    length."""
+    return text if len(text) <= most else f"{text[:most]}.."
+
+
+def quoted(word: str) -> str:
+    """A word of an input, as messages have it."""
+    return f"`{cut(word)}`"
 
 
 def note(said: str) -> None:

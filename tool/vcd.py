@@ -4,6 +4,7 @@ from __future__ import annotations
 
 from collections.abc import Iterator
 from dataclasses import dataclass
+from typing import Union
 
 # The identifiers of signals are written with these signs.
 SIGNS = [chr(code) for code in range(33, 127)]
@@ -35,7 +36,8 @@ WINDOW = (
     "[signals_width] 320",
     "[sst_expanded] 0",
 )
-Value = int | str
+# By the older form, since Python 3.9 computes it.
+Value = Union[int, str]
 
 
 @dataclass(frozen=True)

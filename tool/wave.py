@@ -11,33 +11,21 @@ from collections.abc import Callable, Iterable, Iterator
 from typing import Any, NamedTuple
 
 from tool.case import Document, plan_of
+from tool.following import FIRST_MODE, Following
 from tool.lines import Entry, Gave, Idle, Landed, Line, Passed, Sent, Took, Unlocked
-from tool.queues import Queue, Queues, queues_of
+from tool.queues import Queue, queues_of
 from tool.report import Block
-from tool.tokens import PLACES, Tokens
+from tool.tokens import PLACES
 from tool.trouble import NotALine
 from tool.vcd import BIT, EVENT, FLIT, NUMBER, TEXT, Dump, Signal
 
 TOP = "network"
 NOTHING = "-"
-# What a receiver waits for at first, and after these outcomes; after others it stays.
-FIRST_MODE = "train"
-MODES = {"trained": "abort", "aborted": "abort", "ran clear": "good"}
 # Outcomes after which a receiver waits for the same.
 UNCHANGED = ("quiet", "gathered", "accepted")
 # What is sent only where a link goes back.
 RETRIES = ("start", "clear", "again")
 HOST_SIGNALS = ("given", "taken", "tags_out")
-
-
-def mode_after(mode: str, line: Line) -> str:
-    """What the receiver of a line's direction waits for after it: train, abort or good."""
-    if isinstance(line, Unlocked):
-        return mode if mode == FIRST_MODE else "abort"
-    if not isinstance(line, Landed):
-        return mode
-    outcome = "aborted" if line.outcome.startswith("aborted") else line.outcome
-    return MODES.get(outcome, mode)
 
 
 class Bits(dict[int, str]):
@@ -55,8 +43,7 @@ class Rule(NamedTuple):
     word: str
     # The sides of directions at which the entry sets a flit.
     sides: list[Side] | None
-    moves_packets: bool
-    moves_tokens: bool
+    moves: bool
     show: Callable[[Wave, Any, list[str]], None] | None
 
 
@@ -87,22 +74,20 @@ class Wave:
 
     def __init__(self, document: Document):
         self.document = document
-        self._queues = Queues(document)
-        self._tokens = Tokens(document)
+        self._following = Following(document)
         self._dump = Dump()
         self._step = self._dump.mark(self._dump.add((TOP,), "step"))
         self._entry = self._dump.mark(self._dump.add((TOP,), "entry", TEXT))
         # The last change of the signal `entry`.
         self._word = ""
         self._bits = Bits()
-        directions = range(len(self._queues.ends))
+        directions = range(len(self._following.ends))
         self._sent = [Side(self._dump, number, "sent") for number in directions]
         self._landed = [Side(self._dump, number, "landed") for number in directions]
         kinds: list[type[Line]] = [*Entry.__subclasses__()]
         self._rules = {kind: self._rule(kind) for kind in kinds}
         # The side at which the last entry has set a flit, for that step alone.
         self._set: Side | None = None
-        self._modes = [FIRST_MODE for _ in directions]
         self._receivers = [self._add(f"direction{n}", "receiver", TEXT) for n in directions]
         retries = [self._add(f"direction{n}", "retry", EVENT) for n in directions]
         self._retries = [f"1{self._dump.mark(number)}" for number in retries]
@@ -132,8 +117,7 @@ class Wave:
         return Rule(
             word=f"s{kind.line} {self._entry}",
             sides=sides.get(kind),
-            moves_packets=Queues.has_move(kind),
-            moves_tokens=Tokens.has_move(kind),
+            moves=Following.has_move(kind),
             show=_SHOWN.get(kind),
         )
 
@@ -143,11 +127,11 @@ class Wave:
 
     def held(self) -> dict[Queue, int]:
         """How much each queue holds after the last entry."""
-        return self._queues.held
+        return self._following.counts
 
     def tokens(self) -> list[dict[str, int]]:
         """The tokens of each direction after the last entry, by their places."""
-        return self._tokens.counts
+        return self._following.tokens.counts
 
     def groups(self) -> dict[str, list[Signal]]:
         """The signals for a save file, by the part of the network that they are of."""
@@ -164,7 +148,7 @@ class Wave:
         number = part.removeprefix("direction")
         if number == part:
             return part
-        sender, receiver = self._queues.ends[int(number)]
+        sender, receiver = self._following.ends[int(number)]
         return f"direction {number}: {sender} to {receiver}"
 
     def pieces(self, blocks: Iterable[Block[Line]]) -> Iterator[bytes]:
@@ -212,7 +196,7 @@ class Wave:
 
     def _entry_lines(self, line: Any, rule: Rule, out: list[str]) -> None:
         """Adds the changes of one entry."""
-        word, sides, moves_packets, moves_tokens, show = rule
+        word, sides, moves, show = rule
         if word is not self._word:
             self._word = word
             out.append(word)
@@ -221,23 +205,26 @@ class Wave:
         if self._set is not None and (side is not self._set or type(line) is Unlocked):
             out.append(self._set.quiet)
         self._set = side
-        if moves_packets:
-            for queue in self._queues.apply(line):
-                held = self._queues.counts[queue]
-                out.append(f"{self._bits[held]} {self._places[queue]}")
-                busy = self._busy[queue]
-                if busy is not None:
-                    self._dump.change(busy, int(held > 0), out)
-        if moves_tokens:
-            moved = self._tokens.apply(line)
-            if moved:
-                self._token_lines(dict.fromkeys(moved), out)
+        if moves:
+            self._move_lines(line, out)
         if show:
             show(self, line, out)
 
+    def _move_lines(self, line: Line, out: list[str]) -> None:
+        """Adds how much the queues hold that an entry changed, and where tokens are after it."""
+        following = self._following
+        for queue in following.apply(line):
+            held = len(following.held[queue])
+            out.append(f"{self._bits[held]} {self._places[queue]}")
+            busy = self._busy[queue]
+            if busy is not None:
+                self._dump.change(busy, int(held > 0), out)
+        if following.tokens.moved:
+            self._token_lines(dict.fromkeys(following.tokens.moved), out)
+
     def _token_lines(self, places: Iterable[int], out: list[str]) -> None:
         """Adds how many tokens are at these places of directions."""
-        at, marks, bits = self._tokens.at, self._token_marks, self._bits
+        at, marks, bits = self._following.tokens.at, self._token_marks, self._bits
         out += [f"{bits[at[place]]} {marks[place]}" for place in places]
 
     def show_sent(self, line: Sent, out: list[str]) -> None:
@@ -261,8 +248,7 @@ class Wave:
             out.append(side.lines(line.outcome.replace(" ", "_"), line.flit))
             if line.outcome.startswith("aborted"):
                 out.append(self._retries[direction])
-        self._modes[direction] = mode_after(self._modes[direction], line)
-        self._dump.change(self._receivers[direction], self._modes[direction], out)
+        self._dump.change(self._receivers[direction], self._following.modes[direction], out)
 
     def show_host(self, line: Gave | Took, out: list[str]) -> None:
         """Adds the changes of a host that gives a request or takes an answer."""

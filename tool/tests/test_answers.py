@@ -257,8 +257,8 @@ class Examples(Answers):
             self.check_unread(["make", number], 0, (EXAMPLES / f"{name}.report").read_bytes())
 
     def test_bounds(self) -> None:
-        paths = sorted(EXAMPLES.glob("*.bound"))
-        self.assertGreaterEqual(len(paths), 10)
+        paths = sorted([*EXAMPLES.glob("*.bound"), *(DATA / "bounds").glob("*.bound")])
+        self.assertGreaterEqual(len(paths), 11)
         for path in paths:
             case = path.with_suffix(".toml").read_bytes()
             status = REFUSED_BOUNDS.get(path.stem, 0)

@@ -108,7 +108,10 @@ class Check(unittest.TestCase):
         """Nothing is judged where letters or line ends differ, or idle lines are left out."""
         for lines, said in (
             ([it.upper() for it in self.lines], "line 1 of .* has a capital letter"),
-            ([it.replace("\n", "\r\n") for it in self.lines], "line 1 of .* has a carriage return"),
+            (
+                [it.replace("\n", "\r\n") for it in self.lines],
+                "is not a report: its lines end with carr",
+            ),
             (
                 [it for it in self.lines if not it.startswith("idle ")],
                 "begins with `idle`, and line 6 has to be one",

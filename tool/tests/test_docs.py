@@ -161,9 +161,10 @@ class Docs(unittest.TestCase):
             self.assertIn(f"usage: ./zehimbado {name}", tool("help", name).stdout.decode())
 
     def test_what_needs_no_kit(self) -> None:
-        """The commands that docs/tool.md doesn't name beside the kit work where it isn't there."""
+        """The commands of which docs/tool.md doesn't say that they need a program work where the
+        kit isn't there."""
         text = (TOP / "docs" / "tool.md").read_text(encoding="utf-8")
-        (named,) = re.findall(r"program\nis built, ([^.]*)\sneed the Rattle", text)
+        (named,) = re.findall(r"`tomli`\.\s([^.]*)\sneed\sa\sprogram", text)
         case, report = (f"examples/changed-flit.{it}" for it in ("toml", "report"))
         trace, values = (f"traces/load-and-store.{it}" for it in ("trace", "report"))
         words = {
@@ -173,6 +174,8 @@ class Docs(unittest.TestCase):
             "json": [report],
             "diff": [report, report],
             "wave": [report, case],
+            "view": [report, case],
+            "stats": [report, case],
             "sample": ["1"],
             "values": [trace, values],
             "trace": ["--case", trace],
@@ -183,8 +186,10 @@ class Docs(unittest.TestCase):
         self.assertEqual(set(COMMANDS) - set(words), others)
         for name, rest in words.items():
             command = [sys.executable, str(TOP / "zehimbado"), name, *rest]
+            # An event of a log, for `convert`.
+            given = b"1 request 0 rd16 0 0\n"
             ran = subprocess.run(
-                command, cwd=TOP, env={"PATH": ""}, input=b"", capture_output=True, timeout=60
+                command, cwd=TOP, env={"PATH": ""}, input=given, capture_output=True, timeout=60
             )
             self.assertEqual(ran.returncode, ENDS.get(name, 0), ran.stderr)
 

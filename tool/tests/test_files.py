@@ -8,9 +8,11 @@ import subprocess
 import sys
 import tempfile
 import unittest
+from collections.abc import Iterator
 from pathlib import Path
 
 from tool.tests.shared import EXAMPLES, TOP, tool
+from tool.verbs import COMMANDS
 
 CASE = EXAMPLES / "changed-flit.toml"
 REPORT = EXAMPLES / "changed-flit.report"
@@ -19,6 +21,8 @@ TOOL = f"{shlex.quote(sys.executable)} {shlex.quote(str(TOP / 'zehimbado'))}"
 WRITE = (
     f"json {REPORT}",
     f"wave {REPORT} {CASE}",
+    f"view {REPORT} {CASE}",
+    f"stats {REPORT} {CASE}",
     f"show {CASE}",
     f"explain {REPORT}",
     f"diff {REPORT} {EXAMPLES / 'fence.report'}",
@@ -51,6 +55,8 @@ class Outputs(unittest.TestCase):
         for name in (self.case, self.folder / "hard", self.folder / "soft", dotted):
             rows = (
                 ["wave", self.report, self.case, "-o", name],
+                ["view", self.report, self.case, "-o", name],
+                ["stats", self.report, self.case, "-o", name],
                 ["show", self.case, "--svg", name],
                 ["run", self.case, "-o", name],
                 ["try", self.case, "-o", name],
@@ -75,6 +81,8 @@ class Outputs(unittest.TestCase):
         for words in (
             ["wave", bad, self.case, "-o", target],
             ["wave", self.report, EXAMPLES / "fence.toml", "-o", target],
+            ["view", self.report, EXAMPLES / "fence.toml", "-o", target],
+            ["stats", bad, self.case, "-o", target],
             ["run", self.folder / "no-such.toml", "-o", target],
             ["shrink", "-o", target, self.case, "--", "true"],
         ):
@@ -194,9 +202,19 @@ class Streams(unittest.TestCase):
         self.assertEqual(ran.returncode, 64)
 
     def test_messages_have_no_raw_bytes(self) -> None:
-        ran = tool("json", given=b"\x1b[31m\xff 1\n")
+        ran = tool("json", given=b"gave \x1b[31m\xff 1\n")
         self.assertEqual(ran.returncode, 65)
         self.assertIn(rb"`\x1b[31m\xff`", ran.stderr)
+
+
+def pythons(
+    since: tuple[int, int] = (0, 0), upto: tuple[int, int] = (99, 0)
+) -> Iterator[Path]:
+    """Yields the Pythons of pyenv that are here, of these versions."""
+    for path in Path.home().glob(".pyenv/versions/*/bin/python"):
+        first, second = map(int, path.parent.parent.name.split(".")[:2])
+        if since <= (first, second) <= upto:
+            yield path
 
 
 class Pythons(unittest.TestCase):
@@ -205,13 +223,30 @@ class Pythons(unittest.TestCase):
         source = (TOP / "zehimbado").read_text("utf-8")
         for form in ("->", "f\"", "print(", "async", ":="):
             self.assertNotIn(form, source)
-        versions = Path.home().glob(".pyenv/versions/*/bin/python")
-        pythons = [path for path in versions if "/3.1" not in str(path) or "/3.10" in str(path)]
-        for python in pythons:
+        for python in pythons(upto=(3, 8)):
             command = [str(python), str(TOP / "zehimbado")]
             ran = subprocess.run(command, capture_output=True, text=True)
             self.assertEqual((ran.returncode, ran.stdout), (69, ""), python)
-            self.assertRegex(ran.stderr, "^zehimbado: Python 3.11 or later is needed, and this is")
+            self.assertRegex(ran.stderr, "^zehimbado: Python 3.9 or later is needed, and this is")
+
+    def test_each_command_is_read_by_the_least_python(self) -> None:
+        """Those that are here and have no reader of TOML: the help of a command reads its files."""
+        for python in pythons(since=(3, 9), upto=(3, 10)):
+            for name in COMMANDS:
+                command = [str(python), str(TOP / "zehimbado"), name, "--help"]
+                ran = subprocess.run(command, capture_output=True, text=True)
+                self.assertEqual((ran.returncode, ran.stderr), (0, ""), f"{python} {name}")
+
+    def test_a_python_without_a_reader_of_cases(self) -> None:
+        """It says what it lacks, and what doesn't read cases works."""
+        case, report = EXAMPLES / "write-then-read.toml", EXAMPLES / "write-then-read.report"
+        for python in pythons(since=(3, 9), upto=(3, 10)):
+            rows = ((["lint", case], 69, "Python 3.11"), (["json", report], 0, ""))
+            for words, status, said in rows:
+                command = [str(python), "-S", str(TOP / "zehimbado"), *map(str, words)]
+                ran = subprocess.run(command, capture_output=True, text=True)
+                self.assertEqual(ran.returncode, status, ran.stderr)
+                self.assertIn(said, ran.stderr)
 
 
 if __name__ == "__main__":

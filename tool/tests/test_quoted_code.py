@@ -64,8 +64,11 @@ class Code(unittest.TestCase):
         self.assertEqual(named, ["Driver"])
         self.assertIn("Driver", text_of("bindings/python/hmc/__init__.py"))
         (cargo,) = [it for it in pages.blocks(text_of("docs/rust.md")) if "[dependencies]" in it]
-        ((name, path),) = re.findall(r'^(\w+) = \{ path = "\.\./(.*)" \}$', cargo, re.MULTILINE)
-        self.assertIn(f'name = "{name}"\n', text_of(f"{path}/Cargo.toml"))
+        row = r'^(\w+) = \{ package = "(\w+)", path = "\.\./(.*)" \}$'
+        ((library, package, path),) = re.findall(row, cargo, re.MULTILINE)
+        manifest = text_of(f"{path}/Cargo.toml")
+        self.assertIn(f'[package]\nname = "{package}"\n', manifest)
+        self.assertIn(f'[lib]\nname = "{library}"\n', manifest)
         mask = pages.blocks(text_of("docs/verilator.md"))[-1]
         calls = set(re.findall(r"\bhmc_\w+(?=\()", mask))
         self.assertEqual(calls, {"hmc_sv_step", "hmc_sv_line"})

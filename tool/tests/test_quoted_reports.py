@@ -189,9 +189,9 @@ class Commands(unittest.TestCase):
     def test_the_first_command(self) -> None:
         """README.md has all that it prints."""
         page = text_of("README.md")
-        command = pages.block_after(page, "[others](docs/tool.md).\n").splitlines()[0]
+        command = pages.block_after(page, "## Two commands\n").splitlines()[0]
         block = pages.block_after(page, "The first command prints\n")
-        self.assertIn("./zehimbado try", command)
+        self.assertIn("./zehimbado run", command)
         self.assertEqual(self.written(command), (0, block))
 
     def test_a_report_that_is_unlawful(self) -> None:
@@ -227,20 +227,21 @@ class Commands(unittest.TestCase):
         self.assertRegex(said, "(?m)^> .* done 0$")
 
     def test_many_cases(self) -> None:
-        """The script of docs/many-cases.md replays each case once, and logs its status; then what
+        """The task of docs/many-cases.md replays each case once, and keeps its status; then what
         didn't drain is listed, and all is printed as JSON."""
         page = text_of("docs/many-cases.md")
-        (script,) = pages.blocks(pages.section(page, "Slurm"))
         names = ("fence", "passed-null", "write-then-read")
-        for folder in ("cases", "reports"):
-            (self.folder / folder).mkdir()
+        (self.folder / "cases").mkdir()
         for name in names:
             (self.folder / "cases" / f"{name}.toml").symlink_to(EXAMPLES / f"{name}.toml")
-        tasks = "SLURM_ARRAY_TASK_COUNT=2 PROGRAM={} SLURM_ARRAY_TASK_ID={} bash -c {}"
-        words = shlex.quote(str(build.PROGRAM)), shlex.quote(script)
-        said = [self.written(tasks.format(words[0], task, words[1])) for task in range(2)]
-        logs = "0 cases/fence.toml\n0 cases/write-then-read.toml\n", "7 cases/passed-null.toml\n"
-        self.assertEqual(said, [(0, it) for it in logs])
+        engines = TOP / "engines"
+        tasks = "SLURM_ARRAY_TASK_COUNT=2 PROGRAM={} ENGINES={} SLURM_ARRAY_TASK_ID={} {}/slurm"
+        words = shlex.quote(str(build.PROGRAM)), shlex.quote(str(engines))
+        for task in range(2):
+            said = self.written(tasks.format(*words, task, words[1]))
+            self.assertEqual(said, (0, ""))
+        listed = "7 cases/passed-null.toml\n3 cases, 0 missing, 1 of another status than 0\n"
+        self.assertEqual(self.written(f"{words[1]}/summary"), (1, listed))
         for name in names:
             report = (EXAMPLES / f"{name}.report").read_bytes()
             self.assertEqual((self.folder / "reports" / f"{name}.report").read_bytes(), report)
@@ -250,6 +251,27 @@ class Commands(unittest.TestCase):
         status, objects = self.written(printing.removesuffix(" | jq .."))
         lines = [(EXAMPLES / f"{name}.report").read_bytes().count(b"\n") for name in names]
         self.assertEqual((status, objects.count("\n")), (0, sum(lines)))
+
+    def test_a_campaign_that_was_stopped(self) -> None:
+        """A case without an answer is replayed, and no other one; one whose run a signal ended has
+        no report and no status."""
+        (self.folder / "cases").mkdir()
+        for name in ("fence", "write-then-read"):
+            (self.folder / "cases" / f"{name}.toml").symlink_to(EXAMPLES / f"{name}.toml")
+        cut, again = self.folder / "cut", self.folder / "again"
+        kills = "#!/bin/sh\necho part\ngrep -q fence - && kill -9 $$\n"
+        cut.write_text(f"{kills}exit 0\n", encoding="utf-8")
+        again.write_text("#!/bin/sh\necho whole\n", encoding="utf-8")
+        for path in (cut, again):
+            path.chmod(0o755)
+        replay = shlex.quote(str(TOP / "engines" / "replay"))
+        call = f"PROGRAM=./{{}} {replay} cases/*.toml 2>/dev/null"
+        self.assertEqual(self.written(call.format("cut")), (1, ""))
+        made = sorted(it.name for it in (self.folder / "reports").iterdir())
+        self.assertEqual(made, ["write-then-read.report", "write-then-read.status"])
+        self.assertEqual(self.written(call.format("again")), (0, ""))
+        reports = sorted((self.folder / "reports").glob("*.report"))
+        self.assertEqual([it.read_text("utf-8") for it in reports], ["whole\n", "part\n"])
 
     def test_an_answer_of_another_length(self) -> None:
         """docs/observations.md has the message for a read at 0x44, whose answer is an error."""

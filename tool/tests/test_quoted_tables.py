@@ -232,7 +232,8 @@ class Statuses(unittest.TestCase):
         """It has those that the script ends with, beside 0 and 1."""
         rows = pages.rows(text_of("docs/tool.md"), "Status")
         found = sorted(int(it) for row in rows for it in row[0].split(", "))
-        known = {it for it in vars(trouble).values() if isinstance(it, int)} - {trouble.SIGNALLED}
+        known = {it for it in vars(trouble).values() if isinstance(it, int)}
+        known -= {trouble.SIGNALLED, trouble.MOST_QUOTED}
         signals = {trouble.SIGNALLED + it for it in (signal.SIGHUP, signal.SIGTERM)}
         self.assertEqual(found, sorted({0, 1, *known, *signals}))
 

@@ -88,7 +88,7 @@ class Run(unittest.TestCase):
         for words in ("", "--only ."):
             line = f"{sys.executable} {TOP}/zehimbado run {words} {path} | head -1"
             command = ["bash", "-c", f"{line}; echo ${{PIPESTATUS[0]}}"]
-            ran = subprocess.run(command, capture_output=True, text=True)
+            ran = subprocess.run(command, capture_output=True, text=True, timeout=60)
             self.assertEqual((ran.stdout.splitlines()[1:], ran.stderr), (["141"], ""))
 
     def test_the_case_is_not_overwritten(self) -> None:

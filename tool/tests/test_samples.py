@@ -1,16 +1,13 @@
-"""Tests of `sample`, which docs/many-cases.md uses, and of `shrink`."""
+"""Tests of `sample`, which docs/many-cases.md uses."""
 
-import re
-import sys
 import tempfile
 import unittest
 from pathlib import Path
 
-from tool import case, documents, samples
+from tool import case, samples
 from tool.case import ends_of
 from tool.samples import FEATURES, SHAPES, Wish, sample
-from tool.shrink import Shrinker
-from tool.tests.shared import EXAMPLES, output_of, tool
+from tool.tests.shared import output_of, tool
 
 ALL = tuple(FEATURES)
 
@@ -57,54 +54,6 @@ class Samples(unittest.TestCase):
         self.assertEqual(text, sample(8))
         for words in (["--features", "speed"], ["--hosts", "7", "--cubes", "1"], ["--count", "2"]):
             self.assertEqual(tool("sample", "7", *words).returncode, 64, words)
-
-
-class Shrink(unittest.TestCase):
-    def test_what_is_needed_stays(self) -> None:
-        """A case fails here where a step of cube 2 and a round are there."""
-        text = (EXAMPLES / "row-of-eight.toml").read_bytes()
-        document = case.read(text)[0]
-        document["schedule"] = "round 900\nshift 2 0\nround 77\n"
-
-        def fails(candidate: bytes) -> bool:
-            return b"shift 2 0" in candidate and b"round" in candidate
-
-        shrinker = Shrinker(document, fails)
-        smallest = shrinker.shrink()
-        self.assertIsNone(case.read(documents.text_of(smallest).encode())[1])
-        lines = smallest["schedule"].split()
-        self.assertEqual(sorted(lines), ["0", "1", "2", "round", "shift"])
-        self.assertEqual(smallest["script"], "")
-        self.assertEqual(len(smallest["cubes"]), 3)
-
-    def test_requests_go_to_cube_0(self) -> None:
-        """So the other cubes and hosts can go, and as many rounds are left as these need."""
-        document = case.read((EXAMPLES / "two-hosts-two-cubes.toml").read_bytes())[0]
-
-        def fails(candidate: bytes) -> bool:
-            found = case.read(candidate)[0]
-            rounds = sum(map(int, re.findall("round ([0-9]+)", found["schedule"])))
-            return "rd16" in found["script"] and rounds >= 10 * len(found["links"])
-
-        smallest = Shrinker(document, fails).shrink()
-        self.assertRegex(smallest["script"], "^0 rd16 0 [0-9a-fx]+\n$")
-        self.assertEqual((len(smallest["cubes"]), len(smallest["links"])), (1, 1))
-        self.assertEqual(smallest["schedule"].split(), ["round", "10"])
-
-    def test_the_command(self) -> None:
-        """The command reads the case: by its path, or as its input."""
-        path = str(EXAMPLES / "write-then-read.toml")
-        find = "import sys; sys.exit(3 if 'rd16' in open({}).read() else 0)"
-        rows: list[tuple[str, list[str]]] = [("sys.argv[1]", ["{}"]), ("0", [])]
-        for source, words in rows:
-            command = [sys.executable, "-c", find.replace("{}", source), *words]
-            ran = tool("shrink", path, "--", *command)
-            document, fault = case.read(ran.stdout)
-            self.assertIsNone(fault)
-            self.assertEqual(document["script"], "0 rd16 0 0x40\n")
-            self.assertEqual(document["schedule"], "")
-        self.assertEqual(tool("shrink", path, "--", "true").returncode, 64)
-        self.assertEqual(tool("shrink", path, "--", "/no/such/program").returncode, 69)
 
 
 if __name__ == "__main__":

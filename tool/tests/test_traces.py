@@ -176,11 +176,18 @@ class Values(unittest.TestCase):
         return ran.returncode, ran.stdout.decode().splitlines(), ran.stderr.decode()
 
     def test_the_command(self) -> None:
-        """A load that has its value, one that differs from plain bytes, and unknown ones."""
-        first, second = "0 load 0x0 1 01", f"0 load 0x8 17 {'0a' * 17}"
+        """A load that has its value, loads that differ from plain bytes, and unknown ones."""
+        first = "0 load 0x0 1 01"
+        plain = f"line 4 of the trace, plain bytes give {'00' * 17}"
+        second = f"0 load 0x8 17 {'0a' * 17} differs: {plain}"
         status, values, said = self.command(self.GAVE + self.TOOK)
         self.assertEqual((status, values), (1, [first, second]))
-        self.assertEqual(said, f"zehimbado: line 4 of the trace: plain bytes give {'00' * 17}\n")
+        self.assertEqual(said, "zehimbado: 1 of 2 loads differ from plain bytes\n")
+        both = [*self.TOOK[:2], f"took 0 3 read 0 {'00' * 16}"]
+        status, values, said = self.command(self.GAVE + both)
+        first = "0 load 0x0 1 00 differs: line 3 of the trace, plain bytes give 01"
+        self.assertEqual((status, values), (1, [first, second]))
+        self.assertEqual(said, "zehimbado: 2 of 2 loads differ from plain bytes\n")
         right = [f"took 0 7 read 0 01{'00' * 31}", *self.TOOK[1:]]
         self.assertEqual(self.command(self.GAVE + right)[::2], (0, ""))
         status, values, said = self.command(self.GAVE)

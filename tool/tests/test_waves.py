@@ -5,10 +5,11 @@ import tempfile
 import unittest
 from pathlib import Path
 
-from tool import case, files, report, tokens, wave
+from tool import case, files, report, wave
 from tool.fit import checked
-from tool.lines import Entry, Landed, Line, Sent, Unlocked
-from tool.queues import Queues
+from tool.following import FIRST_MODE, Following, mode_after
+from tool.lines import Landed, Line, Sent, Unlocked
+from tool.queues import sizes_of
 from tool.tests.shared import CASES, EXAMPLES, output_of, tool
 from tool.vcd import WINDOW, save_lines
 
@@ -60,23 +61,24 @@ class Wave(unittest.TestCase):
         """At each step the tokens of a direction are as many as its buffer has room for."""
         for name in ("repeats", "two-profiles", "tokens-on-the-way", "poisoned-at-first-hop"):
             document, _ = case.read((EXAMPLES / f"{name}.toml").read_bytes())
-            counted = tokens.Tokens(document)
+            following = Following(document)
             wanted = [link["tokens"] for link in document["links"] for _ in range(2)]
             for _, line, _ in entries(lines_of(name)):
-                counted.apply(line)
-                self.assertEqual([sum(it.values()) for it in counted.counts], wanted, name)
+                following.apply(line)
+                self.assertEqual([sum(it.values()) for it in following.tokens.counts], wanted, name)
 
     def test_queues_hold_no_more_than_the_case_allows(self) -> None:
         for path in CASES:
             document, _ = case.read(path.read_bytes())
-            queues = Queues(document)
-            link, cube = document["links"][0], document["cubes"][0]
-            most = dict.fromkeys(("vault", "bank", "registers", "answers"), cube["queue"])
-            most |= {"line": link["line"], "output": link["output"], "buffer": link["tokens"]}
+            following = Following(document)
+            room = [link["tokens"] for link in document["links"] for _ in range(2)]
+            most = sizes_of(document)
+            for direction, queue in enumerate(following.buffers):
+                most[queue] = room[direction]
             for _, line, _ in entries(lines_of(path.stem)):
-                for queue in queues.apply(line) if isinstance(line, Entry) else []:
-                    name = queues.names[queue]
-                    self.assertLessEqual(queues.counts[queue], most[name[0]])
+                for queue in following.apply(line):
+                    held = len(following.held[queue])
+                    self.assertLessEqual(held, most[queue], following.names[queue])
 
     def test_the_form_of_a_dump(self) -> None:
         """Each change is of a signal that is declared, and time goes up to the last step."""
@@ -98,7 +100,7 @@ class Wave(unittest.TestCase):
         a training flit is sent exactly where the receiver at that end is in Train."""
         for path in CASES:
             document, _ = case.read(path.read_bytes())
-            modes = [wave.FIRST_MODE] * (2 * len(document["links"]))
+            modes = [FIRST_MODE] * (2 * len(document["links"]))
             for _, line, _ in entries(lines_of(path.stem)):
                 if isinstance(line, Sent):
                     trains = modes[line.direction ^ 1] == "train"
@@ -110,7 +112,7 @@ class Wave(unittest.TestCase):
                 allowed = {"trained": ["train"], "quiet": [modes[direction]]}
                 allowed |= dict.fromkeys(("ran start", "ran clear"), ["abort", "good"])
                 self.assertIn(modes[direction], allowed.get(outcome, ["good"]), path.name)
-                modes[direction] = wave.mode_after(modes[direction], line)
+                modes[direction] = mode_after(modes[direction], line)
 
     def changes_of(self, name: str, signal: str) -> list[str]:
         """The values in turn of a signal of direction 0."""

@@ -17,7 +17,12 @@ import importlib
 from dataclasses import dataclass
 from typing import NoReturn, Protocol, cast
 
+from tool.kit import CALLED
 from tool.trouble import USAGE, Trouble
+
+
+# The commands that run the proved program, or print its path.
+RUN_PROVED = ("run", "make", "bound", "check", "judge", "trace", "build")
 
 
 class Parser(argparse.ArgumentParser):
@@ -60,9 +65,12 @@ class Command:
         """The parser of the words after the command."""
         verb = self.load()
         parser = Parser(
-            prog=f"./zehimbado {self.name}", description=verb.__doc__, allow_abbrev=False
+            prog=f"{CALLED} {self.name}", description=verb.__doc__, allow_abbrev=False
         )
         verb.add_words(parser)
+        if self.name in RUN_PROVED:
+            said = "take the program of the release, whatever sources it is of"
+            parser.add_argument("--released", action="store_true", help=said)
         return parser
 
 
@@ -80,6 +88,8 @@ COMMANDS = {
         Command("json [REPORT]", "a report as JSON lines, its flits decoded on request", "json"),
         Command("diff A B", "where two reports differ, and what came before", "diff"),
         Command("wave REPORT CASE", "a report as a VCD file, for GTKWave", "wave"),
+        Command("view REPORT CASE", "a page of a run, to be seen in a browser", "view"),
+        Command("stats REPORT CASE", "numbers of a run by windows, as CSV or JSON", "stats"),
         Command("convert LOG CASE", "a test bench's log of events as a schedule", "convert"),
         Command("sample SEED", "a random case, by its seed", "sample"),
         Command("shrink CASE -- ..", "the smallest case for which a command still fails", "shrink"),

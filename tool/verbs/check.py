@@ -11,7 +11,8 @@ import tempfile
 from argparse import Namespace
 from typing import BinaryIO, cast
 
-from tool import build, case, files, run as runs, verdict
+from tool import build, case, files, run as runs, toml_reader, verdict
+from tool.opening import looked_at
 from tool.trouble import Trouble, note
 from tool.verbs import Parser
 from tool.verbs.words import refuse_two_standard
@@ -33,9 +34,11 @@ def run(words: Namespace) -> int:
     name = files.shown_name(words.report)
     data = files.read_bytes(words.case)
     with files.rereadable(words.report) as report:
-        verdict.refuse_foreign(files.lines_of(report), name)
+        verdict.refuse_foreign(looked_at(files.lines_of(report), name), name)
         status, lines = judged(data, report)
-        if status == UNLAWFUL:
+        if status == UNLAWFUL and not toml_reader.is_here():
+            note(f"the verdict isn't explained: {toml_reader.MISSING}")
+        elif status == UNLAWFUL:
             given = verdict.Given(list(files.lines_of(report)), name)
             source = verdict.Source(case.read(data)[0], data, files.shown_name(words.case))
             lines += verdict.explained(verdict.number_of(lines), given, due_lines(data), source)

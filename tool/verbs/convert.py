@@ -25,6 +25,7 @@ def add_words(parser: Parser) -> None:
 def run(words: Namespace) -> int:
     """Writes the case."""
     refuse_two_standard(words.log, words.case)
+    files.refuse_inputs(words.output or files.STANDARD, [words.log, words.case])
     document = read_case(words.case)
     events = observed.events_of(files.lines_of(words.log), document, words.cycles)
     case = convert.converted(events, document, trains=not words.trained)

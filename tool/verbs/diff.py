@@ -6,6 +6,7 @@ from argparse import Namespace
 from functools import partial
 
 from tool import diff, files
+from tool.opening import looked_at
 from tool.trouble import DIFFERENT
 from tool.verbs import Parser
 from tool.verbs.words import add_profile, refuse_two_standard
@@ -29,6 +30,8 @@ def run(words: Namespace) -> int:
     names = (files.shown_name(words.first), files.shown_name(words.second))
     how = diff.How(names, words.profile, words.context, words.start, words.all)
     with files.rereadable(words.first) as first, files.rereadable(words.second) as second:
+        for path, name in zip((first, second), names):
+            looked_at(files.lines_of(path), name)
         lines = diff.compare(partial(files.lines_of, first), partial(files.lines_of, second), how)
     files.write_lines(lines)
     return DIFFERENT if lines else 0

@@ -13,13 +13,14 @@ from argparse import Namespace
 from collections.abc import Iterator
 from itertools import chain
 
-from tool import explain, explain_fault, files, jsonl
+from tool import explain, explain_fault, files, jsonl, texts
 from tool.decode import Decoder, text_of
 from tool.fit import checked, refuse_without_idle
 from tool.lines import Line
+from tool.opening import report_lines
 from tool.pasted import flits_in
 from tool.report import Block
-from tool.trouble import BAD_DATA, USAGE, Trouble
+from tool.trouble import BAD_DATA, USAGE, Trouble, cut
 from tool.verbs import Parser
 from tool.verbs.words import add_profile, read_case
 
@@ -60,10 +61,11 @@ def explain_line(words: list[str], given: list[str]) -> int:
         raise Trouble(USAGE, "the line of a fault, and at most one file")
     meaning = explain_fault.meaning_of(line)
     if meaning is None:
-        raise Trouble(BAD_DATA, f"{line} is not a line of the program")
+        raise Trouble(BAD_DATA, f"{cut(line)} is not a line of the program")
     if names:
-        data = files.read_bytes(names[0])
         is_trace = words[1] == explain_fault.TRACE
+        what = "a trace" if is_trace else "a case"
+        data = files.read_input(names[0], texts.INPUT_BYTES, what)
         explained = explain_fault.explain_in_trace if is_trace else explain_fault.explain_in_case
         meaning += explained(line, data, files.shown_name(names[0]))
     files.write_lines(meaning)
@@ -73,10 +75,11 @@ def explain_line(words: list[str], given: list[str]) -> int:
 def explain_report(name: str, words: Namespace) -> int:
     """Shows each flit of a report, decoded."""
     document = read_case(words.case) if words.case else None
+    lines = report_lines(name)
     if document is None:
         refuse_without_idle(name)
     decoder = jsonl.decoder_of(document, words.profile)
-    files.write_lines(decoded(checked(files.lines_of(name), document), decoder))
+    files.write_lines(decoded(checked(lines, document), decoder))
     return 0
 
 

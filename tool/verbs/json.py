@@ -6,6 +6,7 @@ from argparse import Namespace
 
 from tool import files, jsonl
 from tool.fit import checked, refuse_without_idle, whole
+from tool.opening import report_lines
 from tool.verbs import Parser
 from tool.verbs.words import add_profile, read_case, refuse_two_standard
 
@@ -22,9 +23,9 @@ def run(words: Namespace) -> int:
     """Prints the objects."""
     refuse_two_standard(words.report, words.case)
     document = read_case(words.case) if words.case else None
+    lines = report_lines(words.report)
     if document is None:
         refuse_without_idle(words.report)
-    lines = files.lines_of(words.report)
     if document or words.decode:
         decoder = jsonl.decoder_of(document, words.profile) if words.decode else None
         blocks = jsonl.with_decoded(checked(lines, document), decoder)

@@ -8,6 +8,7 @@ from argparse import Namespace
 
 from tool import files, vcd
 from tool.fit import checked
+from tool.opening import report_lines
 from tool.trouble import USAGE, Trouble
 from tool.verbs import Parser
 from tool.verbs.words import read_case, refuse_two_standard
@@ -29,8 +30,9 @@ def run(words: Namespace) -> int:
     if words.save:
         refuse_save(words, inputs)
     waves = Wave(read_case(words.case))
+    lines = report_lines(words.report)
     with files.written(words.output, inputs) as sink:
-        for piece in waves.pieces(checked(files.lines_of(words.report), waves.document)):
+        for piece in waves.pieces(checked(lines, waves.document)):
             sink.write(piece)
     if words.save:
         dump = os.path.abspath(words.output)

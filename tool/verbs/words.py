@@ -2,8 +2,9 @@
 
 from __future__ import annotations
 
-from tool import case, files
+from tool import case, files, texts
 from tool.case import Document
+from tool.kit import CALLED
 from tool.trouble import BAD_DATA, USAGE, Trouble
 from tool.verbs import Parser
 
@@ -24,12 +25,18 @@ def add_profile(parser: Parser) -> None:
     )
 
 
+def case_bytes(name: str) -> bytes:
+    """The bytes of a case, which may have no fault. A longer one than the program reads is
+    refused, before it is read as one."""
+    return files.read_input(name, texts.INPUT_BYTES, "a case")
+
+
 def read_case(name: str) -> Document:
     """The document of a valid case."""
-    document, fault = case.read(files.read_bytes(name))
+    document, fault = case.read(case_bytes(name))
     if fault:
         shown = files.shown_name(name)
-        raise Trouble(BAD_DATA, f"{shown} is not a valid case: {fault}; ./zehimbado lint shows it")
+        raise Trouble(BAD_DATA, f"{shown} is not a valid case: {fault}; {CALLED} lint shows it")
     return document
 
 
