@@ -5,3 +5,6 @@ pub mod Cutting
 pub mod Turns
 pub mod Printed
 mod Worked
+pub mod Steps
+pub mod Shown
+pub mod Reprinted

@@ -8,3 +8,4 @@ pub mod Meaning
 pub mod Text
 pub mod Fault
 pub mod Progress
+pub mod Laws

@@ -18,6 +18,7 @@ mod entry_read;
 mod fault;
 mod given;
 mod knowing;
+mod laws;
 mod line;
 mod log;
 mod parse;
@@ -27,5 +28,6 @@ mod words;
 
 pub use end_lines::{End, MemoryLine, RegisterLine};
 pub use fault::{LogFault, LogKind};
+pub use laws::printed_is_read;
 pub use line::{bad_line, no_text_line};
 pub use log::Log;
