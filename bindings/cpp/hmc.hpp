@@ -406,8 +406,9 @@ private:
         require_text("open", status, [&](hmc_fault_t *fault) {
             const std::uint8_t found = hmc_fault(bytes_of(text), text.size(), fault);
             if (found == HMC_NONE)
-                throw Error(is_taped ? "open: the script has requests, or a key has an escape"
-                                     : "open: the script has requests", HMC_BAD);
+                throw Error(std::string("open: the script has requests") +
+                                (is_taped ? ", or a key has an escape" : ""),
+                            HMC_BAD);
             return found;
         });
     }
