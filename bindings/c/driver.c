@@ -125,7 +125,7 @@ static void try_each(hmc_driver *d, uint8_t kind, uint8_t parts) {
         try_part(d, kind, part, 0, 0);
 }
 
-/* Takes the first round, and notes its steps. HMC_OK, HMC_MEMORY, HMC_BAD (a script has requests). */
+/* Takes the first round, and notes its steps. HMC_OK, HMC_MEMORY, HMC_BAD (there are requests). */
 static uint8_t take_first_round(hmc_driver *d) {
     if (!try_hosts(d))
         return d->is_out_of_memory ? HMC_MEMORY : HMC_BAD;
@@ -310,8 +310,9 @@ static uint8_t put_case(hmc_driver *d, FILE *file) {
     size_t at = 0;
     uint8_t status = HMC_OK;
     for (int i = 0; i < 2 && status == HMC_OK; i++) {
+        bool is_script = is_script_first == (i == 0);
         put_part(d, file, &at, spans[i].start);
-        status = put_text(d, file, is_script_first == (i == 0) ? hmc_tape_script : hmc_tape_schedule);
+        status = put_text(d, file, is_script ? hmc_tape_script : hmc_tape_schedule);
         at = spans[i].end;
     }
     put_part(d, file, &at, d->length);

@@ -28,14 +28,14 @@ typedef struct hmc_driver hmc_driver;
  * which it learns which parts the network has. NULL with a status: HMC_MEMORY, HMC_BAD (the text is
  * no case, or its script has requests). No null pointer. */
 hmc_driver *hmc_driver_open(const uint8_t *text, size_t length, uint8_t *status);
-/* The same with a tape, which hmc_driver_save writes. First it retires slots 0 and 1, which are empty
- * here and where the program that replays the tape has logic units. HMC_BAD also where the keys
+/* The same with a tape, which hmc_driver_save writes. First it retires slots 0 and 1: they are empty
+ * here, and the program that replays the tape has logic units there. HMC_BAD also where the keys
  * `script` and `schedule` of the case are spelled with escapes. Requests and steps take memory.
  * No null pointer. */
 hmc_driver *hmc_driver_open_taped(const uint8_t *text, size_t length, uint8_t *status);
-/* Writes the case that replays the driver so far to a file: the text that it was opened on, with the
- * tape in place of its script and its schedule. Its report begins with the lines of the session. A
- * tape past the limits of docs/case.md is written too. HMC_OK, HMC_MEMORY, HMC_NONE (there is no
+/* Writes the case that replays the driver so far to a file: the text that it was opened on, with
+ * the tape in place of its script and its schedule. Its report begins with the lines of the session.
+ * A tape past the limits of docs/case.md is written too. HMC_OK, HMC_MEMORY, HMC_NONE (there is no
  * tape, or the file can't be written: errno then says why). No null pointer. */
 uint8_t hmc_driver_save(hmc_driver *d, const char *path);
 /* Closes a driver and its session. NULL is allowed. */

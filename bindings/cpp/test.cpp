@@ -31,10 +31,12 @@ static void want_fault(const char *section, unsigned line, const char *kind, Cal
     try {
         call();
     } catch (const hmc::Fault &fault) {
-        const std::string said = "bad " + std::string(section) + " " + std::to_string(line) + " " + kind;
+        const std::string said =
+            "bad " + std::string(section) + " " + std::to_string(line) + " " + kind;
         const std::string what = fault.what();
         want(fault.section() == section && fault.line() == line && fault.kind() == kind, kind);
-        want(what.size() > said.size() && what.find(said) == what.size() - said.size(), what.c_str());
+        want(what.size() > said.size(), what.c_str());
+        want(what.find(said) == what.size() - said.size(), what.c_str());
         return;
     }
     want(false, kind);
