@@ -80,6 +80,13 @@ static inline const char *hmc_status_name(uint8_t status) {
     return status < 21 ? names[status] : "?";
 }
 
+/* The name of a section that a fault is in. */
+static inline const char *hmc_section_name(uint8_t section) {
+    static const char *const names[7] = {"toml", "top",    "cube",    "net",
+                                         "link", "script", "schedule"};
+    return section < 7 ? names[section] : "?";
+}
+
 /* Kinds of steps, each with the numbers of its words: a, b, c in this order. */
 enum {
     HMC_GIVE = 0,      /* host */

@@ -28,6 +28,16 @@ typedef struct hmc_driver hmc_driver;
  * which it learns which parts the network has. NULL with a status: HMC_MEMORY, HMC_BAD (the text is
  * no case, or its script has requests). No null pointer. */
 hmc_driver *hmc_driver_open(const uint8_t *text, size_t length, uint8_t *status);
+/* The same with a tape, which hmc_driver_save writes. First it retires slots 0 and 1: they are empty
+ * here, and the program that replays the tape has logic units there. HMC_BAD also where the keys
+ * `script` and `schedule` of the case are spelled with escapes. Requests and steps take memory.
+ * No null pointer. */
+hmc_driver *hmc_driver_open_taped(const uint8_t *text, size_t length, uint8_t *status);
+/* Writes the case that replays the driver so far to a file: the text that it was opened on, with
+ * the tape in place of its script and its schedule. Its report begins with the lines of the session.
+ * A tape past the limits of docs/case.md is written too. HMC_OK, HMC_MEMORY, HMC_NONE (there is no
+ * tape, or the file can't be written: errno then says why). No null pointer. */
+uint8_t hmc_driver_save(hmc_driver *d, const char *path);
 /* Closes a driver and its session. NULL is allowed. */
 void hmc_driver_close(hmc_driver *d);
 /* Its session, for hmc_entry, hmc_line and the calls that only look. To step it or to ask it past
@@ -51,7 +61,8 @@ uint8_t hmc_driver_request(hmc_driver *d, uint8_t host, uint8_t code, uint8_t cu
  * posted request what was given (kind HMC_GAVE).
  * HMC_NONE: the round has ended, and the next call begins another.
  * HMC_PASSED: a landing passed, of a packet whose flits a mask had changed.
- * HMC_OVER: no step may be taken any more. No null pointer. */
+ * HMC_OVER: no step may be taken any more.
+ * HMC_MEMORY: the tape is out of memory. The next call tries the step again. No null pointer. */
 uint8_t hmc_driver_go(hmc_driver *d, uint64_t *id, hmc_entry_t *entry);
 /* Takes a step of the caller's own; the driver's round goes on afterwards where it was. The statuses
  * are those of hmc_step. `is_done` says whether the step did a request: only then do `id` and `entry`

@@ -11,7 +11,9 @@
 #include "hmc_driver.h"
 
 #include <array>
+#include <cerrno>
 #include <cstdint>
+#include <cstring>
 #include <functional>
 #include <memory>
 #include <new>
@@ -52,11 +54,13 @@ private:
 // A bit mask of a landing, and a flit.
 using Flit = std::array<std::uint8_t, 16>;
 
-// A call that did nothing, with the status that says why.
+// A call that did nothing, with the status that says why. Where a text is at fault it is a Fault.
 class Error : public std::runtime_error {
 public:
     Error(const char *call, std::uint8_t status)
         : std::runtime_error(std::string(call) + ": " + hmc_status_name(status)), status_(status) {}
+    Error(const std::string &said, std::uint8_t status)
+        : std::runtime_error(said), status_(status) {}
     std::uint8_t status() const { return status_; }
 
 private:
@@ -73,6 +77,49 @@ inline void require(const char *call, std::uint8_t status) {
 // The bytes of a text. The calls want a pointer also where there are none.
 inline const std::uint8_t *bytes_of(std::string_view text) {
     return reinterpret_cast<const std::uint8_t *>(text.empty() ? "" : text.data());
+}
+
+// A text that is no case, request or schedule, with its first fault: what() ends with it as
+// docs/case.md, docs/script.md and docs/schedule.md have it, as `bad link 0 range`.
+class Fault : public Error {
+public:
+    Fault(const char *call, const hmc_fault_t &fault)
+        : Error((std::string(call) + ": bad " + section_of(fault) + " " +
+                 std::to_string(fault.line) + " " + kind_of(fault)),
+                HMC_BAD),
+          section_(section_of(fault)), line_(fault.line), kind_(kind_of(fault)) {}
+    // One of toml, top, cube, net, link, script and schedule.
+    const std::string &section() const { return section_; }
+    // Of a cube or a link its number, from 0; of a script or a schedule its line, from 1; else 0.
+    std::uint32_t line() const { return line_; }
+    // What is wrong, in a word.
+    const std::string &kind() const { return kind_; }
+
+private:
+    static std::string section_of(const hmc_fault_t &fault) {
+        return hmc_section_name(fault.section);
+    }
+    static std::string kind_of(const hmc_fault_t &fault) {
+        return reinterpret_cast<const char *>(fault.word);
+    }
+
+    std::string section_;
+    std::uint32_t line_;
+    std::string kind_;
+};
+
+// The same where the text may be at fault: `find` is the call that shows its first fault.
+template <class Find> void require_text(const char *call, std::uint8_t status, Find find) {
+    hmc_fault_t fault;
+    if (status == HMC_BAD && find(&fault) == HMC_OK)
+        throw Fault(call, fault);
+    require(call, status);
+}
+
+inline void require_case(const char *call, std::uint8_t status, std::string_view text) {
+    require_text(call, status, [text](hmc_fault_t *fault) {
+        return hmc_fault(bytes_of(text), text.size(), fault);
+    });
 }
 
 // Logic units (docs/units.md) that never worked, at most 8: the one at place i is in slot i.
@@ -132,14 +179,14 @@ inline std::uint8_t write_code(std::size_t size) {
 class Session {
 public:
     explicit Session(std::string_view text, const Units &units = {}) {
-        require("open", hmc_open_with(bytes_of(text), text.size(), units_at(units), units.size(),
-                                      &handle_));
+        require_case("open", hmc_open_with(bytes_of(text), text.size(), units_at(units),
+                                           units.size(), &handle_), text);
     }
     // The same with a tape.
     static Session taped(std::string_view text, const Units &units = {}) {
         Session session;
-        require("open", hmc_open_taped(bytes_of(text), text.size(), units_at(units), units.size(),
-                                       &session.handle_));
+        require_case("open", hmc_open_taped(bytes_of(text), text.size(), units_at(units),
+                                            units.size(), &session.handle_), text);
         return session;
     }
     ~Session() { hmc_close(&handle_); }
@@ -161,7 +208,10 @@ public:
     }
     // Asks for the one request that a text states, in the words of a script (docs/script.md).
     void ask(std::string_view text) {
-        require("ask", hmc_ask(&handle_, bytes_of(text), text.size()));
+        require_text("ask", hmc_ask(&handle_, bytes_of(text), text.size()),
+                     [&](hmc_fault_t *fault) {
+                         return hmc_ask_fault(&handle_, bytes_of(text), text.size(), fault);
+                     });
     }
     // Asks a host for nothing more from now on.
     void finish(std::uint8_t host) { require("finish", hmc_finish(&handle_, host)); }
@@ -177,7 +227,10 @@ public:
     // Lays down the steps that a text states, in the words of a schedule (docs/schedule.md), in
     // place of those that are left.
     void lay(std::string_view text) {
-        require("lay", hmc_lay(&handle_, bytes_of(text), text.size()));
+        require_text("lay", hmc_lay(&handle_, bytes_of(text), text.size()),
+                     [&](hmc_fault_t *fault) {
+                         return hmc_lay_fault(&handle_, bytes_of(text), text.size(), fault);
+                     });
     }
     // Takes laid steps, and tries at most so many, up to an entry whose kind k has the bit k set in
     // `stops`. Returns how many were taken; throws where a step may not be taken any more, also
@@ -245,7 +298,7 @@ inline Report run_case(std::string_view text, const Units &units = {}) {
                 false};
     made.passed = status == HMC_PASSED;
     if (!made.passed)
-        require("run_case", status);
+        require_case("run_case", status, text);
     return made;
 }
 
@@ -263,7 +316,7 @@ inline Verdict check(std::string_view text, std::string_view report, const Units
                   units.size(), &verdict.number);
     verdict.lawful = status == HMC_OK;
     if (status != HMC_UNLAWFUL)
-        require("check", status);
+        require_case("check", status, text);
     return verdict;
 }
 
@@ -274,10 +327,18 @@ public:
     using Done = std::function<void(const hmc_entry_t &)>;
 
     // A case whose script has no requests.
-    explicit Memory(std::string_view text) {
-        std::uint8_t status = HMC_OK;
-        driver_.reset(hmc_driver_open(bytes_of(text), text.size(), &status));
-        require("open", status);
+    explicit Memory(std::string_view text) : Memory(text, false) {}
+    // The same with a tape.
+    static Memory taped(std::string_view text) { return Memory(text, true); }
+    // Writes the case that replays what was done so far to a file, of a memory with a tape; throws
+    // std::runtime_error where the file can't be written.
+    void save(const std::string &path) {
+        const std::uint8_t status = hmc_driver_save(driver_.get(), path.c_str());
+        const int number = errno;
+        if (status == HMC_NONE)
+            throw std::runtime_error("the tape is not saved to " + path + ": " +
+                                     std::strerror(number));
+        require("save", status);
     }
 
     // Asks a host for a request. Where this throws, `done` isn't called.
@@ -338,6 +399,20 @@ public:
     hmc_driver *driver() { return driver_.get(); }
 
 private:
+    Memory(std::string_view text, bool is_taped) {
+        const auto open = is_taped ? hmc_driver_open_taped : hmc_driver_open;
+        std::uint8_t status = HMC_OK;
+        driver_.reset(open(bytes_of(text), text.size(), &status));
+        require_text("open", status, [&](hmc_fault_t *fault) {
+            const std::uint8_t found = hmc_fault(bytes_of(text), text.size(), fault);
+            if (found == HMC_NONE)
+                throw Error(std::string("open: the script has requests") +
+                                (is_taped ? ", or a key has an escape" : ""),
+                            HMC_BAD);
+            return found;
+        });
+    }
+
     struct Close {
         void operator()(hmc_driver *driver) const { hmc_driver_close(driver); }
     };

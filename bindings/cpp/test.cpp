@@ -25,6 +25,47 @@ template <class Call> static void want_error(std::uint8_t status, const char *wh
     want(false, what);
 }
 
+// A text at fault throws what is wrong with it, and where.
+template <class Call>
+static void want_fault(const char *section, unsigned line, const char *kind, Call call) {
+    try {
+        call();
+    } catch (const hmc::Fault &fault) {
+        const std::string said =
+            "bad " + std::string(section) + " " + std::to_string(line) + " " + kind;
+        const std::string what = fault.what();
+        want(fault.section() == section && fault.line() == line && fault.kind() == kind, kind);
+        want(what.size() > said.size(), what.c_str());
+        want(what.find(said) == what.size() - said.size(), what.c_str());
+        return;
+    }
+    want(false, kind);
+}
+
+static std::string with(std::string text, const std::string &old, const std::string &text_new);
+
+static void faults(const std::string &text) {
+    const std::string few = with(text, "tokens = 34", "tokens = 16");
+    want_fault("toml", 0, "syntax", [] { hmc::Session("no case"); });
+    want_fault("link", 0, "range", [&] { hmc::Session{few}; });
+    want_fault("link", 0, "range", [&] { hmc::Session::taped(few); });
+    want_fault("link", 0, "range", [&] { hmc::Memory{few}; });
+    want_fault("link", 0, "range", [&] { hmc::Memory::taped(few); });
+    want_fault("link", 0, "range", [&] { hmc::run_case(few); });
+    want_fault("link", 0, "range", [&] { hmc::check(few, ""); });
+    hmc::Session session(text);
+    want_fault("script", 1, "command", [&] { session.ask("0 rd17 0 0"); });
+    want_fault("script", 0, "one", [&] { session.ask(""); });
+    want_fault("schedule", 2, "range", [&] { session.lay("send 0\nsend 9"); });
+    const std::string asked = with(text, "script = ''", "script = '0 rd16 0 0'");
+    try {
+        hmc::Memory memory(asked);
+        want(false, "a memory of a case with requests");
+    } catch (const hmc::Error &error) {
+        want(error.what() == std::string("open: the script has requests"), error.what());
+    }
+}
+
 static void misuse(const std::string &text) {
     want_error(HMC_BAD, "no case", [] { hmc::Session("no case"); });
     hmc::Session first(text);
@@ -93,6 +134,31 @@ static std::string with(std::string text, const std::string &old, const std::str
     return text.replace(at, old.size(), text_new);
 }
 
+// What a memory with a tape saves is a case with its answers.
+static void saves(const std::string &text, const std::string &path) {
+    hmc::Memory memory = hmc::Memory::taped(text);
+    std::string line;
+    memory.read(0, 1, 0x40, 16, [&](const hmc_entry_t &entry) {
+        line = "\ntook 0 " + std::to_string(entry.tag) + " read 0 " + std::string(32, '0') + "\n";
+    });
+    run_until_idle(memory);
+    memory.save(path);
+    std::ifstream file(path);
+    std::stringstream saved;
+    saved << file.rdbuf();
+    want(hmc::run_case(saved.str()).text.find(line) != std::string::npos, "the answer of the tape");
+    for (const bool is_taped : {true, false}) {
+        hmc::Memory other = is_taped ? hmc::Memory::taped(text) : hmc::Memory(text);
+        try {
+            other.save(is_taped ? "/no/such/folder/case.toml" : path);
+        } catch (const hmc::Error &) {
+        } catch (const std::runtime_error &) {
+            continue;
+        }
+        want(false, "a save that can't be");
+    }
+}
+
 // A session with a tape and a unit that reverses blocks. The case with its tape has its lines.
 static void tapes(const std::string &text) {
     const hmc::Units units{{HMC_REVERSE, 1, 3}};
@@ -123,12 +189,14 @@ static void tapes(const std::string &text) {
 }
 
 int main(int count, char **words) {
-    if (count != 2)
+    if (count != 3)
         return 2;
     std::ifstream file(words[1]);
     std::stringstream text;
     text << file.rdbuf();
     misuse(text.str());
+    faults(text.str());
+    saves(text.str(), words[2]);
     answers(text.str());
     tapes(text.str());
     std::puts("cpp: ok");

@@ -7,6 +7,7 @@ from __future__ import annotations
 import asyncio
 import random
 import sys
+import tempfile
 import unittest
 from collections.abc import Callable, Coroutine, Generator
 from pathlib import Path
@@ -62,6 +63,29 @@ class Sessions(unittest.TestCase):
         self.refused(Status.CLOSED, lambda: s.entry)
         self.refused(Status.CLOSED, lambda: s.line)
         s.close()
+
+    def test_faults(self) -> None:
+        """A text at fault is refused with its section, line and kind."""
+        few = CASE.replace("tokens = 34", "tokens = 16", 1)
+        rows: list[tuple[hmc.Fault, Callable[[], object]]] = [
+            (hmc.Fault("toml", 0, "syntax"), lambda: Session("no case")),
+            (hmc.Fault("link", 0, "range"), lambda: Session(few)),
+            (hmc.Fault("link", 0, "range"), lambda: Session(few, tape=True)),
+            (hmc.Fault("link", 0, "range"), lambda: hmc.Memory(few)),
+            (hmc.Fault("link", 0, "range"), lambda: hmc.Driver(few, tape=True)),
+            (hmc.Fault("link", 0, "range"), lambda: hmc.run_case(few)),
+            (hmc.Fault("link", 0, "range"), lambda: hmc.check(few, "")),
+            (hmc.Fault("script", 1, "command"), lambda: s.ask("0 rd17 0 0")),
+            (hmc.Fault("script", 0, "one"), lambda: s.ask("")),
+            (hmc.Fault("schedule", 2, "range"), lambda: s.lay("send 0\nsend 9")),
+        ]
+        with Session(CASE) as s:
+            for fault, call in rows:
+                with self.assertRaises(Error) as caught:
+                    call()
+                self.assertEqual(caught.exception.fault, fault)
+                self.assertEqual(caught.exception.status, Status.BAD)
+                self.assertTrue(str(caught.exception).endswith(f": {fault}"))
 
     def test_steps(self) -> None:
         with Session(CASE) as s:
@@ -142,8 +166,33 @@ class Sessions(unittest.TestCase):
             self.assertEqual(hmc.crc(data), remainder_of(data))
 
 
+def saved_report(path: Path) -> str:
+    """The report of the case in a file, with the units of the program."""
+    return hmc.run_case(path.read_text(encoding="utf-8"), hmc.PROGRAM_UNITS).text
+
+
 class Memories(unittest.TestCase):
     """Answers by functions."""
+
+    def test_tapes(self) -> None:
+        """What is saved is a case, and its report has the answers."""
+        got: list[hmc.Answer] = []
+        with tempfile.TemporaryDirectory() as folder, hmc.Memory(CASE, tape=True) as memory:
+            memory.request(0, "wr16", 1, 0, bytes(range(16)), got.append)
+            memory.request(0, "unit0", 0, 0, bytes(16), got.append)
+            memory.request(0, "rd16", 1, 0, b"", got.append)
+            while memory.waiting:
+                memory.round()
+            memory.save(Path(folder, "case.toml"))
+            lines = saved_report(Path(folder, "case.toml"))
+            with self.assertRaises(FileNotFoundError):
+                memory.save(Path(folder, "no", "case.toml"))
+        # The unit of the program is retired, so that it gives the error that the driver saw.
+        self.assertIn(AnswerKind.ERROR, [answer.kind for answer in got])
+        self.assertIn(" error ", lines)
+        self.assertIn(f" read 0 {bytes(range(16)).hex()}\n", lines)
+        with hmc.Memory(CASE) as memory, self.assertRaises(OSError):
+            memory.save("/dev/null")
 
     def test_answers(self) -> None:
         got: list[hmc.Answer] = []
@@ -167,8 +216,10 @@ class Memories(unittest.TestCase):
     def test_misuse(self) -> None:
         with self.assertRaises(Error):
             hmc.Memory("no case")
-        with self.assertRaises(Error):
+        with self.assertRaises(Error) as caught:
             hmc.Memory(CASE.replace("script = ''", "script = '0 rd16 0 0'"))
+        self.assertEqual(str(caught.exception), "open: the script has requests")
+        self.assertIsNone(caught.exception.fault)
         memory = hmc.Memory(CASE)
         with self.assertRaises(Error):
             memory.request(0, "rd16", 2, 0, b"", lambda answer: None)
@@ -247,6 +298,22 @@ class Drivers(unittest.TestCase):
                 return await asyncio.gather(*(worker(driver, k) for k in range(WORKERS)))
 
         self.assertEqual(asyncio.run(main()), [0] * WORKERS)
+
+    def test_tapes(self) -> None:
+        """Where an exception ends a driver with a path, it leaves its case there; else it doesn't."""
+
+        async def main(path: Path, value: int) -> None:
+            async with hmc.Driver(CASE, tape=path) as driver:
+                await driver.write(1, 0x40, bytes([value]) * 16)
+                assert value == 0, "a failure of the bench"
+
+        with tempfile.TemporaryDirectory() as folder:
+            path = Path(folder, "case.toml")
+            asyncio.run(main(path, 0))
+            self.assertFalse(path.exists())
+            with self.assertRaises(AssertionError):
+                asyncio.run(main(path, 7))
+            self.assertIn("\ntook 0 0 done 0\n", saved_report(path))
 
     def test_own_scheduler(self) -> None:
         driver = hmc.Driver(CASE, OwnEvent)

@@ -15,8 +15,11 @@
 #include "hmc.hpp"
 
 #include <algorithm>
+#include <cstdio>
 #include <deque>
+#include <exception>
 #include <memory>
+#include <string>
 #include <systemc>
 #include <tlm>
 #include <tlm_utils/simple_target_socket.h>
@@ -36,11 +39,16 @@ public:
     sc_core::sc_vector<Socket> sockets;
 
     SC_HAS_PROCESS(Target);
+    // Where `tape` names a file, the network keeps a tape, which memory().save writes as a case; the
+    // target writes it to that file when it is destroyed in a run that failed: one that reported an
+    // error, or that an exception ends.
     Target(sc_core::sc_module_name name, std::string_view text, AddressMap map,
            unsigned initiators = 1,
-           sc_core::sc_time period = sc_core::sc_time(1, sc_core::SC_NS))
-        : sc_module(name), sockets("sockets", initiators), memory_(text), map_(map),
-          period_(period), ports_(initiators) {
+           sc_core::sc_time period = sc_core::sc_time(1, sc_core::SC_NS),
+           std::string tape = std::string())
+        : sc_module(name), sockets("sockets", initiators),
+          memory_(tape.empty() ? Memory(text) : Memory::taped(text)), map_(map), period_(period),
+          ports_(initiators), tape_(std::move(tape)) {
         for (unsigned i = 0; i < initiators; i++) {
             const int id = static_cast<int>(i);
             sockets[i].register_b_transport(this, &Target::b_transport, id);
@@ -49,6 +57,10 @@ public:
             sockets[i].register_transport_dbg(this, &Target::transport_dbg, id);
         }
         SC_THREAD(run);
+    }
+    ~Target() override {
+        if (!tape_.empty() && has_failed())
+            save();
     }
     Memory &memory() { return memory_; }
     std::uint64_t rounds() const { return rounds_; }
@@ -68,6 +80,22 @@ private:
     struct Port {
         std::deque<Payload *> responses;
     };
+
+    static bool has_failed() {
+        using sc_core::sc_report_handler;
+        return sc_report_handler::get_count(sc_core::SC_ERROR) != 0 ||
+               sc_report_handler::get_count(sc_core::SC_FATAL) != 0 ||
+               std::uncaught_exceptions() != 0;
+    }
+
+    // A file that can't be written is no reason to end in another way.
+    void save() noexcept {
+        try {
+            memory_.save(tape_);
+        } catch (const std::exception &error) {
+            std::fprintf(stderr, "%s: %s\n", name(), error.what());
+        }
+    }
 
     void run() {
         for (;;) {
@@ -308,6 +336,7 @@ private:
     AddressMap map_;
     sc_core::sc_time period_;
     std::vector<Port> ports_;
+    std::string tape_;
     sc_core::sc_event asked_;
     std::uint64_t rounds_ = 0;
 };

@@ -216,12 +216,45 @@ private:
     Pool pool_;
 };
 
+// A bench that fails: it reads, and then reports an error.
+struct Failing : sc_core::sc_module {
+    tlm_utils::simple_initiator_socket<Failing> out;
+    SC_HAS_PROCESS(Failing);
+    explicit Failing(sc_core::sc_module_name name) : sc_module(name), out("out") {
+        SC_THREAD(run);
+    }
+    void run() {
+        unsigned char bytes[16] = {};
+        Payload payload;
+        sc_time delay = SC_ZERO_TIME;
+        payload.set_command(tlm::TLM_READ_COMMAND);
+        payload.set_address(0x440);
+        payload.set_data_ptr(bytes);
+        payload.set_data_length(sizeof bytes);
+        payload.set_streaming_width(sizeof bytes);
+        out->b_transport(payload, delay);
+        SC_REPORT_ERROR("bench", "it fails here");
+    }
+};
+
+// A run that fails: the target leaves its case in the file.
+static int fail_at(const std::string &text, const std::string &tape) {
+    const sc_time period(1, sc_core::SC_NS);
+    hmc::Target target("target", text, hmc::AddressMap{2, CUBE}, 1, period, tape);
+    Failing failing("failing");
+    failing.out.bind(target.sockets[0]);
+    sc_core::sc_start(1, sc_core::SC_SEC);
+    return 0;
+}
+
 int sc_main(int words, char **word) {
-    if (words != 3)
+    if (words != 3 && words != 4)
         return 2;
     std::ifstream file(word[1]);
     std::stringstream text;
     text << file.rdbuf();
+    if (words == 4)
+        return fail_at(text.str(), word[3]);
     const unsigned count = static_cast<unsigned>(std::atoi(word[2]));
     hmc::Target target("target", text.str(), hmc::AddressMap{2, CUBE}, 2);
     Blocking blocking("blocking", count);

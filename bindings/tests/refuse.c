@@ -75,14 +75,25 @@ static void use(hmc_driver *d) {
     want(done == REQUESTS, "answers", (int)done);
 }
 
+/* Saves a driver with a tape; a save that is out of memory is made again. */
+static void save(hmc_driver *d) {
+    uint8_t status = HMC_MEMORY;
+    for (int tries = 0; tries < 2 && status == HMC_MEMORY; tries++)
+        status = hmc_driver_save(d, "/dev/null");
+    want(status == HMC_OK, "a save that is made again", status);
+}
+
 /* One run with the allocation of this number refused. False: there was no such allocation. */
-static bool run(const uint8_t *text, size_t length, long *absorbed) {
+static bool run(const uint8_t *text, size_t length, bool is_taped, long *absorbed) {
     allocations = live = 0;
     uint8_t status = HMC_OK;
-    hmc_driver *d = hmc_driver_open(text, length, &status);
+    hmc_driver *d = is_taped ? hmc_driver_open_taped(text, length, &status)
+                             : hmc_driver_open(text, length, &status);
     want(d ? status == HMC_OK : status == HMC_MEMORY, "open", status);
     if (d) {
         use(d);
+        if (is_taped)
+            save(d);
         *absorbed += allocations > refused;
     }
     hmc_driver_close(d);
@@ -179,9 +190,11 @@ int main(int count, char **words) {
     size_t length = fread(text, 1, sizeof text, file);
     fclose(file);
     long absorbed = 0;
-    for (refused = 0; run(text, length, &absorbed); refused++) {
+    for (refused = 0; run(text, length, false, &absorbed); refused++) {
     }
     long tried = refused;
+    for (refused = 0; run(text, length, true, &absorbed); refused++, tried++) {
+    }
     tape whole, of;
     refused = -1;
     run_taped(text, length, &whole);

@@ -241,6 +241,15 @@ def replay(tape: bytes, lines: bytes) -> str:
     return "the same lines by the program"
 
 
+def test_keep(room: Path) -> str:
+    """Drivers with a tape, each saved as a case that has their lines; the program replays the last
+    one."""
+    sources = [HERE / "keep.c", BINDINGS / "c" / "driver.c"]
+    saved = room / "saved.toml"
+    said = run(compiled(room, "keep", sources, []), CHAIN, saved)
+    return f"{said.strip()}; {replay(saved.read_bytes(), b'retired 0')}"
+
+
 def test_whole(room: Path) -> str:
     """The report of each stored example, its check, and a session of it to its final lines."""
     program = compiled(room, "whole", [HERE / "whole.c"], [])
@@ -276,7 +285,7 @@ def test_cpp(room: Path) -> str:
     run("g++", "-std=c++17", *STRICT, *INCLUDES, "-fsyntax-only", source)
     words = ["g++", "-std=c++20", *STRICT, *SANITIZED, *INCLUDES, "-o", program]
     run(*words, source, ARCHIVE)
-    return run(program, CHAIN).strip()
+    return run(program, CHAIN, room / "saved.toml").strip()
 
 
 def test_systemc(room: Path) -> str:
@@ -287,9 +296,32 @@ def test_systemc(room: Path) -> str:
     program = room / "systemc"
     gxx = ["g++", "-std=c++17", *STRICT[:2], *INCLUDES]
     run(*gxx, "-O1", "-o", program, BINDINGS / "systemc" / "test.cpp", ARCHIVE, "-lsystemc")
+    saved = room / "saved.toml"
+    fails(program, CHAIN, 1000, saved)
+    require_read(saved)
     link = [ARCHIVE, "-lsystemc"]
     run_bench("systemc.md", ".cpp", room, lambda at, to: [*gxx, "-o", to, at, *link])
     return last_line(run(program, CHAIN, 1000))
+
+
+def fails(*words: object) -> None:
+    """Runs a command that has to end with another status than 0."""
+    try:
+        run(*words)
+    except Failed:
+        return
+    raise Failed(f"{words[0]} ends with 0")
+
+
+def require_read(saved: Path) -> None:
+    """A bench that failed after a read has left a case, and the program's report of it has one."""
+    if not saved.is_file():
+        raise Failed("a run that failed leaves no case")
+    ran = subprocess.run(
+        [sys.executable, HERE / "report_of.py", saved], capture_output=True, check=False
+    )
+    if ran.returncode != 0 or b"\ntook 0 0 " not in ran.stdout:
+        raise Failed(f"what a run leaves is no case with an answer: {ran.stderr.decode()[-500:]}")
 
 
 def test_verilator(room: Path) -> str:
@@ -304,12 +336,23 @@ def test_verilator(room: Path) -> str:
     top = ["-Wall", "--top-module", "test", f'-GCASE="{CHAIN}"']
     run(*words, *top, *sources, folder / "test.sv", shim, ARCHIVE)
     said = run(room / "obj" / "Vtest", "+verilator+seed+1")
+    leave_case(words, [*sources, folder / "test.sv", shim, ARCHIVE], room)
     words += ["--top-module", "first", *sources, shim, ARCHIVE]
     run_bench("verilator.md", ".sv", room, lambda at, to: [*words, at, "-o", to])
     counted = [line for line in said.splitlines() if line.startswith("verilator: ")]
     if not counted:
         raise Failed(said[-1000:])
     return counted[-1]
+
+
+def leave_case(words: list[object], sources: list[Path], room: Path) -> None:
+    """A bench that fails after an answer leaves its case."""
+    saved = room / "saved.toml"
+    names = [f'-GCASE="{CHAIN}"', f'-GTAPE="{saved}"', "-GFAIL=1"]
+    words = [it if it != room / "obj" else room / "failing" for it in words]
+    run(*words, "-Wall", "--top-module", "test", *names, *sources)
+    fails(room / "failing" / "Vtest", "+verilator+seed+1")
+    require_read(saved)
 
 
 def test_icarus(room: Path) -> str:
@@ -412,7 +455,8 @@ def test_types(_: Path) -> str:
     mypy = ["mypy", "--strict", f"--cache-dir={os.devnull}"]
     env = {"MYPYPATH": f"{BINDINGS / 'python'}:{TOP}"}
     sources = [BINDINGS / "python" / name for name in ("hmc", "test.py")]
-    sources += [HERE / f"{name}.py" for name in ("run", "steps", "fields", "packages")]
+    names = ("run", "steps", "fields", "report_of", "packages")
+    sources += [HERE / f"{name}.py" for name in names]
     return last_line(run(*mypy, *sources, at=HERE, env=env))
 
 
@@ -430,6 +474,7 @@ TESTS: dict[str, Callable[[Path], str]] = {
     "ghdl": test_ghdl,
     "hosts": test_hosts,
     "icarus": test_icarus,
+    "keep": test_keep,
     "python": test_python,
     "rust": test_rust,
     "systemc": test_systemc,

@@ -6,11 +6,11 @@ answers are awaited, under asyncio or cocotb. `run_case` has the report of a who
 says whether a report is that of a case. docs/python.md has first benches.
 
 Addresses are below 2^34; numbers of hosts, cubes and directions begin with 0. What can't be done
-raises `Error`, which has the status, and changes nothing, except that `Session.run` may have taken
-steps before.
+raises `Error`, which has the status and the first fault of a text, and changes nothing, except that
+`Session.run` may have taken steps before.
 """
 
-from hmc.calls import Error, Status, crc
+from hmc.calls import Error, Fault, Status, crc
 from hmc.commands import COMMANDS, Command
 from hmc.driver import Driver
 from hmc.entry import Answer, AnswerKind, Cause, Entry, EntryKind, Outcome, Step, What
@@ -29,6 +29,7 @@ __all__ = [
     "Entry",
     "EntryKind",
     "Error",
+    "Fault",
     "Memory",
     "Outcome",
     "Report",

@@ -5,6 +5,8 @@ from __future__ import annotations
 import ctypes
 import enum
 import os
+from collections.abc import Callable
+from dataclasses import dataclass
 from pathlib import Path
 
 HERE = Path(__file__).resolve().parent
@@ -38,12 +40,28 @@ class Status(enum.IntEnum):
     UNLAWFUL = 20
 
 
-class Error(Exception):
-    """A call that did nothing, with the status that says why."""
+@dataclass(frozen=True)
+class Fault:
+    """The first fault of a text: the section (toml, top, cube, net, link, script or schedule), the
+    number of a cube or link, from 0, or of a line, from 1, and what is wrong, in a word."""
 
-    def __init__(self, call: str, status: int) -> None:
+    section: str
+    line: int
+    kind: str
+
+    def __str__(self) -> str:
+        return f"bad {self.section} {self.line} {self.kind}"
+
+
+class Error(Exception):
+    """A call that did nothing, with the status that says why. Where a text is at fault it has its
+    first fault."""
+
+    def __init__(self, call: str, status: int, fault: Fault | None = None, said: str = "") -> None:
         self.status = Status(status)
-        super().__init__(f"{call}: {self.status.name.lower().replace('_', ' ')}")
+        self.fault = fault
+        said = said or str(fault or self.status.name.lower().replace("_", " "))
+        super().__init__(f"{call}: {said}")
 
 
 class Handle(ctypes.Structure):
@@ -56,6 +74,20 @@ class RawUnit(ctypes.Structure):
     """A logic unit, as hmc.h has it."""
 
     _fields_ = [("kind", ctypes.c_uint8), ("cube", ctypes.c_uint8), ("code", ctypes.c_uint8)]
+
+
+class RawFault(ctypes.Structure):
+    """The first fault of a text, as hmc.h has it."""
+
+    line: int
+    section: int
+    word: bytes
+
+    _fields_ = [
+        ("line", ctypes.c_uint32),
+        ("section", ctypes.c_uint8),
+        ("word", ctypes.c_char * 16),
+    ]
 
 
 class RawEntry(ctypes.Structure):
@@ -126,12 +158,16 @@ _TEXT = (_BYTES, _SIZE)
 _UNITS = (ctypes.POINTER(RawUnit), _SIZE)
 _ROOM = (_BYTES, _SIZE, ctypes.POINTER(_SIZE))
 _NUMBER = ctypes.POINTER(ctypes.c_uint32)
+_FAULT = ctypes.POINTER(RawFault)
 CALLS = {
     "hmc_open": (_BYTE, (*_TEXT, _HANDLE)),
     "hmc_open_with": (_BYTE, (*_TEXT, *_UNITS, _HANDLE)),
     "hmc_open_taped": (_BYTE, (*_TEXT, *_UNITS, _HANDLE)),
+    "hmc_fault": (_BYTE, (*_TEXT, _FAULT)),
     "hmc_ask": (_BYTE, (_HANDLE, *_TEXT)),
+    "hmc_ask_fault": (_BYTE, (_HANDLE, *_TEXT, _FAULT)),
     "hmc_lay": (_BYTE, (_HANDLE, *_TEXT)),
+    "hmc_lay_fault": (_BYTE, (_HANDLE, *_TEXT, _FAULT)),
     "hmc_run": (_BYTE, (_HANDLE, ctypes.c_uint32, ctypes.c_uint32, _NUMBER)),
     "hmc_tape_script": (_BYTE, (_HANDLE, *_ROOM)),
     "hmc_tape_schedule": (_BYTE, (_HANDLE, *_ROOM)),
@@ -147,6 +183,8 @@ CALLS = {
     "hmc_crc": (ctypes.c_uint32, _TEXT),
     "hmc_version": (ctypes.c_uint32, ()),
     "hmc_driver_open": (_DRIVER, (*_TEXT, ctypes.POINTER(_BYTE))),
+    "hmc_driver_open_taped": (_DRIVER, (*_TEXT, ctypes.POINTER(_BYTE))),
+    "hmc_driver_save": (_BYTE, (_DRIVER, _BYTES)),
     "hmc_driver_close": (None, (_DRIVER,)),
     "hmc_driver_session": (_HANDLE, (_DRIVER,)),
     "hmc_driver_hosts": (_BYTE, (_DRIVER,)),
@@ -163,7 +201,7 @@ def _load() -> ctypes.CDLL:
     path = Path(named) if named else next((it for it in PLACES if it.is_file()), PLACES[-1])
     if not path.is_file():
         raise ImportError(f"there is no {path}: run make -C bindings first")
-    loaded = ctypes.CDLL(str(path))
+    loaded = ctypes.CDLL(str(path), use_errno=True)
     for name, (returned, taken) in CALLS.items():
         call = getattr(loaded, name)
         call.restype, call.argtypes = returned, taken
@@ -180,6 +218,27 @@ def check_number(call: str, number: int, bits: int) -> int:
     if not 0 <= number < 1 << bits:
         raise Error(f"{call} {number}", Status.BAD)
     return number
+
+
+SECTIONS = ("toml", "top", "cube", "net", "link", "script", "schedule")
+
+
+def fault_of(find: Callable[[RawFault], int]) -> Fault | None:
+    """The first fault of a text, by the call that shows it; None where it has none."""
+    raw = RawFault()
+    if find(raw) != Status.OK:
+        return None
+    return Fault(SECTIONS[raw.section], raw.line, raw.word.decode())
+
+
+def refuse_case(call: str, status: int, text: bytes) -> Error:
+    """Why a call refused a case."""
+
+    def find(raw: RawFault) -> int:
+        found: int = library.hmc_fault(text, len(text), raw)
+        return found
+
+    return Error(call, status, fault_of(find) if status == Status.BAD else None)
 
 
 def crc(data: bytes) -> int:

@@ -3,6 +3,7 @@
 from __future__ import annotations
 
 import asyncio
+import os
 from collections.abc import Awaitable, Callable
 from types import TracebackType
 from typing import Any, Protocol
@@ -30,10 +31,20 @@ class Driver:
 
         driver = Driver(case, cocotb.triggers.Event)
         cocotb.start_soon(driver.run(lambda: RisingEdge(dut.clk)))
+
+    With a tape `save` writes what was done as a case. Where `tape` is a path, that is done at the
+    end of `async with` too, if an exception ended it.
     """
 
-    def __init__(self, case: str, event: Callable[[], Event] = asyncio.Event) -> None:
-        self.memory = Memory(case)
+    def __init__(
+        self,
+        case: str,
+        event: Callable[[], Event] = asyncio.Event,
+        *,
+        tape: bool | str | os.PathLike[str] = False,
+    ) -> None:
+        self.memory = Memory(case, tape=tape is not False)
+        self._path = None if isinstance(tape, bool) else tape
         self._event = event
         self._waiting: set[Event] = set()
         self._failure: BaseException | None = None
@@ -90,6 +101,10 @@ class Driver:
         if answer.kind is not AnswerKind.DONE:
             raise Error(f"write {address:#x}, error {answer.value}", Status.BAD)
 
+    def save(self, path: str | os.PathLike[str]) -> None:
+        """Writes the case that replays what was done so far to a file."""
+        self.memory.save(path)
+
     def close(self) -> None:
         """Closes the network."""
         self.memory.close()
@@ -107,4 +122,6 @@ class Driver:
         if self._clock is not None:
             self._clock.cancel()
             await asyncio.gather(self._clock, return_exceptions=True)
+        if error is not None and self._path is not None:
+            self.save(self._path)
         self.close()

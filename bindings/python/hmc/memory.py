@@ -3,30 +3,52 @@
 from __future__ import annotations
 
 import ctypes
+import os
 from collections.abc import Callable
 from types import TracebackType
 
-from hmc.calls import Error, RawEntry, Status, check_number, library
+from hmc.calls import Error, RawEntry, Status, check_number, library, refuse_case
 from hmc.commands import command_of
 from hmc.entry import Answer, answer_of
 
 Done = Callable[[Answer], None]
 
 
+def _refused(text: bytes, status: int, tape: bool) -> Error:
+    """Why no network was opened."""
+    error = refuse_case("open", status, text)
+    if status != Status.BAD or error.fault:
+        return error
+    said = "the script has requests" + (", or a key has an escape" if tape else "")
+    return Error("open", status, said=said)
+
+
 class Memory:
     """A case without requests (docs/case.md). It is for one thread at a time; close it, or use
-    `with`."""
+    `with`. With a tape it keeps what it did, and `save` writes it as a case."""
 
-    def __init__(self, case: str) -> None:
+    def __init__(self, case: str, *, tape: bool = False) -> None:
         text = case.encode()
+        call = library.hmc_driver_open_taped if tape else library.hmc_driver_open
         status = ctypes.c_uint8()
         self._calls: dict[int, Done] = {}
         self._next = 0
         self._raw = RawEntry()
         self._id = ctypes.c_uint64()
-        self._driver: int | None = library.hmc_driver_open(text, len(text), status)
+        self._driver: int | None = call(text, len(text), status)
         if self._driver is None:
-            raise Error("open", status.value)
+            raise _refused(text, status.value, tape)
+
+    def save(self, path: str | os.PathLike[str]) -> None:
+        """Writes the case that replays what was done so far to a file; without a tape, or where the
+        file can't be written, it raises `OSError`."""
+        ctypes.set_errno(0)
+        status = library.hmc_driver_save(self._opened(), os.fsencode(path))
+        if status == Status.NONE:
+            number = ctypes.get_errno()
+            raise OSError(number, os.strerror(number), os.fspath(path))
+        if status:
+            raise Error("save", status)
 
     def close(self) -> None:
         """Closes the network. A closed one stays closed, and what was asked isn't answered."""

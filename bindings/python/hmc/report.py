@@ -6,7 +6,7 @@ import ctypes
 from collections.abc import Callable, Sequence
 from dataclasses import dataclass
 
-from hmc.calls import Error, RawUnit, Status, check_number, library
+from hmc.calls import RawUnit, Status, check_number, library, refuse_case
 
 # The first room for a report. A longer one takes a second call.
 REPORT_ROOM = 1 << 20
@@ -67,7 +67,7 @@ def run_case(case: str, units: Sequence[Unit] = ()) -> Report:
 
     status, report = written(REPORT_ROOM, write)
     if status not in (Status.OK, Status.PASSED):
-        raise Error("run_case", status)
+        raise refuse_case("run_case", status, text)
     return Report(report, status == Status.PASSED)
 
 
@@ -87,5 +87,5 @@ def check(case: str, report: str, units: Sequence[Unit] = ()) -> Verdict:
         text, len(text), lines, len(lines), raw_units(units), len(units), number
     )
     if status not in (Status.OK, Status.UNLAWFUL):
-        raise Error("check", status)
+        raise refuse_case("check", status, text)
     return Verdict(status == Status.OK, number.value)

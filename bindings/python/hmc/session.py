@@ -6,7 +6,16 @@ import ctypes
 from collections.abc import Callable, Sequence
 from types import TracebackType
 
-from hmc.calls import Error, Handle, RawEntry, Status, check_number, library
+from hmc.calls import (
+    Error,
+    Handle,
+    RawEntry,
+    Status,
+    check_number,
+    fault_of,
+    library,
+    refuse_case,
+)
 from hmc.commands import command_of
 from hmc.entry import Entry, EntryKind, Step
 from hmc.report import Unit, raw_units, written
@@ -28,7 +37,7 @@ class Session:
         call = library.hmc_open_taped if tape else library.hmc_open_with
         status = call(text, len(text), raw_units(units), len(units), self._handle)
         if status:
-            raise Error("open", status)
+            raise refuse_case("open", status, text)
 
     def close(self) -> None:
         """Closes the session. A closed one stays closed."""
@@ -75,7 +84,7 @@ class Session:
         text = words.encode()
         status = library.hmc_ask(self._handle, text, len(text))
         if status:
-            raise Error(f"ask {words!r}", status)
+            raise self._refused(f"ask {words!r}", status, text, library.hmc_ask_fault)
 
     def finish(self, host: int) -> None:
         """Asks a host for nothing more from now on."""
@@ -100,7 +109,14 @@ class Session:
         text = words.encode()
         status = library.hmc_lay(self._handle, text, len(text))
         if status:
-            raise Error("lay", status)
+            raise self._refused("lay", status, text, library.hmc_lay_fault)
+
+    def _refused(self, call: str, status: int, text: bytes, find: Callable[..., int]) -> Error:
+        """Why a text was refused; `find` is the call that shows its fault."""
+        fault = None
+        if status == Status.BAD:
+            fault = fault_of(lambda raw: find(self._handle, text, len(text), raw))
+        return Error(call, status, fault)
 
     def run(self, most: int, stops: Sequence[EntryKind] = ()) -> int:
         """Takes laid steps, and tries at most so many, up to an entry of one of these kinds. The
