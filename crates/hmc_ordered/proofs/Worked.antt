@@ -25,6 +25,7 @@ use Rattle.hmc_journal.specs.Filters.{given_to, executed_by, asked_under, replie
 use Rattle.hmc_journal.specs.Serial.{IsSerial, state_after}
 use Rattle.hmc_journal.specs.Setup.{Topology}
 use Rattle.hmc_arrivals.specs.Arrivals.{given_at}
+use Rattle.hmc_seen.specs.Explained.{IsExplained}
 use Rattle.hmc_seen.specs.Seen.{seen_of}
 use Rattle.hmc_seen.specs.Stepwise.{IsStepwise}
 use Rattle.hmc_seen.proofs.Stepping.{moments_of}
@@ -117,6 +118,11 @@ abbrev runs : (host tag : ℕ) → RequestFields → Answer → Entry
 runs host tag request answer =
     Executed (units.Bank request.cube 0 0) host (Some tag) request answer
 
+-- a vault of the one cube does
+abbrev runs_in : (vaults host tag : ℕ) → RequestFields → Answer → Entry
+runs_in vaults host tag request answer =
+    Executed (units.Bank 0 vaults 0) host (Some tag) request answer
+
 -- an order that gives every answer, step by step
 by : (log journal : List Entry) → seen_of journal ≡ log → IsSerial machines journal →
     IsStepwise two journal → AreNext journal → IsOrdered two machines log
@@ -144,6 +150,19 @@ message_near : IsOrdered one machine (message near) → ⊥
 unfolding kept takes hand choices is_free gathered opening_state opening opening_registers apply answer_to perform_on action_of atomic_of memory_error acted_of effect_of table_line unit_of padded_bytes
 message_near = none (message near) refl tt
 
+-- The banks of that one cube allow it: of each bank the requests of a host are in order.
+banks_allow : IsExplained one machine (message near)
+unfolding seen_of IsSerial state_after IsStepwise AreNext given_to given_at executed_by executed_at asked_under replies_under answers_under opening_state opening opening_registers apply answer_to perform_on action_of atomic_of memory_error acted_of effect_of table_line unit_of padded_bytes
+banks_allow = record {
+  journal = allowed;
+  explains = record { seen = refl; serial = (refl, (refl, (refl, (refl, tt)))); moments = moments_of one allowed allowed_steps };
+} where
+  allowed : List Entry
+  allowed = Took 1 1 (value 0) ∷ Took 1 0 (value 1) ∷ Took 0 1 done ∷ Took 0 0 done ∷ runs_in 0 0 0 (write x) done ∷ runs_in 0 1 1 (read x) (value 0) ∷ runs_in 1 1 0 (read near) (value 1) ∷ runs_in 1 0 1 (write near) done ∷ asks 1 1 (read x) ∷ asks 1 0 (read near) ∷ asks 0 1 (write near) ∷ asks 0 0 (write x) ∷ []
+
+  allowed_steps : IsStepwise one allowed
+  allowed_steps = (([], refl), (([], refl), (([], refl), (([], refl), (([], refl), (([], refl), (([], refl), (([], refl), (([], refl), (([], refl), (([], refl), (([], refl), tt))))))))))))
+
 message_far : IsOrdered two machines (message far)
 unfolding seen_of IsSerial state_after IsStepwise AreNext given_to given_at executed_by executed_at asked_under replies_under answers_under opening_state opening opening_registers apply answer_to perform_on action_of atomic_of memory_error acted_of effect_of table_line unit_of padded_bytes
 message_far =
@@ -152,6 +171,17 @@ message_far =
     refl (refl, (refl, (refl, (refl, tt))))
     (([], refl), (([], refl), (([], refl), (([], refl), (([], refl), (([], refl), (([], refl), (([], refl), (([], refl), (([], refl), (([], refl), (([], refl), tt))))))))))))
     (([], refl), (([], refl), (([], refl), (([], refl), tt))))
+
+-- Message passing over two cubes with fences: each host waits for its first answer, and the reader
+-- gives its reads after the writer was answered. This is refused bank by bank already.
+abbrev fenced : List Entry
+fenced =
+    Took 1 0 (value 0) ∷ asks 1 0 (read x) ∷ Took 1 0 (value 1) ∷ asks 1 0 (read far)
+    ∷ asks 0 0 (write far) ∷ Took 0 0 done ∷ asks 0 0 (write x) ∷ []
+
+fenced_far : IsOrdered two machines fenced → ⊥
+unfolding kept takes hand choices is_free gathered opening_state opening opening_registers apply answer_to perform_on action_of atomic_of memory_error acted_of effect_of table_line unit_of padded_bytes
+fenced_far ordered = not_kept two machines fenced tt refl (ordered_is_explained two two machines fenced ordered)
 
 -- Store buffering: each host writes its block, and then reads the old bytes of the other.
 abbrev store : (y : Place) → List Entry

@@ -7,3 +7,4 @@ pub mod Picking
 pub mod Pure
 pub mod Searching
 mod Worked
+mod WorkedLogs

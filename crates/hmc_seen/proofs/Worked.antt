@@ -1,6 +1,6 @@
 -- Small logs of two hosts, each with a journal that explains it: the log with executions put in. Of
 -- each list the newest entry stands first.
-use Rattle.std.proofs.Common.{◌≡◌, ℕ, false, true, Some, None, Option, List, [], ◌∷◌, ◌++◌, refl}
+use Rattle.std.proofs.Common.{◌≡◌, ℕ, false, true, Some, None, List, [], ◌∷◌, refl}
 use Rattle.std.specs.Prelude.{replicate}
 use Rattle.hmc_codes.specs.Bytes.{padded_bytes}
 use Rattle.hmc_codes.specs.Request.{RequestFields}
@@ -8,7 +8,6 @@ use Rattle.hmc_codes.specs.Table.{table_line}
 use Rattle.hmc_codes.specs.declared.answer.Answer.TheVariants as answers
 use Rattle.hmc_codes.specs.declared.answer.Answer.{Answer}
 use Rattle.hmc_codes.specs.declared.command.Command.TheVariants as commands
-use Rattle.hmc_codes.specs.declared.command.Command.{Command}
 use Rattle.hmc_codes.specs.declared.unit.Unit.TheVariants as units
 use Rattle.hmc_codes.specs.declared.unit.Unit.{Unit as RequestUnit}
 use Rattle.hmc_registers.specs.Registers.{opening_registers}
@@ -26,7 +25,7 @@ use Rattle.hmc_entries.specs.declared.entry.Entry.TheVariants.{Gave, Took, Execu
 use Rattle.hmc_journal.specs.Filters.{given_to, executed_by, asked_under, replies_under, answers_under}
 use Rattle.hmc_journal.specs.Serial.{IsSerial, state_after}
 use Rattle.hmc_journal.specs.Setup.{Topology}
-use Rattle.hmc_seen.specs.Explained.{IsExplained, IsExplainedBy}
+use Rattle.hmc_seen.specs.Explained.{IsExplained}
 use Rattle.hmc_seen.specs.Seen.{seen_of}
 use Rattle.hmc_seen.specs.Stepwise.{IsStepwise}
 use Rattle.hmc_seen.proofs.Stepping.{moments_of}
@@ -196,3 +195,19 @@ banks_apart =
     (Took 1 1 (value 0) ∷ Took 1 0 (value 1) ∷ Took 0 1 done ∷ Took 0 0 done ∷ runs 0 0 0 (write x 1) done ∷ runs 0 1 1 (read x) (value 0) ∷ runs 1 1 0 (read y) (value 1) ∷ runs 1 0 1 (write y 1) done ∷ asks 1 1 (read x) ∷ asks 1 0 (read y) ∷ asks 0 1 (write y 1) ∷ asks 0 0 (write x 1) ∷ [])
     refl (refl, (refl, (refl, (refl, tt))))
     ((([]), refl), ((([]), refl), ((([]), refl), ((([]), refl), ((([]), refl), ((([]), refl), ((([]), refl), ((([]), refl), ((([]), refl), ((([]), refl), ((([]), refl), ((([]), refl), tt))))))))))))
+
+-- The same where the reader waits for its first answer: the write of x may still be on its way,
+-- since its writer doesn't wait. (Where the writer waits too, nothing explains the old x: that is a
+-- row of hmc_search.)
+abbrev fenced : List Entry
+fenced =
+    Took 1 1 (value 0) ∷ asks 1 1 (read x) ∷ Took 1 0 (value 1) ∷ asks 1 0 (read y)
+    ∷ asks 0 1 (write y 1) ∷ asks 0 0 (write x 1) ∷ []
+
+fence_of_one : IsExplained cubes machine (fenced)
+unfolding seen_of IsSerial state_after IsStepwise given_to executed_by asked_under replies_under answers_under opening_state opening opening_registers apply answer_to perform_on action_of atomic_of memory_error acted_of effect_of table_line unit_of padded_bytes
+fence_of_one =
+    by (fenced)
+    (Took 1 1 (value 0) ∷ runs 0 1 1 (read x) (value 0) ∷ asks 1 1 (read x) ∷ Took 1 0 (value 1) ∷ runs 1 1 0 (read y) (value 1) ∷ runs 1 0 1 (write y 1) done ∷ asks 1 0 (read y) ∷ asks 0 1 (write y 1) ∷ asks 0 0 (write x 1) ∷ [])
+    refl (refl, (refl, (refl, tt)))
+    ((([]), refl), ((([]), refl), ((([]), refl), ((([]), refl), ((([]), refl), ((([]), refl), ((([]), refl), ((([]), refl), tt))))))))
