@@ -18,6 +18,7 @@ from collections.abc import Iterator
 from dataclasses import dataclass, field
 from pathlib import Path
 
+from tool import unfinished
 from tool.crates import digest_of, source_files
 from tool.kit import INSTALLED, TOP
 from tool.trouble import BAD_DATA, UNAVAILABLE, Trouble, note
@@ -125,11 +126,11 @@ def held_by(name: str) -> bytes:
 def write(held: bytes, path: Path) -> None:
     """Writes a file, which may be run if it is the program. Only a whole one has its name."""
     path.parent.mkdir(parents=True, exist_ok=True)
-    handle, name = tempfile.mkstemp(prefix=f".{path.name}-", dir=path.parent)
-    with os.fdopen(handle, "wb") as file:
+    with unfinished.begun(str(path)) as (file, name):
         file.write(held)
-    os.chmod(name, 0o755 if path.name == PROGRAM else 0o644)
-    os.replace(name, path)
+        file.flush()
+        os.chmod(name, 0o755 if path.name == PROGRAM else 0o644)
+        os.replace(name, path)
 
 
 def unpacked(name: str, path: Path) -> Path:
