@@ -117,33 +117,33 @@ def prove(words: list[str]) -> tuple[int, bytes]:
     how = {"cwd": CRATE, "stdin": subprocess.DEVNULL, "stdout": pipe, "stderr": pipe}
     with processes.child(words, **how) as running:
         assert running.stdout and running.stderr
-        follow(running.stderr)
+        follow(running.stderr, CRATE.name, LOG)
         written = running.stdout.read()
     return running.returncode, written
 
 
-def follow(lines: Iterable[bytes]) -> None:
-    """Keeps what the kit says in the log, and shows how far it is."""
-    progress = Progress()
-    with LOG.open("wb") as log:
+def follow(lines: Iterable[bytes], crate: str, path: Path) -> None:
+    """Keeps in a log what the kit says while it builds a crate, and shows how far it is."""
+    progress = Progress(crate)
+    with path.open("wb") as log:
         for line in lines:
             log.write(line)
             progress.see(line.decode(errors="replace"))
     progress.end()
 
 
-def show_log() -> None:
+def show_log(path: Path = LOG) -> None:
     """Shows the end of what the kit wrote."""
-    for line in LOG.read_text(encoding="utf-8", errors="replace").splitlines()[-SHOWN:]:
+    for line in path.read_text(encoding="utf-8", errors="replace").splitlines()[-SHOWN:]:
         say(f"  {line}")
 
 
 class Progress:
     """Says which crate is being proved, and how many are left after it."""
 
-    def __init__(self) -> None:
+    def __init__(self, crate: str) -> None:
         self._known = libraries()
-        self._all = crates_below(CRATE.name, self._known)
+        self._all = crates_below(crate, self._known)
         self._done: set[str] = set()
         self._is_terminal = sys.stderr is not None and sys.stderr.isatty()
 

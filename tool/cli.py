@@ -103,8 +103,8 @@ def main(words: list[str]) -> int:
     # Millions of records come and go, and none of them is in a cycle.
     gc.disable()
     files.keep_streams()
-    processes.end_at_signals()
     try:
+        processes.end_at_signals()
         return dispatch(words)
     except Trouble as trouble:
         note(str(trouble))

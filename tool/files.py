@@ -7,7 +7,6 @@ one of the inputs is refused.
 
 from __future__ import annotations
 
-import contextlib
 import io
 import os
 import shutil
@@ -18,6 +17,7 @@ from contextlib import contextmanager
 from itertools import chain
 from typing import BinaryIO
 
+from tool import unfinished
 from tool.trouble import (
     BAD_DATA,
     NO_INPUT,
@@ -228,17 +228,11 @@ def _named(name: str) -> Iterator[BinaryIO]:
             yield sink
         return
     target = os.path.realpath(name)
-    folder, base = os.path.split(target)
-    handle, temporary = tempfile.mkstemp(prefix=f".{base}.", dir=folder)
-    try:
-        with os.fdopen(handle, "wb") as sink:
-            yield sink
+    with unfinished.begun(target) as (sink, temporary):
+        yield sink
+        sink.flush()
         os.chmod(temporary, _mode_of(target))
         os.replace(temporary, target)
-    except BaseException:
-        with contextlib.suppress(OSError):
-            os.unlink(temporary)
-        raise
 
 
 def _mode_of(target: str) -> int:

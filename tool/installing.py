@@ -154,7 +154,7 @@ def main(words: list[str]) -> int:
         return USAGE
     place = Place(*(str(word).rstrip("/") for word in words[1:]))
     if not release.is_of_these_sources() and os.environ.get("RELEASED") != "1":
-        note(f"{release.how()} (of make: RELEASED=1)")
+        note(release.how("`make RELEASED=1`"))
         return UNAVAILABLE
     try:
         if words[0] == "uninstall":

@@ -27,9 +27,12 @@ def _leave(number: int, _: FrameType | None) -> None:
 
 
 def end_at_signals() -> None:
-    """Has the script leave in order where it is asked to end, as it does at Ctrl-C."""
+    """Has the script leave in order where it is asked to end, also at Ctrl-C, unless that is
+    ignored."""
     for number in ENDING:
         signal.signal(number, _leave)
+    if signal.getsignal(signal.SIGINT) is signal.SIG_DFL:
+        signal.signal(signal.SIGINT, signal.default_int_handler)
 
 
 @contextmanager

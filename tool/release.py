@@ -18,6 +18,7 @@ from collections.abc import Iterator
 from dataclasses import dataclass, field
 from pathlib import Path
 
+from tool import unfinished
 from tool.crates import digest_of, source_files
 from tool.kit import INSTALLED, TOP
 from tool.trouble import BAD_DATA, UNAVAILABLE, Trouble, note
@@ -125,11 +126,11 @@ def held_by(name: str) -> bytes:
 def write(held: bytes, path: Path) -> None:
     """Writes a file, which may be run if it is the program. Only a whole one has its name."""
     path.parent.mkdir(parents=True, exist_ok=True)
-    handle, name = tempfile.mkstemp(prefix=f".{path.name}-", dir=path.parent)
-    with os.fdopen(handle, "wb") as file:
+    with unfinished.begun(str(path)) as (file, name):
         file.write(held)
-    os.chmod(name, 0o755 if path.name == PROGRAM else 0o644)
-    os.replace(name, path)
+        file.flush()
+        os.chmod(name, 0o755 if path.name == PROGRAM else 0o644)
+        os.replace(name, path)
 
 
 def unpacked(name: str, path: Path) -> Path:
@@ -174,8 +175,9 @@ def lines() -> list[str]:
     ]
 
 
-def how() -> str:
-    """What can be done where neither a program of these sources nor the kit is here."""
+def how(released: str = "--released") -> str:
+    """What can be done where neither a program of these sources nor the kit is here. The word is
+    what takes the release of other sources."""
     without = "the kit's command rt is not on the path"
     if read() is None:
         return f"there is no release, and {without}: see CONTRIBUTING.md"
@@ -183,7 +185,7 @@ def how() -> str:
         return f"the release is for {MACHINE}, this is {machine()}, and {without}"
     return (
         f"the release is of other sources than these, and {without}: take the commit of a release, "
-        "or use the release all the same by --released"
+        f"or use the release all the same by {released}"
     )
 
 
@@ -191,8 +193,7 @@ def main(words: list[str]) -> int:
     """Unpacks files of the release to a folder: `python3 -m tool.release FOLDER NAME..`. With
     RELEASED=1 in the environment it does so whatever sources they are of."""
     if not is_of_these_sources() and os.environ.get("RELEASED") != "1":
-        print(f"zehimbado: {how()} (make: RELEASED=1)", file=sys.stderr)
-        return UNAVAILABLE
+        raise Trouble(UNAVAILABLE, how("`make RELEASED=1`"))
     for name in words[1:]:
         unpacked(name, Path(words[0], name))
     return 0

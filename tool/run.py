@@ -14,7 +14,7 @@ from typing import IO, BinaryIO
 
 from tool import case, explain_fault, files, processes, toml_reader
 from tool.final import FINAL
-from tool.trouble import SIGNALLED, USAGE, ClosedPipe, Trouble, note, say
+from tool.trouble import SIGNALLED, USAGE, ClosedPipe, Trouble, note, quoted, say
 
 MEANINGS = {
     1: "out of memory",
@@ -27,8 +27,11 @@ MEANINGS = {
 }
 # The statuses after which all is written that the program has to write.
 WHOLE = (0, 6, 7)
+WRONG_WORDS = 2
 WRITE_FAULT = 4
 BAD_CASE = 6
+# What `make` takes.
+NUMBER = "one to twenty decimal digits of a number less than 2^64, 18,446,744,073,709,551,616"
 # The first words of the lines that end a report in place of the final lines.
 ENDS = (b"bad ", b"passed ")
 FINAL_WORDS = tuple(f"{word} ".encode() for word in FINAL)
@@ -60,7 +63,10 @@ def run_made(number: str, output: str | None, program: Callable[[], Path]) -> in
     """Runs the case of a number by a program, and returns its exit status."""
     options = Options(output=output)
     status = write_answer(["make", number], subprocess.DEVNULL, options, program)
-    explain_status(status, options)
+    if status == WRONG_WORDS:
+        note(f"status {status}: {quoted(number)} is not {NUMBER}")
+    else:
+        explain_status(status, options)
     return status
 
 

@@ -1,6 +1,7 @@
 """Tests of builds, in a copy of the tool beside a kit that only pretends to prove."""
 
 import os
+import shlex
 import shutil
 import signal
 import subprocess
@@ -17,6 +18,7 @@ from tool.tests.shared import TOP
 KIT = """\
 #!/bin/sh
 here=$(dirname "$0")
+[ "$1" = doc ] && { echo "$here/doc"; exit 0; }
 [ "$1" = version ] && { echo "${KIT_NAME:-pretend-kit logic 0123}"; exit 0; }
 echo "$1" >>builds
 wait_for_signal() {
@@ -45,12 +47,14 @@ if [ "$1" = try ]; then
   rm -r $work
   exit 6
 fi
+[ "$1" = lib ] && echo "rt: chose --jobs 4 for hmc_c" >&2
 echo "rt: chose --jobs 4 for hmc_prog" >&2
 [ -e fails ] && { echo "error: not proved" >&2; exit 1; }
 [ -e waits ] && wait_for_signal
 [ -e slow ] && sleep 1
 [ -e edits ] && echo edited >>src/main.rt
 mkdir -p out
+[ "$1" = lib ] && { echo archive >out/libhmc_c.a; exit 0; }
 write_program >out/hmc_prog
 chmod +x out/hmc_prog
 exec out/hmc_prog </dev/null
@@ -62,7 +66,9 @@ chmod +x "$2"
 """
 
 
-class Build(unittest.TestCase):
+class Copy(unittest.TestCase):
+    """A copy of the tool."""
+
     def setUp(self) -> None:
         self._folder = tempfile.TemporaryDirectory()
         self.addCleanup(self._folder.cleanup)
@@ -107,6 +113,8 @@ class Build(unittest.TestCase):
         """What the kit was asked to build."""
         return (self.crate / "builds").read_text("utf-8").split()
 
+
+class Build(Copy):
     def test_a_program_is_built_once(self) -> None:
         first, second = self.tool("run"), self.tool("run", with_kit=False)
         self.assertEqual((first.returncode, first.stdout), (0, "first\n"))
@@ -237,6 +245,77 @@ class Build(unittest.TestCase):
         ran = self.tool("try")
         self.assertEqual((ran.returncode, ran.stdout), (69, ""))
         self.assertIn("error: refused", ran.stderr)
+
+
+class Library(Copy):
+    """The library for benches, by make."""
+
+    def setUp(self) -> None:
+        super().setUp()
+        text = "hmc_low: std_other\nhmc_c staticlib: hmc_low\nhmc_prog: std_other\n"
+        (self.top / "crates.txt").write_text(text, encoding="utf-8")
+        (self.top / "HANDLES").touch()
+        self.library = self.top / "crates" / "hmc_c"
+        self.library.mkdir()
+        (self.top / "bindings").mkdir()
+        shutil.copy(TOP / "bindings" / "Makefile", self.top / "bindings")
+
+    def make(self, *words: str, with_kit: bool = True) -> subprocess.CompletedProcess[str]:
+        """Runs make in the folder of the bindings."""
+        how = {"capture_output": True, "text": True, "timeout": 60, "check": False}
+        words = ("make", "-C", str(self.top / "bindings"), *words)
+        return subprocess.run(words, env=self.environment(with_kit), **how)  # type: ignore
+
+    def test_the_library_says_how_far_it_is(self) -> None:
+        """Make says which crate is at work, and how many there are."""
+        archive = "../crates/hmc_c/out/libhmc_c.a"
+        ran = self.make(archive)
+        self.assertEqual(ran.returncode, 0, ran.stderr)
+        self.assertIn("proving and building the library, 2 crates", ran.stderr)
+        self.assertIn("proving hmc_c; at most 0 of 2 crates are left after it", ran.stderr)
+        self.assertTrue((self.library / "out" / "libhmc_c.a").is_file())
+        self.assertEqual(self.make("-q", archive).returncode, 0)
+        (self.library / "fails").touch()
+        (self.library / "out" / "libhmc_c.a").unlink()
+        ran = self.make(archive)
+        self.assertEqual(ran.returncode, 2)
+        self.assertIn("  error: not proved\n", ran.stderr)
+        self.assertIn("the library could not be proved and built", ran.stderr)
+
+    def test_the_library_without_the_kit(self) -> None:
+        """One sentence says what is missing."""
+        for name in ("", "PROVED"):
+            if name:
+                (self.top / "release").mkdir()
+                text = "version 9.8\nsources 0123\n"
+                (self.top / "release" / name).write_text(text, encoding="utf-8")
+            ran = self.make("-s", with_kit=False)
+            self.assertEqual((ran.returncode, ran.stdout), (2, ""))
+            said = [line for line in ran.stderr.splitlines() if line.startswith("zehimbado: ")]
+            self.assertEqual(len(said), 1, ran.stderr)
+            self.assertIn("the kit's command rt is not on the path", said[0])
+            self.assertEqual("make RELEASED=1" in said[0], name != "")
+            self.assertNotIn("No rule to make", ran.stderr)
+
+    def test_a_checkout_whose_path_has_a_blank(self) -> None:
+        """What pkg-config says of it are words without a blank, or with a blank that is quoted."""
+        if shutil.which("pkg-config") is None:
+            self.skipTest("pkg-config is not installed")
+        top = self.top / "a blank"
+        for name in ("bindings", "crates"):
+            (top / name).mkdir(parents=True)
+        for name in ("VERSION", "bindings/Makefile"):
+            shutil.copy(self.top / name, top / name)
+        make = ["make", "-s", "-C", "bindings", "build/hmc.pc"]
+        subprocess.run(make, cwd=top, env=self.environment(False), check=True)
+        for folder in ("bindings/build", str(top / "bindings" / "build")):
+            words = ["pkg-config", "--cflags", "--libs", "hmc"]
+            how = {**os.environ, "PKG_CONFIG_PATH": folder}
+            ran = subprocess.run(words, cwd=top, env=how, capture_output=True, text=True)
+            said = shlex.split(ran.stdout)
+            wanted = [f"-I{folder}/../{it}" for it in ("c", "cpp", "systemc")]
+            self.assertEqual(said, [*wanted, f"-L{folder}", "-lhmc"], ran.stderr)
+            self.assertTrue(os.path.isabs(folder) or said == ran.stdout.split())
 
 
 if __name__ == "__main__":

@@ -4,6 +4,7 @@ import os
 import re
 import shlex
 import shutil
+import signal
 import subprocess
 import sys
 import tempfile
@@ -114,6 +115,76 @@ class Outputs(unittest.TestCase):
             ran = tool("wave", str(self.report), str(self.case), "-o", name)
             self.assertEqual((ran.returncode, ran.stdout), (73, b""))
             self.assertEqual(ran.stderr.count(b"\n"), 1)
+
+
+# Writes an output, and while it isn't whole says so and does as a line says.
+WRITER = """\
+import os, signal, sys
+sys.path.insert(0, sys.argv[1])
+from tool import files
+with files.written(sys.argv[2]) as sink:
+    sink.write(b"some of it")
+    sink.flush()
+    print("begun", flush=True)
+    if sys.stdin.readline() == "die":
+        os.kill(os.getpid(), signal.SIGKILL)
+"""
+
+
+class Left(unittest.TestCase):
+    def setUp(self) -> None:
+        folder = tempfile.TemporaryDirectory()
+        self.addCleanup(folder.cleanup)
+        self.folder = Path(folder.name)
+
+    def writer(self, name: str) -> "subprocess.Popen[str]":
+        """A process that has begun to write an output, and waits for a line."""
+        words = [sys.executable, "-c", WRITER, str(TOP), str(self.folder / name)]
+        pipe = subprocess.PIPE
+        running = subprocess.Popen(words, stdin=pipe, stdout=pipe, text=True)
+        assert running.stdout
+        self.assertEqual(running.stdout.readline(), "begun\n")
+        return running
+
+    def hidden(self) -> list[str]:
+        """The hidden files of the folder, without what is random in their names."""
+        names = (path.name for path in self.folder.iterdir())
+        return sorted(name.split(".")[1] for name in names if name.startswith("."))
+
+    def test_what_a_killed_command_leaves(self) -> None:
+        """The next one that writes to the folder removes it, and nothing that is still written."""
+        (self.folder / ".mine.zehimbado").symlink_to("nowhere")
+        with self.writer("killed") as killed, self.writer("alive") as alive:
+            killed.communicate("die")
+            self.assertEqual(self.hidden(), ["alive", "killed", "mine"])
+            ran = tool("sample", "1", "-o", str(self.folder / "case.toml"))
+            self.assertEqual((ran.returncode, ran.stderr), (0, b""))
+            self.assertEqual(self.hidden(), ["alive", "mine"])
+            alive.communicate("\n")
+        self.assertEqual((self.folder / "alive").read_bytes(), b"some of it")
+        self.assertEqual(self.hidden(), ["mine"])
+
+    def test_a_long_name(self) -> None:
+        """A name of the greatest length is that of an output too."""
+        target = self.folder / ("n" * 255)
+        ran = tool("sample", "1", "-o", str(target))
+        self.assertEqual((ran.returncode, ran.stderr), (0, b""))
+        self.assertTrue(target.is_file())
+
+
+class Signals(unittest.TestCase):
+    def test_a_signal_before_the_script_is_read(self) -> None:
+        """It ends the script, which says nothing."""
+        with tempfile.TemporaryDirectory() as folder:
+            script = shutil.copy(TOP / "zehimbado", folder)
+            Path(folder, "tool").mkdir()
+            for name in ("SIGINT", "SIGTERM", "SIGHUP"):
+                code = f"import os, signal\nos.kill(os.getpid(), signal.{name})\n"
+                Path(folder, "tool", "cli.py").write_text(code, encoding="utf-8")
+                command = [sys.executable, "-B", script, "help"]
+                ran = subprocess.run(command, capture_output=True, text=True)
+                wanted = -int(getattr(signal, name))
+                self.assertEqual((ran.returncode, ran.stdout, ran.stderr), (wanted, "", ""), name)
 
 
 class Streams(unittest.TestCase):

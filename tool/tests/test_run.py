@@ -59,7 +59,9 @@ class Run(unittest.TestCase):
         for number in ("x", "", "18446744073709551616", "000000000000000000000"):
             ran = tool("make", number)
             self.assertEqual((ran.returncode, ran.stdout), (2, b""), number)
-            self.assertIn(b"status 2: ", ran.stderr)
+            said = ran.stderr.decode()
+            self.assertTrue(said.startswith(f"zehimbado: status 2: `{number}` is not one to twenty"))
+            self.assertIn("less than 2^64, 18,446,744,073,709,551,616\n", said)
 
     def test_the_end_of_a_report_that_passed(self) -> None:
         """It has no final lines: `--quiet` shows the landing."""
