@@ -105,10 +105,10 @@ def build() -> None:
 def make_out(old: Path) -> None:
     """Makes the folder for what is built, and removes what was recorded of an older program."""
     try:
-        OUT.mkdir(exist_ok=True)
+        old.parent.mkdir(parents=True, exist_ok=True)
         old.unlink(missing_ok=True)
     except OSError as error:
-        raise Trouble(NO_OUTPUT, f"cannot write {OUT}: {error.strerror}") from error
+        raise Trouble(NO_OUTPUT, f"cannot write {old.parent}: {error.strerror}") from error
 
 
 def prove(words: list[str]) -> tuple[int, bytes]:

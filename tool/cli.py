@@ -52,7 +52,7 @@ def version_command() -> int:
         files.write_lines([f"zehimbado {kit.project_version()}, installed", *release.lines()])
         return 0
     proved = "is built" if build.is_current() else "is not built: ./zehimbado build"
-    unproved = "is built" if build.is_current(trial.PROGRAM, trial.RECORD) else "is not built"
+    unproved = "is built" if trial.is_built() else "is not built"
     lines = [
         f"zehimbado {kit.project_version()}, sources {build.digest()[:16]}",
         f"kit: {kit_line()}",

@@ -7,6 +7,7 @@ time which `rt try` puts in. It is used while the sources are those that it was 
 
 from __future__ import annotations
 
+import hashlib
 import os
 import re
 import shlex
@@ -16,11 +17,13 @@ import tempfile
 from pathlib import Path
 
 from tool import build, kit, processes
-from tool.kit import INSTALLED
+from tool.kit import INSTALLED, TOP
 from tool.trouble import UNAVAILABLE, Trouble, note
 
-PROGRAM = build.OUT / "hmc_prog.unproved"
-RECORD = build.OUT / "hmc_prog.unproved.sources"
+NAME = "hmc_prog.unproved"
+# The cache of the user, in which each checkout that the user may not write has a folder.
+CACHE = "zehimbado"
+DIGEST_BYTES = 8
 LINKER = Path("toolchain", "bin", "ld.lld")
 # A linker that does as the kit's, and copies the program.
 KEEPER = """\
@@ -43,21 +46,55 @@ def program() -> Path:
     """The unproved program of these sources, which is built first where it is not there."""
     if INSTALLED.is_file():
         raise Trouble(UNAVAILABLE, "there are no sources to build: `run` has the proved program")
-    if not build.is_current(PROGRAM, RECORD):
+    folder = place()
+    if not _has_current(folder):
         with processes.lock(build.LOCKED, build.WAITS):
-            if not build.is_current(PROGRAM, RECORD):
-                _build()
-    return PROGRAM
+            if not _has_current(folder):
+                _build(folder)
+    return folder / NAME
 
 
-def _build() -> None:
-    """Builds the program without proofs, and keeps it."""
+def is_built() -> bool:
+    """Whether the unproved program of these sources is there."""
+    return _has_current(place())
+
+
+def place() -> Path:
+    """The folder in which the program is kept: that of what is built in the checkout, or one of the
+    user's own cache where the user may not write that, and it has no program of these sources."""
+    if _has_current(build.OUT) or _may_write(build.OUT):
+        return build.OUT
+    named = os.environ.get("XDG_CACHE_HOME", "")
+    cache = Path(named) if os.path.isabs(named) else Path(os.path.expanduser("~"), ".cache")
+    checkout = hashlib.blake2b(os.fsencode(TOP), digest_size=DIGEST_BYTES).hexdigest()
+    return cache / CACHE / checkout
+
+
+def _has_current(folder: Path) -> bool:
+    """Whether a folder has the unproved program of these sources."""
+    return build.is_current(folder / NAME, _record_in(folder))
+
+
+def _record_in(folder: Path) -> Path:
+    """What is recorded of the program of a folder."""
+    return folder / f"{NAME}.sources"
+
+
+def _may_write(folder: Path) -> bool:
+    """Whether the user may write files of a folder, or make it."""
+    if folder.exists():
+        return folder.is_dir() and os.access(folder, os.W_OK | os.X_OK)
+    return os.access(folder.parent, os.W_OK | os.X_OK)
+
+
+def _build(to: Path) -> None:
+    """Builds the program without proofs, and keeps it in a folder."""
     rt, _ = kit.require()
     whole = Path(rt).resolve().parent.parent
     if not (whole / "bin" / "rt").is_file() or not (whole / LINKER).is_file():
         raise Trouble(UNAVAILABLE, OTHER_KIT)
     sources = build.digest()
-    build.make_out(RECORD)
+    build.make_out(_record_in(to))
     note("building the program without proofs; `run` proves it first")
     with tempfile.TemporaryDirectory(prefix="zehimbado-") as name:
         folder, kept = Path(name) / "kit", Path(name) / "program"
@@ -68,8 +105,8 @@ def _build() -> None:
         if build.digest() != sources:
             said = "the sources changed while the program was built: try it again"
             raise Trouble(UNAVAILABLE, said)
-        shutil.move(kept, PROGRAM)
-    RECORD.write_text(build.record_of(sources, PROGRAM), encoding="utf-8")
+        shutil.move(kept, to / NAME)
+    _record_in(to).write_text(build.record_of(sources, to / NAME), encoding="utf-8")
 
 
 def _copy_kit(whole: Path, folder: Path, kept: Path) -> None:

@@ -14,6 +14,7 @@ import subprocess
 import sys
 import tempfile
 import time
+import zipfile
 from collections.abc import Callable
 from concurrent.futures import ThreadPoolExecutor
 from pathlib import Path
@@ -402,6 +403,8 @@ def test_python(room: Path) -> str:
     (one,), (two,) = [list((room / it).glob("*.whl")) for it in ("one", "two")]
     if one.read_bytes() != two.read_bytes():
         raise Failed("two wheels of the same sources differ")
+    require_metadata(one)
+    require_cause(words[:-2], room)
     asked = re.findall(r"GLIBC_2\.([0-9]+)", run("objdump", "-T", BUILD / "shared" / "libhmc.so"))
     if one.name.split("-")[-1] != "manylinux_2_17_x86_64.whl" or max(map(int, asked)) > 17:
         raise Failed(f"{one.name}: its library asks for glibc 2.{max(map(int, asked))}")
@@ -414,6 +417,35 @@ def test_python(room: Path) -> str:
         if run(sys.executable, "-c", code, at=TOP, env=installed) != printed:
             raise Failed(f"a bench of docs/python.md doesn't print\n{printed}")
     return last_line(said.replace("\nOK", "")).strip()
+
+
+def require_metadata(wheel: Path) -> None:
+    """A wheel says what it is, and its licence."""
+    with zipfile.ZipFile(wheel) as file:
+        (name,) = [it for it in file.namelist() if it.endswith(".dist-info/METADATA")]
+        said = file.read(name).decode()
+        licences = [it for it in file.namelist() if "LICENSE-" in it]
+    for row in ("Summary: A proved model", "License: MIT OR Apache-2.0", "Requires-Python: >=3.9"):
+        if f"\n{row}" not in said:
+            raise Failed(f"the wheel's metadata lacks `{row}`")
+    if len(licences) != 2:
+        raise Failed(f"the wheel has {len(licences)} licences")
+
+
+def require_cause(words: list[object], room: Path) -> None:
+    """A build before `make` says last what is to be done."""
+    top = room / "unmade"
+    shutil.copytree(BINDINGS / "python", top / "bindings" / "python")
+    shutil.copy(TOP / "VERSION", top)
+    try:
+        run(*words, top / "bindings" / "python", "-w", room / "none", at=room)
+    except Failed as failed:
+        before, end, _ = str(failed).partition("[end of output]")
+        cause = last_line(before).strip()
+        if end and cause.startswith("there is no /") and cause.endswith("run make -C bindings first"):
+            return
+        raise Failed(f"a build without the library ends with `{cause}`") from failed
+    raise Failed("a package is built without the library")
 
 
 def test_rust(room: Path) -> str:

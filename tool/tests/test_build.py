@@ -11,7 +11,7 @@ import time
 import unittest
 from pathlib import Path
 
-from tool.tests.shared import TOP
+from tool.tests.shared import EXAMPLES, TOP
 
 # It writes a program that answers with the text of its source, or fails as the file `fails` says.
 # Its `try` has the program linked by the linker of the kit, in which folder that may be.
@@ -204,15 +204,60 @@ class Build(Copy):
     def test_a_checkout_that_cannot_be_written(self) -> None:
         """As one that is read-only: a file is where the folder of the program has to be."""
         (self.crate / "out").write_text("", encoding="utf-8")
-        for word in ("build", "try"):
-            ran = self.tool(word)
-            self.assertEqual((ran.returncode, ran.stdout), (73, ""))
-            self.assertRegex(ran.stderr, "^zehimbado: cannot write /.*/crates/hmc_prog/out: .*\n$")
+        ran = self.tool("build")
+        self.assertEqual((ran.returncode, ran.stdout), (73, ""))
+        self.assertRegex(ran.stderr, "^zehimbado: cannot write /.*/crates/hmc_prog/out: .*\n$")
+
+    def test_try_where_the_checkout_cannot_be_written(self) -> None:
+        """Its program is in a cache of the user's own, where `XDG_CACHE_HOME` or `HOME` has it. A
+        cache that can't be written is named."""
+        (self.crate / "out").write_text("", encoding="utf-8")
+        cache, home = self.top / "cache", self.top / "home"
+        given: dict[str, str] = {"XDG_CACHE_HOME": str(cache), "HOME": str(home)}
+        first = self.tool("try", **given)
+        second = self.tool("try", with_kit=False, **given)
+        self.assertEqual((first.returncode, first.stdout), (0, "first\n"))
+        self.assertEqual((second.stdout, second.stderr), ("first\n", ""))
+        self.assertIn("the unproved program of these sources is built",
+                      self.tool("--version", **given).stdout)
+        self.assertEqual(len(list(cache.glob("zehimbado/*/hmc_prog.unproved"))), 1)
+        self.source.write_text("second\n", encoding="utf-8")
+        self.assertEqual(self.tool("try", **given).stdout, "second\n")
+        self.assertFalse(home.exists())
+        # A path that is no absolute one doesn't count.
+        given["XDG_CACHE_HOME"] = "cache"
+        self.assertEqual(self.tool("try", **given).stdout, "second\n")
+        self.assertEqual(len(list(home.glob(".cache/zehimbado/*/hmc_prog.unproved"))), 1)
+        given["XDG_CACHE_HOME"] = os.devnull
+        ran = self.tool("try", **given)
+        self.assertEqual((ran.returncode, ran.stdout), (73, ""))
+        self.assertRegex(ran.stderr, "^zehimbado: cannot write /dev/null/zehimbado/.*\n$")
+
+    def test_try_uses_what_the_checkout_has(self) -> None:
+        """Whoever may not write it uses the program that another user has built there."""
+        self.tool("try")
+        folder = self.crate / "out"
+        folder.chmod(0o555)
+        self.addCleanup(folder.chmod, 0o755)
+        ran = self.tool("try", with_kit=False, XDG_CACHE_HOME=str(self.top / "cache"))
+        self.assertEqual((ran.stdout, ran.stderr), ("first\n", ""))
 
     def test_without_the_kit(self) -> None:
-        ran = self.tool("run", with_kit=False)
-        self.assertEqual(ran.returncode, 69)
-        self.assertIn("rt is not on the path", ran.stderr)
+        """Each command that needs it names it."""
+        case, report, trace = (self.top / it for it in ("a.toml", "a.report", "trace"))
+        shutil.copy(EXAMPLES / "write-then-read.toml", case)
+        shutil.copy(EXAMPLES / "write-then-read.report", report)
+        trace.write_text("cube 0 0 1\n0 load 0 4\n", encoding="utf-8")
+        rows = (
+            ("run",), ("run", str(case)), ("run", "--quiet", "-o", str(self.top / "o"), str(case)),
+            ("try",), ("try", str(case)), ("make", "1"), ("build",), ("bound", str(case)),
+            ("check", str(case), str(report)), ("trace", str(trace)),
+        )
+        for words in rows:
+            ran = self.tool(*words, with_kit=False)
+            self.assertEqual((ran.returncode, ran.stdout), (69, ""), words)
+            self.assertIn("kit's command rt is not on the path", ran.stderr)
+            self.assertEqual(ran.stderr.count("\n"), 1, ran.stderr)
 
     def test_the_path_of_the_program(self) -> None:
         ran = self.tool("build")
@@ -299,8 +344,6 @@ class Library(Copy):
 
     def test_a_checkout_whose_path_has_a_blank(self) -> None:
         """What pkg-config says of it are words without a blank, or with a blank that is quoted."""
-        if shutil.which("pkg-config") is None:
-            self.skipTest("pkg-config is not installed")
         top = self.top / "a blank"
         for name in ("bindings", "crates"):
             (top / name).mkdir(parents=True)
@@ -308,6 +351,10 @@ class Library(Copy):
             shutil.copy(self.top / name, top / name)
         make = ["make", "-s", "-C", "bindings", "build/hmc.pc"]
         subprocess.run(make, cwd=top, env=self.environment(False), check=True)
+        said = (top / "bindings" / "build" / "hmc.pc").read_text("utf-8")
+        self.assertIn("\nLibs: -L${pcfiledir} -lhmc\n", said)
+        if shutil.which("pkg-config") is None:
+            return
         for folder in ("bindings/build", str(top / "bindings" / "build")):
             words = ["pkg-config", "--cflags", "--libs", "hmc"]
             how = {**os.environ, "PKG_CONFIG_PATH": folder}
