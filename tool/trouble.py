@@ -4,7 +4,7 @@ from __future__ import annotations
 
 import sys
 
-# What is compared differs.
+# What is compared differs, or less was reached than was asked for.
 DIFFERENT = 1
 USAGE = 64
 BAD_DATA = 65

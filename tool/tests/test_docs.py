@@ -150,7 +150,7 @@ class Docs(unittest.TestCase):
             if not words.startswith(("run ", "make ", "bound ")):
                 self.assertEqual(self.written(words), text, words)
                 tried.append(words.split(" ")[0])
-        wanted = ["lint", *["explain"] * 3, "json", "diff", *["show"] * 4]
+        wanted = ["lint", *["explain"] * 3, "json", "diff", "cover", *["show"] * 4]
         self.assertEqual(tried, wanted)
 
     def test_each_command_has_a_section(self) -> None:
@@ -177,6 +177,7 @@ class Docs(unittest.TestCase):
             "wave": [report, case],
             "view": [report, case],
             "stats": [report, case],
+            "cover": [report],
             "sample": ["1"],
             "values": [trace, values],
             "trace": ["--case", trace],

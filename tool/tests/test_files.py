@@ -58,6 +58,7 @@ class Outputs(unittest.TestCase):
                 ["wave", self.report, self.case, "-o", name],
                 ["view", self.report, self.case, "-o", name],
                 ["stats", self.report, self.case, "-o", name],
+                ["cover", self.report, "--case", self.case, "-o", name],
                 ["show", self.case, "--svg", name],
                 ["run", self.case, "-o", name],
                 ["try", self.case, "-o", name],
@@ -84,6 +85,7 @@ class Outputs(unittest.TestCase):
             ["wave", self.report, EXAMPLES / "fence.toml", "-o", target],
             ["view", self.report, EXAMPLES / "fence.toml", "-o", target],
             ["stats", bad, self.case, "-o", target],
+            ["cover", bad, "--case", self.case, "-o", target],
             ["run", self.folder / "no-such.toml", "-o", target],
             ["shrink", "-o", target, self.case, "--", "true"],
         ):

@@ -90,6 +90,7 @@ COMMANDS = {
         Command("wave REPORT CASE", "a report as a VCD file, for GTKWave", "wave"),
         Command("view REPORT CASE", "a page of a run, to be seen in a browser", "view"),
         Command("stats REPORT CASE", "numbers of a run by windows, as CSV or JSON", "stats"),
+        Command("cover REPORT..", "what reports have reached, and what they have not", "cover"),
         Command("convert LOG CASE", "a test bench's log of events as a schedule", "convert"),
         Command("sample SEED", "a random case, by its seed", "sample"),
         Command("shrink CASE -- ..", "the smallest case for which a command still fails", "shrink"),
