@@ -7,7 +7,7 @@
 //! - `report` and `bound`: the words `run` and `bound` of the program, for a case. The text has to
 //!   be that of NAME.report or NAME.bound, and the status the count (`stored`).
 //! - `make`: the program makes the case of the seed, and NAME.report has its report.
-//! - `packets` and `values`: the rows of NAME.txt (`packets`, `values`).
+//! - `packets`, `values` and `logs`: the rows of NAME.txt (`packets`, `values`, `logs`).
 //! - `writes` and `reads`: sinks and sources fail at each of their calls (`failing`).
 //! - `stamp`: what a unit of the caller's bench does after a replay (`stamped`), whose report is
 //!   whole where the seed is not 0.
@@ -34,6 +34,7 @@ mod drawn;
 mod draws;
 mod failing;
 mod laid;
+mod logs;
 mod long;
 mod made;
 mod orders;
@@ -52,6 +53,7 @@ use built::push_built;
 use compared::push_drawn;
 use failing::{push_reads, push_writes};
 use hmc_codes::Memory;
+use logs::push_logs;
 use long::push_long;
 use made::push_made;
 use orders::{Answer, Order, Way, order_of};
@@ -100,8 +102,8 @@ fn follow(
     }
 }
 
-// Reads the files of an order, and does what it says. Of the values of loads each row has files of
-// its own.
+// Reads the files of an order, and does what it says. Of the values of loads, and of logs, each row
+// has files of its own.
 fn follow_with_files(
     rt: &(impl Files + AllocGlobal),
     order: &Order<'_>,
@@ -110,6 +112,9 @@ fn follow_with_files(
     let contents = contents_of(rt, order.name, order.input_ending, order.stored_ending)?;
     if let Way::Values = order.way {
         return push_values(rt, order, contents.stored.as_str(), &mut into.text);
+    }
+    if let Way::Logs = order.way {
+        return push_logs(rt, order, contents.stored.as_str(), &mut into.text);
     }
     match follow(rt.alloc(), order, &contents, into) {
         Ok(()) => Ok(()),

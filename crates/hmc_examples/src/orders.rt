@@ -15,6 +15,8 @@ pub enum Way {
     Packets,
     /// Rows of the values of loads.
     Values,
+    /// Rows of logs.
+    Logs,
     /// A sink that fails.
     Writes,
     /// A source that fails.
@@ -74,6 +76,7 @@ const WORDS: &[(&str, Way, &str, &str)] = &[
     ("make", Way::Make, "", ".report"),
     ("packets", Way::Packets, "", ".txt"),
     ("values", Way::Values, "", ".txt"),
+    ("logs", Way::Logs, "", ".txt"),
     ("writes", Way::Writes, ".toml", ".report"),
     ("reads", Way::Reads, ".toml", ".report"),
     ("stamp", Way::Stamp, ".toml", ""),

@@ -12,8 +12,8 @@ pub struct Contents {
     pub stored: String,
 }
 
-// What the file of this name and ending has. Where there is no ending, there is no file.
-fn content_of(
+/// What the file of this name and ending has. Where there is no ending, there is no file.
+pub fn content_of(
     rt: &(impl Files + AllocGlobal),
     name: &str,
     ending: &str,
