@@ -70,9 +70,9 @@ entry_parts : (past : List Entry) (memory : List MemoryLine) (registers : List R
     ≡ parts_text past memory registers drained ++ (text ++ (10 ∷ []))
 entry_parts past memory registers drained entry text none no_value still is =
     rw (none, no_value, still) (
-      append-nil (flat_map line_of (reverse (entry ∷ past))) ∙ entry_more past entry
-      ∙ ap (λ l. flat_map line_of (reverse past) ++ l) is
-      ∙ ap (λ l. l ++ (text ++ (10 ∷ []))) (sym (append-nil (flat_map line_of (reverse past))))
+    append-nil (flat_map line_of (reverse (entry ∷ past))) ∙ entry_more past entry
+    ∙ ap (λ l. flat_map line_of (reverse past) ++ l) is
+    ∙ ap (λ l. l ++ (text ++ (10 ∷ []))) (sym (append-nil (flat_map line_of (reverse past))))
     )
 
 block_parts : (past : List Entry) (memory : List MemoryLine) (registers : List RegisterLine)
@@ -84,10 +84,10 @@ block_parts past memory registers drained block text none still is =
     let before = flat_map line_of (reverse past) in
     let blocks = flat_map lines.memory_line memory in
     rw (none, still) (
-      ap (λ l. before ++ l) (append-nil (flat_map lines.memory_line (memory ++ (block ∷ [])))
-      ∙ one_more lines.memory_line memory block ∙ ap (λ l. blocks ++ l) is)
-      ∙ sym (append_assoc before blocks (text ++ (10 ∷ [])))
-      ∙ ap (λ l. (before ++ l) ++ (text ++ (10 ∷ []))) (sym (append-nil blocks))
+    ap (λ l. before ++ l) (append-nil (flat_map lines.memory_line (memory ++ (block ∷ [])))
+    ∙ one_more lines.memory_line memory block ∙ ap (λ l. blocks ++ l) is)
+    ∙ sym (append_assoc before blocks (text ++ (10 ∷ [])))
+    ∙ ap (λ l. (before ++ l) ++ (text ++ (10 ∷ []))) (sym (append-nil blocks))
     )
 
 value_parts : (past : List Entry) (memory : List MemoryLine) (registers : List RegisterLine)
@@ -101,12 +101,12 @@ value_parts past memory registers drained register text still is =
     let values = flat_map lines.register_line registers in
     let line = text ++ (10 ∷ []) in
     rw still (
-      ap (λ l. before ++ (blocks ++ l))
-      (append-nil (flat_map lines.register_line (registers ++ (register ∷ [])))
-      ∙ one_more lines.register_line registers register ∙ ap (λ l. values ++ l) is
-      ∙ ap (λ l. l ++ line) (sym (append-nil values)))
-      ∙ ap (λ l. before ++ l) (sym (append_assoc blocks (values ++ []) line))
-      ∙ sym (append_assoc before (blocks ++ (values ++ [])) line)
+    ap (λ l. before ++ (blocks ++ l))
+    (append-nil (flat_map lines.register_line (registers ++ (register ∷ [])))
+    ∙ one_more lines.register_line registers register ∙ ap (λ l. values ++ l) is
+    ∙ ap (λ l. l ++ line) (sym (append-nil values)))
+    ∙ ap (λ l. before ++ l) (sym (append_assoc blocks (values ++ []) line))
+    ∙ sym (append_assoc before (blocks ++ (values ++ [])) line)
     )
 
 state_parts : (past : List Entry) (memory : List MemoryLine) (registers : List RegisterLine)
@@ -120,10 +120,10 @@ state_parts past memory registers old drained text still is =
     let values = flat_map lines.register_line registers in
     let line = text ++ (10 ∷ []) in
     rw still (
-      ap (λ l. before ++ (blocks ++ (values ++ l))) is
-      ∙ ap (λ l. before ++ (blocks ++ (l ++ line))) (sym (append-nil values))
-      ∙ ap (λ l. before ++ l) (sym (append_assoc blocks (values ++ []) line))
-      ∙ sym (append_assoc before (blocks ++ (values ++ [])) line)
+    ap (λ l. before ++ (blocks ++ (values ++ l))) is
+    ∙ ap (λ l. before ++ (blocks ++ (l ++ line))) (sym (append-nil values))
+    ∙ ap (λ l. before ++ l) (sym (append_assoc blocks (values ++ []) line))
+    ∙ sym (append_assoc before (blocks ++ (values ++ [])) line)
     )
 
 -- ---- lines by their first words

@@ -44,9 +44,11 @@ written_is text (Some other) entry is = by (is_line text (line_of other)) refl i
   by : (b : Bool) → is_line text (line_of other) ≡ b → (if b then Some other else None) ≡ Some entry
       → (Some other ≡ Some entry) × Is text (line_of entry)
   by false apart none = absurd (cc none)
-  by true same found =
-      (found, subst (λ e. Is text (line_of e)) (same_Some other entry found)
-      (line_is text (line_of other) same))
+  by true same found = (
+    found,
+    subst (λ e. Is text (line_of e)) (same_Some other entry found)
+        (line_is text (line_of other) same),
+  )
 
 -- ---- requests
 

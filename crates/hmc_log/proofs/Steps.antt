@@ -73,9 +73,10 @@ unfolding take_number
 number_taken limit [] read is = absurd (cc is)
 number_taken limit (word ∷ words) read is =
     let number = some_then (below limit (number_of word)) _ read is in
-    let read_is : (number.0, words) ≡ read = same_Some (number.0, words) read number.2 in
-    (below_some limit (number_of word) number.0 number.1 ∙ ap (λ r. Some r.0) read_is,
-     ap (λ r. r.1) read_is)
+    let read_is : (number.0, words) ≡ read = same_Some (number.0, words) read number.2 in (
+      below_some limit (number_of word) number.0 number.1 ∙ ap (λ r. Some r.0) read_is,
+      ap (λ r. r.1) read_is,
+    )
 
 -- two readings of the same words
 pub same_number : (words : List (List ℕ)) (read other : ℕ × List (List ℕ)) →
