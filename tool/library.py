@@ -1,5 +1,5 @@
-"""Proves the library of the bindings where the kit is, for `make -C bindings`, and says which crate is
-at work."""
+"""Proves the library of the bindings where the kit is, for `make -C bindings`, and says which crate
+is at work."""
 
 from __future__ import annotations
 
