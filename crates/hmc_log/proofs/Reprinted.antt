@@ -1,8 +1,8 @@
 -- A log that was read has as its text the lines that were read.
-use Rattle.std.proofs.Common.{◌≡◌, ◌∙◌, ◌<◌, ℕ, zero, suc, ◌+◌, Bool, true, false, Option, Some, None, Result, Ok, Err, List, [], ◌∷◌, ◌++◌, length, reverse, not, codes, refl, sym, ap, subst, arith, append-nil, append_assoc}
-use Rattle.std.specs.Prelude.{◌&&◌, ◌||◌, ◌==◌, nat_lt, nat_le, is_some, if◌then◌else◌, cond}
+use Rattle.std.proofs.Common.{◌≡◌, ◌∙◌, ◌<◌, ℕ, Bool, true, false, Option, Some, None, Result, Ok, Err, List, [], ◌∷◌, ◌++◌, length, reverse, codes, refl, sym, ap, subst, arith, append-nil, append_assoc}
+use Rattle.std.specs.Prelude.{◌&&◌, ◌||◌, ◌==◌, nat_lt, is_some, if◌then◌else◌}
 use Rattle.std.specs.Str.{bytes_eq}
-use Rattle.std.specs.List.{flat_map, slice_split, slice_get, onto_first, All}
+use Rattle.std.specs.List.{flat_map, slice_split, onto_first, All}
 use Rattle.std.proofs.lemmas.Bool.{and_parts}
 use Rattle.std.proofs.lemmas.Bool.Decides.{nat_tests}
 use Rattle.std.proofs.lemmas.Grind.{flat_map-append}
@@ -20,9 +20,6 @@ use Rattle.hmc_entries.specs.declared.entry.Entry.TheVariants.{Gave, Took, Retir
 use Rattle.hmc_entries.specs.Lines.{line_of}
 use Rattle.hmc_log.specs.declared.end_lines.MemoryLine.{MemoryLine}
 use Rattle.hmc_log.specs.declared.end_lines.RegisterLine.{RegisterLine}
-use Rattle.hmc_log.specs.declared.given.Given.{Given}
-use Rattle.hmc_log.specs.declared.given.Taken.{Taken}
-use Rattle.hmc_log.specs.declared.fault.LogKind.{LogKind}
 use Rattle.hmc_log.specs.declared.fault.LogKind.TheVariants as kinds
 use Rattle.hmc_log.specs.Before.{out_under}
 use Rattle.hmc_log.specs.Lines as lines
@@ -31,7 +28,6 @@ use Rattle.hmc_log.specs.Log.{LogFields}
 use Rattle.hmc_log.specs.Meaning.{given_of, taken_of, slot_of, memory_of, register_of, drained_of}
 use Rattle.hmc_log.specs.Text.{Progress, nothing_yet, at_end, may_give, answers_to, may_retire, may_have_block, may_have_register, add_entry, add_given, add_taken, add_retired, add_block, add_register, gave_line, took_line, retired_line, memory_line, register_line, state_line, entry_line, is_entry_word, line_with, statement, after_line, with_end, log_of}
 use Rattle.hmc_log.specs.Laws.{PrintedIsRead}
-use Rattle.hmc_log.proofs.Cutting.{no_lines}
 use Rattle.hmc_log.proofs.Steps.{ok_then, if_ok, if_passed}
 use Rattle.hmc_log.proofs.Shown.{Is, given_line, taken_line, slot_line, block_line, value_line, drained_line}
 
@@ -70,9 +66,9 @@ entry_parts : (past : List Entry) (memory : List MemoryLine) (registers : List R
     ≡ parts_text past memory registers drained ++ (text ++ (10 ∷ []))
 entry_parts past memory registers drained entry text none no_value still is =
     rw (none, no_value, still) (
-      append-nil (flat_map line_of (reverse (entry ∷ past))) ∙ entry_more past entry
-      ∙ ap (λ l. flat_map line_of (reverse past) ++ l) is
-      ∙ ap (λ l. l ++ (text ++ (10 ∷ []))) (sym (append-nil (flat_map line_of (reverse past))))
+    append-nil (flat_map line_of (reverse (entry ∷ past))) ∙ entry_more past entry
+    ∙ ap (λ l. flat_map line_of (reverse past) ++ l) is
+    ∙ ap (λ l. l ++ (text ++ (10 ∷ []))) (sym (append-nil (flat_map line_of (reverse past))))
     )
 
 block_parts : (past : List Entry) (memory : List MemoryLine) (registers : List RegisterLine)
@@ -84,10 +80,10 @@ block_parts past memory registers drained block text none still is =
     let before = flat_map line_of (reverse past) in
     let blocks = flat_map lines.memory_line memory in
     rw (none, still) (
-      ap (λ l. before ++ l) (append-nil (flat_map lines.memory_line (memory ++ (block ∷ [])))
-      ∙ one_more lines.memory_line memory block ∙ ap (λ l. blocks ++ l) is)
-      ∙ sym (append_assoc before blocks (text ++ (10 ∷ [])))
-      ∙ ap (λ l. (before ++ l) ++ (text ++ (10 ∷ []))) (sym (append-nil blocks))
+    ap (λ l. before ++ l) (append-nil (flat_map lines.memory_line (memory ++ (block ∷ [])))
+    ∙ one_more lines.memory_line memory block ∙ ap (λ l. blocks ++ l) is)
+    ∙ sym (append_assoc before blocks (text ++ (10 ∷ [])))
+    ∙ ap (λ l. (before ++ l) ++ (text ++ (10 ∷ []))) (sym (append-nil blocks))
     )
 
 value_parts : (past : List Entry) (memory : List MemoryLine) (registers : List RegisterLine)
@@ -101,12 +97,12 @@ value_parts past memory registers drained register text still is =
     let values = flat_map lines.register_line registers in
     let line = text ++ (10 ∷ []) in
     rw still (
-      ap (λ l. before ++ (blocks ++ l))
-      (append-nil (flat_map lines.register_line (registers ++ (register ∷ [])))
-      ∙ one_more lines.register_line registers register ∙ ap (λ l. values ++ l) is
-      ∙ ap (λ l. l ++ line) (sym (append-nil values)))
-      ∙ ap (λ l. before ++ l) (sym (append_assoc blocks (values ++ []) line))
-      ∙ sym (append_assoc before (blocks ++ (values ++ [])) line)
+    ap (λ l. before ++ (blocks ++ l))
+    (append-nil (flat_map lines.register_line (registers ++ (register ∷ [])))
+    ∙ one_more lines.register_line registers register ∙ ap (λ l. values ++ l) is
+    ∙ ap (λ l. l ++ line) (sym (append-nil values)))
+    ∙ ap (λ l. before ++ l) (sym (append_assoc blocks (values ++ []) line))
+    ∙ sym (append_assoc before (blocks ++ (values ++ [])) line)
     )
 
 state_parts : (past : List Entry) (memory : List MemoryLine) (registers : List RegisterLine)
@@ -120,10 +116,10 @@ state_parts past memory registers old drained text still is =
     let values = flat_map lines.register_line registers in
     let line = text ++ (10 ∷ []) in
     rw still (
-      ap (λ l. before ++ (blocks ++ (values ++ l))) is
-      ∙ ap (λ l. before ++ (blocks ++ (l ++ line))) (sym (append-nil values))
-      ∙ ap (λ l. before ++ l) (sym (append_assoc blocks (values ++ []) line))
-      ∙ sym (append_assoc before (blocks ++ (values ++ [])) line)
+    ap (λ l. before ++ (blocks ++ (values ++ l))) is
+    ∙ ap (λ l. before ++ (blocks ++ (l ++ line))) (sym (append-nil values))
+    ∙ ap (λ l. before ++ l) (sym (append_assoc blocks (values ++ []) line))
+    ∙ sym (append_assoc before (blocks ++ (values ++ [])) line)
     )
 
 -- ---- lines by their first words
@@ -143,7 +139,7 @@ entry_adds p entry text before still is =
     entry_parts p.past p.memory p.registers p.drained entry text (no_items p.memory both.0)
     (no_items p.registers both.1) still is
 
-same_ok : {A K : Type 0} (x y : A) → ◌≡◌ {A = Result A K} (Ok x) (Ok y) → x ≡ y
+pub same_ok : {A K : Type 0} (x y : A) → ◌≡◌ {A = Result A K} (Ok x) (Ok y) → x ≡ y
 same_ok x y is = cc is
 
 gave_adds : (hosts cubes : ℕ) (p q : Progress) (text : List ℕ) (words : List (List ℕ)) →
@@ -274,7 +270,7 @@ abbrev joined : List (List ℕ) → List ℕ
 joined [] = []
 joined (line ∷ lines) = (line ++ (10 ∷ [])) ++ joined lines
 
-at_line_ok : {A K : Type 0} (number : ℕ) (r : Result A K) (x : A) → at_line number r ≡ Ok x →
+pub at_line_ok : {A K : Type 0} (number : ℕ) (r : Result A K) (x : A) → at_line number r ≡ Ok x →
     r ≡ Ok x
 at_line_ok number (Ok y) x is = cc is
 at_line_ok number (Err kind) x is = absurd (cc is)
