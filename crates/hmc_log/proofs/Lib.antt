@@ -8,3 +8,4 @@ mod Worked
 pub mod Steps
 pub mod Shown
 pub mod Reprinted
+pub mod Fits

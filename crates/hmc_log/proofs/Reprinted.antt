@@ -1,8 +1,8 @@
 -- A log that was read has as its text the lines that were read.
-use Rattle.std.proofs.Common.{◌≡◌, ◌∙◌, ◌<◌, ℕ, zero, suc, ◌+◌, Bool, true, false, Option, Some, None, Result, Ok, Err, List, [], ◌∷◌, ◌++◌, length, reverse, not, codes, refl, sym, ap, subst, arith, append-nil, append_assoc}
-use Rattle.std.specs.Prelude.{◌&&◌, ◌||◌, ◌==◌, nat_lt, nat_le, is_some, if◌then◌else◌, cond}
+use Rattle.std.proofs.Common.{◌≡◌, ◌∙◌, ◌<◌, ℕ, Bool, true, false, Option, Some, None, Result, Ok, Err, List, [], ◌∷◌, ◌++◌, length, reverse, codes, refl, sym, ap, subst, arith, append-nil, append_assoc}
+use Rattle.std.specs.Prelude.{◌&&◌, ◌||◌, ◌==◌, nat_lt, is_some, if◌then◌else◌}
 use Rattle.std.specs.Str.{bytes_eq}
-use Rattle.std.specs.List.{flat_map, slice_split, slice_get, onto_first, All}
+use Rattle.std.specs.List.{flat_map, slice_split, onto_first, All}
 use Rattle.std.proofs.lemmas.Bool.{and_parts}
 use Rattle.std.proofs.lemmas.Bool.Decides.{nat_tests}
 use Rattle.std.proofs.lemmas.Grind.{flat_map-append}
@@ -20,9 +20,6 @@ use Rattle.hmc_entries.specs.declared.entry.Entry.TheVariants.{Gave, Took, Retir
 use Rattle.hmc_entries.specs.Lines.{line_of}
 use Rattle.hmc_log.specs.declared.end_lines.MemoryLine.{MemoryLine}
 use Rattle.hmc_log.specs.declared.end_lines.RegisterLine.{RegisterLine}
-use Rattle.hmc_log.specs.declared.given.Given.{Given}
-use Rattle.hmc_log.specs.declared.given.Taken.{Taken}
-use Rattle.hmc_log.specs.declared.fault.LogKind.{LogKind}
 use Rattle.hmc_log.specs.declared.fault.LogKind.TheVariants as kinds
 use Rattle.hmc_log.specs.Before.{out_under}
 use Rattle.hmc_log.specs.Lines as lines
@@ -31,7 +28,6 @@ use Rattle.hmc_log.specs.Log.{LogFields}
 use Rattle.hmc_log.specs.Meaning.{given_of, taken_of, slot_of, memory_of, register_of, drained_of}
 use Rattle.hmc_log.specs.Text.{Progress, nothing_yet, at_end, may_give, answers_to, may_retire, may_have_block, may_have_register, add_entry, add_given, add_taken, add_retired, add_block, add_register, gave_line, took_line, retired_line, memory_line, register_line, state_line, entry_line, is_entry_word, line_with, statement, after_line, with_end, log_of}
 use Rattle.hmc_log.specs.Laws.{PrintedIsRead}
-use Rattle.hmc_log.proofs.Cutting.{no_lines}
 use Rattle.hmc_log.proofs.Steps.{ok_then, if_ok, if_passed}
 use Rattle.hmc_log.proofs.Shown.{Is, given_line, taken_line, slot_line, block_line, value_line, drained_line}
 
@@ -143,7 +139,7 @@ entry_adds p entry text before still is =
     entry_parts p.past p.memory p.registers p.drained entry text (no_items p.memory both.0)
     (no_items p.registers both.1) still is
 
-same_ok : {A K : Type 0} (x y : A) → ◌≡◌ {A = Result A K} (Ok x) (Ok y) → x ≡ y
+pub same_ok : {A K : Type 0} (x y : A) → ◌≡◌ {A = Result A K} (Ok x) (Ok y) → x ≡ y
 same_ok x y is = cc is
 
 gave_adds : (hosts cubes : ℕ) (p q : Progress) (text : List ℕ) (words : List (List ℕ)) →
@@ -274,7 +270,7 @@ abbrev joined : List (List ℕ) → List ℕ
 joined [] = []
 joined (line ∷ lines) = (line ++ (10 ∷ [])) ++ joined lines
 
-at_line_ok : {A K : Type 0} (number : ℕ) (r : Result A K) (x : A) → at_line number r ≡ Ok x →
+pub at_line_ok : {A K : Type 0} (number : ℕ) (r : Result A K) (x : A) → at_line number r ≡ Ok x →
     r ≡ Ok x
 at_line_ok number (Ok y) x is = cc is
 at_line_ok number (Err kind) x is = absurd (cc is)

@@ -1,7 +1,6 @@
 -- What a line states, written again, is the line.
-use Rattle.std.proofs.Common.{◌≡◌, ◌∙◌, ◌<◌, ℕ, ◌+◌, ◌/◌, ◌^◌, Bool, true, false, Option, Some, None, Result, Ok, Err, List, [], ◌∷◌, ◌++◌, length, not, codes, refl, sym, ap, subst, arith}
+use Rattle.std.proofs.Common.{◌≡◌, ◌∙◌, ℕ, ◌^◌, Bool, true, false, Option, Some, None, Result, Ok, Err, List, [], ◌∷◌, ◌++◌, length, not, codes, refl, sym, ap, subst}
 use Rattle.std.specs.Prelude.{◌&&◌, ◌==◌, ◌%◌, nat_lt, nat_le, slice_index_or, if◌then◌else◌}
-use Rattle.std.specs.Str.{bytes_eq}
 use Rattle.std.proofs.lemmas.Bool.{and_parts}
 use Rattle.std.proofs.lemmas.Slice.Eq.{bytes_eq-Decides}
 use Rattle.std.proofs.lemmas.Option.{same_Some}
@@ -52,7 +51,7 @@ written_is text (Some other) entry is = by (is_line text (line_of other)) refl i
 
 -- ---- requests
 
-given_entry : (cubes host : ℕ) (tag : Option ℕ) (words : List (List ℕ)) (read : Option Entry)
+pub given_entry : (cubes host : ℕ) (tag : Option ℕ) (words : List (List ℕ)) (read : Option Entry)
     (given : Given) → given_by_entry cubes host tag words read ≡ Ok given →
     (h : ℕ) × (t : Option ℕ) × (poisoned : Bool) × (request : RequestFields)
     × (read ≡ Some (Gave h t poisoned request))
@@ -114,7 +113,7 @@ took_same : (text : List ℕ) (host h tag t : ℕ) (answer : Answer) → host �
     Is text (line_of (Took h t answer)) → Is text (line_of (Took host tag answer))
 took_same text host h tag t answer hosts tags_are line = rw (hosts, tags_are) line
 
-taken_entry : (host tag : ℕ) (words : List (List ℕ)) (read : Option Entry) (taken : Taken) →
+pub taken_entry : (host tag : ℕ) (words : List (List ℕ)) (read : Option Entry) (taken : Taken) →
     taken_by_entry host tag words read ≡ Ok taken →
     (h : ℕ) × (t : ℕ) × (answer : Answer) × (read ≡ Some (Took h t answer))
     × (record { host = host; tag = tag; answer = answer } ≡ taken)

@@ -1,5 +1,5 @@
 -- Steps that gave something: what each of them gave.
-use Rattle.std.proofs.Common.{◌≡◌, ◌∙◌, ◌<◌, ℕ, ◌^◌, Bool, true, false, Option, Some, None, option_map, Result, Ok, Err, List, [], ◌∷◌, nat_lt, codes, refl, sym, ap, subst, arith}
+use Rattle.std.proofs.Common.{◌≡◌, ◌∙◌, ℕ, ◌^◌, Bool, true, false, Option, Some, None, option_map, Result, Ok, Err, List, [], ◌∷◌, nat_lt, codes, refl, sym, ap, arith}
 use Rattle.std.specs.Prelude.{if◌then◌else◌}
 use Rattle.std.specs.Str.{bytes_eq}
 use Rattle.std.proofs.lemmas.Bool.Decides.{nat_tests}
@@ -7,7 +7,6 @@ use Rattle.std.proofs.lemmas.Option.{same_Some}
 use Rattle.hmc_codes.specs.Limits.{tags}
 use Rattle.hmc_text.specs.Number.{below, number_of}
 use Rattle.hmc_text.specs.Reading as reading
-use Rattle.hmc_text.specs.Words.{first_word}
 use Rattle.hmc_words.specs.Taking as taking
 use Rattle.hmc_words.specs.Taking.{take_number}
 use Rattle.hmc_entries.specs.ParseWords as entries

@@ -28,6 +28,6 @@ mod words;
 
 pub use end_lines::{End, MemoryLine, RegisterLine};
 pub use fault::{LogFault, LogKind};
-pub use laws::printed_is_read;
+pub use laws::{printed_is_read, read_entries_fit};
 pub use line::{bad_line, no_text_line};
 pub use log::Log;

@@ -1,20 +1,15 @@
 -- What is judged: a case, and a log of what its hosts saw.
-use Rattle.std.specs.Prelude.{◌≡◌, ℕ, Bool, true, false, List, [], map, Option, Some, None, Result, Ok, Err, if◌then◌else◌}
+use Rattle.std.specs.Prelude.{ℕ, List, [], map, Option, Some, None, Result, Ok, Err, if◌then◌else◌}
 use Rattle.std.specs.Str.{is_utf8}
 use Rattle.hmc_codes.specs.Shape.{ShapeFields}
 use Rattle.hmc_text.specs.InTurn.{AnswersBy}
 use Rattle.hmc_text.specs.Reading.{◌>>=◌}
-use Rattle.hmc_text.specs.declared.fault.TextFault.{TextFault}
-use Rattle.hmc_text.specs.declared.fault.TextFault.TheVariants as text_faults
 use Rattle.hmc_case.specs.Case.{CaseFields, case_of}
 use Rattle.hmc_case.specs.Line.{bad_line as case_line}
 use Rattle.hmc_case.specs.Setup.{CubeSetupFields}
-use Rattle.hmc_case.specs.declared.fault.CaseFault.{CaseFault}
-use Rattle.hmc_case.specs.declared.fault.CaseFault.TheVariants as case_faults
 use Rattle.hmc_log.specs.Fault.{bad_line as log_line, no_text_line}
 use Rattle.hmc_log.specs.Log.{LogFields}
 use Rattle.hmc_log.specs.Text.{log_of}
-use Rattle.hmc_log.specs.declared.fault.LogKind.{LogKind}
 use Rattle.hmc_verdict.specs.declared.fault.SubjectFault.{SubjectFault}
 use Rattle.hmc_verdict.specs.declared.fault.SubjectFault.TheVariants as faults
 

@@ -2,7 +2,9 @@
 #![tactic(auto)]
 
 mod fault;
+mod laws;
 mod subject;
 
 pub use fault::SubjectFault;
+pub use laws::read_logs_fit;
 pub use subject::Subject;
