@@ -14,6 +14,10 @@
  * Numbers of hosts, cubes, ports, vaults, banks and directions begin with 0. docs/c-library.md says
  * more.
  *
+ * Stack: with a valid case each call was seen to need less than 64 KB. A text that is no case may
+ * nest keys and tables so deep that a call which reads it needs 1.5 MB: open texts of unknown origin
+ * on a thread that has 2 MB. With less a call ends the program, by SIGSEGV.
+ *
  *     hmc_session s = {0};
  *     hmc_entry_t entry;
  *     uint32_t steps;
@@ -330,7 +334,8 @@ uint8_t hmc_line(hmc_session *s, uint8_t *out, size_t room, size_t *written);
 /* The tape of a session that was opened with one: the requests that were asked, as a script, and
  * the steps that were taken, as a schedule. The session's case with these two texts in place of its
  * own, and with the same logic units, has the session's journal, and its report begins with the
- * session's lines, unless there are more than 65,536 requests or 1,000,000 steps. `length` is that of
+ * session's lines, unless there are more than 65,536 requests or 1,000,000 steps; a case of more
+ * than 4,194,304 bytes is too long for the program, and not for hmc_run_case. `length` is that of
  * the text also where there is no room for it, and 0 where there is no tape. HMC_OK, HMC_NONE (no
  * room, or no tape), HMC_CLOSED. No null pointer. */
 uint8_t hmc_tape_script(hmc_session *s, uint8_t *out, size_t room, size_t *length);

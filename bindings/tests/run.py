@@ -268,6 +268,13 @@ def test_refuse(room: Path) -> str:
     return run(compiled(room, "refuse", sources, WRAPPED), CHAIN).strip()
 
 
+def test_stack(room: Path) -> str:
+    """The calls on stacks as short as hmc.h states."""
+    words = ["cc", "-std=c99", "-D_GNU_SOURCE", "-O1", *STRICT, *INCLUDES, "-pthread"]
+    run(*words, "-o", room / "stack", HERE / "stack.c", ARCHIVE)
+    return run(room / "stack", CHAIN).strip()
+
+
 def test_threads(room: Path) -> str:
     """Two threads with a session each."""
     sources = [HERE / "threads.c", BINDINGS / "c" / "driver.c"]
@@ -498,6 +505,7 @@ TESTS: dict[str, Callable[[Path], str]] = {
     "header": test_header,
     "pointers": test_pointers,
     "refuse": test_refuse,
+    "stack": test_stack,
     "symbols": test_symbols,
     "threads": test_threads,
     "cpp": test_cpp,
