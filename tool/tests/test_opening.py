@@ -122,6 +122,7 @@ class Bounds(Files):
                 ("convert", str(self.log()), name),
                 ("shrink", name, "--", "false"),
                 ("values", name, str(REPORT)),
+                ("check", name, str(REPORT)),
             ):
                 if status == 0 and words[0] in ("shrink", "values"):
                     continue

@@ -15,7 +15,7 @@ from tool import build, case, files, run as runs, toml_reader, verdict
 from tool.opening import looked_at
 from tool.trouble import Trouble, note
 from tool.verbs import Parser
-from tool.verbs.words import refuse_two_standard
+from tool.verbs.words import case_bytes, refuse_two_standard
 
 # The status of the program for a report that no run of the case has.
 UNLAWFUL = 8
@@ -32,7 +32,7 @@ def run(words: Namespace) -> int:
     """Prints the verdict of the program, and explains one that isn't lawful."""
     refuse_two_standard(words.case, words.report)
     name = files.shown_name(words.report)
-    data = files.read_bytes(words.case)
+    data = case_bytes(words.case)
     with files.rereadable(words.report) as report:
         verdict.refuse_foreign(looked_at(files.lines_of(report), name), name)
         status, lines = judged(data, report)
