@@ -23,7 +23,11 @@ mod raw;
 
 pub use raw::{Entry, Unit};
 
+use std::ffi::CString;
 use std::fmt;
+use std::io;
+use std::os::unix::ffi::OsStrExt;
+use std::path::Path;
 use std::ptr::null_mut;
 
 /// In place of a tag: none.
@@ -154,6 +158,49 @@ impl fmt::Display for Error {
 }
 
 impl std::error::Error for Error {}
+
+/// The first fault of a text that is no case: it is shown as `bad link 0 range`.
+#[derive(Clone, Debug, PartialEq, Eq)]
+pub struct Fault {
+    /// One of `toml`, `top`, `cube`, `net`, `link`, `script` and `schedule`.
+    pub section: &'static str,
+    /// Of a cube or a link its number, from 0; of a script or a schedule its line, from 1; else 0.
+    pub line: u32,
+    /// What is wrong, in a word.
+    pub kind: String,
+}
+
+impl fmt::Display for Fault {
+    fn fmt(&self, f: &mut fmt::Formatter<'_>) -> fmt::Result {
+        write!(f, "bad {} {} {}", self.section, self.line, self.kind)
+    }
+}
+
+const SECTIONS: [&str; 7] = ["toml", "top", "cube", "net", "link", "script", "schedule"];
+
+/// The first fault of a text; `None` where it is a case.
+pub fn fault(case: &str) -> Result<Option<Fault>, Error> {
+    let mut out = raw::RawFault {
+        line: 0,
+        section: 0,
+        word: [0; 16],
+    };
+    // SAFETY: the text has so many bytes, and the fault has its layout.
+    match unsafe { raw::hmc_fault(case.as_ptr(), case.len(), &mut out) } {
+        OK => Ok(Some(Fault {
+            section: SECTIONS.get(out.section as usize).copied().unwrap_or("?"),
+            line: out.line,
+            kind: out
+                .word
+                .iter()
+                .take_while(|it| **it != 0)
+                .map(|it| *it as char)
+                .collect(),
+        })),
+        NONE => Ok(None),
+        status => Err(Error::of(status)),
+    }
+}
 
 fn checked(status: u8) -> Result<(), Error> {
     if status == OK {
@@ -383,10 +430,33 @@ impl Memory {
         let mut status = OK;
         // SAFETY: the text has so many bytes.
         let driver = unsafe { raw::hmc_driver_open(case.as_ptr(), case.len(), &mut status) };
+        Memory::of(driver, status)
+    }
+
+    /// The same with a tape, which `save` writes.
+    pub fn open_taped(case: &str) -> Result<Memory, Error> {
+        let mut status = OK;
+        // SAFETY: the text has so many bytes.
+        let driver = unsafe { raw::hmc_driver_open_taped(case.as_ptr(), case.len(), &mut status) };
+        Memory::of(driver, status)
+    }
+
+    fn of(driver: *mut raw::Driver, status: u8) -> Result<Memory, Error> {
         if driver.is_null() {
             return Err(Error::of(status));
         }
         Ok(Memory(driver))
+    }
+
+    /// Writes the case that replays what was done so far to a file, of a memory with a tape.
+    pub fn save(&mut self, path: impl AsRef<Path>) -> io::Result<()> {
+        let path = CString::new(path.as_ref().as_os_str().as_bytes())?;
+        // SAFETY: the driver is open, and the path ends with a zero.
+        match unsafe { raw::hmc_driver_save(self.0, path.as_ptr()) } {
+            OK => Ok(()),
+            NONE => Err(io::Error::last_os_error()),
+            status => Err(io::Error::new(io::ErrorKind::Other, Error::of(status))),
+        }
     }
 
     /// Asks a host for a request, as [`Session::request`] does; `id` comes back when it is done.

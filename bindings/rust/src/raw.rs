@@ -1,6 +1,6 @@
 //! The calls of hmc.h and hmc_driver.h.
 
-use std::ffi::c_void;
+use std::ffi::{c_char, c_void};
 
 /// A handle; null is a closed one.
 #[repr(C)]
@@ -18,6 +18,14 @@ pub struct Unit {
     pub cube: u8,
     /// Below 8.
     pub code: u8,
+}
+
+/// The first fault of a text.
+#[repr(C)]
+pub struct RawFault {
+    pub line: u32,
+    pub section: u8,
+    pub word: [u8; 16],
 }
 
 /// A driver.
@@ -164,6 +172,9 @@ extern "C" {
     pub fn hmc_line(s: *mut Handle, out: *mut u8, room: usize, written: *mut usize) -> u8;
     pub fn hmc_crc(bytes: *const u8, length: usize) -> u32;
     pub fn hmc_driver_open(text: *const u8, length: usize, status: *mut u8) -> *mut Driver;
+    pub fn hmc_driver_open_taped(text: *const u8, length: usize, status: *mut u8) -> *mut Driver;
+    pub fn hmc_driver_save(d: *mut Driver, path: *const c_char) -> u8;
+    pub fn hmc_fault(text: *const u8, length: usize, out: *mut RawFault) -> u8;
     pub fn hmc_driver_close(d: *mut Driver);
     pub fn hmc_driver_hosts(d: *const Driver) -> u8;
     pub fn hmc_driver_steps_of_round(d: *const Driver) -> u32;

@@ -122,6 +122,36 @@ fn tapes() {
     );
 }
 
+/// What a memory with a tape saves is a case, and its report has the answer.
+#[test]
+fn saved_cases() {
+    let path = std::env::temp_dir().join(format!("hmc-rust-{}.toml", std::process::id()));
+    let mut memory = Memory::open_taped(&case()).unwrap();
+    memory.request(0, hmc::RD16, 1, 0x40, &[], 7).unwrap();
+    while memory.waiting() > 0 {
+        memory.go().unwrap();
+    }
+    memory.save(&path).unwrap();
+    let saved = std::fs::read_to_string(&path).unwrap();
+    std::fs::remove_file(&path).unwrap();
+    let report = hmc::run_case(&saved, &[]).unwrap();
+    assert!(report.text.contains("\ntook 0 0 read 0 000000000000"));
+    let lost = memory.save("/no/such/folder/case.toml").unwrap_err();
+    assert_eq!(lost.kind(), std::io::ErrorKind::NotFound);
+    assert!(Memory::open(&case()).unwrap().save("/dev/null").is_err());
+    assert_eq!(Memory::open_taped("no case").err(), Some(Error::Bad));
+}
+
+/// A text that is no case has a fault, with its section, line and kind.
+#[test]
+fn faults() {
+    let few = case().replacen("tokens = 34", "tokens = 16", 1);
+    let fault = hmc::fault(&few).unwrap().unwrap();
+    assert_eq!(fault.to_string(), "bad link 0 range");
+    assert_eq!(hmc::fault("no case").unwrap().unwrap().section, "toml");
+    assert_eq!(hmc::fault(&case()), Ok(None));
+}
+
 /// Requests at random places, no place used twice at once, and the number of steps.
 fn traffic(mut seed: u64) -> u64 {
     let mut memory = Memory::open(&case()).unwrap();
