@@ -128,9 +128,9 @@ class Docs(unittest.TestCase):
 
     def test_only_cases_and_reports_are_examples(self) -> None:
         """Beside them are the reports of cases that are made from a number, and folders: cases that
-        sessions begin with, packets, and traces."""
+        sessions begin with, logs, packets, and traces."""
         folders = {it for it in EXAMPLES.iterdir() if it.is_dir()}
-        self.assertEqual({it.name for it in folders}, {"packets", "sessions", "traces"})
+        self.assertEqual({it.name for it in folders}, {"logs", "packets", "sessions", "traces"})
         others = {*EXAMPLES.glob("make-*.report"), *folders}
         names = {path.with_suffix(".toml").name for path in {*EXAMPLES.iterdir()} - others}
         self.assertEqual(names, {path.name for path in CASES})
