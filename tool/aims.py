@@ -15,6 +15,8 @@ FULL = ("held", "posted", "registers")
 FEATURES = {
     ("sent", ""): RETRIES,
     ("landed", "poisoned"): ("poison",),
+    ("landed", "repeat"): ("far", *RETRIES),
+    ("landed", "ran clear in good"): ("far", *RETRIES),
     ("landed", ""): RETRIES,
     ("idle", "give: fence"): ("fence",),
     ("idle", "through"): ("through",),
@@ -22,7 +24,6 @@ FEATURES = {
     ("idle", "retire"): ("units",),
     ("idle", ""): FULL,
     ("full", ""): FULL,
-    ("event", "pointers"): ("long",),
     ("event", "through"): ("noise", "through"),
     ("event", "discarded"): ("noise", "through"),
     ("event", "unlocked"): ("unlock",),
@@ -51,6 +52,8 @@ def aimed(point: Point) -> Wish:
         return Wish(cubes=int(name.split(" ")[0]), shape="chain", features=())
     if group == "block":
         return Wish(features=("two",), block=int(name.split(" ")[0]))
+    if name.startswith("pointers"):
+        return Wish(1, 1, features=("long", "two") if name.endswith(OF_TWO) else ("long",))
     starts = (start for of, start in FEATURES if of == group and name.startswith(start))
     features = FEATURES[group, next(starts)]
     return Wish(features=(*features, "two") if name.endswith(OF_TWO) else features)

@@ -20,6 +20,7 @@ FEATURES = {
     "atomics": "atomic commands",
     "early": "an end while requests are under way",
     "errors": "requests that are answered with an error",
+    "far": "lines with many flits on the way, so that packets come again",
     "fence": "fences",
     "held": "rounds without one kind of step, so that queues are full",
     "long": "more requests, of 256 bytes",
@@ -34,7 +35,7 @@ FEATURES = {
     "two": "`profile = 2`: other blocks, and links of both profiles",
 }
 # Of so many cases one has such a feature, where none are named. Of others every second one has it.
-SELDOM = {"early": 8, "long": 12, "passes": 8}
+SELDOM = {"early": 8, "far": 4, "long": 12, "passes": 8}
 OFTEN = 2
 WORDS = [word for word, it in BY_WORD.items() if it.family == REQUEST]
 LONG_WORDS = ("wr256", "rd256")
@@ -52,7 +53,13 @@ ROUNDS_FOR_EACH = 8
 LONG_ROUNDS = 20
 OTHER_ROUNDS = 180
 LANDINGS = (30, 600)
+# While a link trains, each landing of so many has a mask, in so many rounds.
+TRAINING_LANDINGS, TRAINING_ROUNDS = 5, 4
+# So many single flits have a mask too, so many rounds after one another.
+FLITS_CHANGED, ROUNDS_BETWEEN = 4, (60, 160)
 STAMP, NO_SLOT = 1, 5
+# So many flits are on a long line at first, and so many rounds more does it take until it trained.
+FAR_LINE, FAR_FLITS, FAR_ROUNDS = 64, 48, 250
 KINDS = ("send", "land", "shift", "spread", "bank", "registers", "lift", "take")
 # A phase without one kind of step has so many steps, and so many rounds at least.
 HELD_STEPS, HELD_ROUNDS, HELD_KINDS = 600, 12, 3
@@ -93,7 +100,8 @@ def document_of(chance: random.Random, wish: Wish) -> Document:
     is_two = "two" in features
     cubes = [cube_of(chance, is_two, wish.block) for _ in range(count)]
     pairs = ends_of_shape(chance, shape, count, hosts)
-    links = [{"a": a, "b": b, **link_of(chance, is_two)} for a, b in pairs]
+    line = FAR_LINE if "far" in features else 0
+    links = [{"a": a, "b": b, **link_of(chance, is_two, line)} for a, b in pairs]
     script = script_of(chance, wish.requests or most, hosts, cubes, features, wish.ends)
     if "fence" in features:
         script.insert(chance.randrange(len(script) + 1), f"{chance.randrange(hosts)} fence")
@@ -193,9 +201,10 @@ def cube_of(chance: random.Random, is_two: bool, size: int) -> Document:
     return {**bits, "rows": 4, "queue": 1 + chance.randrange(4), **block}
 
 
-def link_of(chance: random.Random, is_two: bool) -> Document:
-    """The numbers of a link."""
-    link = {"line": 1 + chance.randrange(8), "tokens": 17 + chance.randrange(48), "retry": 64}
+def link_of(chance: random.Random, is_two: bool, line: int) -> Document:
+    """The numbers of a link, with a line for so many flits; 0 for random ones."""
+    link = {"line": line or 1 + chance.randrange(8), "tokens": 17 + chance.randrange(48)}
+    link["retry"] = 64
     link["output"] = 1 + chance.randrange(4)
     return {**link, "profile": chance.choice((1, 2))} if is_two else link
 
@@ -208,10 +217,13 @@ def schedule_of(
     rounds, directions = each * requests + OTHER_ROUNDS, 2 * len(document["links"])
     if "unlock" in features:
         yield f"unlock {chance.randrange(directions)}"
+    if "far" in features:
+        yield from far_lines(directions)
     if "noise" in features:
-        mask = (1 << chance.randrange(128)).to_bytes(16, "big").hex()
-        yield f"noise {chance.randrange(*LANDINGS)} {mask}"
+        yield from noise_lines(chance, directions)
     yield f"round {OTHER_ROUNDS // 2 + chance.randrange(2 * ROUNDS_FOR_EACH)}"
+    if "noise" in features:
+        yield from masked_lines(chance, directions)
     if "held" in features:
         yield from held_lines(chance, document)
     if "through" in features:
@@ -256,3 +268,30 @@ def unlock_lines(chance: random.Random, directions: int) -> Iterator[str]:
     for _ in range(UNLOCKS):
         yield from [f"unlock {chance.randrange(directions)}"] * (1 + chance.randrange(2))
         yield f"round {1 + chance.randrange(2 * OTHER_ROUNDS)}"
+
+
+def far_lines(directions: int) -> Iterator[str]:
+    """Yields steps after which many flits are on each line, and the rounds that these take."""
+    yield from (f"send {direction}" for _ in range(FAR_FLITS) for direction in range(directions))
+    yield f"round {FAR_ROUNDS}"
+
+
+def mask_of(chance: random.Random) -> str:
+    """A mask of one bit."""
+    return (1 << chance.randrange(128)).to_bytes(16, "big").hex()
+
+
+def noise_lines(chance: random.Random, directions: int) -> Iterator[str]:
+    """Yields masks on landings while links train, and on fewer ones after that."""
+    yield f"noise {TRAINING_LANDINGS * directions + 1} {mask_of(chance)}"
+    yield f"round {TRAINING_ROUNDS * TRAINING_LANDINGS}"
+    yield f"noise {chance.randrange(*LANDINGS)} {mask_of(chance)}"
+
+
+def masked_lines(chance: random.Random, directions: int) -> Iterator[str]:
+    """Yields rounds, after each of which a flit has a mask in each direction."""
+    for _ in range(FLITS_CHANGED):
+        yield f"round {chance.randrange(*ROUNDS_BETWEEN)}"
+        for direction in range(directions):
+            yield f"send {direction}"
+            yield f"land {direction} {mask_of(chance)}"
