@@ -19,13 +19,10 @@ FEATURES = {
     ("landed", "ran clear in good"): ("far", *RETRIES),
     ("landed", ""): RETRIES,
     ("idle", "give: fence"): ("fence",),
-    ("idle", "through"): ("through",),
     ("idle", "send: starved"): ("through",),
     ("idle", "retire"): ("units",),
     ("idle", ""): FULL,
     ("full", ""): FULL,
-    ("event", "through"): ("noise", "through"),
-    ("event", "discarded"): ("noise", "through"),
     ("event", "unlocked"): ("unlock",),
     ("event", "retired"): ("units",),
     ("event", "dropped"): ("poison",),
@@ -38,7 +35,7 @@ FEATURES = {
 }
 OF_TWO = "profile Two"
 LARGEST = 256
-REQUESTS = 6
+REQUESTS, MANY = 6, 120
 
 
 def aimed(point: Point) -> Wish:
@@ -54,6 +51,8 @@ def aimed(point: Point) -> Wish:
         return Wish(features=("two",), block=int(name.split(" ")[0]))
     if name.startswith("pointers"):
         return Wish(1, 1, features=("long", "two") if name.endswith(OF_TWO) else ("long",))
+    if name.startswith(("through", "discarded")):
+        return Wish(2, 1, MANY, features=("noise", "through"))
     starts = (start for of, start in FEATURES if of == group and name.startswith(start))
     features = FEATURES[group, next(starts)]
     return Wish(features=(*features, "two") if name.endswith(OF_TWO) else features)

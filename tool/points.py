@@ -150,7 +150,8 @@ def points() -> Ways:
     for group, ways in (("full", QUEUES), ("event", EVENTS)):
         yield from ((Point(group, name), how) for name, how in ways.items())
     for block in BLOCKS:
-        yield Point("block", f"{block} bytes"), f"a cube with `block = {block}`, in a case with `profile = 2`"
+        how = f"a cube with `block = {block}`, in a case with `profile = 2`"
+        yield Point("block", f"{block} bytes"), how
     for count in range(CUBES[0], CUBES[1] + 1):
         yield Point("network", f"{count} cubes"), f"a case of {count} cubes"
 

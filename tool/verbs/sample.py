@@ -80,7 +80,8 @@ def point_of(text: str) -> Point:
     point = Point(group, name)
     names = [" ".join(it) for it, _ in points()]
     if text not in names:
-        raise Trouble(USAGE, f"{text} is no point of `cover`{nearest(text, names)}")
+        near = nearest(text, names)
+        raise Trouble(USAGE, f"{text} is no point of cover{near and f': do you mean {near}?'}")
     if point in aims.NOT_DRAWN:
         raise Trouble(USAGE, f"no sample reaches {text}: {aims.NOT_DRAWN[point]}")
     return point
