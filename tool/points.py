@@ -74,10 +74,9 @@ LANDINGS = {
     ("good", "gathered"): "a request or an answer of two flits or more",
     ("good", "accepted"): "a request, and rounds",
     ("good", "poisoned"): "a request after the word `poison`",
-    ("good", "repeat"): "an error at one end while packets that it has accepted are not "
-    "acknowledged",
+    ("good", "repeat"): "more than 32 flits on each line, so that answers to retries come late",
     ("good", "ran start"): "an error at one end, as by a mask",
-    ("good", "ran clear"): "Clears of an end that is asked to go back once more",
+    ("good", "ran clear"): "more than 32 flits on each line, so that an end goes back twice",
     **{("good", f"aborted {test}"): how for test, how in ABORTS.items()},
 }
 QUEUES = {

@@ -7,7 +7,7 @@ from dataclasses import fields
 from functools import cache
 from operator import add, floordiv, mul, sub
 
-from tool import case, convert, durations, numbers, packets, samples, style, trace_formats
+from tool import case, convert, durations, numbers, packets, style, trace_formats
 from tool.commands import BY_WORD, LONG
 from tool.definitions import count_of
 from tool.kinds import ERRORS, HEADER, KINDS, setting
@@ -170,7 +170,6 @@ QUANTITIES: dict[str, Quantity] = {
     "most_links": numbers.most_links,
     "most_offset": lambda: case.BLOCKS[-1].bit_length() - 1,
     "most_returned": lambda: convert.MOST_RETURNED,
-    "most_sample_cubes": lambda: samples.MOST_CUBES,
     "move_rounds": behind(STAGES, "    Leads p c "),
     "moves_of_a_landing": within(
         "crates/hmc_hops/specs/CutThrough.antt", "forwarded m past e d x =", " past\n", "Goes "

@@ -6,7 +6,9 @@ from __future__ import annotations
 import os
 from argparse import Namespace
 
-from tool import files, samples
+from tool import aims, files, samples
+from tool.nearest import nearest
+from tool.points import Point, points
 from tool.trouble import NO_OUTPUT, USAGE, Trouble
 from tool.verbs import Parser
 
@@ -21,10 +23,12 @@ def add_words(parser: Parser) -> None:
     parser.add_argument("--cubes", type=int, default=0, choices=range(1, 9), metavar="1..8")
     parser.add_argument("--hosts", type=int, default=0, choices=range(1, 9), metavar="1..8")
     parser.add_argument("--requests", type=int, default=0, metavar="N")
-    parser.add_argument("--shape", choices=samples.SHAPES, default=samples.SHAPES[0])
-    usual = ",".join(samples.USUAL)
-    feature_help = f"those wanted, with commas between; {usual} if none are named. {FEATURES}"
-    parser.add_argument("--features", default=usual, metavar="NAMES", help=feature_help)
+    parser.add_argument("--shape", choices=samples.SHAPES, default="")
+    feature_help = f"those wanted, with commas between; else they are drawn. {FEATURES}"
+    wishes = parser.add_mutually_exclusive_group()
+    wishes.add_argument("--features", metavar="NAMES", help=feature_help)
+    aim_help = "draw cases that reach a point, which is named as by cover"
+    wishes.add_argument("--aim", metavar="POINT", help=aim_help)
 
 
 def run(words: Namespace) -> int:
@@ -47,8 +51,12 @@ def run(words: Namespace) -> int:
 
 def wish_of(words: Namespace) -> samples.Wish:
     """The sizes and features that the words ask for."""
-    features = tuple(sorted(name for name in words.features.split(",") if name))
-    unknown = [name for name in features if name not in samples.FEATURES]
+    if words.aim is not None:
+        if words.cubes or words.hosts or words.requests or words.shape:
+            raise Trouble(USAGE, "--aim chooses the sizes and the shape")
+        return aims.aimed(point_of(words.aim))
+    features = None if words.features is None else named(words.features)
+    unknown = [name for name in features or () if name not in samples.FEATURES]
     if unknown:
         raise Trouble(USAGE, f"{unknown[0]} is not a feature: {', '.join(samples.FEATURES)} are")
     is_ring = words.shape == "ring" and words.cubes > 2
@@ -59,3 +67,21 @@ def wish_of(words: Namespace) -> samples.Wish:
         need = "name --cubes too" if not words.cubes else f"so many cubes have {ports} free ports"
         raise Trouble(USAGE, f"{words.hosts} hosts: {need}")
     return samples.Wish(words.cubes, words.hosts, words.requests, words.shape, features)
+
+
+def named(text: str) -> tuple[str, ...]:
+    """The names that have commas between them."""
+    return tuple(sorted(name for name in text.split(",") if name))
+
+
+def point_of(text: str) -> Point:
+    """The point with this group and name, which samples reach."""
+    group, _, name = text.partition(" ")
+    point = Point(group, name)
+    names = [" ".join(it) for it, _ in points()]
+    if text not in names:
+        near = nearest(text, names)
+        raise Trouble(USAGE, f"{text} is no point of cover{near and f': do you mean {near}?'}")
+    if point in aims.NOT_DRAWN:
+        raise Trouble(USAGE, f"no sample reaches {text}: {aims.NOT_DRAWN[point]}")
+    return point
