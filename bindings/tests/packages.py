@@ -18,7 +18,8 @@ def _has(tool: str) -> Callable[[], bool]:
 def packer() -> str | None:
     """A Python that makes wheels: this one, or that of the distribution."""
     for python in (sys.executable, "/usr/bin/python3"):
-        words = [python, "-c", "import pip, setuptools, wheel"]
+        # In this order: setuptools of Debian refuses to be loaded after pip.
+        words = [python, "-c", "import setuptools, wheel, pip"]
         if not Path(python).exists():
             continue
         if subprocess.run(words, capture_output=True, check=False).returncode == 0:
