@@ -18,8 +18,8 @@ def _has(tool: str) -> Callable[[], bool]:
 def packer() -> str | None:
     """A Python that makes wheels: this one, or that of the distribution."""
     for python in (sys.executable, "/usr/bin/python3"):
-        # Setuptools refuses to be imported after a package that pip imports.
-        words = [python, "-c", "import setuptools, pip, wheel"]
+        # In this order: setuptools of Debian refuses to be loaded after pip.
+        words = [python, "-c", "import setuptools, wheel, pip"]
         if not Path(python).exists():
             continue
         if subprocess.run(words, capture_output=True, check=False).returncode == 0:
