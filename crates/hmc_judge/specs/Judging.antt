@@ -14,12 +14,14 @@ IsExplainedUpTo shapes opening log count =
     IsExplained (alone shapes) opening (first_entries count log)
 
 -- this is the first entry that can't be
-pub record IsFirstImpossible (shapes : List ShapeFields) (opening : State) (log : List Entry) (at : ℕ) : Type 0 where
+pub record IsFirstImpossible (shapes : List ShapeFields) (opening : State) (log : List Entry)
+    (at : ℕ) : Type 0 where
   pub there : at < length log
   pub before : IsExplainedUpTo shapes opening log at
   pub impossible : IsExplainedUpTo shapes opening log (suc at) → ⊥
 
 -- at this entry the simplest search keeps more states than a limit
-pub record IsTooMany (shapes : List ShapeFields) (opening : State) (log : List Entry) (limit at : ℕ) : Type 0 where
+pub record IsTooMany (shapes : List ShapeFields) (opening : State) (log : List Entry)
+    (limit at : ℕ) : Type 0 where
   pub there : at < length log
   pub many : limit < length (kept (alone shapes) opening (first_entries (suc at) log))

@@ -33,8 +33,8 @@ fn after_took<P: Holder>(
     answer: &Answer,
     holders: &[P],
 ) -> Result<Vec<P>, Memory>
-    ensures { IfOk result (λ after. map P.point after.items
-        ≡ gathered (λ point. takes (alone shapes.now) host tag answer.now (length point.waiting) point)
+    ensures { IfOk result (λ after. map P.point after.items ≡ gathered
+        (λ point. takes (alone shapes.now) host tag answer.now (length point.waiting) point)
         (map P.point holders.now)) }
 {
     let mut after = Vec::new(alloc);
