@@ -13,7 +13,7 @@ use Rattle.hmc_judge.specs.Explaining.{IsExplanation, IsFirstWrong, first_entrie
 use Rattle.hmc_judge.specs.Walk.{some_if, step_from, walk_step, walked}
 use Rattle.hmc_judge.proofs.Walking.{explained_walked, none_waits, walked_walks}
 
-first_more : (entries : List Entry) (at : ℕ) (none : Entry) → at < length entries →
+pub first_more : (entries : List Entry) (at : ℕ) (none : Entry) → at < length entries →
     first_entries (at + 1) entries ≡ get_or entries at none ∷ first_entries at entries
 first_more entries at none less =
     ap reverse (take_more entries at none less)
