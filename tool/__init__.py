@@ -25,6 +25,7 @@ cli finds the command that is called; verbs has a file for each command, and the
 - gate: what .ci/run needs
 - definitions, promises, counts, durations, quotes: which definitions a promise rests on, and what
   documents count and quote
+- mutants: definitions with one value changed
 
 What cases may have is in few places: the ranges at the top of case, STEPS of schedule, and LINES of
 report. The gate compares this reader with the program and with the tables of faulty inputs, so a

@@ -1,7 +1,6 @@
 -- The walk, computed on small journals: two hosts and one block of one cube.
 use Rattle.std.proofs.Common.{◌≡◌, ℕ, Bool, true, false, Option, Some, None, List, [], ◌∷◌, replicate, refl}
 use Rattle.std.specs.Prelude.{is_some}
-use Rattle.hmc_codes.specs.declared.answer.Answer.{Answer}
 use Rattle.hmc_codes.specs.declared.answer.Answer.TheVariants as answers
 use Rattle.hmc_codes.specs.declared.command.Command.TheVariants as commands
 use Rattle.hmc_codes.specs.declared.unit.Unit.{Unit as RequestUnit}
@@ -16,14 +15,15 @@ use Rattle.hmc_atomics.specs.Operations.{atomic_of}
 use Rattle.hmc_serial.specs.Actions.{action_of}
 use Rattle.hmc_serial.specs.Cube.{opening}
 use Rattle.hmc_serial.specs.Errors.{memory_error}
-use Rattle.hmc_serial.specs.Machine.{State, opening_state, apply, answer_to, retire}
+use Rattle.hmc_serial.specs.Machine.{State, opening_state, apply, answer_to}
 use Rattle.hmc_serial.specs.Perform.{perform_on}
 use Rattle.hmc_serial.specs.Unit.{unit_of}
 use Rattle.hmc_entries.specs.declared.entry.Entry.{Entry}
-use Rattle.hmc_entries.specs.declared.entry.Entry.TheVariants.{Executed, Gave, Retired, Took}
+use Rattle.hmc_entries.specs.declared.entry.Entry.TheVariants.{Executed, Gave, Took}
 use Rattle.hmc_search.specs.Alone.{alone}
 use Rattle.hmc_judge.specs.Picked.{first_out}
-use Rattle.hmc_judge.specs.Walk.{left_ready, left_waiting, walk_step, walked}
+use Rattle.hmc_search.specs.declared.waiting.Waiting.{Waiting}
+use Rattle.hmc_judge.specs.Walk.{left_ready, left_waiting, same_waiting, walk_step, walked}
 
 abbrev machine : State
 machine = opening_state (record { vault_bits = 0; bank_bits = 0; rows = 1; block = 32 } ∷ []) []
@@ -117,3 +117,43 @@ poisoned_write : goes (Executed bank 1 None write (answers.Done false)
     ∷ Gave 1 None true write ∷ []) ≡ false
 unfolding walked walk_step left_waiting left_ready first_out opening_state opening opening_registers apply answer_to perform_on action_of atomic_of memory_error acted_of effect_of table_line unit_of padded_bytes
 poisoned_write = refl
+
+-- A request is the same only where its host, its tag and all four values are.
+abbrev waits : (host : ℕ) → Option ℕ → RequestFields → Waiting
+waits host tag request = record { host = host; tag = tag; request = request }
+
+all_same : same_waiting (waits 0 (Some 1) write) (waits 0 (Some 1) write) ≡ true
+unfolding table_line
+all_same = refl
+
+no_tags : same_waiting (waits 0 None write) (waits 0 None write) ≡ true
+unfolding table_line
+no_tags = refl
+
+one_tag : same_waiting (waits 0 None write) (waits 0 (Some 1) write) ≡ false
+one_tag = refl
+
+other_tag : same_waiting (waits 0 (Some 1) write) (waits 0 (Some 2) write) ≡ false
+other_tag = refl
+
+other_giver : same_waiting (waits 0 (Some 1) write) (waits 1 (Some 1) write) ≡ false
+other_giver = refl
+
+other_command : same_waiting (waits 0 None write)
+    (waits 0 None (record write { command = commands.Swap16 })) ≡ false
+unfolding table_line
+other_command = refl
+
+other_cube : same_waiting (waits 0 None write) (waits 0 None (record write { cube = 1 })) ≡ false
+unfolding table_line
+other_cube = refl
+
+other_address : same_waiting (waits 0 None write)
+    (waits 0 None (record write { address = 32 })) ≡ false
+unfolding table_line
+other_address = refl
+
+other_payload : same_waiting (waits 0 None write)
+    (waits 0 None (record write { payload = bytes 2 })) ≡ false
+unfolding table_line
+other_payload = refl

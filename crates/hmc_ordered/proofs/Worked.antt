@@ -1,6 +1,6 @@
 -- Litmus tests of several hosts: which outcomes are ordered where both blocks are in one cube, and
 -- which where they are in two. Of each list the newest entry stands first.
-use Rattle.std.proofs.Common.{◌≡◌, ℕ, false, Some, List, [], ◌∷◌, refl, subst}
+use Rattle.std.proofs.Common.{◌≡◌, ℕ, false, true, None, Some, List, [], ◌∷◌, refl, subst}
 use Rattle.std.specs.Prelude.{replicate}
 use Rattle.hmc_codes.specs.Bytes.{padded_bytes}
 use Rattle.hmc_codes.specs.Request.{RequestFields}
@@ -32,7 +32,7 @@ use Rattle.hmc_seen.proofs.Stepping.{moments_of}
 use Rattle.hmc_search.specs.Kept.{gathered, is_free, choices, hand, takes, kept}
 use Rattle.hmc_search.specs.Reached.{IsUntagged}
 use Rattle.hmc_search.proofs.Keeping.{not_kept}
-use Rattle.hmc_ordered.specs.Ordered.{executed_at, IsOrdered}
+use Rattle.hmc_ordered.specs.Ordered.{AsksNoUnits, executed_at, IsOrdered, is_for_a_unit}
 use Rattle.hmc_ordered.proofs.Relabelled.{ordered_is_explained}
 use Rattle.hmc_ordered.proofs.Steps.{AreNext, in_order, earlier_steps}
 
@@ -122,6 +122,24 @@ runs host tag request answer =
 abbrev runs_in : (vaults host tag : ℕ) → RequestFields → Answer → Entry
 runs_in vaults host tag request answer =
     Executed (units.Bank 0 vaults 0) host (Some tag) request answer
+
+-- ---- logic units
+
+-- reads and writes ask no units
+memory_alone : AsksNoUnits (asks 0 1 (read x) ∷ asks 0 0 (write x) ∷ [])
+unfolding AsksNoUnits
+memory_alone = (refl, (refl, tt))
+
+-- nor does a poisoned request for one
+abbrev unit : RequestFields
+unit = record { command = commands.Unit7; cube = 0; address = 0; payload = [] }
+
+poisoned_unit : AsksNoUnits (Gave 0 None true unit ∷ [])
+unfolding AsksNoUnits
+poisoned_unit = (refl, tt)
+
+unit_asked : is_for_a_unit unit.command ≡ true
+unit_asked = refl
 
 -- an order that gives every answer, step by step
 by : (log journal : List Entry) → seen_of journal ≡ log → IsSerial machines journal →
