@@ -1,7 +1,5 @@
-"""Tests of the picture of `view`: it is made where Chromium is there."""
+"""Tests of the picture of `view`, which tool/picture.py makes by Chromium."""
 
-import shutil
-import tempfile
 import unittest
 from pathlib import Path
 
@@ -24,15 +22,6 @@ class Picture(unittest.TestCase):
         """It has the size that the script makes."""
         self.assertEqual(size_of(picture.PICTURE), picture.SIZE)
         self.assertIn("(view.png)", (picture.TOP / "docs" / "tool.md").read_text("utf-8"))
-
-    def test_it_is_made(self) -> None:
-        browser = shutil.which("chromium")
-        if browser is None:
-            self.skipTest("chromium is not there")
-        with tempfile.TemporaryDirectory() as folder:
-            made = Path(folder) / "a.png"
-            picture.make(browser, made)
-            self.assertEqual(size_of(made), picture.SIZE)
 
 
 if __name__ == "__main__":
