@@ -26,6 +26,9 @@ let isAsked = false;
 
 const $ = (name) => document.getElementById(name);
 
+// A number of things, as `1 request` and `2 requests`.
+const counted = (number, name) => `${number.toLocaleString()} ${name}${number === 1 ? "" : "s"}`;
+
 function spanSeen() {
   return (seen.width - LABELS) * seen.perPixel;
 }

@@ -39,7 +39,7 @@ function addQueue(queue, label, words) {
 function addHost(host) {
   const mine = run.requests.filter((request) => request.host === host);
   const rows = rowsOf(mine);
-  const words = `${mine.length.toLocaleString()} requests`;
+  const words = counted(mine.length, "request");
   addLane(18, `host ${host}`, words, (y) => drawGive(host, y), { isHead: true });
   if (mine.length > MOST_ROWS) {
     const times = timesOf(mine);

@@ -69,14 +69,19 @@ function drawLane(lane, y) {
   if (lane.words) write(lane.words, lane.label ? 90 : 18, y + 13, theme.dim);
 }
 
-function resize() {
+function measure() {
   const canvas = $("canvas");
   const ratio = devicePixelRatio || 1;
   seen.width = canvas.clientWidth;
   seen.height = canvas.clientHeight;
   canvas.width = seen.width * ratio;
   canvas.height = seen.height * ratio;
-  ask();
+}
+
+// A canvas of another size is empty, so it is drawn at once, and not with the next frame.
+function resize() {
+  measure();
+  draw();
 }
 
 // Puts the cursor to a step; with a span, shows that too.
@@ -340,13 +345,13 @@ async function start() {
     buildLanes();
     makeNetwork();
     $("marked").hidden = !run.seen.length;
-    const many = run.requests.length.toLocaleString();
-    $("about").textContent = `${run.steps.toLocaleString()} steps, ${many} requests`;
-    listen();
-    resize();
+    const many = counted(run.requests.length, "request");
+    $("about").textContent = `${run.steps.toLocaleString()} steps, ${many}`;
+    measure();
     obey(new URLSearchParams(location.hash.slice(1)));
     if (!seen.chosen) showPanel();
     draw();
+    listen();
     window.ready = 1;
   } catch (error) {
     $("info").textContent = `this page cannot be shown: ${error.stack}`;

@@ -24,10 +24,10 @@ function slowest() {
 
 function summary() {
   const open = run.requests.filter((request) => request.isOpen).length;
-  const many = run.requests.length.toLocaleString();
+  const many = counted(run.requests.length, "request");
   const still = run.still ? `<p class=hot>${escaped(run.still)}</p>` : "";
-  const left = open ? `${open.toLocaleString()} of them not ended` : "all of them ended";
-  const end = `<p>${many} requests, ${left}. ` +
+  const left = open ? `${open.toLocaleString()} not ended` : "all ended";
+  const end = `<p>${many}, ${left}. ` +
     `The run ends ${escaped(run.end)}.</p>`;
   return still + end + slowRows() + abortRows() + retryRows() + fullRows() + waitRows() + legend();
 }
@@ -131,7 +131,8 @@ function visitRows(request) {
     const name = isLine ? lineName(place[at]) : run.queues[place[at]].name;
     const why = waitsAt(station[at], place[at], step[at], until);
     const head = swatch(STATION_COLOURS[station[at]], STATION_LETTERS[station[at]]);
-    const cells = [`${head}${name}${why}`, step[at].toLocaleString(), until - step[at]];
+    const steps = (until - step[at]).toLocaleString();
+    const cells = [`${head}${name}${why}`, step[at].toLocaleString(), steps];
     rows.push(row(`data-step=${step[at]}`, cells));
   }
   return rows;
