@@ -60,8 +60,8 @@ class Run(unittest.TestCase):
             ran = tool("make", number)
             self.assertEqual((ran.returncode, ran.stdout), (2, b""), number)
             said = ran.stderr.decode()
-            wanted = f"zehimbado: status 2: `{number}` is not one to twenty"
-            self.assertTrue(said.startswith(wanted))
+            front = f"zehimbado: status 2: `{number}` is not one to twenty"
+            self.assertTrue(said.startswith(front))
             self.assertIn("less than 2^64, 18,446,744,073,709,551,616\n", said)
 
     def test_the_end_of_a_report_that_passed(self) -> None:
