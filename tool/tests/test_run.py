@@ -60,7 +60,7 @@ class Run(unittest.TestCase):
             ran = tool("make", number)
             self.assertEqual((ran.returncode, ran.stdout), (2, b""), number)
             said = ran.stderr.decode()
-            self.assertTrue(said.startswith(f"zehimbado: status 2: `{number}` is not one to twenty"))
+            self.assertIn(f"zehimbado: status 2: `{number}` is not one to twenty ", said)
             self.assertIn("less than 2^64, 18,446,744,073,709,551,616\n", said)
 
     def test_the_end_of_a_report_that_passed(self) -> None:
