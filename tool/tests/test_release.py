@@ -2,6 +2,7 @@
 
 import lzma
 import os
+import re
 import shutil
 import subprocess
 import sys
@@ -131,6 +132,9 @@ class Release(unittest.TestCase):
         pc = (usr / "lib" / "pkgconfig" / "hmc.pc").read_text("utf-8")
         self.assertIn("prefix=${pcfiledir}/../..\n", pc)
         self.assertEqual((usr / "lib" / "libhmc.so").read_bytes(), b"shared")
+        config = usr / "lib" / "cmake" / "hmc" / "hmcConfig.cmake"
+        (top,) = re.findall(r'_hmc_top "\$\{_hmc_here\}/(.*?)"', config.read_text("utf-8"))
+        self.assertEqual((config.parent / top).resolve(), usr.resolve())
         self.assertIn("hmc_open", (usr / "include" / "hmc.h").read_text("utf-8"))
         self.assertTrue((usr / "share" / "man" / "man1" / "zehimbado-run.1").is_file())
 
