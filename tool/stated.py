@@ -70,7 +70,7 @@ CHECKS = (
 )
 NUMBERS: dict[str, tuple[Number, ...]] = {
     "CHANGES.md": (
-        Number("## {} (not released yet)", kit.project_version),
+        Number("## {} (formats may still change)", kit.project_version),
         Number("single steps takes {} bytes a line", LINE_BYTES),
     ),
     "README.md": (
