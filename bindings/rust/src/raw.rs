@@ -1,6 +1,7 @@
 //! The calls of hmc.h and hmc_driver.h.
 
-use std::ffi::{c_char, c_void};
+use std::ffi::c_void;
+use std::os::raw::c_char;
 
 /// A handle; null is a closed one.
 #[repr(C)]
