@@ -116,7 +116,8 @@ PAGES = {
     "docs/ARCHITECTURE.md": (layer_table, named_table, section_table),
     "docs/PROOFS.md": (number_table,),
     "docs/speed.md": (measured_table("plain"), measured_table("events")),
-    "docs/TRUST.md": (promise_table, reading_table, word_table),
+    "docs/TRUST.md": (promise_table, reading_table),
+    "docs/definitions.md": (word_table,),
 }
 
 

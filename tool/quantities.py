@@ -160,6 +160,7 @@ QUANTITIES: dict[str, Quantity] = {
     "made_cubes": behind("crates/hmc_make/specs/Numbered.antt", "1 \\+ number % "),
     "mebibytes_of_a_cube": lambda: capacity() >> 20,
     "memory_by_bytes": memory_by_bytes,
+    "measured_mutants": lambda: durations.spent()["all"].edits,
     "minutes_of_gate": lambda: durations.of_gate("minutes"),
     "minutes_of_try": lambda: -(-durations.of_try() // 60),
     "modulus_one": behind(PROFILE, "modulus_of One = "),

@@ -75,9 +75,6 @@ NUMBERS: dict[str, tuple[Number, ...]] = {
     ),
     "README.md": (
         Number("It needs Python {} or later, and", versions.of_script),
-        Number("](docs/report.md) has {} lines", lines(f"{FIRST}.report")),
-        Number("with `--no-idle` {}", lines(f"{FIRST}.report", "(?!idle )")),
-        Number("about {} rounds train the link", rounds_of_training),
     ),
     "CONTRIBUTING.md": (
         Number("The script needs Python {}.", versions.of_script),

@@ -5,7 +5,7 @@ import unittest
 
 from tool import definitions, promises
 from tool.definitions import count_of, lines_of, read, rests_on
-from tool.tests import pages
+from tool.tests import pages, phrases
 from tool.tests.shared import TOP
 
 DELIVERED = "crates/hmc_journal/specs/Delivered.antt"
@@ -78,9 +78,9 @@ class Definitions(unittest.TestCase):
         self.assertLess(count_of(headline), 2000)
 
     def test_each_word_of_the_page_has_its_line(self) -> None:
-        """What docs/TRUST.md has in backquotes, and is defined, is in its last table; and the
-        other way."""
-        text = re.sub(r"^\|.*\n|\]\([^)]*\)", "", pages.text_of("docs/TRUST.md"), flags=re.M)
+        """What docs/TRUST.md has in backquotes, and is defined, is in the table of
+        docs/definitions.md; and the other way."""
+        text = re.sub(r"\]\([^)]*\)", "", phrases.text_of("docs/TRUST.md"))
         words = set(pages.quoted(text)) & defined() - OF_TEXTS
         rows = {it.rpartition(".")[2] for names in promises.WORDS.values() for it in names}
         self.assertEqual(words - rows, set())

@@ -11,6 +11,7 @@ from pathlib import Path
 
 from tool import counts, kit
 from tool import case as cases
+from tool.tests import pages
 from tool.tests.shared import CASES, EXAMPLES, TOP, require_program, tool
 from tool.verbs import COMMANDS
 
@@ -103,20 +104,20 @@ class Docs(unittest.TestCase):
         self.assertLessEqual(len(words), MOST_WORDS)
 
     def test_the_example_of_the_readme(self) -> None:
-        """The lines of each block are those of a case or a report of examples/, in their order."""
+        """Its script is that of a case of examples/, without the comment, and the lines that the
+        first command prints are those of its report, in their order and to its end."""
         text = (TOP / "README.md").read_text(encoding="utf-8")
-        text = text[text.index("## An example") : text.index("## From C")]
-        blocks = re.findall(r"(?:^ {4}.*\n|^\n(?= {4}))+", text, re.MULTILINE)
         path = EXAMPLES / "write-then-read.toml"
-        stored = path.read_text(encoding="utf-8").splitlines()
-        stored += path.with_suffix(".report").read_text(encoding="utf-8").splitlines()
-        for block in blocks:
-            at = 0
-            for line in (it.removeprefix("    ") for it in block.splitlines()):
-                if line and line != "..":
-                    self.assertIn(line, stored[at:])
-                    at = stored.index(line, at) + 1
-        self.assertGreater(len("".join(blocks).splitlines()), 20)
+        script = pages.block_after(text, "A host writes sixteen bytes and reads them:\n")
+        case = re.sub("(?m)^#.*\n", "", path.read_text(encoding="utf-8"))
+        self.assertIn(f"\n{script}schedule = ", case)
+        self.assertTrue(script.startswith("script = "))
+        stored = path.with_suffix(".report").read_text(encoding="utf-8").splitlines()
+        at = 0
+        for line in pages.block_after(text, "It prints\n").splitlines():
+            self.assertIn(line, stored[at:])
+            at = stored.index(line, at) + 1
+        self.assertEqual(at, len(stored))
 
     def test_each_case_is_in_the_index(self) -> None:
         """Each case of examples/ is in docs/examples.md, and a comment says what it shows."""
@@ -137,8 +138,8 @@ class Docs(unittest.TestCase):
 
     def test_a_profile_is_that_of_a_link(self) -> None:
         """What a case has at its top is named as the line of the case: `profile = 2`."""
-        pages = [*DOCS, TOP / "README.md", *TOP.glob("tool/*.py"), *TOP.glob("tool/verbs/*.py")]
-        for page in pages:
+        files = [*DOCS, TOP / "README.md", *TOP.glob("tool/*.py"), *TOP.glob("tool/verbs/*.py")]
+        for page in files:
             found = re.search("(?<!-)[Pp]rofile [12]", page.read_text(encoding="utf-8"))
             self.assertIsNone(found, page.name)
 

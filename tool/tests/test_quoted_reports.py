@@ -190,9 +190,24 @@ class Commands(unittest.TestCase):
         """README.md has all that it prints."""
         page = text_of("README.md")
         command = pages.block_after(page, "## Two commands\n").splitlines()[0]
-        block = pages.block_after(page, "The first command prints\n")
+        block = pages.block_after(page, "It prints\n")
         self.assertIn("./zehimbado run", command)
         self.assertEqual(self.written(command), (0, block))
+
+    def test_the_fault_of_the_first_page(self) -> None:
+        """README.md has what `check` says of a report with a wrong answer, `..` being lines that it
+        leaves out, and what it says of the right one."""
+        page = text_of("README.md")
+        block = pages.block_after(page, "Suppose one byte of the answer is wrong:\n")
+        commands = [it[2:] for it in block.splitlines() if it.startswith("$ ")]
+        shown = "".join(it for it in block.splitlines(True) if not it.startswith("$ "))
+        status, said = self.written("; ".join(commands))
+        self.assertEqual(status, 8)
+        first, last = shown.split("\n..\n")
+        self.assertRegex(said, f"^{re.escape(first)}\n(?:.*\n)+{re.escape(last)}$")
+        found = self.written(commands[-1].replace("other.report", f"examples/{REPORT.name}"))
+        self.assertEqual(found[0], 0)
+        self.assertIn(f"right report is `{found[1].strip()}`", flat(page))
 
     def test_a_report_that_is_unlawful(self) -> None:
         """docs/tool.md has all that `check` says of one."""

@@ -34,21 +34,22 @@ class Checked(unittest.TestCase):
 
     def test_reports_that_are_cut(self) -> None:
         """After a line, before the last line feed, and before the first line."""
-        named = "of a report that was cut off after a line of steps the next one is named;"
-        self.assertIn(named, flat(self.TEXT))
+        rows = dict(pages.rows(self.TEXT, "The report"))
+        self.assertEqual(rows["is cut off after a line of steps"], "the line that would be next")
         first = 1000
         longer = EXAMPLES / "row-of-eight.toml"
         lines = longer.with_suffix(".report").read_bytes().splitlines(keepends=True)
         said = checked(longer.read_bytes(), b"".join(lines[:first]))
         self.assertEqual(said, (8, f"unlawful {first + 1}\n"))
-        self.assertIn("its last line feed, the line after its last one;", flat(self.TEXT))
+        self.assertEqual(rows["lacks only its last line feed"], "the line after its last one")
         said = (8, f"unlawful {self.report.count(10) + 1}\n")
         self.assertEqual(checked(self.case, self.report[:-1]), said)
-        self.assertIn("of an empty report, line 1.", flat(self.TEXT))
+        self.assertEqual(rows["is empty"], "line 1")
         self.assertEqual(checked(self.case, b""), (8, "unlawful 1\n"))
 
     def test_capitals(self) -> None:
-        self.assertIn("capitals is unlawful at the first of them", flat(self.TEXT))
+        said = dict(pages.rows(self.TEXT, "The report"))["writes its digits in capitals"]
+        self.assertEqual(said, "the first line that has such a digit")
         capitals = re.sub(b"[0-9a-f]{32}", lambda found: found[0].upper(), self.report)
         pairs = zip(self.report.splitlines(), capitals.splitlines())
         first = next(at for at, (mine, other) in enumerate(pairs, start=1) if mine != other)
