@@ -96,7 +96,7 @@ OTHERWISE: dict[str, Callable[[], str]] = {
 
 def kinds_of_the_page() -> dict[str, set[str]]:
     """The kinds that the list of docs/case.md names, by their section."""
-    text = pages.section(pages.text_of(PAGE), "Faults").split("\nExamples, ")[0]
+    text = pages.section(pages.text_of(PAGE), "Faults").split("\nExamples ")[0]
     known = {kind for kinds in explain_fault.MEANINGS.values() for kind in kinds}
     kinds: dict[str, set[str]] = {}
     for item in re.split(r"^[0-9]\. ", text, flags=re.MULTILINE)[1:]:
