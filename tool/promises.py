@@ -123,6 +123,8 @@ WORDS = {
     "crates/hmc_send/specs/Places.antt": ("is_token", "takes_tokens"),
     f"{JOURNAL}/Drained.antt": ("IsDrained", "directions_of", "queues_of", "is_drained"),
     "crates/hmc_promises/src/laws.rt": ("drained_is_tested",),
+    "crates/hmc_ordered/specs/Ordered.antt": ("AsksNoUnits",),
+    "crates/hmc_ordered/src/laws.rt": ("runs_are_ordered",),
     "crates/hmc_cases/src/laws.rt": ("read_is_case",),
     "crates/hmc_packet/specs/Packet.antt": ("flits_of",),
     "crates/hmc_send/specs/LinkCalls.antt": ("names_flits",),
