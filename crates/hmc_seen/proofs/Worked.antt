@@ -167,6 +167,19 @@ poisoned_ignored =
     refl (refl, tt)
     ((([]), refl), ((([]), refl), ((([]), refl), tt)))
 
+-- It is no request to be executed before the next of its host.
+abbrev after_own_poisoned : List Entry
+after_own_poisoned =
+    Took 0 0 (value 0) ∷ asks 0 0 (read x) ∷ Gave 0 None true (write x 1) ∷ []
+
+poisoned_passed : IsExplained cubes machine (after_own_poisoned)
+unfolding seen_of IsSerial state_after IsStepwise given_to executed_by asked_under replies_under answers_under opening_state opening opening_registers apply answer_to perform_on action_of atomic_of memory_error acted_of effect_of table_line unit_of padded_bytes
+poisoned_passed =
+    by (after_own_poisoned)
+    (Took 0 0 (value 0) ∷ runs 0 0 0 (read x) (value 0) ∷ asks 0 0 (read x) ∷ Gave 0 None true (write x 1) ∷ [])
+    refl (refl, tt)
+    ((([]), refl), ((([]), refl), ((([]), refl), tt)))
+
 -- A tag is free again after its answer: the second answer is that to the second request.
 abbrev tag_again : List Entry
 tag_again =
